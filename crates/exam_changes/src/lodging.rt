@@ -14,8 +14,8 @@ use crate::undo::Undo;
 use crate::unknown::check_candidate;
 use exam_commands::{Lodging, has_open_appeal, is_same_subject, notice_days};
 use exam_rules::{
-    Appeal, Arrangement, Facts, Seats, Session, Status, Subject, arrangement_in_force,
-    entries_from, is_clash, is_live_paper, is_member, is_paper_of, sitting_by_entries,
+    Appeal, Arrangement, Facts, Seats, Session, Status, Subject, arrangement_in_force, entries_of,
+    is_clash, is_live_paper, is_member, is_paper_of, sitting_by_entries,
 };
 use exam_types::{Day, HallCode, Number, PaperCode, Refusal, SessionCode};
 
@@ -234,10 +234,7 @@ fn has_clash(facts: &Facts, session: &SessionCode, number: Number) -> bool
     ensures { result ≡ not (length (sessions.clash_papers (relations_of facts.now) session.now number) == 0) }
 {
     let sat = sitting_by_entries(facts, session, number);
-    for (key, entry) in entries_from(facts, number) {
-        if key.0 != number {
-            break;
-        }
+    for (key, entry) in entries_of(facts, number) {
         if entry.live && is_paper_of(facts, session, &key.1) && is_clash(&sat, &key.1) {
             return true;
         }

@@ -4,15 +4,12 @@ use Rattle.std.specs.List.{list_all}
 use Rattle.std.specs.Option.{option_map_or}
 use Rattle.std.specs.BTreeMap.{is_at}
 use Rattle.std.specs.Cmp.{Equal-is, tied_itself}
-use Rattle.std.specs.Map.{keys_of}
 use Rattle.std.specs.Ordering.{is_eq}
-use Rattle.std.proofs.lemmas.Map.Keys.{sorted_head, sorted_tail}
 use Rattle.std.proofs.lemmas.Bool.{and_parts}
 use Rattle.exam_rules.specs.declared.rows.Appeal.{Appeal}
 use Rattle.exam_rules.specs.declared.rows.Status.{Status}
 use Rattle.exam_rules.specs.declared.rows.Status.TheVariants as status
-use Rattle.exam_rules.specs.Orders.{KeysRise}
-use Rattle.exam_rules.specs.Relations.{Code, appeal_cmp, has_row, put_row, remove_row, row_at}
+use Rattle.exam_rules.specs.Relations.{Code, appeal_cmp, has_row, put_row, row_at}
 use Rattle.exam_rules.specs.Sessions.{asked_arrangement}
 use Rattle.exam_commands.specs.Appeals.{is_open, is_retracted}
 use Rattle.exam_commands.specs.Decisions.{without_mark}
@@ -21,7 +18,6 @@ use Rattle.exam_commands.proofs.Alike.{found_among}
 use Rattle.exam_commands.proofs.AppealKeys.{appeals_exact, appeals_total}
 use Rattle.exam_commands.proofs.LiveMarks.{put_elsewhere}
 use Rattle.exam_commands.proofs.PutAppeals.{all_at_row}
-use Rattle.exam_commands.proofs.Repeating.{past_all}
 
 abbrev pub Rows : Type 0
 Rows = List ((ℕ × Code) × Appeal)
@@ -123,13 +119,3 @@ unmarked_same (m ∷ ms) k none = inner (is_at (appeal_cmp k) m.0) refl none (un
         → cond (not b) (m ∷ without_mark k ms) (without_mark k ms) ≡ m ∷ ms
     inner true at off rest = absurd (let differ : true ≡ false = off in cc)
     inner false at off rest = ap (λ t. m ∷ t) (rest off)
-
--- if the keys rise, this removes one row
-pub removed_mark : (marks : Borne) (k : ℕ × Code) → KeysRise appeal_cmp marks → remove_row appeal_cmp marks k ≡ without_mark k marks
-removed_mark [] k up = refl
-removed_mark (m ∷ ms) k up = inner (is_at (appeal_cmp k) m.0) refl (removed_mark ms k (sorted_tail appeal_cmp m.0 (keys_of ms) up))
-  where
-    inner : (b : Bool) → is_at (appeal_cmp k) m.0 ≡ b → remove_row appeal_cmp ms k ≡ without_mark k ms
-        → cond b ms (m ∷ remove_row appeal_cmp ms k) ≡ cond (not b) (m ∷ without_mark k ms) (without_mark k ms)
-    inner true at rest = sym (unmarked_same ms k (ap is_some (past_all appeal_cmp appeals_total m.0 k ms ((Equal-is (appeal_cmp k m.0)).0 at) (sorted_head appeal_cmp m.0 (keys_of ms) up))))
-    inner false at rest = ap (λ t. m ∷ t) rest

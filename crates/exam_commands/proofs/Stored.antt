@@ -10,7 +10,7 @@ use Rattle.exam_rules.specs.declared.rows.Entry.{Entry}
 use Rattle.exam_rules.proofs.Naming.{same_code_itself}
 use Rattle.exam_rules.specs.Orders.{AreInOrder}
 use Rattle.exam_rules.specs.Tables as table
-use Rattle.exam_rules.specs.Relations.{Code, Relations, code_cmp, entry_cmp, opening_cmp, appeal_cmp, has_row, put_row, row_at}
+use Rattle.exam_rules.specs.Relations.{Code, Relations, code_cmp, entry_cmp, opening_cmp, has_row, put_row, row_at}
 use Rattle.exam_commands.specs.declared.import_row.Row.{Row}
 use Rattle.exam_commands.specs.declared.import_row.Row.TheVariants as row
 use Rattle.exam_commands.specs.Changes.{with_row, with_rows}

@@ -4,7 +4,7 @@ ghost use Rattle.exam_rules.specs.Relations.{relations_of, same_code};
 ghost use Rattle.exam_commands.specs.Appeals as spec;
 
 use crate::command::AppealState;
-use exam_rules::{Appeal, Facts, Status, Subject, appeals_from};
+use exam_rules::{Appeal, Facts, Status, Subject, appeals_of};
 use exam_types::{Number, Reference, SessionCode};
 
 /// Whether both are against a hall, both on a clash, or both for an arrangement.
@@ -80,10 +80,7 @@ pub fn has_open_appeal(
 ) -> bool
     ensures { result ≡ spec.has_open_appeal (relations_of facts.now) number session.now subject.now }
 {
-    for (key, appeal) in appeals_from(facts, number) {
-        if key.0 != number {
-            break;
-        }
+    for (_, appeal) in appeals_of(facts, number) {
         if is_open_for(session, subject, appeal) {
             return true;
         }

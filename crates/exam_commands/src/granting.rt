@@ -10,7 +10,7 @@ ghost use Rattle.exam_commands.specs.Touched as touched;
 
 use crate::appeals::is_same_kind;
 use crate::command::Outcome;
-use exam_rules::{Appeal, Facts, Status, Subject, appeals_from};
+use exam_rules::{Appeal, Facts, Status, Subject, appeals_of};
 use exam_types::{Number, Reference};
 
 /// Whether the outcome is a grant.
@@ -37,10 +37,7 @@ pub fn earlier_grant<'a>(
     ensures { option_map deref_pair result
         ≡ find (spec.is_earlier number appeal.now.session appeal.now.subject) facts.now.appeals.entries }
 {
-    for (key, other) in appeals_from(facts, number) {
-        if key.0 != number {
-            break;
-        }
+    for (key, other) in appeals_of(facts, number) {
         if is_earlier(number, appeal, key, other) {
             return Some((key, other));
         }
@@ -52,10 +49,7 @@ pub fn earlier_grant<'a>(
 pub fn ends_standing(facts: &Facts, number: Number, appeal: &Appeal) -> bool
     ensures { result ≡ touched.ends_standing (relations_of facts.now) number appeal.now }
 {
-    for (key, other) in appeals_from(facts, number) {
-        if key.0 != number {
-            break;
-        }
+    for (key, other) in appeals_of(facts, number) {
         if is_earlier(number, appeal, key, other) && facts.standing.contains_key(key) {
             return true;
         }

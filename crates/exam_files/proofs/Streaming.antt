@@ -1,18 +1,14 @@
 -- A register that goes out line by line.
-use Rattle.std.proofs.Common.{◌≡◌, ◌⊎◌, ℕ, ◌+◌, ◌<◌, ◌≤◌, Result, Ok, Err, OnOk, OnErr, List, [], ◌∷◌, ◌++◌, length, drop, Option, refl, ap, sym, subst, ◌∙◌, inl, inr, arith, append_assoc, append-nil}
+use Rattle.std.proofs.Common.{◌≡◌, ◌⊎◌, ℕ, ◌+◌, ◌≤◌, Result, Ok, Err, OnOk, OnErr, List, [], ◌∷◌, ◌++◌, length, drop, Option, refl, ap, sym, subst, ◌∙◌, inl, inr, arith, append_assoc, append-nil}
 use Rattle.std.specs.List.{flat_map}
 use Rattle.std.proofs.Math.Seq.{drop-append_seam}
 use Rattle.std.proofs.lemmas.List.{length-append}
 use Rattle.std.specs.Io.KnownBytes.{Appends}
-use Rattle.std.proofs.KnownBytes.{Appends-nil, Appends-trans}
+use Rattle.std.proofs.KnownBytes.{Appends-trans}
 use Rattle.exam_send.specs.Sending.{AppendsBeginning, AppendsPart}
 use Rattle.exam_views.specs.declared.view.AppealRow.{AppealRow}
 use Rattle.exam_files.specs.declared.sheet_fault.SheetFault.{SheetFault}
 use Rattle.exam_files.specs.Registers.{Streams, appeal_line, register_heading, register_text}
-
--- nothing at all is a beginning
-pub begins_nothing : (a : Option (List ℕ)) (text : List ℕ) → AppendsBeginning a a text
-begins_nothing a text = ([], text, refl, Appends-nil a)
 
 pub begins_part : (a b : Option (List ℕ)) (text : List ℕ) → AppendsPart a b text → AppendsBeginning a b text
 begins_part a b text part = (part.0, part.1, part.2, part.4)
@@ -34,21 +30,6 @@ streamed contents (Err fault) old new sent text is ok err = begins_part (content
 pub fault_streams : {W : Type 0} (contents : W → Option (List ℕ)) (result : Result (Unit {0}) SheetFault) (fault : SheetFault) (old new : W) (text : List ℕ) → result ≡ Err fault
     → AppendsBeginning (contents old) (contents new) text → Streams contents result old new text
 fault_streams contents result fault old new text is part = subst (λ r. Streams contents r old new text) (sym is) part
-
--- ---- the next row
-
-module _ {W : Type 0} (contents : W → Option (List ℕ)) (old new : W) (row : AppealRow) (before after : List AppealRow) (is : before ≡ row ∷ after) where
-  -- it came, and its line went out
-  pub came_whole : (result : Result (Unit {0}) SheetFault) → Streams contents result old new (appeal_line row)
-      → OnOk result ((x : AppealRow) × (before ≡ x ∷ after) × Appends (contents old) (contents new) (appeal_line x))
-  came_whole (Ok done) sent = (row, is, sent)
-  came_whole (Err fault) sent = tt
-
-  -- or a beginning of it
-  pub came_part : (result : Result (Unit {0}) SheetFault) → Streams contents result old new (appeal_line row)
-      → OnErr result (Appends (contents old) (contents new) [] ⊎ ((x : AppealRow) × (before ≡ x ∷ after) × AppendsBeginning (contents old) (contents new) (appeal_line x)))
-  came_part (Ok done) sent = tt
-  came_part (Err fault) sent = inr (row, is, sent)
 
 -- ---- the whole register
 
@@ -111,15 +92,6 @@ module _ (code : List ℕ) (count : ℕ) (all : List AppealRow) (old : Option (L
       let parted = length-append so_far.given left in
       let rows : length all ≡ length (so_far.given ++ left) = ap (λ (xs : List AppealRow). length xs) so_far.rows in
       omega (arith, few, parted, rows, end)
-
-  -- none is left, before so many came
-  pub too_few : (i : ℕ) (left : List AppealRow) (now : Option (List ℕ)) → i < count → left ≡ [] → HasStreamed i left now → length all < count
-  too_few i left now sooner none so_far =
-      let few = so_far.many in
-      let parted = length-append so_far.given left in
-      let empty : length left ≡ 0 = ap (λ (xs : List AppealRow). length xs) none in
-      let rows : length all ≡ length (so_far.given ++ left) = ap (λ (xs : List AppealRow). length xs) so_far.rows in
-      omega (arith, few, parted, empty, rows, sooner)
 
   -- the next did not come, or its line went out in part
   pub cut_off : (i : ℕ) (left after : List AppealRow) (now then : Option (List ℕ)) → length all ≡ count → HasStreamed i left now

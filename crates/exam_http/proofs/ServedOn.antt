@@ -18,10 +18,6 @@ replied_on g contents today asked old before (Ok done) new after h = inr (asked,
 replied_on g contents today asked old before (Err Read) new after h = absurd h
 replied_on g contents today asked old before (Err Write) new after h = inr (asked, h.0, h.1)
 
--- at first nothing is served
-pub none_served : {S : Type 0} (g : Ghosts S) (today : ℕ) (old : OfficeIn S) → AreServedOn g today old old
-none_served g today old = ([], refl)
-
 in_turn : {S : Type 0} (g : Ghosts S) (today : ℕ) (first later : List (Result Request Fault)) (old between new : OfficeIn S)
     → AnsweredInTurn g today old first between → AnsweredInTurn g today between later new → AnsweredInTurn g today old (first ++ later) new
 in_turn g today [] later old between new same then = subst (λ o. AnsweredInTurn g today o later new) same then

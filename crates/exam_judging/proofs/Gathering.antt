@@ -6,8 +6,8 @@ use Rattle.std.specs.Cmp.Lexicographic.{texts_ties}
 use Rattle.exam_rules.specs.declared.rows.Entry.{Entry}
 use Rattle.exam_rules.specs.declared.rows.Hall.{Hall}
 use Rattle.exam_rules.specs.declared.rows.Opening.{Opening}
-use Rattle.exam_rules.specs.Relations.{Code, Relations, code_cmp, opening_cmp, has_row, is_row_of, leading, row_at, same_code}
-use Rattle.exam_rules.specs.Sessions.{has_live_entry, is_live_entry, is_member, is_paper_of}
+use Rattle.exam_rules.specs.Relations.{Code, Relations, code_cmp, opening_cmp, has_row, is_row_of, row_at, same_code}
+use Rattle.exam_rules.specs.Sessions.{is_live_entry, is_member, is_paper_of}
 use Rattle.std.proofs.lemmas.List.Elements.{All-head, All-tail}
 use Rattle.exam_commands.specs.Imports.{AreOfKind, kind_of}
 use Rattle.exam_commands.specs.declared.import_row.Kind.{Kind}
@@ -191,7 +191,8 @@ dated_last false false d so o n w = either_last o n w
 -- ---- the entries of a candidate
 
 module _ (r : Relations) (s : Code) (c : ℕ) where
-  own_any : (es : List ((ℕ × Code) × Entry)) → list_any (is_live_entry r s c) (filter (is_row_of c) es) ≡ list_any (is_live_entry r s c) es
+  -- only the candidate's own rows count
+  pub own_any : (es : List ((ℕ × Code) × Entry)) → list_any (is_live_entry r s c) (filter (is_row_of c) es) ≡ list_any (is_live_entry r s c) es
   own_any [] = refl
   own_any (e ∷ es) = inner (nat_eq e.0.0 c) refl (own_any es)
     where
@@ -199,10 +200,6 @@ module _ (r : Relations) (s : Code) (c : ℕ) where
           → list_any (is_live_entry r s c) (cond b (e ∷ filter (is_row_of c) es) (filter (is_row_of c) es)) ≡ (is_live_entry r s c e || list_any (is_live_entry r s c) es)
       inner true is rest = ap (λ t. is_live_entry r s c e || t) rest
       inner false is rest = rest ∙ sym (ap (λ b. (b && (e.1.live && is_paper_of r s e.0.1)) || list_any (is_live_entry r s c) es) is)
-
-  -- the first rows of these are all that the candidate has
-  pub own_rows : (rows : List ((ℕ × Code) × Entry)) → leading (is_row_of c) rows ≡ filter (is_row_of c) r.entries → list_any (is_live_entry r s c) (leading (is_row_of c) rows) ≡ has_live_entry r s c
-  own_rows rows is = ap (list_any (is_live_entry r s c)) is ∙ own_any r.entries
 
 -- ---- the codes that exist
 

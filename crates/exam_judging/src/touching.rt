@@ -15,7 +15,7 @@ ghost use Rattle.exam_commands.specs.Touched as spec;
 
 use exam_commands::granting::{self, ends_standing, is_grant};
 use exam_commands::{Command, Decision, Import, Kind, Row};
-use exam_rules::{Appeal, Facts, entries_from, is_standing};
+use exam_rules::{Appeal, Facts, entries_of, is_standing};
 use exam_types::{HallCode, Number, PaperCode, Refusal, SessionCode};
 use std::alloc::Global;
 use std::collections::BTreeSet;
@@ -310,10 +310,7 @@ fn add_entered(facts: &Facts, number: Number, codes: &mut Codes) -> Result<(), R
         ≡ (has_live_entry (relations_of facts.now) s number || contains code_cmp codes.old s)) }
     ensures memory { IfErr result (λ e. e ≡ NoMemory) }
 {
-    for (key, entry) in entries_from(facts, number) {
-        if key.0 != number {
-            break;
-        }
+    for (key, entry) in entries_of(facts, number) {
         if entry.live {
             add_paper(facts, &key.1, codes)?;
         }

@@ -1,7 +1,6 @@
 -- A lodging and a retraction are steps, and seat nobody elsewhere.
 use Rattle.std.proofs.Common.{◌≡◌, ℕ, ◌==◌, ◌&&◌, not, Bool, true, false, cond, [], ◌∷◌, ◌++◌, length, nat_le, Option}
-use Rattle.std.proofs.Common.{None, Some, Ok, Err, is_some, is_none, IsSome, IfSome, IsTrue, refl, ap, sym, subst, ◌∙◌}
-use Rattle.std.proofs.Common.{◌⊎◌, inl, inr}
+use Rattle.std.proofs.Common.{None, Some, is_some, is_none, IsSome, IfSome, IsTrue, refl, ap, sym, subst, ◌∙◌}
 use Rattle.std.specs.List.{list_all, list_any, filter_map}
 use Rattle.std.specs.Map.{keys_of}
 use Rattle.std.specs.Option.{option_and_then, option_map_or, option_or}
@@ -26,29 +25,25 @@ use Rattle.exam_rules.specs.Sessions.{appeal_count, asked_arrangement, barred_ha
 use Rattle.exam_rules.specs.Seatings.{fits, opened_room, plan_of, seating, sitting_terms, suits_opened}
 use Rattle.exam_rules.proofs.Naming.{same_code_exact}
 use Rattle.exam_rules.specs.Tables as table
-use Rattle.exam_commands.specs.declared.command.AppealState.{AppealState}
-use Rattle.exam_commands.specs.declared.command.Command.TheVariants as command
 use Rattle.exam_commands.specs.declared.command.Lodging.{Lodging}
-use Rattle.exam_commands.specs.declared.command.Reply.TheVariants as reply
-use Rattle.exam_commands.specs.Appeals.{appeal_at, has_open_appeal, is_open, is_retracted, stored_state}
-use Rattle.exam_commands.specs.Changes.{first_refusal, unless}
+use Rattle.exam_commands.specs.Appeals.{appeal_at, has_open_appeal, is_open, is_retracted}
+use Rattle.exam_commands.specs.Changes.{first_refusal}
 use Rattle.exam_commands.specs.Good.{IsGood, appeal_refers, marks_were_granted, may_bear, refers, subject_refers}
 use Rattle.exam_commands.specs.Limits.{most_appeals, within_limits, sessions_within, papers_within, halls_within, openings_within, candidates_within, members_within}
 use Rattle.exam_commands.specs.Lodgings as spec
-use Rattle.exam_commands.specs.Orders.{IsInOrder}
 use Rattle.exam_commands.specs.Singles.{AreSingle, SingleKey, same_single_key, single_key}
 use Rattle.exam_commands.specs.State.{State}
-use Rattle.exam_commands.specs.Steps.{SameSeating, Step}
+use Rattle.exam_commands.specs.Steps.{SameSeating}
 use Rattle.exam_commands.proofs.AppealKeys.{appeals_exact, appeals_total}
 use Rattle.exam_laws.proofs.Appealing.{apart_from_all, open_as, open_key, put_seating_same, single_flips, with_appeals}
 use Rattle.exam_commands.proofs.Borne.{closed_unborne, put_borne, unborne}
-use Rattle.exam_laws.proofs.Commanding.{ArePlansRepaired, DoListsRise, IsLimitRefusal, within_memory}
+use Rattle.exam_laws.proofs.Commanding.{ArePlansRepaired, DoListsRise}
 use Rattle.exam_commands.proofs.LodgingChecks.{both_passed}
 use Rattle.exam_commands.proofs.PutAppeals.{all_at_row, count_replaced}
 use Rattle.exam_commands.proofs.PutRows.{IsApartFrom, put_distinct}
 use Rattle.exam_commands.proofs.Referring.{all_put, appeals_refer_so, passed, stored_refer, there}
 use Rattle.exam_commands.proofs.Staying.{best_stays}
-use Rattle.exam_laws.proofs.Stepping.{accepted_step, refused_step, same_seating}
+use Rattle.exam_laws.proofs.Stepping.{same_seating}
 
 one_value : (x y : SingleKey) → Some x ≡ Some y → x ≡ y
 one_value x y is = cc
@@ -204,32 +199,6 @@ module _ (before : State) (good : IsGood before) (today : ℕ) (l : Lodging) whe
           ap (λ o. is_none o && not (within_limits (spec.with_appeal before.relations today l))) at
           ∙ ap not (sym good.limits ∙ sym (ap within_limits (same_facts a at)) ∙ within)
 
-  pub lodging_accepted : (after : State) (t : Relations) (told : AppealState) → IsChecked → within_limits t ≡ true
-      → t ≡ spec.with_lodging before.relations today l → after.relations ≡ t → IsInOrder after
-      → told ≡ stored_state t l.number l.reference → DoListsRise t → ArePlansRepaired t before after → Step (command.Lodge l) today before (Ok (reply.Lodged told)) after
-  lodging_accepted after t told ok within is facts order says up plans =
-      let new : Relations = spec.with_lodging before.relations today l in
-      let none : spec.lodging_refusal before.relations before.seats today l ≡ None = limit_refusal ok false (within_as true (ap within_limits (sym is) ∙ within)) in
-      let same : (s : Code) → SameSeating (seating before.relations s) (seating new s) = (lodging_settled new ok refl).seated in
-      let up_new : DoListsRise new = subst DoListsRise is up in
-      let plans_new : ArePlansRepaired new before after = subst (λ u. ArePlansRepaired u before after) is plans in
-      let step = accepted_step (command.Lodge l) today before after new (ap (λ o. unless o new) none) (facts ∙ is) order up_new good plans_new
-      (all_stay before after good new same up_new plans_new (λ c. l.number ≡ c)) in
-      subst (λ (state : AppealState). Step (command.Lodge l) today before (Ok (reply.Lodged state)) after)
-      (ap (λ (r : Relations). stored_state r l.number l.reference) facts ∙ sym says) step
-
-  pub lodging_past : (t : Relations) → IsChecked → within_limits t ≡ false → t ≡ spec.with_lodging before.relations today l → Step (command.Lodge l) today before (Err refusal.TooMany) before
-  lodging_past t ok past is =
-      let new : Relations = spec.with_lodging before.relations today l in
-      let some : spec.lodging_refusal before.relations before.seats today l ≡ Some refusal.TooMany = limit_refusal ok true (within_as false (ap within_limits (sym is) ∙ past)) in
-      refused_step (command.Lodge l) today before refusal.TooMany (ap (λ o. unless o new) some)
-
-  -- if it goes no further, memory ran out or a limit was passed
-  pub lodging_limited : (t : Relations) → IsChecked → t ≡ spec.with_lodging before.relations today l → (e : Refusal)
-      → IsLimitRefusal t e → (e ≡ refusal.NoMemory) ⊎ Step (command.Lodge l) today before (Err e) before
-  lodging_limited t ok is e (inl memory) = inl memory
-  lodging_limited t ok is e (inr past) = inr (subst (λ (x : Refusal). Step (command.Lodge l) today before (Err x) before) (sym past.0) (lodging_past t ok past.1 is))
-
 -- ---- a retraction
 
 count_same : (r : Relations) (k : ℕ × Code) (a b : Appeal) → AreInOrder r → row_at appeal_cmp r.appeals k ≡ Some b → within_limits (with_appeals r (put_row appeal_cmp r.appeals k a)) ≡ within_limits r
@@ -307,16 +276,3 @@ module _ (before : State) (good : IsGood before) (c : ℕ) (reference : Code) wh
 
   pub retraction_settled : (t : Relations) → AreInOrder before.relations → IsRetractable → IsWithout t → IsSettled before.relations t
   retraction_settled t up ok is = subst (IsSettled before.relations) (sym is) (retraction_within up ok).settled
-
-  -- it goes no further only if memory runs out
-  pub retraction_memory : (t : Relations) → AreInOrder before.relations → IsRetractable → IsWithout t → (e : Refusal) → IsLimitRefusal t e → e ≡ refusal.NoMemory
-  retraction_memory t up ok is = within_memory t (ap within_limits is ∙ (retraction_within up ok).within)
-
-  pub retraction_accepted : (today : ℕ) (after : State) (t : Relations) → AreInOrder before.relations → IsRetractable → IsWithout t → after.relations ≡ t → IsInOrder after
-      → DoListsRise t → ArePlansRepaired t before after → Step (command.Retract c reference) today before (Ok reply.Retracted) after
-  retraction_accepted today after t order ok is facts order_after up plans =
-      let new : Relations = spec.with_retraction before.relations c reference in
-      let up_new : DoListsRise new = subst DoListsRise is up in
-      let plans_new : ArePlansRepaired new before after = subst (λ u. ArePlansRepaired u before after) is plans in
-      accepted_step (command.Retract c reference) today before after new (ap (λ o. unless o new) ok) (facts ∙ is) order_after up_new good plans_new
-      (all_stay before after good new (retraction_settled new order ok refl).seated up_new plans_new (λ d. c ≡ d))

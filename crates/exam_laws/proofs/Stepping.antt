@@ -12,18 +12,15 @@ use Rattle.exam_rules.specs.Seatings.{seating, plan_of, fits, desks}
 use Rattle.exam_rules.specs.Names.{ListsRise}
 use Rattle.exam_commands.specs.declared.import_row.Row.{Row}
 use Rattle.exam_commands.specs.declared.command.Command.{Command}
-use Rattle.exam_commands.specs.declared.command.Command.TheVariants as command
 use Rattle.exam_commands.specs.Changes.{imported, unless, first_refusal, rows_refusal, with_rows, too_many}
 use Rattle.exam_commands.specs.Limits.{within_limits}
 use Rattle.exam_commands.specs.Orders.{IsInOrder}
 use Rattle.exam_commands.specs.Repairs.{IsRepaired}
 use Rattle.exam_commands.specs.State.{State, Seats}
-use Rattle.exam_commands.specs.Imports.{ImportRows}
 use Rattle.exam_commands.specs.Steps.{change, SameSeating, SeatsOn, IsNextPlan, StepTo, Step, first_seated}
 use Rattle.exam_commands.specs.Good.{IsGood}
-use Rattle.exam_commands.specs.Replies.{import_reply, reply_of}
-use Rattle.exam_commands.specs.declared.command.Reply.{Reply}
-use Rattle.exam_commands.proofs.Staying.{best_stays, kept_stays}
+use Rattle.exam_commands.specs.Replies.{reply_of}
+use Rattle.exam_commands.proofs.Staying.{best_stays}
 
 -- ---- the change
 
@@ -69,17 +66,3 @@ accepted_step done today before after t accepted facts order up good plans kept 
 
 pub refused_step : (done : Command) (today : ℕ) (before : State) (e : Refusal) → change done today before ≡ Err e → Step done today before (Err e) before
 refused_step done today before e refused = subst (StepTo done before (Err e) before) (sym refused) (refl, refl)
-
--- ---- imports
-
-pub step_accepted : (import : ImportRows) (today : ℕ) (before after : State) (rows : List Row) (t : Relations) (reply : Reply) → rows ≡ import.rows
-    → rows_refusal before.relations rows ≡ None → t ≡ with_rows before.relations rows → within_limits t ≡ true → after.relations ≡ t → IsInOrder after
-    → reply ≡ import_reply before.relations rows
-    → ((s : Code) → ListsRise t s) → IsGood before → ((s : Code) → IsRepaired t None before.seats after.seats s) → Step (command.Import import) today before (Ok reply) after
-step_accepted import today before after rows t reply are ok is within facts order says up good plans =
-    let new : t ≡ with_rows before.relations import.rows = is ∙ ap (with_rows before.relations) are in
-    let accepted : imported before.relations import.rows ≡ Ok (with_rows before.relations import.rows) =
-    import_accepted before.relations import.rows (ap (rows_refusal before.relations) (sym are) ∙ ok) (ap within_limits (sym new) ∙ within) in
-    let step = accepted_step (command.Import import) today before after t (accepted ∙ ap Ok (sym new)) facts order up good plans
-    (λ s. kept_stays (seating t s) None (plan_of before.seats s) (plan_of after.seats s) (plans s).repair) in
-    subst (λ told. Step (command.Import import) today before (Ok told) after) (sym (says ∙ ap (import_reply before.relations) are)) step

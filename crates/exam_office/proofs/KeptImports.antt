@@ -29,7 +29,7 @@ use Rattle.exam_commands.specs.Changes.{rows_refusal, with_rows}
 use Rattle.exam_commands.specs.FactsMade.{WasMade}
 use Rattle.exam_commands.specs.Good.{refers}
 use Rattle.exam_commands.specs.Imports.{AreOfKind, ImportRows, kind_of}
-use Rattle.exam_office.specs.Relisting.{EntersRows, is_unlisted}
+use Rattle.exam_office.specs.Relisting.{is_unlisted}
 use Rattle.exam_commands.specs.Touched.{row_reaches, sets_session}
 use Rattle.exam_changes.specs.Undoing.{ChangesOnly}
 use Rattle.exam_changes.proofs.Undoing.{import_only}
@@ -135,9 +135,6 @@ module _ (import : ImportRows) (r t : Relations) (was : WasMade (command.Import 
   kept_import lists are of keeps =
       subst (λ (u : Relations). AreListsOf u lists) (sym made)
       (kept r lists are import.kind import.rows (subst (λ (u : Relations). refers u ≡ true) was.facts was.good.refer) was.order known of keeps)
-
-  pub import_enters : AreOfKind import.kind import.rows → import.kind ≡ kind.Entries → EntersRows r import.rows t
-  import_enters of is = record { order = was.order; kind = subst (λ k. AreOfKind k import.rows) is of; known = known; facts = made }
 
   pub import_opens : AreOfKind import.kind import.rows → import.kind ≡ kind.Openings → t ≡ record r { openings = t.openings }
   import_opens of is = subst (λ (u : Relations). u ≡ record r { openings = u.openings }) (sym made) (import_only kind.Openings r import.rows (subst (λ k. AreOfKind k import.rows) is of))

@@ -2,21 +2,17 @@
 -- withdrawn changes one list, and so does the closing of a hall.
 use Rattle.std.proofs.Common.{◌≡◌, ℕ, Bool, true, false, cond, List, Option, None, Some, ap, sym, subst, ◌∙◌}
 use Rattle.std.specs.Prelude.{is_none}
-use Rattle.std.specs.Option.{option_map_or}
 use Rattle.exam_rules.specs.declared.listing.SessionLists.{SessionLists}
 use Rattle.exam_rules.specs.declared.rows.Appeal.{Appeal}
-use Rattle.exam_rules.specs.declared.rows.Paper.{Paper}
-use Rattle.exam_rules.specs.Lists.{AreListsOf, SetsEntry, closed}
-use Rattle.exam_rules.specs.Relations.{Code, Relations, code_cmp, row_at, same_code}
+use Rattle.exam_rules.specs.Lists.{AreListsOf, closed}
+use Rattle.exam_rules.specs.Relations.{Code, Relations}
 use Rattle.exam_commands.specs.declared.command.Command.{Command}
 use Rattle.exam_commands.specs.declared.command.Command.TheVariants as command
-use Rattle.exam_rules.proofs.Naming.{same_code_itself}
 use Rattle.exam_commands.specs.Appeals.{appeal_at, is_retracted}
-use Rattle.exam_commands.specs.Changes.{with_live}
 use Rattle.exam_commands.specs.Decisions.{is_made, with_decided, with_outcome}
 use Rattle.exam_commands.specs.FactsMade.{WasMade, facts_made}
 use Rattle.exam_commands.specs.Lodgings as lodgings
-use Rattle.exam_office.specs.Relisting.{SetsLive, keeps_lists}
+use Rattle.exam_office.specs.Relisting.{keeps_lists}
 use Rattle.exam_commands.specs.State.{State}
 
 abbrev Rows : Type 0
@@ -66,25 +62,3 @@ kept_lists done r t lists was keeps are =
 
 pub closing_made : (r t : Relations) (s h : Code) → WasMade (command.CloseHall s h) r t → t ≡ closed r s h
 closing_made r t s h was = was.made ∙ ap (λ (u : Relations). closed u s h) was.facts
-
--- ---- an entry withdrawn or taken back
-
-pub withdrawal_sets : (r t : Relations) (c : ℕ) (p : Code) → WasMade (command.Withdraw c p) r t → SetsLive r t c p
-withdrawal_sets r t c p was = record { live = false; facts = was.made ∙ ap (λ (u : Relations). with_live u c p false) was.facts }
-
-pub reinstatement_sets : (r t : Relations) (c : ℕ) (p : Code) → WasMade (command.Reinstate c p) r t → SetsLive r t c p
-reinstatement_sets r t c p was = record { live = true; facts = was.made ∙ ap (λ (u : Relations). with_live u c p true) was.facts }
-
--- what sets an entry live or withdrawn sets one entry of the paper's session
-pub live_sets : (r t : Relations) (c : ℕ) (p : Code) (paper : Paper) → SetsLive r t c p → row_at code_cmp t.papers p ≡ Some paper → SetsEntry r t paper.session c
-live_sets r t c p paper sets found = record {
-  paper = p;
-  entry = record { live = sets.live };
-  of_session =
-      ap (λ (o : Option Paper). option_map_or (λ (x : Paper). same_code x.session paper.session) o false) (sym (ap (λ (u : Relations). row_at code_cmp u.papers p) sets.facts) ∙ found)
-      ∙ same_code_itself paper.session;
-  entries = ap (λ (u : Relations). u.entries) sets.facts;
-  candidates = ap (λ (u : Relations). u.candidates) sets.facts;
-  papers = ap (λ (u : Relations). u.papers) sets.facts;
-  openings = ap (λ (u : Relations). u.openings) sets.facts;
-}

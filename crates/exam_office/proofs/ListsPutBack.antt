@@ -1,5 +1,5 @@
 -- The lists of some sessions, kept and put back.
-use Rattle.std.proofs.Common.{◌≡◌, Bool, true, false, cond, IsTrue, List, [], ◌∷◌, Option, None, Some, Vec, is_some, refl, ap, sym, ◌∙◌}
+use Rattle.std.proofs.Common.{◌≡◌, Bool, true, false, cond, IsTrue, List, ◌∷◌, Option, None, Some, Vec, is_some, refl, ap, sym, ◌∙◌}
 use Rattle.std.specs.Global.{Global}
 use Rattle.std.specs.BTreeMap.{BTreeMap, is_at}
 use Rattle.std.specs.Cmp.{Equal-is}
@@ -45,25 +45,6 @@ back_more rest t list lists new up put s = inner (is_at (code_cmp s) t) refl
         apart false same = refl
 
 -- ---- kept
-
--- nothing is kept yet
-pub none_kept : (before : Kept) (lists : SessionLists) → before.entries ≡ [] → ListsBack (undo.Several before) lists lists
-none_kept before lists none = record {
-  there = λ s has. absurd (let differ : false ≡ true = sym (ap (λ (rows : Rows). has_row code_cmp rows s) none) ∙ has in cc);
-  members = λ s. ap (λ (rows : Rows). list_before rows lists s) none;
-  halls = λ s. refl;
-}
-
--- another record of equal entries puts equal lists back
-pub same_back : (before kept : Kept) (lists new was : SessionLists) → kept.entries ≡ before.entries → SameLists lists new
-    → ((s : Code) → IsTrue (has_row code_cmp lists.members.entries s)
-    → IsTrue (has_row code_cmp new.members.entries s)) → ListsBack (undo.Several before) lists was
-    → ListsBack (undo.Several kept) new was
-same_back before kept lists new was is same stay back = record {
-  there = λ s has. stay s (back.there s (ap (λ (rows : Rows). has_row code_cmp rows s) (sym is) ∙ has));
-  members = λ s. ap (λ (rows : Rows). list_before rows new s) is ∙ ap (list_or (row_at code_cmp before.entries s)) (same.members s) ∙ back.members s;
-  halls = λ s. same.halls s ∙ back.halls s;
-}
 
 -- one more is kept
 pub more_back : (before kept : Kept) (session : Code) (copy : Vec Entrant Global) (lists new was : SessionLists) → has_row code_cmp before.entries session ≡ false

@@ -2,8 +2,7 @@
 use Rattle.std.proofs.Common.{◌≡◌, ℕ, ◌&&◌, ◌||◌, not, Bool, true, false, cond, Option, None, Some, is_some, refl, ap, sym, ◌∙◌}
 use Rattle.exam_rules.specs.Orders.{KeysRise}
 use Rattle.exam_rules.specs.Relations.{Code, has_row, row_at, seat_cmp}
-use Rattle.exam_office.specs.Drafts.{HasOld, AreMixed, MixesPlans}
-use Rattle.exam_commands.specs.NextPlans.{Plans}
+use Rattle.exam_office.specs.Drafts.{MixesPlans}
 use Rattle.exam_commands.specs.State.{Seats}
 use Rattle.exam_commands.specs.Exchanges.{taken_back, without_old}
 use Rattle.exam_changes.specs.TablesBefore.{AreOf}
@@ -63,12 +62,3 @@ module _ (old new seats : Seats) (mixed : MixesPlans old new seats) (up : KeysRi
     told_after = λ k known. is_at k (has_row seat_cmp new k) refl (has_row seat_cmp old k) refl known;
     others = λ k out. elsewhere k (has_row seat_cmp new k) refl (has_row seat_cmp old k) refl out;
   }
-
--- each seat of the old plans is there
-pub has_old : (o : Option Plans) (new seats : Seats) → AreMixed o new seats → HasOld o seats
-has_old None new seats mixed = tt
-has_old (Some old) new seats mixed = λ k was. inner k was (has_row seat_cmp new k) refl
-  where
-    inner : (k : Code × ℕ) → has_row seat_cmp old.entries k ≡ true → (b : Bool) → has_row seat_cmp new k ≡ b → has_row seat_cmp seats k ≡ true
-    inner k was true here = ap is_some (mixed.put k here) ∙ here
-    inner k was false away = ap is_some (mixed.kept k away was) ∙ was

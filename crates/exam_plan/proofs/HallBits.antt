@@ -43,11 +43,6 @@ one_test zero l = refl
 one_test (suc zero) l = refl
 one_test (suc (suc x)) l = absurd (omega arith)
 
-no_bit : (x : ℕ) → x < 2 → nat_eq x 1 ≡ false → x ≡ 0
-no_bit zero l e = refl
-no_bit (suc zero) l e = cc
-no_bit (suc (suc x)) l e = absurd (omega arith)
-
 -- ---- the operations
 
 pub holds_empty : (h : ℕ) → holds 0 h ≡ false

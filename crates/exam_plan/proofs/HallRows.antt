@@ -23,13 +23,6 @@ row_read desks rows rank c set h are below read =
     let here : (k : ℕ) → holds set k ≡ true → k < length desks = subst (λ (z : ℕ). (k : ℕ) → holds z k ≡ true → k < length desks) (sym read) within in
     sym (any_passing (holds set) (length desks) h (here h)) ∙ ap (λ z. list_any (nat_eq h) (halls_below (length desks) z)) read ∙ ap (list_any (nat_eq h)) (sym at)
 
-pub row_within : (desks rows rank : List ℕ) (c set h : ℕ) → AreMasks desks rows rank
-    → c < length (map (halls_below (length desks)) rows) → set ≡ get_or rows c set → holds set h ≡ true
-    → h < length desks
-row_within desks rows rank c set h are below read held =
-    let long : length (map (halls_below (length desks)) rows) ≡ length rows = length-map rows (halls_below (length desks)) in
-    All-get_or (λ row. (k : ℕ) → holds row k ≡ true → k < length desks) rows c set (omega arith) are.within h (ap (λ z. holds z h) (sym read) ∙ held)
-
 -- ---- rows that come as masks
 
 -- a set below a power of two has no hall past it

@@ -222,9 +222,6 @@ module _ {C H : Type 0} (name : Naming C H) (r : Renames name) (f : Follows name
       outer None at = ap (option_and_then (λ i. option_map name.hall (by_index q i))) at ∙ sym (nowhere (q c) refl at)
       outer (Some i) at = named_member name r (by_index q) c i at ∙ ap (option_map name.hall) (seat_index q c i at) ∙ here (q c) (lawful.fitting c)
 
-  pub kept_part-indexed : (q : Plan C H) → SamePlan (by_index (kept_part name.of_names q)) (kept_part name.of_indices (by_index q))
-  kept_part-indexed q i = ap (λ (p : Plan C H). by_index p i) (fun_ext (kept_part-named q)) ∙ index_of_name (kept_part name.of_indices (by_index q)) (kept_part-fits (by_index q)) i
-
   -- ---- repairs
 
   pub IsRepair-named : (first : Option C) (q : Plan C H) (after : Plan ℕ ℕ)

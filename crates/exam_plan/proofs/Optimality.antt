@@ -40,9 +40,6 @@ module _ (p : Problem) (good : IsProblem p) (q : Plan ℕ ℕ) (lawful : IsLawfu
       (λ h l t. let e = length-occupants p q h in let f = closed.full h l t in let w : length (occupants (seating_of p) q h) ≤ get_or p.desk_counts h 0 = lawful.within_desks h in omega arith)
 
   module _ (other : Plan ℕ ℕ) (also : IsLawful (seating_of p) other) where
-    outside : ℕ → Bool
-    outside c = not (drawn_in D (q c))
-
     fewer_within : count_below (λ c. sits_within D (other c)) (length p.fit) ≤ count_below (λ c. sits_within D (q c)) (length p.fit)
     fewer_within =
         let a = counted_twice D (length p.desk_counts) other (length p.fit) (λ c l. lawful_exists p good other also c) in

@@ -1,11 +1,11 @@
 -- The steps of the searches' loops.
 use Rattle.std.proofs.Common.{◌≡◌, ◌≢◌, ℕ, zero, suc, ◌+◌, ◌<◌, ◌≤◌, ◌↔◌, Bool, true, false, not, ◌&&◌, ◌||◌, cond}
 use Rattle.std.proofs.Common.{IsTrue, List, [], ◌∷◌, ◌++◌, length, get_or, set, Option, None, Some, IfSome, is_some}
-use Rattle.std.proofs.Common.{nat_eq, nat_lt, ◌⊎◌, refl, sym, ap, ◌∙◌, inl, inr, subst, arith}
+use Rattle.std.proofs.Common.{nat_eq, ◌⊎◌, refl, sym, ap, ◌∙◌, inl, inr, subst, arith}
 use Rattle.std.specs.Prelude.{All, MatchOption}
 use Rattle.std.proofs.lemmas.List.Elements.{All-get_or, All-set}
 use Rattle.std.specs.Option.{option_map_or}
-use Rattle.std.proofs.lemmas.Bool.{cases_eq, cases_lt, cases_Bool, or_cases, or_left, or_right, and_parts, and_from, eq-eqb, ne_eqb, ltb-true, lt-ltb}
+use Rattle.std.proofs.lemmas.Bool.{cases_eq, cases_lt, cases_Bool, or_cases, or_left, or_right, and_parts, and_from, eq-eqb, ne_eqb}
 use Rattle.std.proofs.lemmas.List.{get_or-set_same, get_or-set_other, get_or_past, length-append, get_or_default}
 use Rattle.exam_plan.specs.HallSets.{holds}
 use Rattle.exam_plan.specs.Matching.{Plan, occupants}
@@ -13,7 +13,7 @@ use Rattle.exam_plan.specs.Chains.{HasFreeDesk, LeadsTo}
 use Rattle.exam_plan.specs.Problems.{Problem, IsProblem, IsPlan, plan_at, seating_of}
 use Rattle.exam_plan.specs.Searches.{IsMarked, MarksAll, IsTouching, Reaches, CanReach, AreLayers, AreInward, AreOnward, IsLeastHall, IsLeastMover, IsAdvanced, count_at}
 use Rattle.exam_plan.proofs.Counting.{bit, count_below, count_below-same, count_by-range, count_below-more, count_below-lt, count_below-le-bound, sits_at, bit_le}
-use Rattle.exam_plan.proofs.Seatings.{length-occupants, fits_below}
+use Rattle.exam_plan.proofs.Seatings.{fits_below}
 
 -- ---- reading a plan
 
@@ -72,17 +72,6 @@ module _ (q : Plan ℕ ℕ) (halls i : ℕ) (counts : List ℕ) (counted : (h : 
       let more = count_at-more q h i in
       let b : bit (sits_at h (q i)) ≡ 0 = ap (λ o. bit (sits_at h o)) sits in
       omega (arith, more, b, counted h below)
-
-pub is_free : (p : Problem) (m : List (Option ℕ)) (h a d : ℕ) → length m ≡ length p.fit → a ≡ count_at (plan_at m) h (length m) → d ≡ get_or p.desk_counts h 0
-    → (nat_lt a d ≡ true) ↔ HasFreeDesk (seating_of p) (plan_at m) h
-is_free p m h a d whole counted desks =
-    let o = length-occupants p (plan_at m) h in
-    let e = count_at-below (plan_at m) h (length m) in
-    let f : count_below (λ c. sits_at h (plan_at m c)) (length m) ≡ count_below (λ c. sits_at h (plan_at m c)) (length p.fit) = ap (count_below (λ c. sits_at h (plan_at m c))) whole in (
-      (λ t. let l = ltb-true a d t in omega (arith, o, e, f, l)),
-      (λ l. lt-ltb a d (let k : length (occupants (seating_of p) (plan_at m) h) < get_or p.desk_counts h 0 =
-          l in omega (arith, o, e, f, k))),
-    )
 
 -- ---- places
 
@@ -220,12 +209,6 @@ pub record IsFresh (sets : List ℕ) (marked fresh : ℕ) : Type 0 where
   pub within : (k : ℕ) → IsMarked (holds fresh) k → IsMarked (holds marked) k
   pub settled : (k h : ℕ) → IsMarked (holds marked) k → holds fresh k ≡ false → IsMarked (holds (get_or sets k 0)) h → IsMarked (holds marked) h
 
-pub all_fresh : (sets : List ℕ) (marked : ℕ) → IsFresh sets marked marked
-all_fresh sets marked = record {
-  within = λ k t. t;
-  settled = λ k h t f m. let z : true ≡ false = sym t ∙ f in cc;
-}
-
 pub next_fresh : (sets : List ℕ) (marked fresh next after : ℕ) → IsFresh sets marked fresh
     → IsWidened sets marked fresh next → ((h : ℕ) → holds after h ≡ holds next h && not (holds marked h))
     → IsFresh sets next after
@@ -344,9 +327,6 @@ module _ (p : Problem) (q : Plan ℕ ℕ) (c : ℕ) where
   IsFollowed led fresh dead =
       (d h k : ℕ) → q d ≡ Some h → IsMarked (holds led) h → holds fresh h ≡ false → IsTrue ((seating_of p).fits d k) → IsMarked (holds led) k ⊎ IsMarked (holds dead) k
 
-  pub followed_none : (led dead : ℕ) → IsFollowed led led dead
-  followed_none led dead d h k sits t f fits = absurd (let z : true ≡ false = sym t ∙ f in cc)
-
   module _ (sets : List ℕ) (onward : AreOnward p q sets) (dead led fresh next more rest : ℕ) (good : IsProblem p)
       (apart : (h : ℕ) → IsMarked (holds led) h → IsMarked (holds dead) h → ⊥) (leads : (h : ℕ) → IsMarked (holds led) h → (j : ℕ) × LeadsTo (seating_of p) q c j h)
       (within : (h : ℕ) → IsMarked (holds fresh) h → IsMarked (holds led) h) (followed : IsFollowed led fresh dead)
@@ -421,11 +401,6 @@ module _ (p : Problem) (q : Plan ℕ ℕ) where
           (marks h).0 parts.1,
           λ k fit reach. least k (common k ∙ and_from (holds row k) (holds layer k) (fits k ∙ fit) ((marks k).1 reach)),
         )
-
-    pub hall_not_found : ((h : ℕ) → holds both h ≡ false) → CanReach p q j c → ⊥
-    hall_not_found none r =
-        let t = common r.0 ∙ and_from (holds row r.0) (holds layer r.0) (fits r.0 ∙ r.1) ((marks r.0).1 r.2) in
-        let z : false ≡ true = sym (none r.0) ∙ t in cc
 
   -- a full hall that reaches a free desk has someone who can move on
   pub mover_of : (j c h : ℕ) (s : ℕ → Bool) → MarksAll s (Reaches p q j) → IsLeastHall p q (suc j) c h → ((i : ℕ) → i < suc j → CanReach p q i c → ⊥) → (d : ℕ) × (q d ≡ Some h) × IsTouching p s d

@@ -1,9 +1,9 @@
 -- What one turn of the sweep keeps.
-use Rattle.std.proofs.Common.{append-nil, ◌++◌, ◌≡◌, ◌⊎◌, ℕ, zero, suc, ◌+◌, ◌<◌, ◌≤◌, ◌||◌, ◌&&◌, not, Bool, true}
+use Rattle.std.proofs.Common.{append-nil, ◌++◌, ◌≡◌, ◌⊎◌, ℕ, zero, suc, ◌+◌, ◌<◌, ◌||◌, ◌&&◌, not, Bool, true}
 use Rattle.std.proofs.Common.{false, cond, IsTrue, List, [], ◌∷◌, length, get_or, set, nat_eq, nat_lt, Option, None}
 use Rattle.std.proofs.Common.{Some, IsSome, is_some, refl, sym, ap, ◌∙◌, inl, inr, subst, arith}
 use Rattle.std.proofs.lemmas.Bool.{cases_eq, cases_lt, eq-eqb, ne_eqb, eqb-true, ltb-true, lt-ltb, or_cases, or_left, or_right, and_from, and_parts}
-use Rattle.std.proofs.lemmas.List.{get_or_past, get_or_default}
+use Rattle.std.proofs.lemmas.List.{get_or_default}
 use Rattle.std.proofs.lemmas.Option.{same_Some}
 use Rattle.std.proofs.Math.Bool.{not-not}
 use Rattle.std.specs.Prelude.{Contains, ◌↔◌}
@@ -197,25 +197,6 @@ pub marks_skip : (P : ℕ → Type 0) (set i : ℕ) → MarksAll (holds set) (λ
 marks_skip P set i marks away h = (
   (λ t. let w = (marks h).0 t in ((let l : h < i = w.0 in omega arith), w.1)),
   (λ w. (marks h).1 ((let l : h < i + 1 = w.0 in elim (cases_lt h i) [ inl k ↦ k | inr g ↦ absurd (let e : h ≡ i = omega arith in away (subst P e w.1)) ]), w.1)),
-)
-
-pub marks_none : (P : ℕ → Type 0) (set : ℕ) → ((h : ℕ) → holds set h ≡ false) → MarksAll (holds set) (λ h. (h < 0) × P h)
-marks_none P set none h = ((λ t. absurd (let z : false ≡ true = sym (none h) ∙ t in cc)), (λ w. absurd (let l : h < 0 = w.0 in omega arith)))
-
-pub marks_free : (p : Problem) (q : Plan ℕ ℕ) (set n : ℕ) → length p.desk_counts ≤ n
-    → MarksAll (holds set) (λ h. (h < n) × HasFreeDesk (seating_of p) q h)
-    → MarksAll (holds set) (HasFreeDesk (seating_of p) q)
-marks_free p q set n all marks h = (
-  (λ t. ((marks h).0 t).1),
-  (λ f. (marks h).1 (
-    (elim (cases_lt h n) [
-      | inl l ↦ l
-      | inr g ↦ absurd (let z : get_or p.desk_counts h 0 ≡ 0 =
-          get_or_past p.desk_counts h 0 (omega arith) in
-          let l : length (occupants (seating_of p) q h) < get_or p.desk_counts h 0 = f in omega (arith, z, l))
-    ]),
-    f,
-  )),
 )
 
 -- no hall is dead at the start

@@ -13,8 +13,8 @@ use Rattle.exam_plan.specs.Matching.{Plan, IsLawful}
 use Rattle.exam_rules.specs.Relations.{Code, Relations, code_cmp}
 use Rattle.exam_rules.specs.Seatings.{indexed_seating}
 use Rattle.exam_rules.specs.Names.{naming, number_at, hall_at, hall_index, ListsRise, SeatsInOpenHalls}
-use Rattle.exam_rules.proofs.Naming.{renames, numbers_rise, codes_rise, fit_member, fit_open, hall_known}
-use Rattle.exam_plan.proofs.ChainNames.{Follows, AreKnown}
+use Rattle.exam_rules.proofs.Naming.{numbers_rise, codes_rise, fit_member, fit_open}
+use Rattle.exam_plan.proofs.ChainNames.{Follows}
 
 -- if names rise with their indices, they compare as the indices
 order_kept : {Y : Type 0} (S : Y → Y → Ordering) → IsTotalOrder S → (name : ℕ → Y) (P : ℕ → Type 0) → ((i j : ℕ) → P i → P j → nat_cmp i j ≡ Less → S (name i) (name j) ≡ Less)
@@ -35,11 +35,6 @@ follows r s up = record {
   same_b = λ c d. (exact_unsigned_eq c d, eq-eqb c d);
   fit_members = fit_member r s;
 }
-
--- a plan that seats in open halls alone seats in halls with names
-pub all_known : (r : Relations) (s : Code) (up : ListsRise r s) (p : Plan ℕ ℕ) → SeatsInOpenHalls r s p
-    → AreKnown (naming r s) (renames r s up) (follows r s up) p
-all_known r s up p within i = IfSome_then (p i) (within i) (hall_known r s up)
 
 pub lawful_seats : (r : Relations) (s : Code) (p : Plan ℕ ℕ) → IsLawful (indexed_seating r s) p → SeatsInOpenHalls r s p
 lawful_seats r s p lawful i = IfSome_then (p i) (lawful.fitting i) (fit_open r s i)

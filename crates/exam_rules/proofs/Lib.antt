@@ -12,7 +12,6 @@ pub mod Writing
 pub mod Listed
 pub mod Entered
 pub mod Closing
-pub mod InForce
 pub mod InOrder
 pub mod NamedDesks
 pub mod Relisting

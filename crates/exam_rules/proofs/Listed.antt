@@ -23,7 +23,7 @@ use Rattle.std.proofs.lemmas.Map.Keys.{Less-from_sorted}
 use Rattle.std.proofs.lemmas.Bool.{ne_eqb}
 use Rattle.exam_rules.specs.declared.rows.Entry.{Entry}
 use Rattle.exam_rules.specs.declared.rows.Paper.{Paper}
-use Rattle.exam_rules.specs.Relations.{Code, Relations, code_cmp, same_code, row_at, is_row_of, leading}
+use Rattle.exam_rules.specs.Relations.{Code, Relations, code_cmp, same_code, row_at}
 use Rattle.exam_rules.specs.Sessions.{head_of, is_live_entry, has_live_entry, is_paper_of, live_papers_in, least_live_paper, members}
 use Rattle.exam_rules.proofs.Together.{any_is}
 use Rattle.exam_rules.specs.declared.listing.Entrant.{Entrant}
@@ -72,9 +72,9 @@ marked_once n None (Some q) old new e = ap (with_last (entrant n q)) e
 marked_once n None None old new e = e
 
 module _ (r : Relations) (n : ℕ) where
-  -- the first paper for which one of the candidate's rows at the beginning counts for the session
+  -- the first paper for which one of these rows counts for the session
   abbrev pub first_in : Code → List ((ℕ × Code) × Entry) → Option Code
-  first_in s rows = head_of (live_papers_in r (leading (is_row_of n) rows) s n)
+  first_in s rows = head_of (live_papers_in r rows s n)
 
   -- which session a row counts for
   pub counts_for : (s p : Code) (e : Entry) (o : Option Code) → entered_session r p e ≡ o → (e.live && is_paper_of r s p) ≡ option_map_or (λ t. same_code t s) o false
@@ -101,15 +101,15 @@ module _ (r : Relations) (n : ℕ) where
   pub first_in_row : (s : Code) (k : ℕ × Code) (e : Entry) (rest : List ((ℕ × Code) × Entry)) (o : Option Code) → nat_eq k.0 n ≡ true → entered_session r k.1 e ≡ o
       → first_in s ((k, e) ∷ rest) ≡ option_or (paper_for s o k.1) (first_in s rest)
   first_in_row s k e rest o own is =
-      rw (own, own) (ap (λ b. head_of
+      rw own (ap (λ b. head_of
       (map (λ (e : (ℕ × Code) × Entry). e.0.1)
-      (cond b ((k, e) ∷ filter (is_live_entry r s n) (leading (is_row_of n) rest))
-      (filter (is_live_entry r s n) (leading (is_row_of n) rest))))) (counts_for s k.1 e o is) ∙ split o)
+      (cond b ((k, e) ∷ filter (is_live_entry r s n) rest)
+      (filter (is_live_entry r s n) rest)))) (counts_for s k.1 e o is) ∙ split o)
     where
       inner : (b : Bool) → head_of
           (map (λ (e : (ℕ × Code) × Entry). e.0.1)
-          (cond b ((k, e) ∷ filter (is_live_entry r s n) (leading (is_row_of n) rest))
-          (filter (is_live_entry r s n) (leading (is_row_of n) rest))))
+          (cond b ((k, e) ∷ filter (is_live_entry r s n) rest)
+          (filter (is_live_entry r s n) rest)))
           ≡ option_or (cond b (Some k.1) None) (first_in s rest)
       inner true = refl
       inner false = refl
@@ -117,8 +117,8 @@ module _ (r : Relations) (n : ℕ) where
       split : (o : Option Code)
           → head_of (map (λ (e : (ℕ × Code) × Entry). e.0.1)
           (cond (option_map_or (λ t. same_code t s) o false)
-          ((k, e) ∷ filter (is_live_entry r s n) (leading (is_row_of n) rest))
-          (filter (is_live_entry r s n) (leading (is_row_of n) rest))))
+          ((k, e) ∷ filter (is_live_entry r s n) rest)
+          (filter (is_live_entry r s n) rest)))
           ≡ option_or (paper_for s o k.1) (first_in s rest)
       split None = refl
       split (Some t) = inner (same_code t s)

@@ -241,26 +241,3 @@ module _ (before after : Relations) (s : Code) (c : ℕ) (sets : SetsEntry befor
       → ((t : Code) → listed new.members.entries t ≡ cond (same_code s t) list (listed old.members.entries t)) → new.halls.entries ≡ old.halls.entries → AreListsOf after new
   relisted_lists old new list up are made put halls =
       lists_with old new list (λ t. lists_rise after t up) are (made ∙ ap (placed c (listed_paper after s c)) (are.members s) ∙ sym (listed_anew (up Candidates))) put halls
-
--- ---- the lists as they were
-
--- lists of the same members and halls
-pub lists_kept : (r : Relations) (was now : SessionLists) → AreListsOf r was
-    → ((t : Code) → listed now.members.entries t ≡ listed was.members.entries t)
-    → now.halls.entries ≡ was.halls.entries → AreListsOf r now
-lists_kept r was now are same halls = record {
-  numbers = are.numbers;
-  members = λ t. same t ∙ are.members t;
-  halls = λ t. ap (λ (rows : List (Code × Vec Code Global)). listed rows t) halls ∙ are.halls t;
-  rising = are.rising;
-}
-
--- one list changed, and then put back
-pub lists_put_back : (r : Relations) (s : Code) (was changed back : SessionLists) (list : List Entrant) → AreListsOf r was → list ≡ listed was.members.entries s
-    → ((t : Code) → same_code s t ≡ false → listed changed.members.entries t ≡ listed was.members.entries t) → changed.halls.entries ≡ was.halls.entries
-    → ((t : Code) → listed back.members.entries t ≡ cond (same_code s t) list (listed changed.members.entries t)) → back.halls.entries ≡ changed.halls.entries → AreListsOf r back
-lists_put_back r s was changed back list are its_own others halls put halls_after = lists_kept r was back are (λ t. put t ∙ inner t (same_code s t) refl) (halls_after ∙ halls)
-  where
-    inner : (t : Code) (b : Bool) → same_code s t ≡ b → cond b list (listed changed.members.entries t) ≡ listed was.members.entries t
-    inner t true same = its_own ∙ ap (listed was.members.entries) (same_code_exact s t same)
-    inner t false other = others t other

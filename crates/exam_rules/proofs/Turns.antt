@@ -2,7 +2,7 @@
 use Rattle.std.proofs.Common.{◌≡◌, ℕ, ◌+◌, ◌<◌, true, List, [], ◌∷◌, ◌++◌, length, map, filter, get_or, drop, drop-cons, append_assoc, add-one, nat_eq, Option, sym, ap, ◌∙◌}
 use Rattle.std.specs.List.{flat_map}
 use Rattle.exam_rules.specs.declared.rows.Entry.{Entry}
-use Rattle.exam_rules.specs.Relations.{Code, Relations, is_row_of, leading}
+use Rattle.exam_rules.specs.Relations.{Code, Relations}
 use Rattle.exam_rules.specs.Sessions.{is_paper_of, live_papers_in, is_clash}
 
 -- after the pieces of one more element have been appended
@@ -17,7 +17,7 @@ push_step before after rest whole y pushed so_far = rw (pushed, append_assoc) so
 
 module _ (r : Relations) (s : Code) (n : ℕ) (sat : Option Code) where
   abbrev pub clashes_left : List ((ℕ × Code) × Entry) → List (ℕ × Code)
-  clashes_left rows = map (λ p. (n, p)) (filter (is_clash sat) (live_papers_in r (leading (is_row_of n) rows) s n))
+  clashes_left rows = map (λ p. (n, p)) (filter (is_clash sat) (live_papers_in r rows s n))
 
   -- a row of the candidate that is a clash comes first
   pub clash_turn : (k : ℕ × Code) (e : Entry) (rows : List ((ℕ × Code) × Entry)) → nat_eq k.0 n ≡ true → e.live ≡ true → is_paper_of r s k.1 ≡ true → is_clash sat k.1 ≡ true

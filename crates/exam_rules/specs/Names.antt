@@ -4,7 +4,6 @@ use Rattle.std.specs.Prelude.{slice_index, slice_index_or, if◌then◌else◌}
 use Rattle.std.specs.List.Sorted.{IsStrictlySortedBy}
 use Rattle.std.specs.Ordering.{nat_cmp}
 use Rattle.exam_plan.specs.Matching.{Plan}
-use Rattle.exam_plan.specs.Chains.{Chain}
 use Rattle.exam_plan.specs.Naming as plans
 use Rattle.exam_rules.specs.Relations.{Code, Relations, code_cmp, same_code}
 use Rattle.exam_rules.specs.Sessions.{members}
@@ -45,10 +44,6 @@ named_plan r s = plans.named_plan (naming r s)
 -- a plan by numbers and codes, read by indices: the i-th member sits in their hall, and no other index has one
 abbrev pub indexed_plan : Relations → Code → Plan ℕ Code → Plan ℕ ℕ
 indexed_plan r s = plans.indexed_plan (naming r s)
-
--- a chain by indices, read by numbers and codes
-abbrev pub named_chain : Relations → Code → Chain ℕ ℕ → Chain ℕ Code
-named_chain r s = plans.named_chain (naming r s)
 
 -- the plan by indices seats candidates only in halls that exist
 abbrev pub SeatsInOpenHalls : Relations → Code → Plan ℕ ℕ → Type 0

@@ -163,9 +163,6 @@ is_marked r key = has_row appeal_cmp r.standing key
 abbrev pub is_standing : Relations → ℕ → (ℕ × Code) × Appeal → Bool
 is_standing r c a = (a.0.0 == c) && (is_granted a.1.status && is_marked r a.0)
 
-abbrev pub has_standing_grant : Relations → ℕ → Bool
-has_standing_grant r c = list_any (is_standing r c) r.appeals
-
 -- the arrangement that the appeal asks, with its session and the session's date
 abbrev pub standing_grant : Relations → Appeal → Option StandingGrant
 standing_grant r a =

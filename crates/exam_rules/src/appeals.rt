@@ -4,15 +4,15 @@ ghost use Rattle.exam_types.specs.declared.refusal.Refusal.TheVariants.{NoMemory
 ghost use Rattle.std.specs.List.{list_any};
 ghost use Rattle.std.specs.BTreeMap.Range.{entries_between};
 ghost use Rattle.std.specs.declared.ops.Bound.TheVariants.{Unbounded, Excluded};
-ghost use Rattle.exam_rules.specs.Relations.{Code, relations_of, appeal_cmp, is_row_of, leading, same_code};
+ghost use Rattle.exam_rules.specs.Relations.{Code, relations_of, appeal_cmp, is_row_of, same_code};
 ghost use Rattle.exam_rules.specs.Granted as granted;
 ghost use Rattle.exam_rules.specs.Sessions as spec;
 
 use crate::facts::Facts;
+use crate::own_rows::OwnRows;
 use crate::rows::{Appeal, Arrangement, Status, Subject};
 use exam_types::{HallCode, Number, PaperCode, Reference, Refusal, SessionCode};
 use std::alloc::Global;
-use std::collections::btree_map::Range;
 
 /// The least reference, by which a candidate's appeals begin.
 fn least_reference() -> Reference
@@ -21,7 +21,7 @@ fn least_reference() -> Reference
     Reference::parse(b"0").unwrap()
 }
 
-/// The candidate has no appeal before the least key. Only the proof of `appeals_from` uses it.
+/// The candidate has no appeal before the least key. Only the proof of `appeals_of` uses it.
 fn no_appeal_before(facts: &Facts, number: Number, least: Reference)
     requires { least ≡ codes "0" }
     ensures { filter (is_row_of number)
@@ -36,17 +36,15 @@ fn no_appeal_before(facts: &Facts, number: Number, least: Reference)
     }
 }
 
-/// The appeals from the candidate's first on; those of later numbers follow.
-pub fn appeals_from<'a>(facts: &'a Facts, number: Number) -> Range<'a, (Number, Reference), Appeal>
-    // The leading rows with this number are all of the candidate's.
-    ensures rows { leading (is_row_of number) result ≡ filter (is_row_of number) facts.now.appeals.entries }
+/// The candidate's appeals, by reference.
+pub fn appeals_of<'a>(facts: &'a Facts, number: Number) -> OwnRows<'a, Reference, Appeal>
+    ensures rows { result ≡ (number, filter (is_row_of number) facts.now.appeals.entries) }
     ensures granted { (s : Code)
-        → spec.granted_subjects (leading (is_row_of number) result) s number
-        ≡ spec.granted_subjects facts.now.appeals.entries s number }
+        → spec.granted_subjects result.1 s number ≡ spec.granted_subjects facts.now.appeals.entries s number }
 {
     let least = least_reference();
     no_appeal_before(facts, number, least);
-    facts.appeals.range((number, least)..)
+    OwnRows::new(number, facts.appeals.range((number, least)..))
 }
 
 /// Whether the candidate has at most `most` appeals.
@@ -54,10 +52,7 @@ pub fn has_at_most(facts: &Facts, number: Number, most: usize) -> bool
     ensures { result ≡ nat_le (spec.appeal_count (relations_of facts.now) number) most }
 {
     let mut count: usize = 0;
-    for (key, _) in appeals_from(facts, number) {
-        if key.0 != number {
-            break;
-        }
+    for (_, _) in appeals_of(facts, number) {
         if count >= most {
             return false;
         }
@@ -90,10 +85,7 @@ fn first_granted<T, F: Fn(Subject) -> Option<T>>(
         → ((s : granted.Subject) (r : Option T) → F.post wanted s r → r ≡ made s)
         → result ≡ granted.first_made made facts.now.appeals.entries session.now number }
 {
-    for (key, appeal) in appeals_from(facts, number) {
-        if key.0 != number {
-            break;
-        }
+    for (_, appeal) in appeals_of(facts, number) {
         if is_granted_for(appeal, session) {
             if let Some(made) = wanted(appeal.subject) {
                 return Some(made);
@@ -161,10 +153,7 @@ pub fn barred_halls(
     ensures memory { IfErr result (λ e. e ≡ NoMemory) }
 {
     let mut halls = Vec::new(alloc);
-    for (key, appeal) in appeals_from(facts, number) {
-        if key.0 != number {
-            break;
-        }
+    for (_, appeal) in appeals_of(facts, number) {
         if is_granted_for(appeal, session) {
             if let Subject::Hall(barred) = appeal.subject {
                 halls.push(barred)?;

@@ -7,7 +7,7 @@ ghost use Rattle.exam_rules.specs.Sessions as spec;
 
 use crate::facts::Facts;
 use crate::listing::{lists_with, numbers_of};
-use crate::sessions::{entries_from, is_clash, is_paper_of, sitting_by_entries};
+use crate::sessions::{entries_of, is_clash, is_paper_of, sitting_by_entries};
 use exam_types::{Number, PaperCode, Refusal, SessionCode};
 use std::alloc::Global;
 
@@ -57,10 +57,7 @@ fn push_clashes(
     ensures memory { IfErr result (λ e. e ≡ NoMemory) }
 {
     let sat = sitting_by_entries(facts, session, number);
-    for (key, entry) in entries_from(facts, number) {
-        if key.0 != number {
-            break;
-        }
+    for (key, entry) in entries_of(facts, number) {
         if entry.live && is_paper_of(facts, session, &key.1) && is_clash(&sat, &key.1) {
             list.push((number, key.1))?;
         }

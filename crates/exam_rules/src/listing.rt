@@ -13,7 +13,7 @@ ghost use Rattle.exam_rules.specs.Lists as listing;
 use crate::by_session::{BySession, append_by_session, listed, one};
 use crate::facts::Facts;
 use crate::rows::Entry;
-use crate::sessions::{entries_from, sitting_beside, sitting_by_entries};
+use crate::sessions::{entries_of, sitting_beside, sitting_by_entries};
 use exam_types::{HallCode, Number, PaperCode, Refusal, SessionCode};
 use std::alloc::Global;
 use std::collections::BTreeMap;
@@ -98,10 +98,7 @@ fn append_member(
         (listing.listed members.old.entries s)) }
     ensures memory { IfErr result (λ e. e ≡ NoMemory) }
 {
-    for (key, entry) in entries_from(facts, number) {
-        if key.0 != number {
-            break;
-        }
+    for (key, entry) in entries_of(facts, number) {
         if let Some(session) = entered_session(facts, &key.1, entry) {
             let paper = key.1;
             append_last(alloc, members, session, Entrant { number, paper })?;

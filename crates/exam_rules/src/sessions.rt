@@ -2,15 +2,15 @@
 ghost use Rattle.std.specs.Prelude.{◌≡◌, ◌↔◌, [], None, Some, filter, codes, Contains, IsTrue, if◌then◌else◌};
 ghost use Rattle.std.specs.BTreeMap.Range.{entries_between};
 ghost use Rattle.std.specs.declared.ops.Bound.TheVariants.{Unbounded, Excluded};
-ghost use Rattle.exam_rules.specs.Relations.{Code, relations_of, entry_cmp, is_row_of, leading};
+ghost use Rattle.exam_rules.specs.Relations.{Code, relations_of, entry_cmp, is_row_of};
 ghost use Rattle.exam_rules.specs.Sessions as spec;
 
 use crate::appeals::{granted_arrangement, granted_paper};
 use crate::facts::Facts;
+use crate::own_rows::OwnRows;
 use crate::rows::{Arrangement, Entry};
 use crate::standing::standing_arrangement;
 use exam_types::{Extra, Features, Number, PaperCode, SessionCode};
-use std::collections::btree_map::Range;
 
 /// The least paper code, with which a candidate's entries begin.
 fn least_paper() -> PaperCode
@@ -19,7 +19,7 @@ fn least_paper() -> PaperCode
     PaperCode::parse(b"-").unwrap()
 }
 
-/// The candidate has no entry before the least key. Only the proof of `entries_from` uses it.
+/// The candidate has no entry before the least key. Only the proof of `entries_of` uses it.
 fn no_entry_before(facts: &Facts, number: Number, least: PaperCode)
     requires { least ≡ codes "-" }
     ensures { filter (is_row_of number)
@@ -34,17 +34,16 @@ fn no_entry_before(facts: &Facts, number: Number, least: PaperCode)
     }
 }
 
-/// The entries from the candidate's first on; those of later numbers follow.
-pub fn entries_from<'a>(facts: &'a Facts, number: Number) -> Range<'a, (Number, PaperCode), Entry>
-    // The leading rows with this number are all of the candidate's.
-    ensures rows { leading (is_row_of number) result ≡ filter (is_row_of number) facts.now.entries.entries }
+/// The candidate's entries, by paper.
+pub fn entries_of<'a>(facts: &'a Facts, number: Number) -> OwnRows<'a, PaperCode, Entry>
+    ensures rows { result ≡ (number, filter (is_row_of number) facts.now.entries.entries) }
     ensures live { (s : Code)
-        → spec.live_papers_in (relations_of facts.now) (leading (is_row_of number) result) s number
+        → spec.live_papers_in (relations_of facts.now) result.1 s number
         ≡ spec.live_papers (relations_of facts.now) s number }
 {
     let least = least_paper();
     no_entry_before(facts, number, least);
-    facts.entries.range((number, least)..)
+    OwnRows::new(number, facts.entries.range((number, least)..))
 }
 
 /// Whether the paper exists and is of the session.
@@ -76,10 +75,7 @@ pub fn is_live_paper(
 pub fn least_live_paper(facts: &Facts, session: &SessionCode, number: Number) -> Option<PaperCode>
     ensures { result ≡ spec.least_live_paper (relations_of facts.now) session.now number }
 {
-    for (key, row) in entries_from(facts, number) {
-        if key.0 != number {
-            break;
-        }
+    for (key, row) in entries_of(facts, number) {
         if row.live && is_paper_of(facts, session, &key.1) {
             return Some(key.1);
         }

@@ -4,7 +4,7 @@ ghost use Rattle.std.specs.Ordering.{is_lt};
 ghost use Rattle.exam_rules.specs.Relations.{relations_of};
 ghost use Rattle.exam_rules.specs.Sessions as spec;
 
-use crate::appeals::{appeals_from, is_granted};
+use crate::appeals::{appeals_of, is_granted};
 use crate::facts::Facts;
 use crate::rows::{Appeal, Arrangement, Subject};
 use exam_types::{Number, Reference, SessionCode, SessionDay};
@@ -69,10 +69,7 @@ fn last_until(facts: &Facts, number: Number, day: SessionDay) -> Option<Standing
     ensures { result ≡ spec.last_until day (spec.standing_grants (relations_of facts.now) number) }
 {
     let mut last = None;
-    for (key, appeal) in appeals_from(facts, number) {
-        if key.0 != number {
-            break;
-        }
+    for (key, appeal) in appeals_of(facts, number) {
         if is_standing(facts, key, appeal) {
             if let Some(grant) = standing_grant(facts, appeal) {
                 if grant.day <= day {

@@ -7,7 +7,6 @@ pub mod Deletes
 pub mod Edits
 pub mod Failing
 pub mod Fits
-pub mod InOrder
 pub mod Keying
 pub mod Keys
 pub mod KeysHold

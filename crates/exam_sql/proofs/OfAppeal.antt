@@ -6,7 +6,7 @@ use Rattle.sqlite_rules.specs.Cast.{cast}
 use Rattle.sqlite_value.specs.declared.value.Value.TheVariants.{Int, Null, Text}
 use Rattle.sqlite_value.specs.Order.{Row, value_cmp}
 use Rattle.sqlite_trees.specs.Tree.{rowid}
-use Rattle.sqlite_sql.specs.Term.{Term, col, eval_all, lit}
+use Rattle.sqlite_sql.specs.Term.{Term, col, eval_all}
 use Rattle.sqlite_schema.specs.declared.command.Conflict.TheVariants.{Abort}
 use Rattle.sqlite_schema.specs.declared.command.Command.TheVariants.{InsertOr}
 use Rattle.sqlite_schema.specs.declared.command.Source.TheVariants.{Values}

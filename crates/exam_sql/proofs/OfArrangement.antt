@@ -2,7 +2,6 @@
 use Rattle.std.proofs.Common.{Bool, [], false, lit<, lit≤, refl, true, ℤ, ◌∷◌}
 use Rattle.sqlite_value.specs.declared.value.Value.TheVariants.{Int, Null}
 use Rattle.sqlite_value.specs.Order.{Row, value_cmp}
-use Rattle.sqlite_sql.specs.Term.{lit}
 use Rattle.sqlite_tied.specs.Compute.{everything}
 use Rattle.sqlite.specs.Listing.{understood}
 use lib.Utf8.{encode}

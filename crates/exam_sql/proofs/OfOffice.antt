@@ -1,5 +1,5 @@
 -- The table office: how it is made, what its texts mean, and what they do.
-use Rattle.std.proofs.Common.{Bool, List, OnOk, Result, [], codes, false, lit<, lit≤, pos, refl, true, ℕ, ℤ, ◌∷◌, ◌≡◌}
+use Rattle.std.proofs.Common.{Bool, List, OnOk, Result, [], false, lit<, lit≤, pos, refl, true, ℕ, ℤ, ◌∷◌, ◌≡◌}
 use Rattle.sqlite_value.specs.declared.value.Value.TheVariants.{Int, Null}
 use Rattle.sqlite_value.specs.Order.{Row, value_cmp}
 use Rattle.sqlite_trees.specs.Tree.{Trees}

@@ -1,11 +1,10 @@
 -- Why the version is not set: whatever rows the tables have, only a limit of steps that is too low prevents it.
 use Rattle.std.proofs.Common.{◌≡◌, ◌⊎◌, ◌==◌, ◌||◌, ◌&&◌, not, inl, inr, ℕ, ℤ, zero, suc, pos, negsuc, List, [], ◌∷◌}
 use Rattle.std.proofs.Common.{length, Bool, true, false, None, Some, Option, Ok, Err, refl, sym, ap, ap₂, subst, ◌∙◌}
-use Rattle.std.proofs.Common.{arith, IsSome, lit≤, lit<, length-append, true≢false, All, map, Equal}
+use Rattle.std.proofs.Common.{arith, IsSome, lit≤, lit<, length-append, true≢false, All, Equal}
 use Rattle.std.specs.List.{AllByRecursion, list_all, list_any}
 use Rattle.std.specs.Ordering.{is_eq}
 use Rattle.std.specs.Cmp.Derive.{both_true}
-use Rattle.std.proofs.lemmas.List.Sorted.{length_permutation}
 use Rattle.std.proofs.lemmas.Bool.{not-true, and_parts, cases_Bool, eqb-true, eqb-false, false_from_ne_true}
 use Rattle.std.specs.Float.{NotNan}
 use Rattle.std.proofs.lemmas.Nat.Bits.{bit_at-zero}
@@ -37,7 +36,7 @@ use Rattle.sqlite_rules.specs.Cast.{cast_row}
 use Rattle.sqlite_rules.specs.Edit.{Edit, edit_of, left_by, IsRefused, IsOversized, are_fresh, have_rowids, with_rowid, without_all, id_in, is_taken, taken_by}
 use Rattle.sqlite_rules.specs.Lists.{Has}
 use Rattle.sqlite_rules.specs.Steps.{IsJudged}
-use Rattle.sqlite_rules.proofs.ListLemmas.{all_has, all_from, test_has, test_from, has_got, has_filtered, some_has}
+use Rattle.sqlite_rules.proofs.ListLemmas.{all_has, all_from, test_has, test_from, has_filtered, some_has}
 use Rattle.sqlite_rules.proofs.TableLemmas.{int_is}
 use Rattle.sqlite.specs.declared.error.Error.{Error}
 use Rattle.sqlite.specs.declared.error.Error.TheVariants.{SqliteFailure}
@@ -48,7 +47,7 @@ use Rattle.sqlite.specs.Effect.{Database, IsDatabase}
 use Rattle.sqlite.specs.Listing.{understood}
 use Rattle.sqlite.specs.State.{State, ExecutesInside, text_of}
 use Rattle.sqlite.proofs.Callers.{IsPlain, command_of, one_step}
-use Rattle.exam_sql.specs.Content.{ContainsIn, Holds, bare, places, same_key, same_rowid}
+use Rattle.exam_sql.specs.Content.{ContainsIn, bare, places, same_key, same_rowid}
 use Rattle.exam_sql.specs.Refusals.{Fails, Refuses, at_once}
 use Rattle.exam_sql.specs.Tables as tables
 use Rattle.exam_sql.specs.Tables.{store_schema}
@@ -89,9 +88,6 @@ fit_references true true = refl
 fit_references true false = refl
 fit_references false true = refl
 fit_references false false = refl
-
-first_table : Has store_schema.tables tables.office.table
-first_table = has_got store_schema.tables 0 tables.office.table office.keyed.place
 
 -- where it is the table with this tree
 of_first : (test : Table → Bool) → list_all (λ (t : Table). not (t.tree == 0) || test t) store_schema.tables ≡ true → (t : Table) → Has store_schema.tables t → (t.tree == 0) ≡ true → test t ≡ true
@@ -371,14 +367,3 @@ version_fails old new all version was rules e ran = narrow ((office.put_answers 
 -- a database whose tables are sound obeys each rule
 pub sound_rules : (db : Database) → db.schema ≡ store_schema → IsDatabase db → (rule : Constraint) → Keeps rule store_schema db.trees
 sound_rules db has sound rule = subst (λ s. Keeps rule s db.trees) has (sound.obeys.rules rule)
-
-no_rows : (at : List ℕ) (kept : List Row) → Holds at kept [] → kept ≡ []
-no_rows at [] held = refl
-no_rows at (r ∷ kept) held = absurd (omega (arith, length_permutation (map (bare at) (r ∷ kept)) [] held.same))
-
--- and so does one with no rows
-pub empty_rules : (db : Database) → ContainsIn store_schema db (λ tree. []) → (rule : Constraint) → Keeps rule store_schema db.trees
-empty_rules db was rule =
-    all_from _ store_schema.tables (λ t has.
-    let none : db.trees t.tree ≡ [] = no_rows (places t) (db.trees t.tree) (all_has (λ (t : Table). Holds (places t) (db.trees t.tree) []) store_schema.tables t was.rows has) in
-    subst (λ l. AllByRecursion (λ row. passes rule store_schema db.trees t row ≡ true) l) (sym none) tt)

@@ -1,11 +1,9 @@
 -- The database that kept the old office keeps the new one.
-use Rattle.std.proofs.Common.{◌≡◌, [], true, length, Ok, Err, Result, IfOk, refl, sym, ap, subst, ◌∙◌}
+use Rattle.std.proofs.Common.{◌≡◌, [], true, Ok, Err, Result, IfOk, refl, sym, ap, subst, ◌∙◌}
 use Rattle.std.proofs.lemmas.List.Sorted.{IsPermutation-refl}
 use Rattle.sqlite_trees.specs.declared.store.Store.{Ghosts}
 use Rattle.sqlite_trees.specs.Tree.{Trees}
 use Rattle.sqlite.specs.Effect.{Database}
-use Rattle.sqlite_schema.specs.declared.schema.Schema.{Schema}
-use Rattle.exam_sql.specs.Tables.{no_schema, store_schema}
 use Rattle.sqlite.specs.Held.{Held, state}
 use Rattle.sqlite.specs.State.{State as Shown, HasCleanDisk}
 use Rattle.exam_types.specs.declared.refusal.Refusal.{Refusal}
@@ -82,10 +80,6 @@ keeps_empty db made =
         seats = none;
       };
     }
-
-has_tables : store_schema ≡ no_schema → ⊥
-unfolding store_schema
-has_tables is = let e = ap (λ (s : Schema). length s.tables) is in absurd cc
 
 -- the rows of an office whose values have their forms are its rows
 pub held_office : (all : Trees) (office : State) → HoldsFormed all office → HoldsOffice all office

@@ -1,5 +1,5 @@
 -- The appeals of a session, counted one by one.
-use Rattle.std.proofs.Common.{◌≡◌, ℕ, ◌+◌, ◌≤◌, ◌∷◌, [], List, Bool, true, false, cond, if◌then◌else◌, length, Bor, sym, subst, ap, arith}
+use Rattle.std.proofs.Common.{◌≡◌, ℕ, ◌+◌, ◌≤◌, ◌∷◌, [], List, Bool, true, false, cond, if◌then◌else◌, length, Bor, ap, arith}
 use Rattle.std.specs.List.{AllByRecursion}
 use Rattle.std.specs.Map.Iter.{deref_pair}
 use Rattle.exam_rules.specs.declared.rows.Appeal.{Appeal}
@@ -36,21 +36,6 @@ module _ (s : Code) (all : List KeyedAppeal) (count one : ℕ) (old new : List K
       let parts = length_cond (same_code x.1.now.session s) (deref_pair x) (appeals_in new s) in
       omega (arith, many, here, parts, one_is)
 
-  pub one_counted : IsAppeal x.0.now x.1.now → HasCounted s all (count + one) new
-  one_counted form = record { many = sum_is; forms = λ forms. counted.forms (subst HaveForms (sym is) (form, forms)) }
-
   -- no more than there are
   pub still_fits : count + one ≤ length all
   still_fits = let sum = sum_is in let bound = few s all in omega (arith, sum, bound)
-
-pub none_counted : (s : Code) (all : List KeyedAppeal) → HasCounted s all 0 all
-none_counted s all = record { many = omega arith; forms = λ forms. forms }
-
-pub all_counted : (s : Code) (all : List KeyedAppeal) (count : ℕ) (left : List KeyedAppeal) → left ≡ [] → HasCounted s all count left → count ≡ length (appeals_in all s)
-all_counted s all count left none counted =
-    let many = counted.many in
-    let nothing : length (appeals_in left s) ≡ 0 = ap (λ (l : List KeyedAppeal). length (appeals_in l s)) none in
-    omega (arith, many, nothing)
-
-pub all_formed : (s : Code) (all : List KeyedAppeal) (count : ℕ) (left : List KeyedAppeal) → left ≡ [] → HasCounted s all count left → HaveForms all
-all_formed s all count left none counted = counted.forms (subst HaveForms (sym none) tt)

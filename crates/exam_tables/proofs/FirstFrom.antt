@@ -1,9 +1,9 @@
 -- The appeals of a session from a key on: the first of them, and those after it.
 use Rattle.std.proofs.Common.{◌≡◌, ◌⊎◌, ℕ, Bool, true, false, cond, ◌&&◌, List, [], ◌∷◌, ◌++◌, filter, Bor, inl, inr}
-use Rattle.std.proofs.Common.{Ordering, Less, Equal, Greater, refl, sym, ap, subst, ◌∙◌, append_assoc, append-nil}
+use Rattle.std.proofs.Common.{Ordering, Less, Equal, Greater, refl, sym, ap, subst, ◌∙◌, append_assoc}
 use Rattle.std.specs.Cmp.{IsTotalOrder, nat_cmp_total, then_total, on_total}
 use Rattle.std.specs.Cmp.Lexicographic.{nat_list_cmp_total}
-use Rattle.std.specs.BTreeMap.Range.{IsLeBy, IsLtBy, entries_between, range_contains}
+use Rattle.std.specs.BTreeMap.Range.{entries_between, range_contains}
 use Rattle.std.specs.List.{AllByRecursion}
 use Rattle.std.specs.List.Sorted.{IsStrictlySortedBy}
 use Rattle.std.specs.Map.{keys_of}
@@ -13,7 +13,6 @@ use Rattle.std.specs.declared.ops.Bound.{Bound}
 use Rattle.std.specs.declared.ops.Bound.TheVariants.{Included, Excluded, Unbounded}
 use Rattle.std.proofs.lemmas.Cmp.{tied_itself}
 use Rattle.std.proofs.lemmas.List.Elements.{filter-append}
-use Rattle.std.specs.Range.Bound.{IsForward}
 use Rattle.exam_rules.specs.declared.rows.Appeal.{Appeal}
 use Rattle.exam_rules.specs.Orders.{KeysRise}
 use Rattle.exam_rules.specs.Relations.{Code, appeal_cmp, same_code}
@@ -24,12 +23,6 @@ Key = ℕ × Code
 
 total : IsTotalOrder appeal_cmp
 total = then_total (on_total (λ (k : Key). k.0) nat_cmp_total) (on_total (λ (k : Key). k.1) nat_list_cmp_total)
-
--- no end turns back
-pub forward : (from : Bound Key) → IsForward (IsLeBy appeal_cmp) (IsLtBy appeal_cmp) from Unbounded
-forward (Included a) = tt
-forward (Excluded a) = tt
-forward Unbounded = tt
 
 -- ---- keys from a key on
 
@@ -131,9 +124,6 @@ pub record HasPassed (s : Code) (from : Bound Key) (all left : List KeyedAppeal)
   pub parts : entries_between appeal_cmp from Unbounded all ≡ passed ++ left
   pub none : appeals_in passed s ≡ []
 
-pub none_passed : (s : Code) (from : Bound Key) (all left : List KeyedAppeal) → left ≡ entries_between appeal_cmp from Unbounded all → HasPassed s from all left
-none_passed s from all left is = record { passed = []; parts = sym is; none = refl }
-
 module _ (s : Code) (from : Bound Key) (all old new : List KeyedAppeal) (x : Bor Key × Bor Appeal) (has : HasPassed s from all old) (is : old ≡ deref_pair x ∷ new) where
   parts_then : from_on from all ≡ has.passed ++ deref_pair x ∷ new
   parts_then = has.parts ∙ ap (λ (l : List KeyedAppeal). has.passed ++ l) is
@@ -151,7 +141,3 @@ module _ (s : Code) (from : Bound Key) (all old new : List KeyedAppeal) (x : Bor
       ap (λ (l : List KeyedAppeal). appeals_in l s) parts_then ∙ filter-append (λ (a : KeyedAppeal). same_code a.1.session s) has.passed (deref_pair x ∷ new)
       ∙ ap (λ l. l ++ appeals_in (deref_pair x ∷ new) s) has.none ∙ ap (λ c. cond c (deref_pair x ∷ appeals_in new s) (appeals_in new s)) here
       ∙ ap (λ (l : List KeyedAppeal). deref_pair x ∷ appeals_in l s) (sym (after_it from all rises has.passed (deref_pair x) new parts_then))
-
-pub none_found : (s : Code) (from : Bound Key) (all left : List KeyedAppeal) → left ≡ [] → HasPassed s from all left → appeals_from all s from ≡ []
-none_found s from all left none has =
-    ap (λ (l : List KeyedAppeal). appeals_in l s) (has.parts ∙ ap (λ (l : List KeyedAppeal). has.passed ++ l) none ∙ append-nil has.passed) ∙ has.none

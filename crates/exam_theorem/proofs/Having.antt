@@ -1,14 +1,14 @@
 -- The office that a database has: in the newest version, and once it was brought there and opened.
-use Rattle.std.proofs.Common.{◌≡◌, ◌≢◌, ◌⊎◌, ◌∙◌, ℕ, inl, inr, arith, refl, sym, ap, subst}
+use Rattle.std.proofs.Common.{◌≡◌, ◌≢◌, ◌⊎◌, ◌∙◌, ℕ, inl, inr, refl, sym, subst}
 use Rattle.exam_rules.specs.Orders.{AreInOrder}
 use Rattle.exam_rules.specs.Tables as table
 use Rattle.sqlite_trees.specs.Tree.{Trees}
 use Rattle.sqlite.specs.Effect.{Database}
-use Rattle.sqlite.specs.State.{State, HasCleanDisk, IsUnchanged}
+use Rattle.sqlite.specs.State.{State, HasCleanDisk}
 use Rattle.exam_sql.specs.Made.{ContainsMade}
 use Rattle.exam_commands.specs.Orders.{IsInOrder}
 use Rattle.exam_commands.specs.State.{State as Office}
-use Rattle.exam_tables.specs.Inside.{Contains, IsOurs}
+use Rattle.exam_tables.specs.Inside.{IsOurs}
 use Rattle.exam_tables.specs.Versions.{ContainsOf, HasVersion, IsVersion, version}
 use Rattle.exam_store.specs.Found.{Finds, HoldsGood}
 use Rattle.exam_store.specs.Kept.{Keeps, KeepsIn, Migrates}
@@ -50,9 +50,6 @@ formed_has v db all office is contains has formed = record {
 -- the good office of a version
 pub good_has : (v : ℕ) (db : Database) (all : Trees) → IsVersion v → HoldsGood v db all → (office : Office) × HasOffice db office
 good_has v db all is good = (good.2, formed_has v db all good.2 is good.0 good.1 good.3)
-
-pub has_version : (db : Database) (office : Office) → HasOffice db office → IsVersioned db
-has_version db office has = (has.number, has.is_version, has.kept.all, has.kept.contains, has.kept.version)
 
 -- ---- the newest version
 

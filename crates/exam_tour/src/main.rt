@@ -12,7 +12,7 @@ use exam_job::{DONE, JobFault, print_fault, print_line_fault, print_ready, run_j
 use exam_line::{Job, Line, parse_line};
 use exam_store::Store;
 use exam_types::Day;
-use sqlite::MemStore;
+use sqlite::Alter;
 use std::alloc::{AllocError, Global};
 use std::fs::File;
 use std::io::{Read, empty};
@@ -31,7 +31,7 @@ fn main(rt: HostRuntime) -> Result<()> {
 }
 
 /// Follows one line of the script.
-fn follow(rt: &HostRuntime, store: &mut Store<MemStore>, line: &str) -> Result<()> {
+fn follow<S: Alter>(rt: &HostRuntime, store: &mut Store<S>, line: &str) -> Result<()> {
     if let Some(command) = line.strip_prefix("office ") {
         println!(rt; "$ {line}")?;
         let words = words_of(rt.alloc(), command)?;
@@ -57,7 +57,7 @@ fn words_of(alloc: Global, command: &str) -> Result<Vec<String>, AllocError> {
 }
 
 /// Carries out the command that the words say. Does not print the exit status, since the printed lines show it.
-fn run_words(rt: &HostRuntime, store: &mut Store<MemStore>, words: &[String]) {
+fn run_words<S: Alter>(rt: &HostRuntime, store: &mut Store<S>, words: &[String]) {
     let _ = match parse_line(rt.alloc(), words) {
         Ok(line) => run_line(rt, store, line),
         Err(fault) => print_line_fault(&fault, &mut rt.stdout(), &mut rt.stdout()),
@@ -65,7 +65,7 @@ fn run_words(rt: &HostRuntime, store: &mut Store<MemStore>, words: &[String]) {
 }
 
 /// Carries out a command over the file that it imports, or over none.
-fn run_line(rt: &HostRuntime, store: &mut Store<MemStore>, line: Line<'_>) -> u8 {
+fn run_line<S: Alter>(rt: &HostRuntime, store: &mut Store<S>, line: Line<'_>) -> u8 {
     match line.job {
         // The office is open already, so only what the program prints is left.
         Job::Init => match print_ready(&mut rt.stdout()) {
@@ -81,9 +81,9 @@ fn run_line(rt: &HostRuntime, store: &mut Store<MemStore>, line: Line<'_>) -> u8
 }
 
 /// Faults go to standard output too, so that they appear in the order of the commands.
-fn run_over<R: Read>(
+fn run_over<S: Alter, R: Read>(
     rt: &HostRuntime,
-    store: &mut Store<MemStore>,
+    store: &mut Store<S>,
     line: Line<'_>,
     file: &mut R,
 ) -> u8 {

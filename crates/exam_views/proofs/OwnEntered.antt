@@ -16,7 +16,7 @@ use Rattle.std.proofs.lemmas.Map.Keys.{sorted_head, sorted_tail}
 use Rattle.std.proofs.lemmas.Map.Lookups.{exact_bytes}
 use Rattle.exam_rules.specs.declared.rows.Entry.{Entry}
 use Rattle.exam_rules.specs.declared.rows.Session.{Session}
-use Rattle.exam_rules.specs.Relations.{Code, Relations, code_cmp, has_row, is_row_of, leading, row_at, same_code}
+use Rattle.exam_rules.specs.Relations.{Code, Relations, code_cmp, has_row, row_at, same_code}
 use Rattle.exam_rules.specs.Lists.{entered_session, listed}
 use Rattle.exam_rules.specs.Orders.{KeysRise}
 use Rattle.exam_rules.specs.Sessions.{has_live_entry, head_of, is_live_entry, is_member, is_paper_of, least_live_paper, live_papers, live_papers_in, members}
@@ -29,33 +29,33 @@ use Rattle.exam_commands.proofs.Repeating.{past_all, same_rows}
 
 -- what is left makes of each list the live papers of the session
 abbrev pub EnteredLeft : Relations → ℕ → List (Code × Vec Code Global) → List ((ℕ × Code) × Entry) → Type 0
-EnteredLeft r c held rows = (s : Code) → listed held s ++ live_papers_in r (leading (is_row_of c) rows) s c ≡ live_papers r s c
+EnteredLeft r c held rows = (s : Code) → listed held s ++ live_papers_in r rows s c ≡ live_papers r s c
 
 module _ (r : Relations) (c : ℕ) (k : ℕ × Code) (e : Entry) (rows rest : List ((ℕ × Code) × Entry)) (own : nat_eq k.0 c ≡ true) (split : rows ≡ (k, e) ∷ rest) where
   -- an entry of the candidate that counts for this session, or for none
   first_of : (s : Code) (b : Bool) (o : Option Code) → entered_session r k.1 e ≡ o → option_map_or (λ t. same_code t s) o false ≡ b
-      → live_papers_in r (leading (is_row_of c) rows) s c ≡ cond b (k.1 ∷ live_papers_in r (leading (is_row_of c) rest) s c) (live_papers_in r (leading (is_row_of c) rest) s c)
-  first_of s b o entered same = ap (λ xs. live_papers_in r (leading (is_row_of c) xs) s c) split ∙ by b (counts ∙ same)
+      → live_papers_in r rows s c ≡ cond b (k.1 ∷ live_papers_in r rest s c) (live_papers_in r rest s c)
+  first_of s b o entered same = ap (λ xs. live_papers_in r xs s c) split ∙ by b (counts ∙ same)
     where
       counts : is_live_entry r s c (k, e) ≡ option_map_or (λ t. same_code t s) o false
       counts = ap (λ b. b && (e.live && is_paper_of r s k.1)) own ∙ counts_for r c s k.1 e o entered
 
       by : (b : Bool) → is_live_entry r s c (k, e) ≡ b
-          → live_papers_in r (leading (is_row_of c) ((k, e) ∷ rest)) s c ≡ cond b (k.1 ∷ live_papers_in r (leading (is_row_of c) rest) s c) (live_papers_in r (leading (is_row_of c) rest) s c)
-      by true is = rw (own, is) refl
-      by false is = rw (own, is) refl
+          → live_papers_in r ((k, e) ∷ rest) s c ≡ cond b (k.1 ∷ live_papers_in r rest s c) (live_papers_in r rest s c)
+      by true is = rw is refl
+      by false is = rw is refl
 
   pub entered_turn : (t : Code) (before after : List (Code × Vec Code Global)) → entered_session r k.1 e ≡ Some t
       → ((s : Code) → listed after s ≡ cond (same_code t s) (listed before s ++ k.1 ∷ []) (listed before s)) → EnteredLeft r c before rows → EnteredLeft r c after rest
   entered_turn t before after entered appended so_far s = by (same_code t s) refl (appended s)
     where
       by : (b : Bool) → same_code t s ≡ b → listed after s ≡ cond b (listed before s ++ k.1 ∷ []) (listed before s)
-          → listed after s ++ live_papers_in r (leading (is_row_of c) rest) s c ≡ live_papers r s c
+          → listed after s ++ live_papers_in r rest s c ≡ live_papers r s c
       by true is one_more =
-          push_step (listed before s) (listed after s) (live_papers_in r (leading (is_row_of c) rest) s c) (live_papers r s c) k.1 one_more
+          push_step (listed before s) (listed after s) (live_papers_in r rest s c) (live_papers r s c) k.1 one_more
           (ap (λ xs. listed before s ++ xs) (sym (first_of s true (Some t) entered is)) ∙ so_far s)
       by false is same =
-          ap (λ xs. xs ++ live_papers_in r (leading (is_row_of c) rest) s c) same ∙ ap (λ xs. listed before s ++ xs) (sym (first_of s false (Some t) entered is)) ∙ so_far s
+          ap (λ xs. xs ++ live_papers_in r rest s c) same ∙ ap (λ xs. listed before s ++ xs) (sym (first_of s false (Some t) entered is)) ∙ so_far s
 
 -- ---- the lists, session by session
 

@@ -1,5 +1,5 @@
 -- One turn of a loop over what is a candidate's own.
-use Rattle.std.proofs.Common.{◌≡◌, ◌⊎◌, inl, inr, ℕ, Bool, true, false, Vec, List, [], ◌∷◌, ◌++◌, map, filter, nat_eq, refl, ap, sym, ◌∙◌}
+use Rattle.std.proofs.Common.{◌≡◌, ◌⊎◌, inl, inr, ℕ, Bool, true, false, Vec, List, [], ◌∷◌, ◌++◌, map, filter, refl, ap, sym, ◌∙◌}
 use Rattle.std.specs.Prelude.{Option, None, Some}
 use Rattle.std.specs.Global.{Global}
 use Rattle.std.specs.Map.{keys_of}
@@ -10,7 +10,7 @@ use Rattle.exam_rules.specs.declared.rows.Appeal.{Appeal}
 use Rattle.exam_rules.specs.declared.rows.Arrangement.{Arrangement}
 use Rattle.exam_rules.specs.declared.rows.Paper.{Paper}
 use Rattle.exam_rules.specs.declared.rows.Session.{Session}
-use Rattle.exam_rules.specs.Relations.{Code, Relations, code_cmp, is_row_of, leading, row_at}
+use Rattle.exam_rules.specs.Relations.{Code, Relations, code_cmp, row_at}
 use Rattle.exam_rules.specs.Sessions.{arrangement_in_force, end_of, finish, is_marked, is_member, live_papers, sitting, sitting_row}
 use Rattle.exam_rules.specs.Lists.{listed}
 use Rattle.exam_rules.specs.Orders.{KeysRise}
@@ -22,20 +22,15 @@ use Rattle.exam_commands.specs.State.{State}
 use Rattle.exam_views.specs.Desks.{session_without_desk}
 use Rattle.exam_views.proofs.OwnEntered.{known_row, rows_of, same_sessions, unknown_row}
 
--- the candidate's appeals at the beginning of these rows
-abbrev pub appeals_left : Relations → ℕ → List ((ℕ × Code) × Appeal) → List OwnAppeal
-appeals_left r n rows = map (own_appeal r) (leading (is_row_of n) rows)
-
--- after an appeal of the candidate has been appended
-pub appeal_turn : (r : Relations) (n : ℕ) (k : ℕ × Code) (a copy : Appeal) (marked : Bool)
-    (rows rest : List ((ℕ × Code) × Appeal)) (before after whole : List OwnAppeal) → nat_eq k.0 n ≡ true → copy ≡ a
+-- after an appeal has been appended
+pub appeal_turn : (r : Relations) (k : ℕ × Code) (a copy : Appeal) (marked : Bool)
+    (rows rest : List ((ℕ × Code) × Appeal)) (before after whole : List OwnAppeal) → copy ≡ a
     → marked ≡ is_marked r k → rows ≡ (k, a) ∷ rest
-    → after ≡ before ++ record { reference = k.1; appeal = copy; standing = marked } ∷ [] → before ++ appeals_left r n rows ≡ whole → after ++ appeals_left r n rest ≡ whole
-appeal_turn r n k a copy marked rows rest before after whole own same bears split pushed so_far =
-    let first : appeals_left r n ((k, a) ∷ rest) ≡ own_appeal r (k, a) ∷ appeals_left r n rest = rw own refl in
-    push_step before after (appeals_left r n rest) whole (own_appeal r (k, a))
+    → after ≡ before ++ record { reference = k.1; appeal = copy; standing = marked } ∷ [] → before ++ map (own_appeal r) rows ≡ whole → after ++ map (own_appeal r) rest ≡ whole
+appeal_turn r k a copy marked rows rest before after whole same bears split pushed so_far =
+    push_step before after (map (own_appeal r) rest) whole (own_appeal r (k, a))
     (pushed ∙ ap (λ x. before ++ record { reference = k.1; appeal = x; standing = marked } ∷ []) same ∙ ap (λ m. before ++ record { reference = k.1; appeal = a; standing = m } ∷ []) bears)
-    (ap (λ t. before ++ t) (sym first ∙ ap (appeals_left r n) (sym split)) ∙ so_far)
+    (ap (λ t. before ++ map (own_appeal r) t) (sym split) ∙ so_far)
 
 -- the candidate's sessions among these, but for the desks
 abbrev pub sessions_left : State → ℕ → List (Code × Session) → List OwnSessionRow

@@ -20,8 +20,8 @@ ghost use Rattle.exam_views.specs.Desks.{rows_without_desks, session_without_des
 use exam_commands::{Own, OwnAppeal, OwnSession};
 use exam_rules::{
     Appeal, BySession, Candidate, DeskKey, Entrant, Facts, Seats, Session, SessionLists,
-    appeals_from, append_by_session, arrangement_in_force, comes_before, desk_key_among,
-    entered_session, entries_from, finish_beside, sitting_beside,
+    appeals_of, append_by_session, arrangement_in_force, comes_before, desk_key_among,
+    entered_session, entries_of, finish_beside, sitting_beside,
 };
 use exam_types::{HallCode, Number, PaperCode, Reference, Refusal, SessionCode};
 use std::alloc::Global;
@@ -345,10 +345,7 @@ fn entered_papers(
     ensures memory { IfErr result (λ e. e ≡ NoMemory) }
 {
     let mut entered = BTreeMap::new(alloc);
-    for (key, entry) in entries_from(facts, number) {
-        if key.0 != number {
-            break;
-        }
+    for (key, entry) in entries_of(facts, number) {
         if let Some(session) = entered_session(facts, &key.1, entry) {
             append_by_session(alloc, &mut entered, session, key.1)?;
         }
@@ -362,10 +359,7 @@ fn own_appeals(alloc: Global, facts: &Facts, number: Number) -> Result<Vec<OwnAp
     ensures memory { IfErr result (λ e. e ≡ NoMemory) }
 {
     let mut appeals = Vec::new(alloc);
-    for (key, appeal) in appeals_from(facts, number) {
-        if key.0 != number {
-            break;
-        }
+    for (key, appeal) in appeals_of(facts, number) {
         appeals.push(OwnAppeal {
             reference: key.1,
             appeal: appeal.clone()?,

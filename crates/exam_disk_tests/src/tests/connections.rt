@@ -1,12 +1,13 @@
 //! Connections within this machine, served one after the other.
-use super::disks::{Fused, connect, files_after};
+use super::disks::{connect, files_after};
 use super::refusing::INIT;
 use exam_job::JobFault;
 use exam_program::serve_each;
 use exam_school::{FIRST_TAKES_A, PEOPLE, TIMETABLE, expect_same};
 use exam_store::Store;
 use exam_types::Day;
-use sqlite::{Alter, Connection, FileStore};
+use sqlite::{Alter, Connection, Files};
+use sqlite_disk::Disk;
 use std::alloc::Global;
 use std::io::{self, Write};
 use std::net::{Ipv4Addr, SocketAddrV4, TcpListener, TcpStream};
@@ -54,12 +55,6 @@ The lamp above the desk flickers, and nobody could mend it in time for the exam.
 const SHOW_APPEALS: &str =
     "GET /candidates/0000001/appeals HTTP/1.1\r\nHost: 127.0.0.1\r\nExam-Code: CODE0001\r\n\r\n";
 
-/// An office over files, in which one candidate sits. Over memory, the database would be built a third time here.
-fn office(alloc: Global) -> Result<Store<FileStore<Fused>>, Fail> {
-    let files = files_after(alloc, &[INIT, TIMETABLE, PEOPLE, FIRST_TAKES_A])?;
-    opened(alloc, connect(alloc, files).ok().ok_or("open")?)
-}
-
 /// Opens the office. Over any database it is cheap to prove.
 fn opened<S: Alter + Drop>(alloc: Global, conn: Connection<S>) -> Result<Store<S>, Fail> {
     Ok(Store::open(alloc, conn).ok().ok_or("office")?)
@@ -92,20 +87,18 @@ fn client_of(
     Ok(client)
 }
 
-/// The listener does not wait, so serving ends after the last client, who has left before the answer. The day of each
-/// request is the one that is handed in.
-#[test]
-fn each_client_is_served(rt: HostRuntime) -> Result<(), Fail> {
-    let mut store = office(rt.alloc())?;
+/// Serves each client at an office over any database, and compares what each of them gets. The listener does not wait, so
+/// serving ends after the last client, who has left before the answer. The day of each request is the one that is handed in.
+fn expect_served<S: Alter + Drop>(rt: &HostRuntime, store: &mut Store<S>) -> Result<(), Fail> {
     let today = Day::parse(LAST_DAY.as_bytes()).ok_or("day")?;
-    let listener = TcpListener::bind(&rt, SocketAddrV4::new(Ipv4Addr::LOCALHOST, 0))?;
+    let listener = TcpListener::bind(rt, SocketAddrV4::new(Ipv4Addr::LOCALHOST, 0))?;
     listener.set_nonblocking(true)?;
     let mut clients = Vec::new(rt.alloc());
     for (request, more, _) in CLIENTS {
-        clients.push(client_of(&rt, &listener, request, *more)?)?;
+        clients.push(client_of(rt, &listener, request, *more)?)?;
     }
-    drop(client_of(&rt, &listener, SHOW_APPEALS, 0)?);
-    let told = told_of_serving(&rt, &mut store, today, &listener)?;
+    drop(client_of(rt, &listener, SHOW_APPEALS, 0)?);
+    let told = told_of_serving(rt, store, today, &listener)?;
     expect_same(
         str::from_utf8(told.as_slice())?,
         "fault 41\nfault 42\n",
@@ -116,4 +109,17 @@ fn each_client_is_served(rt: HostRuntime) -> Result<(), Fail> {
         expect_same(answer.as_str(), wanted, "answer")?;
     }
     Ok(())
+}
+
+/// Serves each client at the office in the files. Over files of any kind it is cheap to prove.
+fn expect_served_from<D: Disk + Drop>(rt: &HostRuntime, files: Files<D>) -> Result<(), Fail> {
+    let conn = connect(rt.alloc(), files).ok().ok_or("open")?;
+    expect_served(rt, &mut opened(rt.alloc(), conn)?)
+}
+
+/// One candidate sits. Over memory, the database would be built a third time here.
+#[test]
+fn each_client_is_served(rt: HostRuntime) -> Result<(), Fail> {
+    let files = files_after(rt.alloc(), &[INIT, TIMETABLE, PEOPLE, FIRST_TAKES_A])?;
+    expect_served_from(&rt, files)
 }

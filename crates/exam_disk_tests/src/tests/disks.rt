@@ -142,16 +142,21 @@ pub fn taken(
     taken_over(alloc, files, line, file)
 }
 
+fn is_written(file: &mut Memory, bytes: &[u8]) -> bool {
+    file.may_be_used() && file.write_at(0, bytes).is_ok()
+}
+
+fn is_synced(file: &mut Memory) -> bool {
+    file.may_be_used() && file.sync().is_ok()
+}
+
 /// A file on the disk with these bytes, that fails after so many calls.
 fn file_of(alloc: Global, bytes: &[u8], calls: u64) -> Result<Fused, Fail> {
     let mut file = Memory::new(alloc);
-    if file.may_be_used() && file.write_at(0, bytes).is_err() {
-        return Err(Fail::new("no file"));
+    if is_written(&mut file, bytes) && is_synced(&mut file) {
+        return Ok(Fuse::new(file, calls));
     }
-    if file.may_be_used() && file.sync().is_err() {
-        return Err(Fail::new("no file"));
-    }
-    Ok(Fuse::new(file, calls))
+    Err(Fail::new("no file"))
 }
 
 /// Blank files.

@@ -222,7 +222,7 @@ fn refuse_in_turn(alloc: Global, (days, text): Turn<'_>, ways: &[Unsynced]) -> R
     Ok(())
 }
 
-/// Refuses each step of each of these texts. As a test of its own each would cost the check some seconds.
+/// Refuses each step of each of these texts.
 pub fn refuse_each_turn(
     rt: &HostRuntime,
     turns: &[Turn<'_>],

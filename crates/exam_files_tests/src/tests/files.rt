@@ -1,6 +1,6 @@
 //! Import files in their several forms, and files that are refused.
-use super::office::{imported, play};
-use exam_office::{Kind, Office};
+use super::office::{empty, imported, play};
+use exam_office::Kind;
 use exam_school::expect_same;
 use std::alloc::Global;
 use std::test::Fail;
@@ -211,8 +211,7 @@ fn files_are_read_or_refused_as_told(rt: HostRuntime) -> Result<(), Fail> {
 
 /// Compares the answer to a file with this one.
 fn expect(alloc: Global, kind: Kind, file: &[u8], wanted: &str) -> Result<(), Fail> {
-    let mut office = Office::empty(alloc);
-    let found = imported(alloc, &mut office, kind, file)?;
+    let found = imported(alloc, &mut empty(alloc), kind, file)?;
     expect_same(found.as_str(), wanted, "a file")
 }
 

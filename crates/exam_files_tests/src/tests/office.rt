@@ -44,10 +44,20 @@ fn refused(alloc: Global, refusal: Refusal) -> Result<String, Fail> {
     })
 }
 
-/// Takes a command on the last day but one before the session, and returns the line for its answer.
+/// Takes a command on the last day but one before the session. A function of its own, since what `step` promises would be
+/// carried through each branch behind it.
+fn stepped(
+    alloc: Global,
+    office: &mut Office,
+    command: &Command,
+) -> Option<Result<Reply, Refusal>> {
+    let today = Day::parse(b"2027-05-30")?;
+    Some(step(alloc, office, command, today))
+}
+
+/// Takes a command, and returns the line for its answer.
 pub fn taken(alloc: Global, office: &mut Office, command: &Command) -> Result<String, Fail> {
-    let today = Day::parse(b"2027-05-30").ok_or("day")?;
-    match step(alloc, office, command, today) {
+    match stepped(alloc, office, command).ok_or("day")? {
         Ok(
             Reply::Imported {
                 added,
@@ -109,9 +119,13 @@ pub fn played(alloc: Global, office: &mut Office, text: &str) -> Result<(), Fail
     Ok(())
 }
 
+pub fn empty(alloc: Global) -> Office {
+    Office::empty(alloc)
+}
+
 /// The school with its halls opened.
 pub fn school(alloc: Global) -> Result<Office, Fail> {
-    let mut office = Office::empty(alloc);
+    let mut office = empty(alloc);
     played(alloc, &mut office, TIMETABLE)?;
     played(alloc, &mut office, PEOPLE)?;
     Ok(office)

@@ -31,6 +31,30 @@ fn copy_of(alloc: Global, office: &Office) -> Result<Office, Fail> {
     Ok(Office::from_parts(alloc, facts, seats)?)
 }
 
+/// What the part of an office answers that a command reads, with that part afterwards.
+fn part_reply(
+    alloc: Global,
+    office: Office,
+    command: &Command,
+    today: Day,
+) -> Result<(Part, Result<Reply, Refusal>), Refusal> {
+    let (mut part, _seats) = Part::of(alloc, office, command).map_err(|(
+        refusal,
+        _office,
+    )| refusal)?;
+    let answer = step_part(alloc, &mut part, command, today);
+    Ok((part, answer))
+}
+
+fn stepped(
+    alloc: Global,
+    office: &mut Office,
+    command: &Command,
+    today: Day,
+) -> Result<Reply, Refusal> {
+    step(alloc, office, command, today)
+}
+
 /// What a command answers on the office. First carries it out over the part of the office that it reads, and compares
 /// that it answers the same and seats as the office does afterwards.
 fn reply_of(
@@ -39,12 +63,8 @@ fn reply_of(
     command: &Command,
     today: Day,
 ) -> Result<Result<Reply, Refusal>, Fail> {
-    let mut part = match Part::of(alloc, copy_of(alloc, office)?, command) {
-        Ok((part, _seats)) => part,
-        Err((refusal, _office)) => return Err(Fail::from(refusal)),
-    };
-    let answer = step_part(alloc, &mut part, command, today);
-    let reply = step(alloc, office, command, today);
+    let (part, answer) = part_reply(alloc, copy_of(alloc, office)?, command, today)?;
+    let reply = stepped(alloc, office, command, today);
     if answer != reply || !are_seated(office, &part) {
         return Err(Fail::new("the part answers otherwise"));
     }
@@ -131,11 +151,10 @@ fn count_text(alloc: Global, count: usize) -> Result<String, Fail> {
     Ok(format!(in alloc; "{count}")?)
 }
 
-/// The answer to a command or a question.
-pub fn answer(alloc: Global, office: &mut Office, asked: &str) -> Result<String, Fail> {
-    let (word, rest) = asked.split_once(' ').unwrap_or((asked, ""));
+/// The answer to a question, or none if the word asks nothing.
+fn told(alloc: Global, office: &Office, word: &str, rest: &str) -> Result<Option<String>, Fail> {
     let mut words = Words::of(rest);
-    match word {
+    let text = match word {
         "seats" => seated(alloc, office.seats(), words.session()?),
         "finish" => {
             let session = words.session()?;
@@ -147,6 +166,16 @@ pub fn answer(alloc: Global, office: &mut Office, asked: &str) -> Result<String,
         "appeals" => count_text(alloc, office.facts().appeals.len()),
         "own" => own_text(alloc, office, words.number()?),
         "touched" => touched_by(alloc, office.facts(), rest),
-        _ => obeyed(alloc, office, asked),
+        _ => return Ok(None),
+    };
+    Ok(Some(text?))
+}
+
+/// The answer to a command or a question.
+pub fn answer(alloc: Global, office: &mut Office, asked: &str) -> Result<String, Fail> {
+    let (word, rest) = asked.split_once(' ').unwrap_or((asked, ""));
+    match told(alloc, office, word, rest)? {
+        Some(text) => Ok(text),
+        None => obeyed(alloc, office, asked),
     }
 }

@@ -1,10 +1,10 @@
 //! Worked examples, and a plain slow program that tries every plan of every tiny problem.
-ghost use Rattle.std.specs.Prelude.{◌≡◌, ◌<◌, ◌≤◌, ◌^◌, ℕ, false, length, All, IfOk, filter, slice_index_or};
+ghost use Rattle.std.specs.Prelude.{◌≡◌, ◌<◌, ◌≤◌, ◌^◌, ◌↔◌, ℕ, false, length, All, Contains, IfOk, IsTrue, filter, slice_index_or};
 ghost use Rattle.std.specs.List.{range_with_len};
 ghost use Rattle.std.specs.List.Sorted.{IsStrictlySortedBy};
 ghost use Rattle.std.specs.Ordering.{nat_cmp};
 ghost use Rattle.exam_plan.specs.HallSets.{most_halls, set_of_mask, sets_of};
-ghost use Rattle.exam_plan.specs.Matching.{IsBest};
+ghost use Rattle.exam_plan.specs.Matching.{IsBest, IsContested};
 ghost use Rattle.exam_plan.specs.Problems.{IsPlan, most_members, seating_of, plan_at};
 
 use exam_plan::{Mask, Plan, Problem, desks, keep_lawful, shortage, sweep, sweep_dead};
@@ -105,8 +105,11 @@ fn counts_to(list: &[usize], count: usize) -> bool {
     list.len() == count && list.iter().enumerate().all(|(place, item)| *item == place)
 }
 
-/// What a sweep makes of nothing: the plan, and the dead halls.
-fn swept_dead(alloc: Global, problem: &Problem) -> Result<(Plan, Vec<usize>), Refusal> {
+/// What a sweep makes of nothing: the plan, and the dead halls. No other crate's proof needs what `sweep_dead` promises of them.
+fn swept_dead(alloc: Global, problem: &Problem) -> Result<(Plan, Vec<usize>), Refusal>
+    ensures dead { IfOk result (λ (plan, dead). (h : ℕ) → Contains dead.items h
+        ↔ ((c : ℕ) × IsContested (seating_of problem.now) c × IsTrue ((seating_of problem.now).fits c h))) }
+{
     let nobody = vec![in alloc; None; problem.candidate_count()]?;
     sweep_dead(alloc, problem, keep_lawful(problem, nobody)?, None)
 }

@@ -1,10 +1,13 @@
 //! Texts, and all that each of them is read as.
+ghost use Rattle.std.specs.Prelude.{◌≡◌, ◌+◌, ◌-◌, IfOk, [], nat_le, if◌then◌else◌};
+ghost use Rattle.exam_types.specs.Days.{day_text, first_day};
+
 use exam_school::expect_answer;
 use exam_types::{
     AccessCode, ClosingTime, Day, DeskCount, ExamMinutes, Extra, Features, HallCode, Minute, Name,
     Number, PaperCode, Reason, Reference, Refusal, SessionCode, SessionDay, StartTime,
 };
-use std::alloc::Global;
+use std::alloc::{AllocError, Global};
 use std::test::Fail;
 
 /// A text on each line, and what it is read as: the kinds of code that it is, and each kind of number with its value.
@@ -199,21 +202,32 @@ const EARLIER: &str = "\
 2179-06-05 less 65535 > -
 ";
 
-/// The text of the day that is so many days earlier.
-fn earlier(alloc: Global, asked: &str) -> Result<String, Fail> {
-    let (day, days) = asked.split_once(" less ").ok_or("days")?;
-    let day = Day::parse(day.as_bytes()).ok_or("a day")?;
-    match day.minus(days.parse()?) {
-        Some(day) => Ok(format!(in alloc; "{day}")?),
+/// The text of the day so many days earlier. This proof and `printed`'s need what `exam_types` promises of `Day::minus` and
+/// of printing; no other crate's does.
+fn earlier(alloc: Global, day: Day, days: u16) -> Result<String, AllocError>
+    ensures { IfOk result (λ text. text.bytes.items
+        ≡ (if nat_le (first_day + days) day then day_text (day - days) else [])) }
+{
+    match day.minus(days) {
+        Some(day) => format!(in alloc; "{day}"),
         None => Ok(String::new(alloc)),
     }
+}
+
+fn printed(alloc: Global, hall: HallCode) -> Result<String, AllocError>
+    ensures { IfOk result (λ text. text.bytes.items ≡ hall) }
+{
+    format!(in alloc; "{hall}")
 }
 
 #[test]
 fn days_go_back_over_month_and_leap_ends(rt: HostRuntime) -> Result<(), Fail> {
     for line in EARLIER.lines() {
         let (asked, wanted) = line.split_once(" > ").ok_or("line")?;
-        expect_answer(earlier(rt.alloc(), asked)?.as_str(), wanted, asked)?;
+        let (day, days) = asked.split_once(" less ").ok_or("days")?;
+        let day = Day::parse(day.as_bytes()).ok_or("a day")?;
+        let found = earlier(rt.alloc(), day, days.parse()?)?;
+        expect_answer(found.as_str(), wanted, asked)?;
     }
     Ok(())
 }
@@ -268,7 +282,7 @@ fn values_are_written_as_they_are_read(rt: HostRuntime) -> Result<(), Fail> {
     name.write_to(&mut out)?;
     assert!(rt; out.as_slice() == b"S1000004243:590screen+computer2027-06-01Bo Berg".as_slice());
     let hall = HallCode::parse(b"A1").ok_or("a code")?;
-    assert!(rt; format!(in rt.alloc(); "{hall}")?.as_str() == "A1");
+    assert!(rt; printed(rt.alloc(), hall)?.as_str() == "A1");
     Ok(())
 }
 

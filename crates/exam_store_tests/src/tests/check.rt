@@ -203,7 +203,8 @@ fn candidates_and_members_have_limits(rt: HostRuntime) -> Result<(), Fail> {
     Ok(())
 }
 
-/// Offices of older versions, whatever else is wrong with their rows, and one without a seat that a sweep would give.
+/// Offices of older versions, whatever else is wrong with their rows, and one of the newest without a seat that a sweep would
+/// give.
 const OLDER: &str = "\
 27 24 27: DROP TABLE standing; UPDATE office SET version = 1; DELETE FROM seat
 27 0 0: UPDATE office SET version = 2
@@ -212,7 +213,7 @@ bad seat 24 24: DELETE FROM seat WHERE number = 1
 ";
 
 #[test]
-fn an_older_office_is_migrated_and_not_opened_before(rt: HostRuntime) -> Result<(), Fail> {
+fn an_office_is_checked_then_migrated_and_opened(rt: HostRuntime) -> Result<(), Fail> {
     expect_answers(rt.alloc(), OLDER)
 }
 

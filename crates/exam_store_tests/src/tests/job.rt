@@ -45,7 +45,7 @@ fn play(rt: &HostRuntime, days: &[&str]) -> Result<(), Fail> {
     Ok(())
 }
 
-/// What days show, and their texts. As a test of its own each would cost the check some seconds.
+/// What days show, and their texts.
 type Days<'a> = &'a [(&'a str, &'a [&'a str])];
 
 /// Plays each of these at a base office of its own. Tells what the first one shows that does not go as its texts say.

@@ -1,10 +1,9 @@
 use Rattle.std.proofs.Common.{◌≡◌, ◌++◌}
-use Rattle.exam_rules.specs.Relations.{leading, is_row_of}
 use Rattle.exam_rules.specs.Sessions.{barred_halls_in}
 use Rattle.exam_rules.proofs.appeals.barred_halls.Given as goal
 
 -- what is left answers as the whole
-abbrev pub invariant-loop-key : goal.invariant-loop-key
-invariant-loop-key l =
-    (goal.iterator-loop-key).can_next l.key-iterator × (goal.iterator-loop-key).is_finite l.key-iterator
-    × (l.halls.items ++ barred_halls_in (leading (is_row_of l.number) l.key-iterator) l.session l.number ≡ barred_halls_in l.facts.appeals.entries l.session l.number)
+abbrev pub invariant-loop-appeal : goal.invariant-loop-appeal
+invariant-loop-appeal l =
+    (goal.iterator-loop-appeal).can_next l.appeal-iterator × (goal.iterator-loop-appeal).is_finite l.appeal-iterator × (l.appeal-iterator.0 ≡ l.fn.number)
+    × (l.halls.items ++ barred_halls_in l.appeal-iterator.1 l.session l.fn.number ≡ barred_halls_in l.facts.appeals.entries l.session l.fn.number)

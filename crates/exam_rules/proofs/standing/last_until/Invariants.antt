@@ -1,12 +1,12 @@
 use Rattle.std.proofs.Common.{◌≡◌, filter}
 use Rattle.std.specs.Prelude.{fold, nat_le}
-use Rattle.exam_rules.specs.Relations.{leading, is_row_of, relations_of}
+use Rattle.exam_rules.specs.Relations.{relations_of}
 use Rattle.exam_rules.specs.Sessions.{later_of, last_until, standing_grants, standing_grants_in}
 use Rattle.exam_rules.proofs.standing.last_until.Given as goal
 
 -- the last so far and those left answer as the whole
 abbrev pub invariant-loop-key : goal.invariant-loop-key
 invariant-loop-key l =
-    (goal.iterator-loop-key).can_next l.key-iterator × (goal.iterator-loop-key).is_finite l.key-iterator
-    × (fold later_of l.last (filter (λ grant. nat_le grant.day l.day) (standing_grants_in (relations_of l.facts) (leading (is_row_of l.number) l.key-iterator) l.number))
-    ≡ last_until l.day (standing_grants (relations_of l.facts) l.number))
+    (goal.iterator-loop-key).can_next l.key-iterator × (goal.iterator-loop-key).is_finite l.key-iterator × (l.key-iterator.0 ≡ l.fn.number)
+    × (fold later_of l.last (filter (λ grant. nat_le grant.day l.day) (standing_grants_in (relations_of l.facts) l.key-iterator.1 l.fn.number))
+    ≡ last_until l.day (standing_grants (relations_of l.facts) l.fn.number))
