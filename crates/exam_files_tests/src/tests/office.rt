@@ -119,6 +119,8 @@ pub fn played(alloc: Global, office: &mut Office, text: &str) -> Result<(), Fail
     Ok(())
 }
 
+/// An office without rows. A function of its own, since what `Office::empty` promises would be carried through each
+/// branch behind it.
 pub fn empty(alloc: Global) -> Office {
     Office::empty(alloc)
 }

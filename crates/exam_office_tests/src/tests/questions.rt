@@ -46,6 +46,7 @@ fn part_reply(
     Ok((part, answer))
 }
 
+/// Takes a command. A function of its own, since what `step` promises would be carried through each branch behind it.
 fn stepped(
     alloc: Global,
     office: &mut Office,
