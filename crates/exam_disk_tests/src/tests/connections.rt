@@ -87,10 +87,11 @@ fn client_of(
     Ok(client)
 }
 
-/// Serves each client at an office over any database, and compares what each of them gets. The listener does not wait, so
+/// Serves each client at the connection's office, and compares what each of them gets. The listener does not wait, so
 /// serving ends after the last client, who has left before the answer. The day of each request is the one that is handed in.
-fn expect_served<S: Alter + Drop>(rt: &HostRuntime, store: &mut Store<S>) -> Result<(), Fail> {
+fn expect_served<S: Alter + Drop>(rt: &HostRuntime, conn: Connection<S>) -> Result<(), Fail> {
     let today = Day::parse(LAST_DAY.as_bytes()).ok_or("day")?;
+    let mut store = opened(rt.alloc(), conn)?;
     let listener = TcpListener::bind(rt, SocketAddrV4::new(Ipv4Addr::LOCALHOST, 0))?;
     listener.set_nonblocking(true)?;
     let mut clients = Vec::new(rt.alloc());
@@ -98,7 +99,7 @@ fn expect_served<S: Alter + Drop>(rt: &HostRuntime, store: &mut Store<S>) -> Res
         clients.push(client_of(rt, &listener, request, *more)?)?;
     }
     drop(client_of(rt, &listener, SHOW_APPEALS, 0)?);
-    let told = told_of_serving(rt, store, today, &listener)?;
+    let told = told_of_serving(rt, &mut store, today, &listener)?;
     expect_same(
         str::from_utf8(told.as_slice())?,
         "fault 41\nfault 42\n",
@@ -111,10 +112,11 @@ fn expect_served<S: Alter + Drop>(rt: &HostRuntime, store: &mut Store<S>) -> Res
     Ok(())
 }
 
-/// Serves each client at the office in the files. Over files of any kind it is cheap to prove.
+/// Serves each client at the office in the files. Over files of any kind it is cheap to prove. To hand over a store in place
+/// of the connection would be dear.
 fn expect_served_from<D: Disk + Drop>(rt: &HostRuntime, files: Files<D>) -> Result<(), Fail> {
     let conn = connect(rt.alloc(), files).ok().ok_or("open")?;
-    expect_served(rt, &mut opened(rt.alloc(), conn)?)
+    expect_served(rt, conn)
 }
 
 /// One candidate sits. Over memory, the database would be built a third time here.
