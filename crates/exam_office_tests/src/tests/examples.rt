@@ -50,14 +50,15 @@ fn a_withdrawal_is_taken_back(rt: HostRuntime) -> Result<(), Fail> {
 #[test]
 fn a_closed_hall_moves_who_sits_there(rt: HostRuntime) -> Result<(), Fail> {
     let alloc = rt.alloc();
-    let mut office = office_of(alloc, &[OPENED, SEATED])?;
     let session = Words::of("S1").session()?;
-    let command = Command::CloseHall(session, Words::of("A").hall()?);
+    let (a, b) = (Words::of("A").hall()?, Words::of("B").hall()?);
+    let number = Words::of("1").number()?;
+    let today = Words::of("2027-05-01").day()?;
+    let mut office = office_of(alloc, &[OPENED, SEATED])?;
+    let command = Command::CloseHall(session, a);
     let sessions = touched(alloc, office.facts(), &command)?;
     assert!(rt; sessions.as_slice() == [session].as_slice());
-    let reply = step(alloc, &mut office, &command, Words::of("2027-05-01").day()?)?;
-    assert!(rt; reply == Reply::Closed);
-    let number = Words::of("1").number()?;
-    assert!(rt; office.seats().get(&(session, number)) == Some(&Words::of("B").hall()?));
+    let reply = step(alloc, &mut office, &command, today)?;
+    assert!(rt; reply == Reply::Closed && office.seats().get(&(session, number)) == Some(&b));
     Ok(())
 }
