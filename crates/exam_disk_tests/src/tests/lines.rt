@@ -80,28 +80,40 @@ fn expect_end(rt: &HostRuntime, path: &str, command: &str, end: End) -> Result<(
     Err(Fail::new(format_args!("{path} {command}")))
 }
 
+/// Makes what lies in the folder before the first line.
+fn make_folder(rt: &HostRuntime) -> Result<(), Fail> {
+    fs::create_dir(rt, FOLDER)?;
+    fs::create_dir(rt, "examoffice_lines/folder.db")?;
+    let sessions = "session,date,start\nS1,2027-06-01,09:00\n";
+    fs::write(rt, "examoffice_lines/sessions.csv", sessions)?;
+    Ok(())
+}
+
+/// Nobody can be served at a port that another program holds.
+fn expect_no_port(rt: &HostRuntime) -> Result<(), Fail> {
+    let listener = TcpListener::bind(rt, SocketAddrV4::new(Ipv4Addr::LOCALHOST, 0))?;
+    let port = listener.local_addr()?.port();
+    let command = format!(in rt.alloc(); "serve {port}")?;
+    let end = (1, "", "net fault\n");
+    expect_end(rt, "examoffice_lines/a.db", command.as_str(), end)
+}
+
+/// Whether the owner alone may read and write the file.
+fn is_private(rt: &HostRuntime, path: &str) -> bool {
+    fs::metadata(rt, path).is_ok_and(|it| it.mode() & 0o777 == 0o600)
+}
+
 #[test]
 fn lines_end_as_they_should(rt: HostRuntime) -> Result<(), Fail> {
     let _ = fs::remove_dir_all(&rt, FOLDER);
-    fs::create_dir(&rt, FOLDER)?;
-    fs::create_dir(&rt, "examoffice_lines/folder.db")?;
-    fs::write(
-        &rt,
-        "examoffice_lines/sessions.csv",
-        "session,date,start\nS1,2027-06-01,09:00\n",
-    )?;
+    make_folder(&rt)?;
     for (database, command, end) in LINES {
         let path = format!(in rt.alloc(); "{FOLDER}/{database}")?;
         expect_end(&rt, path.as_str(), command, *end)?;
     }
-    let listener = TcpListener::bind(&rt, SocketAddrV4::new(Ipv4Addr::LOCALHOST, 0))?;
-    let port = listener.local_addr()?.port();
-    let command = format!(in rt.alloc(); "serve {port}")?;
-    let end = (1, "", "net fault\n");
-    expect_end(&rt, "examoffice_lines/a.db", command.as_str(), end)?;
-    for name in ["examoffice_lines/a.db", "examoffice_lines/a.db-wal"] {
-        assert!(rt; fs::metadata(&rt, name)?.mode() & 0o777 == 0o600, "{name}");
-    }
+    expect_no_port(&rt)?;
+    assert!(rt; is_private(&rt, "examoffice_lines/a.db"));
+    assert!(rt; is_private(&rt, "examoffice_lines/a.db-wal"));
     assert!(rt; fs::metadata(&rt, "examoffice_lines/none.db").is_err());
     fs::remove_dir_all(&rt, FOLDER)?;
     Ok(())

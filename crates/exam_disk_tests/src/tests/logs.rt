@@ -39,11 +39,16 @@ fn stop_office<S: Alter + Drop>(alloc: Global, conn: Connection<S>) -> Result<()
     Ok(())
 }
 
+/// Makes that office at the path.
+fn make_stopped(rt: &HostRuntime) -> Result<(), Fail> {
+    let conn = Connection::open(rt, DATABASE).ok().ok_or("open")?;
+    stop_office(rt.alloc(), conn)
+}
+
 /// Makes an office that was stopped, and then one that was closed.
 fn make_offices(rt: &HostRuntime) -> Result<(), Fail> {
     fs::write(rt, "examoffice_logs/empty", "")?;
-    let conn = Connection::open(rt, DATABASE).ok().ok_or("open")?;
-    stop_office(rt.alloc(), conn)?;
+    make_stopped(rt)?;
     fs::copy(rt, LOG, "examoffice_logs/stopped-wal")?;
     if !ends(rt, DATABASE, "check", (0, "good\n", ""))? {
         return Err(Fail::new("the stopped office is not good"));

@@ -34,12 +34,6 @@ struct Course {
     after: Seen,
 }
 
-/// The rows of all tables.
-fn rows_of(alloc: Global, files: &Files<Fused>) -> Result<String, Fail> {
-    let files = same(alloc, files)?;
-    Ok(taken(alloc, files, "tables", "")?.told)
-}
-
 /// The files after the step, which answers as its text says.
 fn files_behind(
     alloc: Global,
@@ -52,17 +46,17 @@ fn files_behind(
     Ok(left.files)
 }
 
-/// What is seen in the files.
-fn seen_behind(alloc: Global, files: &Files<Fused>, step: &Step<'_>) -> Result<Seen, Fail> {
+/// What is seen in a copy of the files.
+fn seen_on_copy(alloc: Global, files: &Files<Fused>, step: &Step<'_>) -> Result<Seen, Fail> {
     let files = same(alloc, files)?;
     seen_in(alloc, files, step)
 }
 
 /// Takes the step.
 fn course_of(alloc: Global, files: Files<Fused>, step: &Step<'_>) -> Result<Course, Fail> {
-    let before = rows_of(alloc, &files)?;
+    let before = seen_on_copy(alloc, &files, step)?.rows;
     let behind = files_behind(alloc, &files, step)?;
-    let after = seen_behind(alloc, &behind, step)?;
+    let after = seen_on_copy(alloc, &behind, step)?;
     Ok(Course {
         files,
         before,

@@ -1,125 +1,91 @@
 //! An office as the rows of its tables, and what makes a table of it bad.
-use crate::tests::offices::{InMemory, after, office_of};
-use crate::tests::views::{checked, expect_answers};
-use exam_check::{Table, check, check_line};
-use exam_school::{ROWS, TWO_SIT, expect_same};
-use sqlite::Connection;
+use crate::tests::views::{answers_of, expect_answers, office_after};
+use exam_school::expect_same;
 use std::alloc::Global;
-use std::str;
 use std::test::Fail;
-
-/// The school with two seats after these statements.
-fn office_after(alloc: Global, sql: &str) -> Result<InMemory, Fail> {
-    office_of(alloc, &[ROWS, TWO_SIT, sql])
-}
-
-/// What `check` finds of that office after these statements.
-fn found_after(alloc: Global, sql: &str) -> Result<Option<Table>, Fail> {
-    let mut conn = office_after(alloc, sql)?;
-    Ok(check(alloc, &mut conn)?)
-}
-
-/// Compares the line that `check` prints for what it found.
-fn expect_found(found: Option<Table>, wanted: &str, place: &str) -> Result<(), Fail> {
-    expect_same(str::from_utf8(check_line(found))?.trim_end(), wanted, place)
-}
-
-/// Expects, after the statements of each line, the line that `check` prints of that office.
-fn finds_each(alloc: Global, text: &str) -> Result<(), Fail> {
-    for line in text.lines() {
-        let (wanted, sql) = line.split_once(": ").ok_or("line")?;
-        expect_found(found_after(alloc, sql)?, wanted, sql)?;
-    }
-    Ok(())
-}
 
 /// The version, or a table or a column that is missing.
 const NO_OFFICE: &str = "\
-bad office: UPDATE office SET version = 7
-bad office: UPDATE office SET one = 2
-bad office: INSERT INTO office VALUES (2, 3)
-bad office: DELETE FROM office
-bad office: DROP TABLE office
-bad office: DROP TABLE standing
-bad office: DROP TABLE seat; UPDATE paper SET minutes = 601
-bad office: DROP TABLE seat; UPDATE office SET version = 2
-bad office: DROP TABLE arrangement; CREATE TABLE arrangement (number INTEGER NOT NULL, needs INTEGER NOT NULL, PRIMARY KEY (number)) STRICT
+bad office 24 24: UPDATE office SET version = 7
+bad office 24 24: UPDATE office SET one = 2
+bad office 24 24: INSERT INTO office VALUES (2, 3)
+bad office 24 24: DELETE FROM office
+bad office 24 24: DROP TABLE office
+bad office 24 24: DROP TABLE standing
+bad office 24 24: DROP TABLE seat; UPDATE paper SET minutes = 601
+bad office 24 24: DROP TABLE seat; UPDATE office SET version = 2
+bad office 24 24: DROP TABLE arrangement; CREATE TABLE arrangement (number INTEGER NOT NULL, needs INTEGER NOT NULL, PRIMARY KEY (number)) STRICT
 ";
 
 /// Rows that are not the stored form of anything.
 const NO_FORM: &str = "\
-bad session: INSERT INTO session VALUES ('s2', '2027-06-01', 540)
-bad paper: UPDATE paper SET minutes = 601
-bad hall: UPDATE hall SET features = -1
-bad opening: UPDATE opening SET desks = 0
-bad candidate: INSERT INTO candidate VALUES (9, 'Flo Ray', 'code0009')
-bad entry: UPDATE entry SET live = 2
-bad arrangement: UPDATE arrangement SET extra = 101
-bad appeal: INSERT INTO appeal VALUES (1, 'R1', 'S1', 1, 'A', 0, 0, '', 6, NULL, '2027-05-01')
+bad session 24 24: INSERT INTO session VALUES ('s2', '2027-06-01', 540)
+bad paper 24 24: UPDATE paper SET minutes = 601
+bad hall 24 24: UPDATE hall SET features = -1
+bad opening 24 24: UPDATE opening SET desks = 0
+bad candidate 24 24: INSERT INTO candidate VALUES (9, 'Flo Ray', 'code0009')
+bad entry 24 24: UPDATE entry SET live = 2
+bad arrangement 24 24: UPDATE arrangement SET extra = 101
+bad appeal 24 24: INSERT INTO appeal VALUES (1, 'R1', 'S1', 1, 'A', 0, 0, '', 6, NULL, '2027-05-01')
 ";
 
 /// A target that does not exist; two granted appeals for an arrangement, two for a clash, or two open ones, of one
 /// candidate for one session; marks of a hall appeal, and of an open one.
 const APPEALS: &str = "\
-bad appeal: INSERT INTO appeal VALUES (1, 'R1', 'S1', 1, 'Z', 0, 0, '', 1, NULL, '2027-05-01')
-bad appeal: INSERT INTO appeal VALUES (1, 'R1', 'S1', 2, 'ZZ-1', 0, 0, '', 1, NULL, '2027-05-01')
-bad appeal: INSERT INTO appeal VALUES (3, 'R1', 'S1', 3, '', 0, 25, '', 2, 'Yes', '2027-05-01'); \
+bad appeal 24 24: INSERT INTO appeal VALUES (1, 'R1', 'S1', 1, 'Z', 0, 0, '', 1, NULL, '2027-05-01')
+bad appeal 24 24: INSERT INTO appeal VALUES (1, 'R1', 'S1', 2, 'ZZ-1', 0, 0, '', 1, NULL, '2027-05-01')
+bad appeal 24 24: INSERT INTO appeal VALUES (3, 'R1', 'S1', 3, '', 0, 25, '', 2, 'Yes', '2027-05-01'); \
 INSERT INTO appeal VALUES (3, 'R2', 'S1', 3, '', 0, 50, '', 2, 'Yes', '2027-05-01')
-bad appeal: INSERT INTO appeal VALUES (3, 'R1', 'S1', 2, 'MA-1', 0, 0, '', 2, 'Yes', '2027-05-01'); \
+bad appeal 24 24: INSERT INTO appeal VALUES (3, 'R1', 'S1', 2, 'MA-1', 0, 0, '', 2, 'Yes', '2027-05-01'); \
 INSERT INTO appeal VALUES (3, 'R2', 'S1', 2, 'MA-1', 0, 0, '', 2, 'Yes', '2027-05-01')
-bad appeal: INSERT INTO appeal VALUES (3, 'R1', 'S1', 1, 'A', 0, 0, '', 1, NULL, '2027-05-01'); \
+bad appeal 24 24: INSERT INTO appeal VALUES (3, 'R1', 'S1', 1, 'A', 0, 0, '', 1, NULL, '2027-05-01'); \
 INSERT INTO appeal VALUES (3, 'R2', 'S1', 1, 'B', 0, 0, '', 1, NULL, '2027-05-01')
-bad standing: INSERT INTO appeal VALUES (3, 'R1', 'S1', 1, 'A', 0, 0, '', 2, 'Yes', '2027-05-01'); \
+bad standing 24 24: INSERT INTO appeal VALUES (3, 'R1', 'S1', 1, 'A', 0, 0, '', 2, 'Yes', '2027-05-01'); \
 INSERT INTO standing VALUES (3, 'R1')
-bad standing: INSERT INTO appeal VALUES (3, 'R1', 'S1', 3, '', 0, 25, '', 1, NULL, '2027-05-01'); \
+bad standing 24 24: INSERT INTO appeal VALUES (3, 'R1', 'S1', 3, '', 0, 25, '', 1, NULL, '2027-05-01'); \
 INSERT INTO standing VALUES (3, 'R1')
 ";
 
 /// A plan without a seat that a sweep would give, a seat for nobody, two seats at one desk, a hall that does not fit;
 /// and several bad tables; the check finds the first.
 const SEATS: &str = "\
-bad seat: DELETE FROM seat WHERE number = 1
-bad seat: INSERT INTO seat VALUES ('S1', 3, 'B')
-bad seat: UPDATE seat SET hall = 'A'
-bad seat: UPDATE opening SET desks = 2; UPDATE seat SET hall = 'B'
-bad paper: DELETE FROM seat WHERE number = 1; UPDATE paper SET minutes = 601
-bad hall: UPDATE hall SET features = -1; \
+bad seat 24 24: DELETE FROM seat WHERE number = 1
+bad seat 24 24: INSERT INTO seat VALUES ('S1', 3, 'B')
+bad seat 24 24: UPDATE seat SET hall = 'A'
+bad seat 24 24: UPDATE opening SET desks = 2; UPDATE seat SET hall = 'B'
+bad paper 24 24: DELETE FROM seat WHERE number = 1; UPDATE paper SET minutes = 601
+bad hall 24 24: UPDATE hall SET features = -1; \
 INSERT INTO appeal VALUES (1, 'R1', 'S1', 1, 'Z', 0, 0, '', 1, NULL, '2027-05-01')
-bad appeal: INSERT INTO appeal VALUES (1, 'R1', 'S1', 1, 'Z', 0, 0, '', 1, NULL, '2027-05-01'); \
+bad appeal 24 24: INSERT INTO appeal VALUES (1, 'R1', 'S1', 1, 'Z', 0, 0, '', 1, NULL, '2027-05-01'); \
 DELETE FROM seat WHERE number = 1
 ";
 
 /// Tables that are made again without their foreign keys, so that the database takes rows that refer to nothing.
 const LOOSE: &str = "\
-bad seat: DROP TABLE seat; CREATE TABLE seat (session TEXT NOT NULL, number INTEGER NOT NULL, hall TEXT NOT NULL, PRIMARY KEY (session, number)) STRICT; \
+bad seat 24 24: DROP TABLE seat; CREATE TABLE seat (session TEXT NOT NULL, number INTEGER NOT NULL, hall TEXT NOT NULL, PRIMARY KEY (session, number)) STRICT; \
 INSERT INTO seat VALUES ('S1', 1, 'Z')
-bad seat: DROP TABLE seat; CREATE TABLE seat (session TEXT NOT NULL, number INTEGER NOT NULL, hall TEXT NOT NULL, PRIMARY KEY (session, number)) STRICT; \
+bad seat 24 24: DROP TABLE seat; CREATE TABLE seat (session TEXT NOT NULL, number INTEGER NOT NULL, hall TEXT NOT NULL, PRIMARY KEY (session, number)) STRICT; \
 INSERT INTO seat VALUES ('s1', 1, 'B')
-bad standing: DROP TABLE standing; CREATE TABLE standing (number INTEGER NOT NULL, ref TEXT NOT NULL, PRIMARY KEY (number, ref)) STRICT; \
+bad standing 24 24: DROP TABLE standing; CREATE TABLE standing (number INTEGER NOT NULL, ref TEXT NOT NULL, PRIMARY KEY (number, ref)) STRICT; \
 INSERT INTO standing VALUES (1, 'R1')
-bad standing: DROP TABLE standing; CREATE TABLE standing (number INTEGER NOT NULL, ref TEXT NOT NULL, PRIMARY KEY (number, ref)) STRICT; \
+bad standing 24 24: DROP TABLE standing; CREATE TABLE standing (number INTEGER NOT NULL, ref TEXT NOT NULL, PRIMARY KEY (number, ref)) STRICT; \
 INSERT INTO standing VALUES (1, 'r1')
-bad arrangement: DROP TABLE arrangement; CREATE TABLE arrangement (number INTEGER NOT NULL, needs INTEGER NOT NULL, extra INTEGER NOT NULL, PRIMARY KEY (number)) STRICT; \
+bad arrangement 24 24: DROP TABLE arrangement; CREATE TABLE arrangement (number INTEGER NOT NULL, needs INTEGER NOT NULL, extra INTEGER NOT NULL, PRIMARY KEY (number)) STRICT; \
 INSERT INTO arrangement VALUES (9, 0, 25)
-bad entry: DROP TABLE entry; CREATE TABLE entry (number INTEGER NOT NULL, paper TEXT NOT NULL, live INTEGER NOT NULL, PRIMARY KEY (number, paper)) STRICT; \
+bad entry 24 24: DROP TABLE entry; CREATE TABLE entry (number INTEGER NOT NULL, paper TEXT NOT NULL, live INTEGER NOT NULL, PRIMARY KEY (number, paper)) STRICT; \
 INSERT INTO entry VALUES (1, 'ZZ-1', 1)
 ";
 
 #[test]
 fn the_first_bad_table_is_found(rt: HostRuntime) -> Result<(), Fail> {
     for text in [NO_OFFICE, NO_FORM, APPEALS, SEATS, LOOSE] {
-        finds_each(rt.alloc(), text)?;
+        expect_answers(rt.alloc(), text)?;
     }
     Ok(())
 }
 
-/// What is found of that office after so many statements, in which the number of each takes the place of `*`, and
-/// these.
-fn found_of_many(
-    alloc: Global,
-    (sql, then): (&str, &str),
-    many: u32,
-) -> Result<Option<Table>, Fail> {
+/// What is answered after so many statements, in which the number of each takes the place of `*`, and these.
+fn answers_of_many(alloc: Global, (sql, then): (&str, &str), many: u32) -> Result<String, Fail> {
     let mut conn = office_after(alloc, "")?;
     let (before, after) = sql.split_once('*').ok_or("number")?;
     for number in 0..many {
@@ -127,7 +93,7 @@ fn found_of_many(
         conn.execute_batch(sql.as_str())?;
     }
     conn.execute_batch(then)?;
-    Ok(check(alloc, &mut conn)?)
+    answers_of(alloc, conn)
 }
 
 /// Expects that so many more rows are one too many, and that one fewer are good.
@@ -137,9 +103,10 @@ fn expect_limit(
     too_many: u32,
     wanted: &str,
 ) -> Result<(), Fail> {
-    let within = found_of_many(alloc, rows, too_many.saturating_sub(1))?;
-    expect_found(within, "good", rows.0)?;
-    expect_found(found_of_many(alloc, rows, too_many)?, wanted, rows.0)
+    let within = answers_of_many(alloc, rows, too_many.saturating_sub(1))?;
+    expect_same(within.as_str(), "good 0 0", rows.0)?;
+    let past = answers_of_many(alloc, rows, too_many)?;
+    expect_same(past.as_str(), wanted, rows.0)
 }
 
 const A_SESSION: (&str, &str) = ("INSERT INTO session VALUES ('X*', '2027-06-01', 540)", "");
@@ -160,13 +127,13 @@ const AN_APPEAL: (&str, &str) = (
     "",
 );
 
-/// Rows, how many of them are one too many, and the line that `check` prints then.
+/// Rows, how many of them are one too many, and what is answered then.
 const LIMITS: &[((&str, &str), u32, &str)] = &[
-    (A_SESSION, 400, "bad session"),
-    (A_PAPER, 2000, "bad paper"),
-    (A_HALL, 499, "bad hall"),
-    (AN_OPENING, 255, "bad opening"),
-    (AN_APPEAL, 65, "bad appeal"),
+    (A_SESSION, 400, "bad session 24 24"),
+    (A_PAPER, 2000, "bad paper 24 24"),
+    (A_HALL, 499, "bad hall 24 24"),
+    (AN_OPENING, 255, "bad opening 24 24"),
+    (AN_APPEAL, 65, "bad appeal 24 24"),
 ];
 
 #[test]
@@ -177,8 +144,8 @@ fn tables_have_limits(rt: HostRuntime) -> Result<(), Fail> {
     Ok(())
 }
 
-/// What is found after the five candidates were doubled so many times, each of them entered for the paper.
-fn found_of_candidates(alloc: Global, doublings: u32) -> Result<Option<Table>, Fail> {
+/// What is answered after the five candidates were doubled so many times, each of them entered for the paper.
+fn answers_of_candidates(alloc: Global, doublings: u32) -> Result<String, Fail> {
     let mut conn = office_after(alloc, "")?;
     let mut many: u32 = 5;
     for _ in 0..doublings {
@@ -191,14 +158,15 @@ fn found_of_candidates(alloc: Global, doublings: u32) -> Result<Option<Table>, F
     conn.execute_batch(
         "DELETE FROM seat; DELETE FROM entry; INSERT INTO entry SELECT number, 'MA-1', 1 FROM candidate",
     )?;
-    Ok(check(alloc, &mut conn)?)
+    answers_of(alloc, conn)
 }
 
 /// 5,120 candidates are more than a session may have, 20,480 more than an office may have.
 #[test]
 fn candidates_and_members_have_limits(rt: HostRuntime) -> Result<(), Fail> {
-    for (doublings, wanted) in [(10, "bad entry"), (12, "bad candidate")] {
-        expect_found(found_of_candidates(rt.alloc(), doublings)?, wanted, wanted)?;
+    for (doublings, wanted) in [(10, "bad entry 24 24"), (12, "bad candidate 24 24")] {
+        let found = answers_of_candidates(rt.alloc(), doublings)?;
+        expect_same(found.as_str(), wanted, wanted)?;
     }
     Ok(())
 }
@@ -215,23 +183,4 @@ bad seat 24 24: DELETE FROM seat WHERE number = 1
 #[test]
 fn an_office_is_checked_then_migrated_and_opened(rt: HostRuntime) -> Result<(), Fail> {
     expect_answers(rt.alloc(), OLDER)
-}
-
-const A_SHELF: &str = "CREATE TABLE shelf (code TEXT NOT NULL, PRIMARY KEY (code)) STRICT";
-
-#[test]
-fn another_database_has_no_office(rt: HostRuntime) -> Result<(), Fail> {
-    for sql in ["", A_SHELF] {
-        let mut conn = after(Connection::open_in_memory(rt.alloc())?, sql)?;
-        expect_same(checked(rt.alloc(), &mut conn)?.as_str(), "bad office", sql)?;
-    }
-    Ok(())
-}
-
-#[test]
-fn lines_name_the_table(rt: HostRuntime) -> Result<(), Fail> {
-    assert!(rt; check_line(None) == b"good\n".as_slice());
-    assert!(rt; check_line(Some(Table::Office)) == b"bad office\n".as_slice());
-    assert!(rt; check_line(Some(Table::Seat)) == b"bad seat\n".as_slice());
-    Ok(())
 }

@@ -1,5 +1,6 @@
 //! Short days at a small office, through all layers over a database in memory, as texts that are played.
 mod appeals;
+mod bare;
 mod closing;
 mod imports;
 mod kept_rows;
@@ -12,12 +13,21 @@ mod theorem;
 use crate::tests::offices::{InMemory, empty_office};
 use exam_school::{PEOPLE, TIMETABLE};
 use exam_scripts::played;
+use sqlite::Connection;
 use std::alloc::Global;
 use std::test::Fail;
 
 /// Plays a text. It is dear to prove, as each call that takes a connection in memory for one of any kind.
 fn played_in_memory(alloc: Global, conn: InMemory, text: &str) -> (InMemory, Result<(), Fail>) {
     played(alloc, conn, text)
+}
+
+/// Plays a text at a database in memory that holds nothing.
+fn play_at_nothing(alloc: Global, text: &str) -> Result<(), Fail> {
+    let conn = Connection::open_in_memory(alloc)?;
+    let (conn, compared) = played_in_memory(alloc, conn, text);
+    drop(conn);
+    compared
 }
 
 /// The texts of these days as one, behind that of the base office: the school with its halls opened.

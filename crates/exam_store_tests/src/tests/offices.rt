@@ -28,24 +28,33 @@ pub fn office_of(alloc: Global, statements: &[&str]) -> Result<InMemory, Fail> {
     Ok(conn)
 }
 
-/// Opens the office.
-pub fn opened(alloc: Global, conn: InMemory) -> Result<Store<MemStore>, Fail> {
+/// Opens the office, or gives the number of the refusal. It is dear to prove, as each call that takes a connection in
+/// memory for one of any kind.
+fn opening(alloc: Global, conn: InMemory) -> Result<Store<MemStore>, u16> {
     match Store::open(alloc, conn) {
         Ok(store) => Ok(store),
         Err((refusal, conn)) => {
             drop(conn);
-            Err(Fail::from(refusal))
+            Err(refusal.number())
         }
+    }
+}
+
+/// Opens the office.
+pub fn opened(alloc: Global, conn: InMemory) -> Result<Store<MemStore>, Fail> {
+    match opening(alloc, conn) {
+        Ok(store) => Ok(store),
+        Err(number) => Err(Fail::new(number)),
     }
 }
 
 /// The number of the refusal of opening what this connection holds, or 0 if it is opened.
 pub fn refusal_of_opening(alloc: Global, conn: InMemory) -> u16 {
-    match Store::open(alloc, conn) {
-        Ok(_) => 0,
-        Err((refusal, conn)) => {
-            drop(conn);
-            refusal.number()
+    match opening(alloc, conn) {
+        Ok(store) => {
+            drop(store);
+            0
         }
+        Err(number) => number,
     }
 }

@@ -15,21 +15,31 @@ pub fn checked(alloc: Global, conn: &mut InMemory) -> Result<String, Fail> {
     }
 }
 
-/// The number of the refusal of migrating what the connection holds, or 0 if it is of the newest version.
-fn refusal_of_migrating(alloc: Global, conn: &mut InMemory) -> u16 {
+/// The number of the refusal of migrating what the connection holds, or 0 if it is of the newest version then.
+pub fn refusal_of_migrating(alloc: Global, conn: &mut InMemory) -> u16 {
     match migrate(alloc, conn) {
         Ok(_) => 0,
         Err(refusal) => refusal.number(),
     }
 }
 
-/// What checking, migrating and opening answer of the school with two seats after these statements.
-fn answers_after(alloc: Global, sql: &str) -> Result<String, Fail> {
-    let mut conn = office_of(alloc, &[ROWS, TWO_SIT, sql])?;
+/// The school with two seats after these statements.
+pub fn office_after(alloc: Global, sql: &str) -> Result<InMemory, Fail> {
+    office_of(alloc, &[ROWS, TWO_SIT, sql])
+}
+
+/// What checking, migrating and opening answer of the office.
+pub fn answers_of(alloc: Global, conn: InMemory) -> Result<String, Fail> {
+    let mut conn = conn;
     let found = checked(alloc, &mut conn)?;
     let migrated = refusal_of_migrating(alloc, &mut conn);
     let opened = refusal_of_opening(alloc, conn);
     Ok(format!(in alloc; "{found} {migrated} {opened}")?)
+}
+
+/// What they answer of that school.
+fn answers_after(alloc: Global, sql: &str) -> Result<String, Fail> {
+    answers_of(alloc, office_after(alloc, sql)?)
 }
 
 /// Each table with its columns, and statements that take away the rows that refer to its rows and leave a good office.

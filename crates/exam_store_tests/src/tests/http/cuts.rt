@@ -10,7 +10,6 @@ use exam_school::{ONE_SITS, TWO_SIT};
 use exam_store::Store;
 use sqlite::MemStore;
 use std::alloc::Global;
-use std::process::Abort;
 use std::test::Fail;
 
 /// More bytes than an answer has.
@@ -31,44 +30,49 @@ fn sent(
     serve(alloc, store, LAST_DAY, request, most)
 }
 
-/// The request fails after each number of its bytes: nothing is answered.
-fn expect_unread<R: Abort + AllocGlobal>(
-    rt: &R,
+/// Expects that serving a request ends with this fault after these bytes of its answer.
+fn expect_fault(
+    alloc: Global,
     store: &mut Store<MemStore>,
-    request: &[u8],
+    (given, most): (&[u8], usize),
+    fault: HttpFault,
+    answer: &[u8],
 ) -> Result<(), Fail> {
+    let (served, taken) = sent(alloc, store, given, most)?;
+    if served == Err(fault) && taken.as_slice() == answer {
+        return Ok(());
+    }
+    Err(Fail::new(format_args!("{} bytes given, room for {most}", given.len())))
+}
+
+/// The request fails after each number of its bytes: nothing is answered.
+fn expect_unread(alloc: Global, store: &mut Store<MemStore>, request: &[u8]) -> Result<(), Fail> {
     for given in 0..request.len() {
-        let (served, taken) = sent(rt.alloc(), store, &request[..given], UNLIMITED)?;
-        assert!(rt; served == Err(HttpFault::Read), "{given}");
-        assert!(rt; taken.is_empty(), "{given}");
+        let part = (&request[..given], UNLIMITED);
+        expect_fault(alloc, store, part, HttpFault::Read, b"")?;
     }
     Ok(())
 }
 
 /// The answer is lost after so many bytes.
-fn expect_cut<R: Abort + AllocGlobal>(
-    rt: &R,
+fn expect_cut(
+    alloc: Global,
     store: &mut Store<MemStore>,
     (request, answer): (&[u8], &[u8]),
     most: usize,
 ) -> Result<(), Fail> {
-    let (served, taken) = sent(rt.alloc(), store, request, most)?;
-    assert!(rt; served == Err(HttpFault::Write), "{most}");
-    assert!(rt;
-        taken.len() == most && answer.starts_with(taken.as_slice()),
-        "{most}"
-    );
-    Ok(())
+    let taken = answer.get(..most).ok_or("answer")?;
+    expect_fault(alloc, store, (request, most), HttpFault::Write, taken)
 }
 
 /// The answer is lost after each number of its bytes.
-fn expect_unwritten<R: Abort + AllocGlobal>(
-    rt: &R,
+fn expect_unwritten(
+    alloc: Global,
     store: &mut Store<MemStore>,
     exchange: (&[u8], &[u8]),
 ) -> Result<(), Fail> {
     for most in 0..exchange.1.len() {
-        expect_cut(rt, store, exchange, most)?;
+        expect_cut(alloc, store, exchange, most)?;
     }
     Ok(())
 }
@@ -76,7 +80,7 @@ fn expect_unwritten<R: Abort + AllocGlobal>(
 #[test]
 fn a_posting_that_is_cut_changes_nothing(rt: HostRuntime) -> Result<(), Fail> {
     let mut store = office_with(rt.alloc(), TWO_SIT)?;
-    expect_unread(&rt, &mut store, AGAINST_B.as_bytes())?;
+    expect_unread(rt.alloc(), &mut store, AGAINST_B.as_bytes())?;
     assert_eq!(rt; appeal_count(store)?, 0);
     Ok(())
 }
@@ -86,9 +90,9 @@ fn a_posting_that_is_cut_changes_nothing(rt: HostRuntime) -> Result<(), Fail> {
 fn an_appeal_stands_whose_answer_is_cut(rt: HostRuntime) -> Result<(), Fail> {
     let mut store = office_with(rt.alloc(), TWO_SIT)?;
     let exchange = (AGAINST_B.as_bytes(), OPEN.as_bytes());
-    expect_cut(&rt, &mut store, exchange, 10)?;
+    expect_cut(rt.alloc(), &mut store, exchange, 10)?;
     expect_answer(rt.alloc(), &mut store, LODGED)?;
-    expect_unwritten(&rt, &mut store, exchange)?;
+    expect_unwritten(rt.alloc(), &mut store, exchange)?;
     expect_answer(rt.alloc(), &mut store, ONE_APPEAL)?;
     assert_eq!(rt; appeal_count(store)?, 1);
     Ok(())
@@ -113,8 +117,12 @@ const REQUESTS: &[(&str, &str)] = &[
 fn each_read_and_each_write_may_fail(rt: HostRuntime) -> Result<(), Fail> {
     let mut store = office_with(rt.alloc(), ONE_SITS)?;
     for (request, answer) in REQUESTS {
-        expect_unread(&rt, &mut store, request.as_bytes())?;
-        expect_unwritten(&rt, &mut store, (request.as_bytes(), answer.as_bytes()))?;
+        expect_unread(rt.alloc(), &mut store, request.as_bytes())?;
+        expect_unwritten(
+            rt.alloc(),
+            &mut store,
+            (request.as_bytes(), answer.as_bytes()),
+        )?;
     }
     Ok(())
 }

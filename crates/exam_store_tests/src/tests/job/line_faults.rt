@@ -1,38 +1,33 @@
 //! What is printed for words that are no line.
 use exam_job::print_line_fault;
 use exam_line::LineFault;
-use std::process::Abort;
+use exam_school::expect_same;
+use std::alloc::Global;
+use std::str;
 use std::test::Fail;
 
-/// Compares what is printed on both outputs, and the exit status.
-fn expect_printed<R: Abort + AllocGlobal>(
-    rt: &R,
-    fault: &LineFault,
-    status: u8,
-    wanted_out: &str,
-    wanted_err: &str,
-) -> Result<(), Fail> {
-    let mut out = Vec::new(rt.alloc());
-    let mut err = Vec::new(rt.alloc());
-    assert_eq!(rt; print_line_fault(fault, &mut out, &mut err), status);
-    assert_eq!(rt; out.as_slice(), wanted_out.as_bytes());
-    assert_eq!(rt; err.as_slice(), wanted_err.as_bytes());
-    Ok(())
+/// The exit status, and what is printed on standard output and on standard error.
+fn printed(alloc: Global, fault: &LineFault) -> Result<String, Fail> {
+    let mut out = Vec::new(alloc);
+    let mut err = Vec::new(alloc);
+    let status = print_line_fault(fault, &mut out, &mut err);
+    let out = str::from_utf8(out.as_slice())?;
+    let err = str::from_utf8(err.as_slice())?;
+    Ok(format!(in alloc; "{status} out {out} err {err}")?)
+}
+
+fn expect_printed(alloc: Global, fault: &LineFault, wanted: &str) -> Result<(), Fail> {
+    expect_same(printed(alloc, fault)?.as_str(), wanted, "no line")
 }
 
 #[test]
 fn words_that_are_no_line_are_answered(rt: HostRuntime) -> Result<(), Fail> {
-    let text = "how to use it\n";
-    let help = LineFault::Help(String::from_str(rt.alloc(), text)?);
-    expect_printed(&rt, &help, 0, text, "")?;
-    let version = "examoffice 1.0.0, tables of version 3\n";
-    expect_printed(&rt, &LineFault::Version, 0, version, "")?;
-    expect_printed(&rt, &LineFault::NoMemory, 1, "", "refused 22\n")?;
-    expect_printed(
-        &rt,
-        &LineFault::NotUnderstood,
-        2,
-        "",
-        "line not understood\n",
-    )
+    let alloc = rt.alloc();
+    let help = LineFault::Help(String::from_str(alloc, "how to use it\n")?);
+    expect_printed(alloc, &help, "0 out how to use it\n err ")?;
+    let version = "0 out examoffice 1.0.0, tables of version 3\n err ";
+    expect_printed(alloc, &LineFault::Version, version)?;
+    expect_printed(alloc, &LineFault::NoMemory, "1 out  err refused 22\n")?;
+    let told = "2 out  err line not understood\n";
+    expect_printed(alloc, &LineFault::NotUnderstood, told)
 }

@@ -68,6 +68,25 @@ $ appeals S2
 appeals 0
 "#;
 
+/// An office of an older version is neither opened nor made anew.
+const NOT_OPENED: &str = "\
+$ export S1
+! refused 27
+$ init
+! refused 27
+";
+
+/// The first candidate still sits, and withdraws.
+const GOES_ON: &str = "\
+$ export S1
+> session,number,paper,hall,desk
+S1,0000001,MA-1,A,1
+$ withdraw 0000001 MA-1
+> withdrawn
+$ export S1
+> session,number,paper,hall,desk
+";
+
 const STILL_STANDS: &str = "\
 $ sql
 SELECT number, ref FROM standing
@@ -90,7 +109,13 @@ const STANDING: Days<'_> = &[
     ),
     (
         "a migration from version 1 names both versions",
-        &[FIRST_TAKES_A, OF_VERSION_1, FROM_VERSION_1],
+        &[
+            FIRST_TAKES_A,
+            OF_VERSION_1,
+            NOT_OPENED,
+            FROM_VERSION_1,
+            GOES_ON,
+        ],
     ),
     (
         "a migration from version 2 keeps the marks",
@@ -99,6 +124,7 @@ const STANDING: Days<'_> = &[
             THREE_COME,
             MOVED_TWICE,
             OF_VERSION_2,
+            NOT_OPENED,
             FROM_VERSION_2,
             STILL_STANDS,
         ],

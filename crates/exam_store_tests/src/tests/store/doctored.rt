@@ -1,8 +1,7 @@
 //! Tables that hold no office are refused.
-use super::{BAD_STORE, expect_each, refusal_of_creating};
-use crate::tests::offices::{InMemory, after, office_of, refusal_of_opening};
-use exam_school::ROWS;
-use sqlite::Connection;
+use super::{BAD_STORE, expect_number};
+use crate::tests::offices::{after, office_of, refusal_of_opening};
+use exam_school::{ONE_SITS, ROWS};
 use std::alloc::Global;
 use std::test::Fail;
 
@@ -83,15 +82,6 @@ DROP TABLE office
 DROP TABLE arrangement; CREATE TABLE arrangement (number INTEGER NOT NULL, PRIMARY KEY (number)) STRICT
 ";
 
-const A_SHELF: &str = "CREATE TABLE shelf (code TEXT NOT NULL, PRIMARY KEY (code)) STRICT";
-
-#[test]
-fn another_schema_is_refused(rt: HostRuntime) -> Result<(), Fail> {
-    let conn = after(Connection::open_in_memory(rt.alloc())?, A_SHELF)?;
-    assert_eq!(rt; refusal_of_creating(rt.alloc(), conn), BAD_STORE);
-    Ok(())
-}
-
 /// Open appeals, and granted ones of the kinds that a candidate may have only once for a session.
 const SINGLES: &str = "\
 INSERT INTO appeal VALUES (1, 'R1', 'S1', 1, 'A', 0, 0, '', 1, NULL, '2027-05-01')
@@ -131,6 +121,19 @@ INSERT INTO appeal VALUES (1, 'R1', 'S1', 3, '', 1, 0, '', 5, 'Yes', '2027-05-01
 
 const MARK: &str = "INSERT INTO standing VALUES (1, 'R1')";
 
+/// The first candidate has no seat; their hall closes early; the second candidate, who is not entered, has a seat too;
+/// the entry is withdrawn; and its mark is no value.
+const OTHER_PLANS: &str = "\
+DELETE FROM seat
+UPDATE opening SET until = 599 WHERE hall = 'A'
+INSERT INTO seat VALUES ('S1', 2, 'B')
+UPDATE entry SET live = 0
+UPDATE entry SET live = 2
+";
+
+/// Any best plan is accepted, even if it is not the one that a repair from nothing makes.
+const OTHER_BEST_PLAN: &str = "UPDATE seat SET hall = 'B'";
+
 /// Rows, statements each of which makes another office of them, statements that follow, and the number of the refusal of
 /// opening it, or 0.
 const DOCTORED: &[(&[&str], &str, &str, u16)] = &[
@@ -142,47 +145,34 @@ const DOCTORED: &[(&[&str], &str, &str, u16)] = &[
     (&[ROWS], SEVERAL, AGAIN, 0),
     (&[ROWS], UNMARKED, MARK, BAD_STORE),
     (&[ROWS], MARKED, MARK, 0),
+    (&[ROWS, ONE_SITS], OTHER_PLANS, "", BAD_STORE),
+    (&[ROWS, ONE_SITS], OTHER_BEST_PLAN, "", 0),
 ];
 
-#[test]
-fn only_good_offices_are_opened(rt: HostRuntime) -> Result<(), Fail> {
-    for (rows, lines, then, refusal) in DOCTORED {
-        expect_each(&rt, rows, lines, then, *refusal)?;
+/// The number of the refusal of opening an office that was made by these rows and these statements.
+fn refusal_after(alloc: Global, rows: &[&str], sql: &str, then: &str) -> Result<u16, Fail> {
+    let conn = after(office_of(alloc, rows)?, sql)?;
+    Ok(refusal_of_opening(alloc, after(conn, then)?))
+}
+
+/// Opens an office for the statements of each line.
+fn expect_each(
+    alloc: Global,
+    rows: &[&str],
+    lines: &str,
+    then: &str,
+    refusal: u16,
+) -> Result<(), Fail> {
+    for sql in lines.lines() {
+        expect_number(refusal_after(alloc, rows, sql, then)?, refusal, sql)?;
     }
     Ok(())
 }
 
-/// The school with that many more halls.
-fn office_of_halls(alloc: Global, halls: u32) -> Result<InMemory, Fail> {
-    let mut conn = office_of(alloc, &[ROWS])?;
-    for number in 0..halls {
-        let sql = format!(in alloc; "INSERT INTO hall VALUES ('H{number}', 'Hall', 0)")?;
-        conn = after(conn, sql.as_str())?;
-    }
-    Ok(conn)
-}
-
-/// The office with that many appeals of one candidate, which are refused.
-fn with_appeals(alloc: Global, conn: InMemory, appeals: u32) -> Result<InMemory, Fail> {
-    let mut conn = conn;
-    let columns = "'S1', 1, 'A', 0, 0, '', 3, 'No', '2027-05-01'";
-    for number in 0..appeals {
-        let sql = format!(in alloc; "INSERT INTO appeal VALUES (1, 'R{number}', {columns})")?;
-        conn = after(conn, sql.as_str())?;
-    }
-    Ok(conn)
-}
-
-/// How many halls there are beside the two of the school, how many appeals of a candidate, and the number of the refusal.
-const MANY: &[(u32, u32, u16)] = &[(498, 64, 0), (499, 64, BAD_STORE), (498, 65, BAD_STORE)];
-
-/// There may be 500 halls, and 64 appeals of a candidate.
 #[test]
-fn more_than_the_limits_is_refused(rt: HostRuntime) -> Result<(), Fail> {
-    for (halls, appeals, refusal) in MANY {
-        let conn = with_appeals(rt.alloc(), office_of_halls(rt.alloc(), *halls)?, *appeals)?;
-        let found = refusal_of_opening(rt.alloc(), conn);
-        assert_eq!(rt; found, *refusal, "{halls} {appeals}");
+fn only_good_offices_are_opened(rt: HostRuntime) -> Result<(), Fail> {
+    for (rows, lines, then, refusal) in DOCTORED {
+        expect_each(rt.alloc(), rows, lines, then, *refusal)?;
     }
     Ok(())
 }

@@ -1,7 +1,7 @@
 //! A list of commands is applied in turn, each with its answer.
-use super::seated_office;
-use crate::tests::offices::opened;
+use crate::tests::offices::{office_of, opened};
 use exam_office::{Command, Reply};
+use exam_school::{ONE_SITS, ROWS};
 use exam_types::{Day, Number, PaperCode, Refusal};
 use std::process::Abort;
 use std::test::Fail;
@@ -17,7 +17,8 @@ fn each_command_of_a_list_is_answered(rt: HostRuntime) -> Result<(), Fail> {
         (Command::Withdraw(first, paper), today),
         (Command::Reinstate(first, paper), today),
     ];
-    let mut store = opened(alloc, seated_office(alloc)?)?;
+    let seated = office_of(alloc, &[ROWS, ONE_SITS])?;
+    let mut store = opened(alloc, seated)?;
     let answers = store.apply_all(alloc, &commands)?;
     let expected = matches!(
         answers.as_slice(),

@@ -1,13 +1,9 @@
 //! Offices of older versions are brought to the newest, whole or not at all.
-use super::{BAD_STORE, expect_each, refusal_of_creating};
-use crate::tests::offices::{InMemory, after, office_of, opened, refusal_of_opening};
-use exam_office::{Command, Reply};
+use super::{BAD_STORE, expect_number};
+use crate::tests::offices::office_of;
+use crate::tests::views::refusal_of_migrating;
 use exam_school::{ONE_SITS, ROWS};
-use exam_store::{Store, migrate};
-use exam_types::{Day, Number, PaperCode};
-use sqlite::{Connection, MemStore};
 use std::alloc::Global;
-use std::process::Abort;
 use std::test::Fail;
 
 /// Turns the tables of the newest version into those of version 1.
@@ -15,96 +11,6 @@ const TO_FIRST: &str = "DROP TABLE standing; UPDATE office SET version = 1";
 
 /// Turns them into those of version 2.
 const TO_SECOND: &str = "UPDATE office SET version = 2";
-
-/// The number of the refusal of an office of an older version.
-const OLD_SCHEMA: u16 = 27;
-
-/// An office of an older version, made so by the first text, with one candidate seated, after these statements.
-fn old_office(alloc: Global, back: &str, sql: &str) -> Result<InMemory, Fail> {
-    office_of(alloc, &[ROWS, ONE_SITS, sql, back])
-}
-
-/// Expects that an office of an older version is refused as such, whatever else is wrong with its rows.
-fn expect_old<R: Abort + AllocGlobal>(rt: &R, back: &str) -> Result<(), Fail> {
-    let alloc = rt.alloc();
-    assert_eq!(rt;
-        refusal_of_creating(alloc, old_office(alloc, back, "")?),
-        OLD_SCHEMA
-    );
-    let statements = "UPDATE seat SET hall = 'B'\nDELETE FROM seat\n";
-    expect_each(rt, &[ROWS, ONE_SITS], statements, back, OLD_SCHEMA)
-}
-
-#[test]
-fn an_old_office_is_not_opened(rt: HostRuntime) -> Result<(), Fail> {
-    expect_old(&rt, TO_FIRST)?;
-    expect_old(&rt, TO_SECOND)
-}
-
-/// Brings what the connection holds to the newest version. Returns the old version and the new one, or the number of
-/// the refusal and 0.
-fn migrated(alloc: Global, conn: &mut InMemory) -> (u16, u16) {
-    match migrate(alloc, conn) {
-        Ok((old, new)) => (u16::from(old), u16::from(new)),
-        Err(refusal) => (refusal.number(), 0),
-    }
-}
-
-/// Whether the entry of the first candidate is withdrawn.
-fn is_withdrawn(alloc: Global, store: &mut Store<MemStore>) -> Result<bool, Fail> {
-    let first = Number::new(1).ok_or("number")?;
-    let paper = PaperCode::parse(b"MA-1").ok_or("paper")?;
-    let today = Day::parse(b"2027-05-01").ok_or("day")?;
-    let reply = store.apply(alloc, &Command::Withdraw(first, paper), today);
-    Ok(matches!(reply, Ok(Reply::Withdrawn)))
-}
-
-/// The closed office after that withdrawal.
-fn withdrawn(alloc: Global, conn: InMemory) -> Result<InMemory, Fail> {
-    let mut store = opened(alloc, conn)?;
-    if is_withdrawn(alloc, &mut store)? {
-        Ok(store.close())
-    } else {
-        Err(Fail::new("not withdrawn"))
-    }
-}
-
-/// How many rows a query shows.
-fn count(conn: &mut InMemory, sql: &str) -> Result<usize, Fail> {
-    Ok(conn.query_all(sql, &[])?.len())
-}
-
-#[test]
-fn an_office_of_version_1_is_migrated(rt: HostRuntime) -> Result<(), Fail> {
-    let alloc = rt.alloc();
-    let mut conn = old_office(alloc, TO_FIRST, "")?;
-    assert_eq!(rt; migrated(alloc, &mut conn), (1, 3));
-    // The second time, nothing is written.
-    assert_eq!(rt; migrated(alloc, &mut conn), (3, 3));
-    assert_eq!(rt; count(&mut conn, "SELECT number FROM seat")?, 1);
-    assert_eq!(rt; count(&mut conn, "SELECT number FROM standing")?, 0);
-    let mut conn = withdrawn(alloc, conn)?;
-    assert_eq!(rt; count(&mut conn, "SELECT number FROM seat")?, 0);
-    assert_eq!(rt; refusal_of_opening(alloc, conn), 0);
-    Ok(())
-}
-
-/// A standing grant.
-const MARKED: &str = "\
-INSERT INTO appeal VALUES (1, 'AR1', 'S1', 3, '', 0, 25, '', 2, 'Yes', '2027-05-01');
-INSERT INTO standing VALUES (1, 'AR1')";
-
-#[test]
-fn an_office_of_version_2_keeps_its_marks(rt: HostRuntime) -> Result<(), Fail> {
-    let alloc = rt.alloc();
-    let mut conn = old_office(alloc, TO_SECOND, MARKED)?;
-    assert_eq!(rt; migrated(alloc, &mut conn), (2, 3));
-    assert_eq!(rt; migrated(alloc, &mut conn), (3, 3));
-    assert_eq!(rt; count(&mut conn, "SELECT number FROM seat")?, 1);
-    assert_eq!(rt; count(&mut conn, "SELECT number FROM standing")?, 1);
-    assert_eq!(rt; refusal_of_opening(alloc, conn), 0);
-    Ok(())
-}
 
 /// From two halls to 128, all of them opened.
 const MANY_OPENINGS: &str = "\
@@ -133,32 +39,6 @@ INSERT INTO appeal VALUES (2, 'R1', 'S1', 3, '', 32, 0, '', 3, 'No', '2027-05-01
 INSERT INTO hall VALUES ('Z', 'Hall Z', 0); INSERT INTO opening VALUES ('S1', 'Z', 1, 720, 0)
 ";
 
-/// Compares for each line what migrating that office of an older version answers after its statements.
-fn expect_migrated<R: Abort + AllocGlobal>(
-    rt: &R,
-    back: &str,
-    lines: &str,
-    answer: (u16, u16),
-) -> Result<(), Fail> {
-    let alloc = rt.alloc();
-    for sql in lines.lines() {
-        let full = after(old_office(alloc, "", MANY_OPENINGS)?, sql)?;
-        let mut conn = after(full, back)?;
-        let found = migrated(alloc, &mut conn);
-        drop(conn);
-        assert_eq!(rt; found, answer, "{sql}");
-    }
-    Ok(())
-}
-
-#[test]
-fn an_old_office_has_the_limits_of_its_version(rt: HostRuntime) -> Result<(), Fail> {
-    expect_migrated(&rt, TO_FIRST, AT_LIMITS, (1, 3))?;
-    expect_migrated(&rt, TO_FIRST, PAST_LIMITS, (BAD_STORE, 0))?;
-    expect_migrated(&rt, TO_SECOND, AT_LIMITS, (2, 3))?;
-    expect_migrated(&rt, TO_SECOND, PAST_LIMITS, (BAD_STORE, 0))
-}
-
 /// Rows and tables that no office of version 1 has.
 const NO_FIRST_OFFICES: &str = "\
 UPDATE office SET version = 2
@@ -185,26 +65,41 @@ DROP TABLE standing
 DROP TABLE office
 ";
 
-/// Expects that these tables are refused.
-fn expect_refused<R: Abort + AllocGlobal>(rt: &R, conn: InMemory, sql: &str) {
-    let mut conn = conn;
-    let found = migrated(rt.alloc(), &mut conn);
-    drop(conn);
-    assert_eq!(rt; found, (BAD_STORE, 0), "{sql}");
+/// Statements at the school with one candidate seated, statements each of which makes another office of it, statements
+/// that follow, and the number of the refusal of migrating it, or 0.
+const OLDER: &[(&str, &str, &str, u16)] = &[
+    (MANY_OPENINGS, AT_LIMITS, TO_FIRST, 0),
+    (MANY_OPENINGS, PAST_LIMITS, TO_FIRST, BAD_STORE),
+    (MANY_OPENINGS, AT_LIMITS, TO_SECOND, 0),
+    (MANY_OPENINGS, PAST_LIMITS, TO_SECOND, BAD_STORE),
+    (TO_FIRST, NO_FIRST_OFFICES, "", BAD_STORE),
+    (TO_SECOND, NO_SECOND_OFFICES, "", BAD_STORE),
+];
+
+/// The number of the refusal of migrating that office after these statements.
+fn refusal_after(alloc: Global, before: &str, sql: &str, then: &str) -> Result<u16, Fail> {
+    let mut conn = office_of(alloc, &[ROWS, ONE_SITS, before, sql, then])?;
+    Ok(refusal_of_migrating(alloc, &mut conn))
+}
+
+/// Migrates an office for the statements of each line.
+fn expect_each(
+    alloc: Global,
+    before: &str,
+    lines: &str,
+    then: &str,
+    refusal: u16,
+) -> Result<(), Fail> {
+    for sql in lines.lines() {
+        expect_number(refusal_after(alloc, before, sql, then)?, refusal, sql)?;
+    }
+    Ok(())
 }
 
 #[test]
-fn what_is_no_good_office_is_not_migrated(rt: HostRuntime) -> Result<(), Fail> {
-    let alloc = rt.alloc();
-    for sql in NO_FIRST_OFFICES.lines() {
-        expect_refused(&rt, after(old_office(alloc, TO_FIRST, "")?, sql)?, sql);
+fn only_good_offices_are_migrated(rt: HostRuntime) -> Result<(), Fail> {
+    for (before, lines, then, refusal) in OLDER {
+        expect_each(rt.alloc(), before, lines, then, *refusal)?;
     }
-    for sql in NO_SECOND_OFFICES.lines() {
-        expect_refused(&rt, after(old_office(alloc, TO_SECOND, "")?, sql)?, sql);
-    }
-    expect_refused(&rt, Connection::open_in_memory(alloc)?, "nothing");
-    // A bad office of the newest version is refused too.
-    let sql = "UPDATE paper SET minutes = 601";
-    expect_refused(&rt, office_of(alloc, &[ROWS, sql])?, sql);
     Ok(())
 }
