@@ -15,7 +15,7 @@ const SEATS: &str = "/candidates/0000001/seats";
 
 const APPEALS: &str = "/candidates/0000001/appeals";
 
-const ROWS: [Row<'static>; 14] = [
+const ROWS: &[Row<'static>] = &[
     (b"GET", SEATS, CODE, "seats"),
     (b"GET", SEATS, WRONG, "refused 6"),
     (b"GET", SEATS, None, "refused 6"),
@@ -84,10 +84,12 @@ fn each_request_is_shown_its_own_or_refused(rt: HostRuntime) -> Result<(), Fail>
         let asked = Request {
             method,
             target,
-            code,
+            code: *code,
             body: b"",
         };
-        assert_eq!(rt; word(&chosen(rt.alloc(), &asked)?), done, "{target}");
+        if word(&chosen(rt.alloc(), &asked)?) != *done {
+            return Err(Fail::new(*target));
+        }
     }
     Ok(())
 }

@@ -89,25 +89,38 @@ fn words(alloc: Global, text: &[u8]) -> Result<Reason, Fail> {
     Ok(Reason::parse(alloc, text)?.ok_or("reason")?)
 }
 
-/// The candidate of `own_rows` with three appeals, none open: for an arrangement, once granted for later sessions too,
-/// for a paper, and against a hall.
+/// The candidate of `own_rows` with three appeals, none open.
 pub fn decided_rows(alloc: Global) -> Result<Own, Fail> {
     let mut own = own_rows(alloc, None, "")?;
     own.appeals = Vec::new(alloc);
-    let asked = Subject::Arrangement(Arrangement {
+    own.appeals.push(superseded(alloc)?)?;
+    own.appeals.push(retracted(alloc)?)?;
+    own.appeals.push(refused(alloc)?)?;
+    Ok(own)
+}
+
+/// An appeal for an arrangement, once granted for later sessions too.
+fn superseded(alloc: Global) -> Result<OwnAppeal, Fail> {
+    let asked = Arrangement {
         needs: Features::parse(b"screen").ok_or("needs")?,
         extra: Extra::new(25).ok_or("extra")?,
-    });
+    };
     let yes = Status::Superseded(words(alloc, b"yes")?);
-    own.appeals.push(OwnAppeal {
+    let appeal = appeal(alloc, Subject::Arrangement(asked), "a", yes)?;
+    Ok(OwnAppeal {
         standing: true,
-        ..own_appeal(b"AR1", appeal(alloc, asked, "a", yes)?)?
-    })?;
+        ..own_appeal(b"AR1", appeal)?
+    })
+}
+
+/// An appeal for a paper.
+fn retracted(alloc: Global) -> Result<OwnAppeal, Fail> {
     let clash = Subject::Clash(paper(b"PH-2")?);
-    let retracted = appeal(alloc, clash, "c", Status::Retracted)?;
-    own.appeals.push(own_appeal(b"CA1", retracted)?)?;
+    own_appeal(b"CA1", appeal(alloc, clash, "c", Status::Retracted)?)
+}
+
+/// An appeal against a hall.
+fn refused(alloc: Global) -> Result<OwnAppeal, Fail> {
     let no = Status::Refused(words(alloc, b"no")?);
-    let refused = appeal(alloc, against_b()?, "h", no)?;
-    own.appeals.push(own_appeal(b"HA1", refused)?)?;
-    Ok(own)
+    own_appeal(b"HA1", appeal(alloc, against_b()?, "h", no)?)
 }

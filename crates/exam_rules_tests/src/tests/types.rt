@@ -261,25 +261,30 @@ fn names_and_reasons_have_no_control_characters(rt: HostRuntime) -> Result<(), F
     Ok(())
 }
 
+/// Appends values as they are written.
+fn write_values(out: &mut Vec<u8>) -> Result<(), Fail> {
+    SessionCode::parse(b"S1").ok_or("a code")?.write_to(out)?;
+    Number::new(42).ok_or("a number")?.write_to(out)?;
+    Minute::new(2639).ok_or("a time")?.write_to(out)?;
+    Extra::new(0).ok_or("extra time")?.write_to(out)?;
+    Features::from_sum(18).ok_or("features")?.write_to(out)?;
+    let day = SessionDay::parse(b"2027-06-01").ok_or("a day")?;
+    day.write_to(out)?;
+    Ok(())
+}
+
+/// Appends a copy of a name.
+fn write_name(alloc: Global, out: &mut Vec<u8>) -> Result<(), Fail> {
+    let name = Name::parse(alloc, b"Bo Berg")?.ok_or("a name")?;
+    name.copy()?.write_to(out)?;
+    Ok(())
+}
+
 #[test]
 fn values_are_written_as_they_are_read(rt: HostRuntime) -> Result<(), Fail> {
     let mut out = Vec::new(rt.alloc());
-    SessionCode::parse(b"S1")
-        .ok_or("a code")?
-        .write_to(&mut out)?;
-    Number::new(42).ok_or("a number")?.write_to(&mut out)?;
-    Minute::new(2639).ok_or("a time")?.write_to(&mut out)?;
-    Extra::new(0).ok_or("extra time")?.write_to(&mut out)?;
-    Features::from_sum(18)
-        .ok_or("features")?
-        .write_to(&mut out)?;
-    SessionDay::parse(b"2027-06-01")
-        .ok_or("a day")?
-        .write_to(&mut out)?;
-    let name = Name::parse(rt.alloc(), b"Bo Berg")?
-        .ok_or("a name")?
-        .copy()?;
-    name.write_to(&mut out)?;
+    write_values(&mut out)?;
+    write_name(rt.alloc(), &mut out)?;
     assert!(rt; out.as_slice() == b"S1000004243:590screen+computer2027-06-01Bo Berg".as_slice());
     let hall = HallCode::parse(b"A1").ok_or("a code")?;
     assert!(rt; printed(rt.alloc(), hall)?.as_str() == "A1");
