@@ -1,4 +1,4 @@
--- A lodging and a retraction are steps, and seat nobody elsewhere.
+-- Good facts stay good after a lodging and after a retraction, and everybody keeps their seat.
 use Rattle.std.proofs.Common.{◌≡◌, ℕ, ◌==◌, ◌&&◌, not, Bool, true, false, cond, [], ◌∷◌, ◌++◌, length, nat_le, Option}
 use Rattle.std.proofs.Common.{None, Some, is_some, is_none, IsSome, IfSome, IsTrue, refl, ap, sym, subst, ◌∙◌}
 use Rattle.std.specs.List.{list_all, list_any, filter_map}

@@ -1,4 +1,5 @@
--- A withdrawal, a reinstatement and the closing of a hall are steps.
+-- A withdrawal, a reinstatement and the closing of a hall leave facts that refer to what is there. A withdrawal and a
+-- reinstatement unseat nobody else.
 use Rattle.std.proofs.Common.{◌≡◌, ℕ, not, Bool, true, false, cond, [], ◌∷◌, None, Some, refl, ap, ◌∙◌}
 use Rattle.std.specs.Option.{option_or}
 use Rattle.exam_types.specs.declared.refusal.Refusal.TheVariants as refusal

@@ -1,4 +1,4 @@
--- A decision is a step.
+-- A decision unseats nobody but its appellant.
 use Rattle.std.proofs.Common.{◌≡◌}
 use Rattle.exam_plan.specs.Matching.{Keeps}
 use Rattle.exam_rules.specs.Relations.{Code, Relations}

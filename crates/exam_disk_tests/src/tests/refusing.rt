@@ -54,6 +54,7 @@ fn seen_on_copy(alloc: Global, files: &Files<Fused>, step: &Step<'_>) -> Result<
 
 /// Takes the step.
 fn course_of(alloc: Global, files: Files<Fused>, step: &Step<'_>) -> Result<Course, Fail> {
+    // Of this look only the rows count. A look that does not take the step would be dear to prove.
     let before = seen_on_copy(alloc, &files, step)?.rows;
     let behind = files_behind(alloc, &files, step)?;
     let after = seen_on_copy(alloc, &behind, step)?;
