@@ -147,7 +147,7 @@ fn check_closing(
     };
     let day = last_day(row, subject);
     if day < today {
-        return Err(Refusal::PastClosing { day });
+        return Err(Refusal::PastClosing(day));
     }
     Ok(())
 }

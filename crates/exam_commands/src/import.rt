@@ -65,9 +65,7 @@ impl Import {
     {
         match self.first_with_key(&row) {
             Some(first) if *first == row => self.push_repeated(row),
-            Some(_) => Err(Refusal::RowConflict {
-                record: self.rows.len() as u32 + 1,
-            }),
+            Some(_) => Err(Refusal::RowConflict(self.rows.len() as u32 + 1)),
             None => self.push_new(row),
         }
     }

@@ -30,10 +30,7 @@ pub fn row_of_record(
     ensures kind { IfOk result (λ row. kind_of row ≡ kind) }
 {
     if fields.len() != header(kind).len() {
-        return Err(Refusal::BadRow {
-            record: place,
-            column: 0,
-        });
+        return Err(Refusal::BadRow(place, 0));
     }
     match kind {
         Kind::Sessions => session_row(place, fields),
@@ -141,10 +138,7 @@ fn value_at<T>(place: u32, column: u32, value: Option<T>) -> Result<T, Refusal>
 {
     match value {
         Some(value) => Ok(value),
-        None => Err(Refusal::BadRow {
-            record: place,
-            column,
-        }),
+        None => Err(Refusal::BadRow(place, column)),
     }
 }
 

@@ -87,9 +87,9 @@ fn refusal_line(refusal: &Refusal) -> ShortLine
     ensures { result.items ≡ spec.refusal_text refusal.now }
 {
     match refusal {
-        Refusal::BadRow { record, column } => bad_row_line(*record, *column),
-        Refusal::RowConflict { record } => row_conflict_line(*record),
-        Refusal::PastClosing { day } => past_closing_line(*day),
+        Refusal::BadRow(record, column) => bad_row_line(*record, *column),
+        Refusal::RowConflict(record) => row_conflict_line(*record),
+        Refusal::PastClosing(day) => past_closing_line(*day),
         other => number_line(other.number()),
     }
 }

@@ -133,7 +133,7 @@ impl Answer {
         ensures { result ≡ spec.refusal_told refusal }
     {
         match refusal {
-            Refusal::PastClosing { day } => Answer {
+            Refusal::PastClosing(day) => Answer {
                 status: StatusCode::CONFLICT,
                 allow: None,
                 body: Body::Short(closing_body(day)),

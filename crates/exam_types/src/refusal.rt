@@ -10,16 +10,16 @@ use thiserror::Error;
 /// Why a call is refused. After a refusal everything is as before.
 #[derive(Clone, Copy, Debug, PartialEq, Eq, Error)]
 pub enum Refusal {
-    /// A row of an import is bad. `record` counts records from 1 after the header. `column` is the first bad column,
-    /// counted from 1 from the left, or 0 if the count of fields is wrong.
-    #[error("record {record} column {column} is bad")]
-    BadRow { record: u32, column: u32 },
+    /// A row of an import is bad: its record, counted from 1 after the header, and its first bad column, counted from 1
+    /// from the left, or 0 if the count of fields is wrong.
+    #[error("record {0} column {1} is bad")]
+    BadRow(u32, u32),
     /// The first record of an import is not the header of its kind.
     #[error("the header is not that of the kind")]
     BadHeader,
-    /// A row of an import has the key of an earlier row but other contents. `record` is the row's, counted from 1.
-    #[error("record {record} contradicts an earlier one")]
-    RowConflict { record: u32 },
+    /// A row of an import, whose record this is, counted from 1, has the key of an earlier row but other contents.
+    #[error("record {0} contradicts an earlier one")]
+    RowConflict(u32),
     /// There is no such session.
     #[error("no such session")]
     UnknownSession,
@@ -49,7 +49,7 @@ pub enum Refusal {
     NotInSession,
     /// The last day to lodge, which the refusal carries, has passed.
     #[error("the last day to lodge is over")]
-    PastClosing { day: Day },
+    PastClosing(Day),
     /// The candidate already has another appeal with this reference.
     #[error("the reference is taken")]
     RefTaken,
@@ -116,9 +116,9 @@ impl Refusal {
         ensures { result ≡ refusal_number self.now }
     {
         match self {
-            Refusal::BadRow { .. } => 1,
+            Refusal::BadRow(..) => 1,
             Refusal::BadHeader => 2,
-            Refusal::RowConflict { .. } => 3,
+            Refusal::RowConflict(_) => 3,
             Refusal::UnknownSession => 4,
             Refusal::UnknownPaper => 5,
             Refusal::UnknownCandidate => 6,
@@ -128,7 +128,7 @@ impl Refusal {
             Refusal::NotWithdrawn => 10,
             Refusal::NotSeatedThere => 11,
             Refusal::NotInSession => 12,
-            Refusal::PastClosing { .. } => 13,
+            Refusal::PastClosing(_) => 13,
             Refusal::RefTaken => 14,
             Refusal::UnknownAppeal => 15,
             Refusal::NotOpenAppeal => 16,

@@ -23,10 +23,6 @@ fn a_file_gives_its_rows_or_a_refusal(rt: HostRuntime) -> Result<(), Fail> {
     let import = read_import(alloc, Kind::Entries, b"number,paper\n0000001,MA-1\n")?;
     assert!(rt; import.rows().len() == 1);
     let refused = read_import(alloc, Kind::Entries, b"number,paper\n0000001,ma-1\n").err();
-    let bad_paper = Refusal::BadRow {
-        record: 1,
-        column: 2,
-    };
-    assert!(rt; refused == Some(bad_paper));
+    assert!(rt; refused == Some(Refusal::BadRow(1, 2)));
     Ok(())
 }

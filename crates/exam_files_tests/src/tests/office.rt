@@ -33,10 +33,10 @@ fn kind_of(line: &str) -> Option<Kind> {
 /// The line for a refusal.
 fn refused(alloc: Global, refusal: Refusal) -> Result<String, Fail> {
     Ok(match refusal {
-        Refusal::BadRow { record, column } => {
+        Refusal::BadRow(record, column) => {
             format!(in alloc; "! refused 1 record {record} column {column}\n")?
         }
-        Refusal::RowConflict { record } => format!(in alloc; "! refused 3 record {record}\n")?,
+        Refusal::RowConflict(record) => format!(in alloc; "! refused 3 record {record}\n")?,
         other => {
             let number = other.number();
             format!(in alloc; "! refused {number}\n")?

@@ -16,7 +16,7 @@ fn rows_of_one_key_are_equal(rt: HostRuntime) -> Result<(), Fail> {
     let (_, others) = arrangement_of(&mut Words::of("1 screen 0"))?;
     import.push(Row::OfArrangement(number, needs))?;
     let refused = import.push(Row::OfArrangement(number, others)).err();
-    assert!(rt; refused == Some(Refusal::RowConflict { record: 2 }));
+    assert!(rt; refused == Some(Refusal::RowConflict(2)));
     assert!(rt; import.rows().len() == 1);
     Ok(())
 }

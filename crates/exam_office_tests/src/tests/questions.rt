@@ -12,7 +12,7 @@ use std::test::Fail;
 fn text_of(alloc: Global, answer: &Result<Reply, Refusal>) -> Result<String, Fail> {
     match answer {
         Ok(reply) => Ok(format!(in alloc; "{reply:?}")?),
-        Err(Refusal::PastClosing { day }) => Ok(format!(in alloc; "PastClosing {day}")?),
+        Err(Refusal::PastClosing(day)) => Ok(format!(in alloc; "PastClosing {day}")?),
         Err(refusal) => Ok(format!(in alloc; "{refusal:?}")?),
     }
 }

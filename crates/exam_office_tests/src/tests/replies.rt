@@ -41,11 +41,7 @@ fn expect_conflict(alloc: Global, import: &mut Import) -> Result<(), Fail> {
     let pushed = push(alloc, import, "S1 A 2 12:00")?;
     let count = import.rows().len();
     let found = format!(in alloc; "{pushed:?} {count}")?;
-    expect_same(
-        found.as_str(),
-        "Err(RowConflict { record: 2 }) 1",
-        "openings",
-    )
+    expect_same(found.as_str(), "Err(RowConflict(2)) 1", "openings")
 }
 
 #[test]

@@ -76,11 +76,7 @@ fn expect_each_cut<R: Abort>(rt: &R, answer: &Answer, whole: &[u8]) {
 fn an_answer_is_cut_where_its_writer_stops(rt: HostRuntime) -> Result<(), Fail> {
     let day = Day::parse(b"2027-05-30").ok_or("day")?;
     expect_each_cut(&rt, &Answer::other_method(Route::Appeals), OTHER_METHOD);
-    expect_each_cut(
-        &rt,
-        &Answer::refusal(Refusal::PastClosing { day }),
-        TOO_LATE,
-    );
+    expect_each_cut(&rt, &Answer::refusal(Refusal::PastClosing(day)), TOO_LATE);
     Ok(())
 }
 

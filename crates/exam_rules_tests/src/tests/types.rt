@@ -294,15 +294,9 @@ fn values_are_written_as_they_are_read(rt: HostRuntime) -> Result<(), Fail> {
 #[test]
 fn refusals_have_numbers(rt: HostRuntime) {
     for (refusal, number) in [
-        (
-            Refusal::BadRow {
-                record: 3,
-                column: 1,
-            },
-            1,
-        ),
+        (Refusal::BadRow(3, 1), 1),
         (Refusal::BadHeader, 2),
-        (Refusal::RowConflict { record: 4 }, 3),
+        (Refusal::RowConflict(4), 3),
         (Refusal::UnknownSession, 4),
         (Refusal::NotSeatedThere, 11),
         (Refusal::TooMany, 20),
