@@ -3,8 +3,8 @@
 -- - Codes: which bytes are a code: capitals, digits and, for sessions and papers, dashes; each with
 --   its lengths, as numbers
 -- - Digits: the last k decimal digits of a number, and the number that digits spell
--- - Numbers: the ranges of the numbered values, by the constants of src/numbers.rt; seven digits
---   for a candidate, HH:MM for a time; the value that a text is
+-- - Numbers: the ranges of the numbered values, as numbers; seven digits for a candidate, HH:MM for
+--   a time; the value that a text is
 -- - Features: the names of the features; the text of a feature set: its names in their order joined by
 --   +, or -; the empty set, which set holds another, equality, the sum by which a set is stored
 -- - FeatureSums: a mask is the sum of the set that it represents (used only by the type of sets)

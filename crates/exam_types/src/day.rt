@@ -17,10 +17,10 @@ use std::marker::Model;
 use std::{fmt, str};
 
 /// The number of 2000-01-01, where 1970-01-01 is 0.
-pub const FIRST_DAY: u32 = 10_957;
+const FIRST_DAY: u32 = 10_957;
 
 /// The number of 2199-12-31.
-pub const LAST_DAY: u32 = 84_005;
+const LAST_DAY: u32 = 84_005;
 
 /// The days from -9999-01-01, from which `jiff_core` counts, to 1970-01-01.
 const EPOCH: u32 = 4_371_587;
@@ -68,7 +68,7 @@ impl Day {
 
     /// The day so many days earlier, or none if that is before 2000-01-01.
     pub fn minus(self, days: u16) -> Option<Day>
-        ensures { result ≡ (if nat_le (FIRST_DAY + days) self then Some (self - days) else None) }
+        ensures { result ≡ (if nat_le (spec.first_day + days) self then Some (self - days) else None) }
     {
         Day::from_date(self.date().checked_add(days_back(days)).ok()?)
     }

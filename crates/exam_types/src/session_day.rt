@@ -9,7 +9,7 @@ use crate::refusal::Refusal;
 use std::marker::Model;
 
 /// The number of 2000-01-11, where 1970-01-01 is 0.
-pub const FIRST_SESSION_DAY: u32 = 10_967;
+const FIRST_SESSION_DAY: u32 = 10_967;
 
 /// A day from 2000-01-11 to 2199-12-31, so the day ten days earlier is a [`Day`] as well. Contracts see its number,
 /// where 1970-01-01 is 0.
@@ -34,7 +34,7 @@ impl Model for SessionDay {
 impl SessionDay {
     /// The day as a session's day, or none before 2000-01-11.
     pub fn new(day: Day) -> Option<SessionDay>
-        ensures { result ≡ (if nat_le FIRST_SESSION_DAY day then Some day else None) }
+        ensures { result ≡ (if nat_le spec.first_session_day day then Some day else None) }
     {
         if day.number() < FIRST_SESSION_DAY {
             return None;
