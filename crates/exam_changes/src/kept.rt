@@ -1,5 +1,5 @@
 //! Rows that replace others, which are kept so that they can be put back.
-ghost use Rattle.std.specs.Prelude.{◌≡◌, List, IfErr, OnOk};
+ghost use Rattle.std.specs.Prelude.{◌≡◌, List, IfErr, OnErr, OnOk};
 ghost use Rattle.exam_types.specs.declared.refusal.Refusal.TheVariants.{NoMemory};
 ghost use Rattle.exam_rules.specs.Relations.{Relations, put_row, relations_of};
 ghost use Rattle.exam_commands.specs.Exchanges as exchanges;
@@ -95,6 +95,8 @@ pub fn put_kept<K: Ord + Copy, V: Drop>(
     ensures back { exchanges.TellsApart K.cmp → (first : List (K × V))
         → exchanges.GoBack K.cmp kept.old.entries rows.old.entries first
         → exchanges.GoBack K.cmp kept.new.entries rows.new.entries first }
+    ensures err { exchanges.TellsApart K.cmp → OnErr result (rows.new.entries ≡ rows.old.entries) }
+    ensures err_kept { OnErr result (kept.new.entries ≡ kept.old.entries) }
     ensures memory { IfErr result (λ e. e ≡ NoMemory) }
 {
     // The contract of `len` says that the keys rise.

@@ -12,6 +12,7 @@ pub mod LaterImports
 pub mod OwnFacts
 pub mod OwnRetracting
 pub mod OwnLodging
+pub mod OwnSessions
 pub mod OwnView
 pub mod Reaching
 pub mod Untouched

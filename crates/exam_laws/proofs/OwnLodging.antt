@@ -130,18 +130,18 @@ module _ (office : State) (c : ℕ) where
       inner (Some p) (Some n) is = let same : session_row office c held p n ≡ own = cc in ap (λ (x : OwnSessionRow). x.session) (sym same)
 
   -- what a member sees of the session
-  record IsSeen (s : Code) (x : Session) : Type 0 where
-    paper : Code
-    end : ℕ
-    sits : sitting office.relations s c ≡ Some paper
-    made : own_session office c (s, x) ≡ Some (session_row office c (s, x) paper end)
+  pub record IsSeen (s : Code) (x : Session) : Type 0 where
+    pub paper : Code
+    pub end : ℕ
+    pub sits : sitting office.relations s c ≡ Some paper
+    pub made : own_session office c (s, x) ≡ Some (session_row office c (s, x) paper end)
 
-  member_sees : (s : Code) (x : Session) → has_row nat_cmp office.relations.candidates c ≡ true
-      → row_at code_cmp office.relations.sessions s ≡ Some x → has_live_entry office.relations s c ≡ true → IsSeen s x
+  pub member_sees : (s : Code) (x : Session) → has_row nat_cmp office.relations.candidates c ≡ true
+      → has_row code_cmp office.relations.sessions s ≡ true → has_live_entry office.relations s c ≡ true → IsSeen s x
   member_sees s x there held live =
       let r = office.relations in
       let listed = (known_listed r s c (has_row nat_cmp r.candidates c) (has_live_entry r s c) refl there refl).0 live in
-      inner (sitting r s c) refl (member_sits r s c listed) (finish r s c) refl (member_ends r s c (ap (λ (o : Option Session). is_some o) held) listed)
+      inner (sitting r s c) refl (member_sits r s c listed) (finish r s c) refl (member_ends r s c held listed)
     where
       inner : (o : Option Code) → sitting office.relations s c ≡ o → IsSome o → (n : Option ℕ) → finish office.relations s c ≡ n → IsSome n → IsSeen s x
       inner None sits some n ends ended = absurd (let f : false ≡ true = some in cc)
@@ -203,7 +203,7 @@ module _ (office : State) (today : ℕ) (l : Lodging) (good : IsGood office) (up
       inner false member (Some x) held = refl
       inner true member (Some x) held =
           let live : has_live_entry r s c ≡ true = ap (λ (b : Bool). b && has_live_entry r s c) (sym there) ∙ member in
-          let seen = member_sees office c s x there held live in
+          let seen = member_sees office c s x there (ap (λ (o : Option Session). is_some o) held) live in
           ap (λ (checks : List (Bool × Refusal)). held_refusal l today x.day checks (spec.appeal_is_open r l).0 within) (subject_told x seen l.subject)
           ∙ ap (λ (b : Bool). held_refusal l today x.day (subject_shown (session_row office c (s, x) seen.paper seen.end) l.subject) b within) (open_found c s l.subject r.appeals)
           ∙ ap (λ (b : Bool). held_refusal l today x.day (subject_shown (session_row office c (s, x) seen.paper seen.end) l.subject) (list_any (is_own_open s l.subject) (own_among c r.appeals)) b)

@@ -58,7 +58,7 @@ module _ (r : Relations) (refer : refers r ≡ true) (s : Code) where
     | inr later ↦ of_entries c es later
   ]
 
-  of_member : (c : ℕ) → is_member r s c ≡ true → Exists
+  pub of_member : (c : ℕ) → is_member r s c ≡ true → Exists
   of_member c is = of_entries c r.entries (and_parts (has_row nat_cmp r.candidates c) (has_live_entry r s c) is).1
 
   of_names : (t : Code) → names r t s ≡ true → Exists

@@ -13,5 +13,5 @@ pub use laws::{
 };
 pub use own_laws::{
     lodging_and_retracting_show_others_nothing, own_rows_decide_a_lodging,
-    own_rows_decide_a_retraction,
+    own_rows_decide_a_retraction, own_rows_show_each_session,
 };

@@ -1,15 +1,18 @@
 //! Laws of what the office answers and shows a candidate: their own rows decide it, and nobody else's do. The laws ask
 //! for offices that are good and in order; every `Office` is (`Office::show_good`, `Office::show_order`).
-ghost use Rattle.std.specs.Prelude.{◌≡◌, ◌≢◌, ℕ, Result};
+ghost use Rattle.std.specs.Prelude.{◌≡◌, ◌≢◌, ◌↔◌, ℕ, true, Contains, Result, Some, filter, length, map};
+ghost use Rattle.std.specs.Map.{keys_of};
 ghost use Rattle.exam_types.specs.declared.refusal.Refusal.{Refusal};
+ghost use Rattle.exam_rules.specs.declared.rows.Session.{Session};
 ghost use Rattle.exam_rules.specs.Relations.{Code};
+ghost use Rattle.exam_rules.specs.Sessions.{is_member};
 ghost use Rattle.exam_commands.specs.declared.command.Command.TheVariants as command;
 ghost use Rattle.exam_commands.specs.declared.command.Lodging.{Lodging};
 ghost use Rattle.exam_commands.specs.declared.command.Reply.{Reply};
 ghost use Rattle.exam_commands.specs.Good.{IsGood};
 ghost use Rattle.exam_commands.specs.Lodgings.{lodging_refusal, retraction_refusal};
 ghost use Rattle.exam_commands.specs.Orders.{IsInOrder};
-ghost use Rattle.exam_commands.specs.Own.{own_of};
+ghost use Rattle.exam_commands.specs.Own.{OwnRows, OwnSessionRow, own_of};
 ghost use Rattle.exam_commands.specs.State.{State};
 ghost use Rattle.exam_commands.specs.Steps.{Step};
 
@@ -71,4 +74,21 @@ pub fn lodging_and_retracting_show_others_nothing()
         → IsGood before → IsInOrder before → IsInOrder after → appellant ≢ number
         → Step (command.Retract appellant reference) day before answer after
         → own_of after number ≡ own_of before number }
+{}
+
+/// What the office shows of a candidate leaves out no session: it has as many rows as there are sessions of which the
+/// candidate is a member, one for each of them, by code.
+pub fn own_rows_show_each_session()
+    ensures rows { (office : State) (number : ℕ) (own : OwnRows) → own_of office number ≡ Some own
+        → map (λ (row : OwnSessionRow). row.session) own.sessions
+        ≡ keys_of (filter (λ (held : Code × Session). is_member office.relations held.0 number)
+        office.relations.sessions) }
+    ensures count { (office : State) (number : ℕ) (own : OwnRows) → own_of office number ≡ Some own
+        → length own.sessions
+        ≡ length (filter (λ (held : Code × Session). is_member office.relations held.0 number)
+        office.relations.sessions) }
+    ensures each { (office : State) (number : ℕ) (own : OwnRows) → IsGood office
+        → own_of office number ≡ Some own → (s : Code)
+        → (is_member office.relations s number ≡ true)
+        ↔ Contains (map (λ (row : OwnSessionRow). row.session) own.sessions) s }
 {}

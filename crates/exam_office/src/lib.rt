@@ -22,9 +22,10 @@ pub use exam_laws::{
     good_office_is_seated, import_repeated_later_changes_nothing,
     lodging_and_retracting_move_nobody, lodging_and_retracting_show_others_nothing,
     one_list_gives_one_office, one_step_has_one_result, only_closing_takes_a_row_away,
-    own_rows_decide_a_lodging, own_rows_decide_a_retraction, repeated_decision_changes_nothing,
-    repeated_import_changes_nothing, repeated_import_makes_the_same_facts,
-    repeated_lodging_changes_nothing, repeated_retraction_changes_nothing, untouched_session_stays,
+    own_rows_decide_a_lodging, own_rows_decide_a_retraction, own_rows_show_each_session,
+    repeated_decision_changes_nothing, repeated_import_changes_nothing,
+    repeated_import_makes_the_same_facts, repeated_lodging_changes_nothing,
+    repeated_retraction_changes_nothing, untouched_session_stays,
 };
 pub use exam_rules::Seats;
 pub use exam_views::{

@@ -27,15 +27,18 @@ returns-in-Ok-clause-back g c = λ exact first back.
     subst₂ (λ (k : List (g.row.K.Denot × Option g.row.V.Denot)) (r : List (g.row.K.Denot × g.row.V.Denot)). GoBack cmp k r first) (sym kept) (sym c.in_ok-old.ensures.entries)
     (changed_first cmp g.met.K.Ord.total exact was rows first c.args.key c.args.row c.len-2.ensures.ordered c.len.ensures.ordered back new)
 
-pub returns-clause-back : goal.returns-clause-back
-returns-clause-back g c = λ exact first back.
+pub returns-clause-err : goal.returns-clause-err
+returns-clause-err g c = λ exact.
     let cmp = g.K.Ord.cmp in
     let rows = c.args.rows.now.entries in
-    let again : c.set.new.rows.entries ≡ rows =
     c.set.ensures.set
     ∙ ap₂ (λ (r : List (g.row.K.Denot × g.row.V.Denot)) (o : Option g.row.V.Denot). set_row cmp r c.args.key o)
     c.in_ok-old.ensures.entries
     (ap (λ (p : g.row.K.Denot × Option g.row.V.Denot). p.1) c.in-Err.ensures.value_returned
     ∙ c.in_ok-old.ensures.old)
-    ∙ set_again cmp g.met.K.Ord.total exact rows c.args.key c.args.row c.len.ensures.ordered in
-    subst₂ (λ (k : List (g.row.K.Denot × Option g.row.V.Denot)) (r : List (g.row.K.Denot × g.row.V.Denot)). GoBack cmp k r first) (sym c.in-Err.ensures.err) (sym again) back
+    ∙ set_again cmp g.met.K.Ord.total exact rows c.args.key c.args.row c.len.ensures.ordered
+
+pub returns-clause-back : goal.returns-clause-back
+returns-clause-back g c = λ exact first back.
+    let cmp = g.K.Ord.cmp in
+    subst₂ (λ (k : List (g.row.K.Denot × Option g.row.V.Denot)) (r : List (g.row.K.Denot × g.row.V.Denot)). GoBack cmp k r first) (sym c.in-Err.ensures.err) (sym (returns-clause-err g c exact)) back
