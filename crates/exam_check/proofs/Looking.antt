@@ -24,7 +24,8 @@ use Rattle.exam_tables.specs.Versions.{HasVersion, IsOlder, IsVersion, version}
 use Rattle.exam_tables.specs.declared.version.Version.{Version}
 use Rattle.exam_tables.proofs.Leaving.{bad_unchanged, both_survive, reads_only, still_itself, still_then, then_reads}
 use Rattle.exam_tables.specs.OurTables.{office_loads}
-use Rattle.exam_store.proofs.Marking.{listed_of, made_of, opens_as}
+use Rattle.exam_store.specs.Found.{IsNoOlder}
+use Rattle.exam_store.proofs.Marking.{listed_of, made_of, one_version, opens_as}
 use Rattle.exam_check.specs.FirstBad.{HasGoodVersion}
 use Rattle.exam_check.specs.Reading.{IsRead, Looks, read_part}
 use Rattle.exam_check.specs.Refused.{FailsToCheck}
@@ -126,6 +127,16 @@ module _ {S : Type 0} (g : Ghosts S) (old new : Held S) where
   IsNoVersion = IsLoadRefusal (FailsToLoad load_office (state g old) (state g new))
       ((all : Trees) → ContainsMade (state g old).now all → (v : ℕ) → IsVersion v → HasVersion v all → ⊥)
 
+  -- where no version could be read, the tables have the row of none
+  no_version : (e : Refusal) → IsNoVersion e → e ≡ BadStore → (all : Trees) → ContainsMade (state g old).now all → (v : ℕ) → IsVersion v → HasVersion v all → ⊥
+  no_version e (inl lacks) bad all was v known has = let same : NoMemory ≡ BadStore = sym lacks ∙ bad in absurd cc
+  no_version e (inr (inl fails)) bad all was v known has = fails.1 (all, was) bad
+  no_version e (inr (inr (is, none))) bad all was v known has = none all was v known has
+
+  -- so none of an older version
+  pub unread_newest : (e : Refusal) → LoadingBy load_office g old new (Err e) version_part → HasCleanDisk (state g new) → e ≡ BadStore → IsNoOlder (state g old).now
+  unread_newest e read clean bad v known all was has = absurd (no_version e (read.bad clean) bad all was v known has)
+
   -- the version that could not be read
   pub version_looks : {A : Type 0} (e : Refusal) → (HasCleanDisk (state g new) → e ≡ BadStore → IsUnchanged (state g old) (state g new))
       → LoadingBy load_office g old new (Err e) version_part → Looks {A = A} g old new (Err e)
@@ -133,16 +144,14 @@ module _ {S : Type 0} (g : Ghosts S) (old new : Held S) where
     early = read.early;
     survives = read.survives;
     left = read.left;
-    bad = λ clean bad. (unchanged clean bad, no_version (read.bad clean) bad);
+    bad = λ clean bad. (
+      unchanged clean bad,
+      λ all good. no_version e (read.bad clean) bad all (made_of version (state g old).now all good.0) version (inr refl) good.1,
+    );
     refused = λ clean. unread (read.bad clean);
     told = opens_as e read.told;
   }
     where
-      no_version : IsNoVersion e → e ≡ BadStore → (all : Trees) → HasGoodVersion (state g old).now all → ⊥
-      no_version (inl lacks) bad all good = let same : NoMemory ≡ BadStore = sym lacks ∙ bad in absurd cc
-      no_version (inr (inl fails)) bad all good = fails.1 (all, made_of version (state g old).now all good.0) bad
-      no_version (inr (inr (is, none))) bad all good = none all (made_of version (state g old).now all good.0) version (inr refl) good.1
-
       unread : IsNoVersion e → (e ≡ BadStore) ⊎ FailsToCheck g old new e
       unread (inl lacks) = inr (inl lacks)
       unread (inr (inl fails)) = fails_as load_office office_loads e fails.0 (one_of e read.told)
@@ -152,6 +161,10 @@ module _ {S : Type 0} (g : Ghosts S) (old new : Held S) where
     -- the version that was read
     pub looks_ok : Looks g old new (Ok v)
     looks_ok = record { early = read.early; survives = read.survives; left = read.left; bad = λ clean. tt; refused = λ clean. tt; told = tt }
+
+    -- if it is the newest, the row is that of no older one
+    pub read_newest : HasCleanDisk (state g new) → v.number ≡ version → IsNoOlder (state g old).now
+    read_newest clean is w known all was has = one_version w version all has (subst (λ n. HasVersion n all) is (read.rows clean all was))
 
     -- the office of an older version
     pub looks_old : {A : Type 0} → IsOlder v.number → Looks {A = A} g old new (Err OldSchema)

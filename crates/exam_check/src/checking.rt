@@ -2,12 +2,14 @@
 ghost use Rattle.std.specs.Prelude.{◌≡◌, ◌⊎◌, false, IsTrue, IfOk, IfErr, MatchResult, OnOk};
 ghost use Rattle.sqlite.specs.Held.{state};
 ghost use Rattle.sqlite.specs.State.{HasCleanDisk, Survives};
+ghost use Rattle.exam_types.specs.declared.refusal.Refusal.TheVariants.{BadStore};
 ghost use Rattle.exam_commands.specs.Good.{tables};
 ghost use Rattle.exam_commands.specs.State.{State};
 ghost use Rattle.exam_sql.specs.Made.{ContainsMade, lists_newest, lists_tables};
 ghost use Rattle.exam_sql.specs.Texts.{load_texts};
 ghost use Rattle.exam_tables.specs.Loaded.{AreUnderstood, OnlyReads};
 ghost use Rattle.exam_tables.specs.Unasked.{FailsToAsk, IsUnasked};
+ghost use Rattle.exam_store.specs.Found.{IsNoOlder};
 ghost use Rattle.exam_check.specs.FirstBad.{HasGoodVersion, IsFirstBadIn, IsFirstBadTable};
 ghost use Rattle.exam_check.specs.Reading.{Looks};
 ghost use Rattle.exam_check.specs.Refused.{FailsToCheck, is_check_refusal};
@@ -21,7 +23,7 @@ use sqlite::{Alter, Connection};
 use std::alloc::Global;
 
 /// The first bad table of the database, or none if it holds a good office. Only reads. Refused with `OldSchema` if the
-/// office is of an older version.
+/// office is of an older version, whatever is wrong with its rows.
 pub fn check<S: Alter>(alloc: Global, conn: &mut Connection<S>) -> Result<Option<Table>, Refusal>
     ensures found { HasCleanDisk (state S.Store conn.new) → IfOk result (λ found. (all : _)
         → ContainsMade (state S.Store conn.old).now all
@@ -34,6 +36,8 @@ pub fn check<S: Alter>(alloc: Global, conn: &mut Connection<S>) -> Result<Option
         → lists_tables (state S.Store conn.old).now.schema ≡ false
         → MatchResult result (λ found. found ≡ Some Table.Office)
         (FailsToAsk (state S.Store conn.old) (state S.Store conn.new)) }
+    ensures newest { HasCleanDisk (state S.Store conn.new)
+        → OnOk result (IsNoOlder (state S.Store conn.old).now) }
     ensures left { HasCleanDisk (state S.Store conn.new)
         → OnlyReads (state S.Store conn.old) (state S.Store conn.new) result }
     ensures survives { Survives (state S.Store conn.old) (state S.Store conn.new) (λ _. ⊥) }
@@ -50,7 +54,7 @@ pub fn check<S: Alter>(alloc: Global, conn: &mut Connection<S>) -> Result<Option
 }
 
 /// The first bad table of an office of the newest version. Refused with `BadStore` if a table, a column or the version
-/// is missing; a view is no table.
+/// is missing; a view is no table. Refused with `OldSchema` before the other tables are read.
 fn first_bad<S: Alter>(
     alloc: Global,
     conn: &mut Connection<S>,
@@ -66,6 +70,9 @@ fn first_bad<S: Alter>(
     ensures unlisted { HasCleanDisk (state S.Store conn.new)
         → lists_tables (state S.Store conn.old).now.schema ≡ false
         → IfErr result (IsUnasked (state S.Store conn.old) (state S.Store conn.new)) }
+    ensures newest { HasCleanDisk (state S.Store conn.new) → MatchResult result
+        (λ bad. IsNoOlder (state S.Store conn.old).now)
+        (λ e. e ≡ BadStore → IsNoOlder (state S.Store conn.old).now) }
 {
     let version = version_of(conn)?;
     if version.number != NEWEST.number {

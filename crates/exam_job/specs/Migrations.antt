@@ -4,20 +4,21 @@ use Rattle.sqlite_trees.specs.declared.store.Store.{Ghosts}
 use Rattle.sqlite.specs.Held.{Held, state}
 use Rattle.sqlite.specs.State.{HasCleanDisk, IsUnchanged, Survives}
 use Rattle.exam_types.specs.declared.refusal.Refusal.{Refusal}
+use Rattle.exam_types.specs.declared.refusal.Refusal.TheVariants.{BadStore}
 use Rattle.exam_sql.specs.Made.{ContainsMade}
 use Rattle.exam_sql.specs.Texts.{load_office as office_text}
 use Rattle.exam_tables.specs.Loaded.{AreUnderstood}
 use Rattle.exam_tables.specs.Transactions.{Commits}
 use Rattle.exam_tables.specs.Versions.{IsVersion, version}
 use Rattle.exam_store.specs.Found.{FailsToMigrate, HoldsGood, version_texts}
-use Rattle.exam_store.specs.Kept as store
+use Rattle.exam_store.specs.Found as store
 use Rattle.exam_job.specs.Printed.{Prints, migration_text}
 use Rattle.exam_job.specs.declared.report.JobFault.{JobFault}
 use Rattle.exam_job.specs.declared.report.JobFault.TheVariants.{Refused}
 
 -- What is done with an office of an earlier version or of the newest one. The versions before and after are those of
 -- the tables, which held a good office; the database keeps it in the newest version, in one transaction or not at all;
--- over an office of the newest version nothing is written; why this is refused.
+-- over an office of the newest version, or where no office is good, nothing is written; why this is refused.
 pub record IsMigrated {S : Type 0} (g : Ghosts S) (old : Held S) (answered : Result (ℕ × ℕ) Refusal) (new : Held S)
     : Type 0 where
   pub versions : IfOk answered (λ v. IsVersion v.0 × (v.1 ≡ version))
@@ -29,6 +30,8 @@ pub record IsMigrated {S : Type 0} (g : Ghosts S) (old : Held S) (answered : Res
       → (HasCleanDisk (state g new) → IsUnchanged (state g old) (state g new))
       × Survives (state g old) (state g new) (λ _. ⊥))
   pub made : Commits (state g old) (state g new) answered store.Migrates
+  pub still : HasCleanDisk (state g new) → IfErr answered (λ e. e ≡ BadStore
+      → Survives (state g old) (state g new) (λ _. ⊥))
   pub refusal : HasCleanDisk (state g new) → IfErr answered (FailsToMigrate g old new)
 
 -- the versions before and after are printed on standard output; for a refusal nothing is

@@ -1,5 +1,5 @@
 -- What the command `check` finds and prints, which looks for the first bad table.
-use Rattle.std.specs.Prelude.{◌≡◌, ℕ, List, Option, None, Some, Result, Ok, Err, IsTrue, IfOk, IfErr}
+use Rattle.std.specs.Prelude.{◌≡◌, ℕ, List, Option, None, Some, Result, Ok, Err, IsTrue, IfOk, IfErr, OnOk}
 use Rattle.sqlite.specs.Held.{Held, state}
 use Rattle.sqlite.specs.State.{HasCleanDisk, Survives}
 use Rattle.sqlite_trees.specs.declared.store.Store.{Ghosts}
@@ -7,6 +7,7 @@ use Rattle.sqlite_trees.specs.Tree.{Trees}
 use Rattle.exam_types.specs.declared.refusal.Refusal.{Refusal}
 use Rattle.exam_sql.specs.Made.{ContainsMade}
 use Rattle.exam_tables.specs.Loaded.{OnlyReads}
+use Rattle.exam_store.specs.Found.{IsNoOlder}
 use Rattle.exam_check.specs.FirstBad.{IsFirstBadTable}
 use Rattle.exam_check.specs.Lines.{check_text}
 use Rattle.exam_check.specs.Refused.{FailsToCheck, is_check_refusal}
@@ -31,11 +32,13 @@ TellsTable contents found before result after =
     (printed : Result (Unit {0}) JobFault) × Prints contents (check_text found) before printed after
     × (result ≡ status_of (check_status found) printed)
 
--- This is the first bad table of the database, or it is refused for this reason. The database is only read.
+-- This is the first bad table of the database, which is of no older version, or it is refused for this reason. The
+-- database is only read.
 pub record IsChecked {S : Type 0} (g : Ghosts S) (was : Held S) (answered : Result (Option Table) Refusal)
     (now : Held S) : Type 0 where
   pub found : HasCleanDisk (state g now) → IfOk answered (λ found. (all : Trees)
       → ContainsMade (state g was).now all → IsFirstBadTable (state g was).now all found)
+  pub newest : HasCleanDisk (state g now) → OnOk answered (IsNoOlder (state g was).now)
   pub told : IfErr answered (λ e. IsTrue (is_check_refusal e))
   pub refusal : HasCleanDisk (state g now) → IfErr answered (FailsToCheck g was now)
   pub left : HasCleanDisk (state g now) → OnlyReads (state g was) (state g now) answered

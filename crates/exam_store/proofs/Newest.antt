@@ -11,9 +11,10 @@ use Rattle.exam_sql.specs.Made.{ContainsMade}
 use Rattle.exam_sql.proofs.Keys.{equal_itself}
 use Rattle.exam_store.proofs.Marking.{made_of, no_older, one_version}
 use Rattle.exam_commands.specs.State.{State as Office}
-use Rattle.exam_tables.specs.Versions.{FailsToCreate, FailsToMake, HasVersion, IsKnown, Widens, version, version_at, with_version}
+use Rattle.exam_tables.specs.Versions.{FailsToCreate, FailsToMake, HasVersion, IsKnown, IsOlder, Widens, version, version_at, with_version}
 use Rattle.exam_tables.proofs.Creating.{made_later}
-use Rattle.exam_store.specs.Kept.{HoldsOffice, Migrates}
+use Rattle.exam_store.specs.Found.{HoldsGood, Migrates}
+use Rattle.exam_store.specs.Kept.{HoldsOffice}
 use Rattle.exam_commands.specs.Good.{IsGood}
 use Rattle.exam_store.specs.Refused.{HoldsNone, HoldsNoOffice, IsGoodIn, is_within}
 use Rattle.exam_tables.specs.declared.version.Version.{Version}
@@ -28,9 +29,14 @@ holds_with all office held = record {
   seats = held.seats;
 }
 
-pub migrates : (old new : Database) → Widens old new → Migrates old new
-migrates old new widens v before office was =
-    record { all = with_version was.all; contains = widens was.all (made_of v old was.all was.contains); version = renewed v was.all was.version; held = holds_with was.all office was.held }
+-- tables of an older version that hold a good office of it are widened
+pub migrates : (old new : Database) (v : ℕ) → IsOlder v → ((all : Trees) → ContainsMade old all → HoldsGood v old all) → Widens old new → Migrates old new
+migrates old new v older good widens = record {
+  good = λ all was. (v, inl older, good all was);
+  kept = λ w before office was.
+      record { all = with_version was.all; contains = widens was.all (made_of w old was.all was.contains); version = renewed w was.all was.version; held = holds_with was.all office was.held };
+  same = λ all was has. absurd (no_older v older (one_version v version all (good all was).1 has));
+}
 
 -- where the tables hold no office of the version that they name, they hold none of any version
 pub none_of_any : (v w : ℕ) (all : Trees) → HasVersion v all → (v ≡ w → HoldsNone v all) → HoldsNone w all
@@ -59,6 +65,11 @@ pub not_made : (old mid new : State) (e : Refusal) → Survives old mid (λ _. �
 not_made old mid new e s clean up calm same (inl failed) = made_later old mid new e s clean up failed
 not_made old mid new e s clean up calm same (inr (told, going)) = absurd (both_ways _ (same.0.mode ∙ calm) going)
 
--- a database with the number of the newest version keeps no office of an older one
-pub newest_alone : (old new : Database) → ((all : Trees) → ContainsMade old all → HasVersion version all) → Migrates old new
-newest_alone old new newest v before office was = absurd (no_older v before (one_version v version was.all was.version (newest was.all (made_of v old was.all was.contains))))
+-- a database with a good office of the newest version keeps none of an older one, and stays as it is
+pub newest_alone : (old new : Database) → ((all : Trees) → ContainsMade old all → HoldsGood version old all) → new ≡ old → Migrates old new
+newest_alone old new good is = record {
+  good = λ all was. (version, inr refl, good all was);
+  kept = λ v before office was.
+      absurd (no_older v before (one_version v version was.all was.version (good was.all (made_of v old was.all was.contains)).1));
+  same = λ all was has. is;
+}

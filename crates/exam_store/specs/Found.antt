@@ -11,7 +11,7 @@ use Rattle.exam_commands.specs.State.{State as Office, empty_state}
 use Rattle.exam_sql.specs.Made.{ContainsMade, lists_newest}
 use Rattle.exam_sql.specs.Texts.{held_texts, load_office, load_standing, load_texts}
 use Rattle.exam_tables.specs.Inside.{Contains, IsOurs}
-use Rattle.exam_store.specs.Kept.{Keeps}
+use Rattle.exam_store.specs.Kept.{Keeps, KeepsIn}
 use Rattle.exam_tables.specs.Loaded.{AreUnderstood, FailsThen, IsLoadRefusal, IsMadeHere}
 use Rattle.exam_tables.specs.Versions.{ContainsOf, FailsToMake, HasVersion, IsOlder, IsVersion, marks_since, version}
 use Rattle.exam_tables.specs.Faults.{is_store_refusal}
@@ -67,6 +67,13 @@ version_texts v = held_texts ++ (if marks_since v then load_standing ∷ [] else
 abbrev pub HoldsGood : ℕ → Database → Trees → Type 0
 HoldsGood v db all =
     ContainsOf v db all × HasVersion v all × (office : Office) × HoldsFormed all office × IsGoodIn v office
+
+-- A database with a good office of some version becomes one of the newest. If it kept an office in an older version, it
+-- keeps this one; if it had the newest version already, it stays as it is.
+pub record Migrates (old new : Database) : Type 0 where
+  pub good : (all : Trees) → ContainsMade old all → (v : ℕ) × IsVersion v × HoldsGood v old all
+  pub kept : (v : ℕ) → IsOlder v → (office : Office) → KeepsIn v old office → Keeps new office
+  pub same : (all : Trees) → ContainsMade old all → HasVersion version all → new ≡ old
 
 -- Why an office is not brought to the newest version: a transaction is already open, the tables hold no good office of
 -- any version, or those of an older version exist and cannot be made those of the newest.

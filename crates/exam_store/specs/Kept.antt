@@ -7,7 +7,7 @@ use Rattle.exam_commands.specs.State.{State as Office}
 use Rattle.exam_tables.specs.Forms as forms
 use Rattle.exam_tables.specs.Held.{HasRows, HoldsFacts}
 use Rattle.exam_tables.specs.Inside.{Contains, IsOurs}
-use Rattle.exam_tables.specs.Versions.{ContainsOf, HasVersion, IsOlder, version}
+use Rattle.exam_tables.specs.Versions.{ContainsOf, HasVersion, version}
 
 -- each table of facts has the rows of its relation, and the table of seats those of the plans
 pub record HoldsOffice (all : Trees) (office : Office) : Type 0 where
@@ -27,10 +27,6 @@ pub record KeepsIn (v : ℕ) (db : Database) (office : Office) : Type 0 where
   pub contains : ContainsOf v db all
   pub version : HasVersion v all
   pub held : HoldsOffice all office
-
--- a database that keeps an office in an older version becomes one that keeps it in the newest
-abbrev pub Migrates : Database → Database → Type 0
-Migrates old new = (v : ℕ) → IsOlder v → (office : Office) → KeepsIn v old office → Keeps new office
 
 -- a database that keeps the one office becomes one that keeps the other
 abbrev pub Rekeeps : Office → Office → Database → Database → Type 0

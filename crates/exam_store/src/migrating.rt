@@ -2,14 +2,14 @@
 ghost use Rattle.std.specs.Prelude.{◌≡◌, ◌∷◌, false, IsTrue, IfOk, IfErr, OnOk};
 ghost use Rattle.sqlite.specs.Held.{state};
 ghost use Rattle.sqlite.specs.State.{HasCleanDisk, IsUnchanged, Survives};
+ghost use Rattle.exam_types.specs.declared.refusal.Refusal.TheVariants.{BadStore};
 ghost use Rattle.exam_tables.specs.Faults.{is_store_refusal};
 ghost use Rattle.exam_tables.specs.Loaded.{AreUnderstood};
 ghost use Rattle.exam_tables.specs.Parts.{Loading};
 ghost use Rattle.exam_tables.specs.Transactions.{Commits};
 ghost use Rattle.exam_tables.specs.Unasked.{IsUnasked};
 ghost use Rattle.exam_tables.specs.Versions.{IsKnown, IsVersion, version};
-ghost use Rattle.exam_store.specs.Found.{FailsToMigrate, HoldsGood, version_texts};
-ghost use Rattle.exam_store.specs.Kept.{Migrates};
+ghost use Rattle.exam_store.specs.Found.{FailsToMigrate, HoldsGood, Migrates, version_texts};
 ghost use Rattle.exam_store.specs.Parts.{judged_part};
 ghost use Rattle.exam_sql.specs.Made.{ContainsMade, lists_tables};
 ghost use Rattle.exam_sql.specs.Texts.{load_office as office_text};
@@ -34,6 +34,8 @@ pub fn migrate<S: Alter>(alloc: Global, conn: &mut Connection<S>) -> Result<(u8,
     ensures newest { IfOk result (λ v. v.0 ≡ version
         → (HasCleanDisk (state S.Store conn.new) → IsUnchanged (state S.Store conn.old) (state S.Store conn.new))
         × Survives (state S.Store conn.old) (state S.Store conn.new) (λ _. ⊥)) }
+    ensures still { HasCleanDisk (state S.Store conn.new) → IfErr result (λ e. e ≡ BadStore
+        → Survives (state S.Store conn.old) (state S.Store conn.new) (λ _. ⊥)) }
     ensures refusal { HasCleanDisk (state S.Store conn.new)
         → IfErr result (FailsToMigrate S.Store conn.old conn.new) }
     ensures listed { HasCleanDisk (state S.Store conn.new)

@@ -70,23 +70,28 @@ undone_by old last end e Turns settled kept before undone after = record {
   survives = survives_then old last end _ _ _ (λ _ db none. absurd none) (λ _ db none. absurd none) before after;
 }
 
--- what turns into more turns into less
-pub commits_weaker : {A E : Type 0} (old new : State) (result : Result A E) (T U : Database → Database → Type 0)
-    → ((a b : Database) → T a b → U a b) → Commits old new result T → Commits old new result U
-commits_weaker old new (Ok u) T U more c = record {
-  turned = λ clean. let it = c.turned clean in (more _ _ it.0, it.1, it.2);
+-- what turns this database into some turns it into others
+pub commits_at : {A E : Type 0} (old new : State) (result : Result A E) (T U : Database → Database → Type 0)
+    → (HasCleanDisk new → (db : Database) → T old.now db → U old.now db) → Commits old new result T → Commits old new result U
+commits_at old new (Ok u) T U more c = record {
+  turned = λ clean. let it = c.turned clean in (more clean new.now it.0, it.1, it.2);
   same = c.same;
   was_open = c.was_open;
   settled = c.settled;
-  survives = survives_weaker old new _ _ (λ clean trees it. (it.0, more _ _ it.1, it.2)) c.survives;
+  survives = survives_weaker old new _ _ (λ clean trees it. (it.0, more clean it.0 it.1, it.2)) c.survives;
 }
-commits_weaker old new (Err e) T U more c = record {
+commits_at old new (Err e) T U more c = record {
   turned = λ clean. tt;
   same = c.same;
   was_open = c.was_open;
   settled = c.settled;
-  survives = survives_weaker old new _ _ (λ clean trees it. (it.0, more _ _ it.1, it.2)) c.survives;
+  survives = survives_weaker old new _ _ (λ clean trees it. (it.0, more clean it.0 it.1, it.2)) c.survives;
 }
+
+-- what turns into more turns into less
+pub commits_weaker : {A E : Type 0} (old new : State) (result : Result A E) (T U : Database → Database → Type 0)
+    → ((a b : Database) → T a b → U a b) → Commits old new result T → Commits old new result U
+commits_weaker old new result T U more = commits_at old new result T U (λ clean. more old.now)
 
 -- a commit that returns one value at `Ok` is one that returns another
 pub commits_ok : {A B E : Type 0} (old new : State) (a : A) (b : B) (T : Database → Database → Type 0) → Commits {E = E} old new (Ok a) T → Commits {E = E} old new (Ok b) T

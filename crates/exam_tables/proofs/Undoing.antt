@@ -7,6 +7,7 @@ use Rattle.sqlite.specs.declared.error.Error.{Error}
 use Rattle.sqlite.specs.State.{State, HasCleanDisk, IsUnchanged, Survives}
 use Rattle.sqlite.specs.Steps.{FailsToCommit}
 use Rattle.exam_types.specs.declared.refusal.Refusal.{Refusal}
+use Rattle.exam_types.specs.declared.refusal.Refusal.TheVariants.{BadStore, NoMemory, Store}
 use Rattle.exam_tables.specs.Faults.{refusal_of}
 use Rattle.exam_tables.specs.Inside.{FailsFor, FailsToWrite, IsOurs, RefusesOne, Write}
 use Rattle.exam_tables.specs.Unasked.{FailsToAsk}
@@ -59,3 +60,8 @@ module _ (writes : List Write) {P : Trees → Type 0} (old mid new : State) (bef
   pub written_later : IsOurs old.now → (result : Result (Unit {0}) Refusal) → (IsOurs mid.now → IfErr result (FailsToWrite writes mid new)) → IfErr result (FailsToWrite writes old new)
   written_later ours (Ok u) failed = tt
   written_later ours (Err e) failed = not_written e (failed (subst IsOurs (sym same.0.now_is) ours))
+
+-- a change that is not made is refused as another failure than `BadStore`
+pub not_bad : (Against : Type 0) (old new : State) (e : Refusal) → FailsFor Against old new e → e ≡ BadStore → ⊥
+not_bad Against old new e (inl lacks) bad = let same : NoMemory ≡ BadStore = sym lacks ∙ bad in absurd cc
+not_bad Against old new e (inr (told, why)) bad = let same : Store ≡ BadStore = sym told ∙ bad in absurd cc

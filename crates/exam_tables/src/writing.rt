@@ -3,6 +3,7 @@ ghost use Rattle.std.specs.Prelude.{◌≡◌, false, Err, IsTrue, OnOk, IfErr};
 ghost use Rattle.sqlite.specs.Held.{state};
 ghost use Rattle.sqlite.specs.State.{HasCleanDisk, Shows, Survives};
 ghost use Rattle.sqlite.specs.Steps.{FailsToCommit};
+ghost use Rattle.exam_types.specs.declared.refusal.Refusal.TheVariants.{BadStore};
 ghost use Rattle.exam_tables.specs.Faults.{refusal_of, is_store_refusal};
 ghost use Rattle.exam_tables.specs.Inside.{Becomes, FailsToWrite, IsOurs, Makes};
 ghost use Rattle.exam_tables.specs.Transactions.{Commits};
@@ -189,6 +190,8 @@ pub fn save_widened<S: Alter>(conn: &mut Connection<S>) -> Result<(), Refusal>
     ensures made { Commits (state S.Store conn.old) (state S.Store conn.new) result Widens }
     ensures failed { HasCleanDisk (state S.Store conn.new) → IsMadeHere (state S.Store conn.old).now
         → IfErr result (FailsToCreate (state S.Store conn.old) (state S.Store conn.new)) }
+    ensures still { HasCleanDisk (state S.Store conn.new) → IfErr result (λ e. e ≡ BadStore
+        → Survives (state S.Store conn.old) (state S.Store conn.new) (λ _. ⊥)) }
     ensures ended { conn.old.in_transaction ≡ false → conn.new.in_transaction ≡ false }
     ensures told { IfErr result (λ e. IsTrue (is_store_refusal e)) }
 {

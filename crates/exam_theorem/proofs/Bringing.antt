@@ -16,10 +16,10 @@ use Rattle.exam_tables.specs.Inside.{IsOurs}
 use Rattle.exam_tables.specs.Loaded.{IsLeft}
 use Rattle.exam_tables.specs.Transactions.{Commits, IsSound}
 use Rattle.exam_tables.specs.Versions.{HasVersion, IsVersion, version}
-use Rattle.exam_tables.proofs.Committing.{then_commits}
+use Rattle.exam_tables.proofs.Committing.{commits_at, then_commits}
 use Rattle.exam_tables.proofs.RowByRow.{survives_itself}
-use Rattle.exam_store.specs.Found.{Finds, HoldsGood}
-use Rattle.exam_store.specs.Kept.{Keeps, Migrates}
+use Rattle.exam_store.specs.Found.{Finds, HoldsGood, Migrates}
+use Rattle.exam_store.specs.Kept.{Keeps}
 use Rattle.exam_store.specs.Stops.{HasDays}
 use Rattle.exam_store.specs.Stores.{OfficeIn}
 use Rattle.exam_store.proofs.Marking.{made_of, still_made}
@@ -28,25 +28,6 @@ use Rattle.exam_theorem.specs.Resting.{BringsOver, HasOffice, IsAtRest, IsVersio
 use Rattle.exam_theorem.proofs.Having.{committed_found, good_has, keeps_found, keeps_has, newest_brings, newest_ours, old_had, older_brings, same_found}
 
 -- ---- one transaction or none
-
--- what turns this database into some turns it into others
-commits_at : {A E : Type 0} (old new : State) (result : Result A E) (T U : Database → Database → Type 0)
-    → (HasCleanDisk new → (db : Database) → T old.now db → U old.now db) → Commits old new result T
-    → Commits old new result U
-commits_at old new (Ok u) T U more c = record {
-  turned = λ clean. let it = c.turned clean in (more clean new.now it.0, it.1, it.2);
-  same = c.same;
-  was_open = c.was_open;
-  settled = c.settled;
-  survives = survives_weaker old new _ _ (λ clean trees it. (it.0, more clean it.0 it.1, it.2)) c.survives;
-}
-commits_at old new (Err e) T U more c = record {
-  turned = λ clean. tt;
-  same = c.same;
-  was_open = c.was_open;
-  settled = c.settled;
-  survives = survives_weaker old new _ _ (λ clean trees it. (it.0, more clean it.0 it.1, it.2)) c.survives;
-}
 
 -- nothing was done
 pub nothing_commits : (s : State) (e : Refusal) (T : Database → Database → Type 0) → Commits {A = Unit {0}} s s (Err e) T

@@ -10,8 +10,8 @@ use Rattle.exam_commands.specs.Orders.{IsInOrder}
 use Rattle.exam_commands.specs.State.{State as Office}
 use Rattle.exam_tables.specs.Inside.{IsOurs}
 use Rattle.exam_tables.specs.Versions.{ContainsOf, HasVersion, IsVersion, version}
-use Rattle.exam_store.specs.Found.{Finds, HoldsGood}
-use Rattle.exam_store.specs.Kept.{Keeps, KeepsIn, Migrates}
+use Rattle.exam_store.specs.Found.{Finds, HoldsGood, Migrates}
+use Rattle.exam_store.specs.Kept.{Keeps, KeepsIn}
 use Rattle.exam_store.specs.Refused.{HoldsFormed}
 use Rattle.exam_store.specs.Stops.{HasDays}
 use Rattle.exam_store.proofs.DaysKept.{formed_days}
@@ -86,7 +86,7 @@ module _ (db : Database) (v : ℕ) (named : (all : Trees) → ContainsMade db al
   older_brings new older migrates office has = by has.is_version
     where
       by : IsVersion has.number → Keeps new office
-      by (inl before) = migrates has.number before office has.kept
+      by (inl before) = migrates.kept has.number before office has.kept
       by (inr is) = absurd (older (number_is has.number has.kept.all has.kept.contains has.kept.version ∙ is))
 
   -- tables of the newest version are the eleven tables

@@ -28,3 +28,8 @@ returns-in-Ok-None-clause-unlisted g c = λ clean none. absurd (both_ways _ none
 
 pub returns-in-Ok-Some-clause-unlisted : goal.returns-in-Ok-Some-clause-unlisted
 returns-in-Ok-Some-clause-unlisted g c = λ clean none. absurd (both_ways _ none (listed_newest _ (c.in-Ok-Some.ensures.listed clean)))
+
+-- an older version
+
+pub returns-in-Err-BadStore-clause-newest : goal.returns-in-Err-BadStore-clause-newest
+returns-in-Err-BadStore-clause-newest g c = λ clean. c.in-Err-BadStore.ensures.newest clean c.in-Err-BadStore.field-0-is

@@ -4,6 +4,7 @@ use Rattle.sqlite.specs.Effect.{Database}
 use Rattle.sqlite.specs.Held.{state}
 use Rattle.exam_sql.specs.Made.{lists_marks}
 use Rattle.exam_sql.proofs.Listed.{newest_listed}
+use Rattle.exam_types.specs.declared.refusal.Refusal.TheVariants.{BadStore, OldSchema}
 use Rattle.exam_tables.specs.Inside.{Contains}
 use Rattle.exam_tables.specs.Versions.{HasVersion, version}
 use Rattle.exam_store.proofs.Marking.{is_of, of_newest, older, still_made}
@@ -11,7 +12,7 @@ use Rattle.exam_commands.specs.Good.{tables}
 use Rattle.exam_check.specs.Reading.{office_in, table_texts}
 use Rattle.exam_check.proofs.First.{first_in}
 use Rattle.exam_check.proofs.Found.{all_before, in_load_order}
-use Rattle.exam_check.proofs.Looking.{fails_then, looks_ok, looks_old, looks_on, looks_then, looks_unmarked, version_looks}
+use Rattle.exam_check.proofs.Looking.{fails_then, looks_ok, looks_old, looks_on, looks_then, looks_unmarked, read_newest, unread_newest, version_looks}
 use Rattle.exam_check.proofs.checking.first_bad.Goals as goal
 
 pub returns-in_err-version-clause-looks : goal.returns-in_err-version-clause-looks
@@ -97,3 +98,35 @@ returns-in_err-read-clause-unlisted g c = λ clean none. absurd (both_ways _ non
 
 pub returns-in_err-bad-clause-unlisted : goal.returns-in_err-bad-clause-unlisted
 returns-in_err-bad-clause-unlisted g c = λ clean none. absurd (both_ways _ none c.in_ok-version.ensures.listed)
+
+-- an older version
+
+pub returns-in_err-version-clause-newest : goal.returns-in_err-version-clause-newest
+returns-in_err-version-clause-newest g c = λ clean.
+    let is : c.from_residual.result ≡ Err c.in_err-version.field-0.0 = search rules in
+    rw is (unread_newest g.S.Store c.args.conn.now c.version_of.new.conn c.in_err-version.field-0.0 c.in_err-version.ensures.reads clean)
+
+pub returns-then-version-clause-newest : goal.returns-then-version-clause-newest
+returns-then-version-clause-newest g c = λ clean bad. let same : OldSchema ≡ BadStore = bad in absurd cc
+
+pub returns-then-not-has_marks-clause-newest : goal.returns-then-not-has_marks-clause-newest
+returns-then-not-has_marks-clause-newest g c = λ clean bad.
+    let newest : c.in_ok-version.version.number ≡ version = search rules in
+    read_newest g.S.Store c.args.conn.now c.version_of.new.conn c.in_ok-version.version c.in_ok-version.ensures.reads clean newest
+
+pub returns-in_err-read-clause-newest : goal.returns-in_err-read-clause-newest
+returns-in_err-read-clause-newest g c = λ clean.
+    let is : c.from_residual-in_err-read.result ≡ Err c.in_err-read.field-0.0 = search rules in
+    let newest : c.in_ok-version.version.number ≡ version = search rules in
+    rw is (λ bad. read_newest g.S.Store c.args.conn.now c.version_of.new.conn c.in_ok-version.version c.in_ok-version.ensures.reads (c.in_err-read.ensures.looks.early clean) newest)
+
+pub returns-in_err-bad-clause-newest : goal.returns-in_err-bad-clause-newest
+returns-in_err-bad-clause-newest g c = λ clean.
+    let is : c.from_residual-in_err-bad.result ≡ Err c.in_err-bad.field-0.0 = search rules in
+    let newest : c.in_ok-version.version.number ≡ version = search rules in
+    rw is (λ bad. read_newest g.S.Store c.args.conn.now c.version_of.new.conn c.in_ok-version.version c.in_ok-version.ensures.reads (c.in_ok-read.ensures.looks.early clean) newest)
+
+pub returns-clause-newest : goal.returns-clause-newest
+returns-clause-newest g c = λ clean.
+    let newest : c.in_ok-version.version.number ≡ version = search rules in
+    read_newest g.S.Store c.args.conn.now c.version_of.new.conn c.in_ok-version.version c.in_ok-version.ensures.reads (c.in_ok-read.ensures.looks.early clean) newest

@@ -1,13 +1,14 @@
-use Rattle.std.proofs.Common.{◌≡◌, IsTrue, Ok, Err, false, inl, inr, arith, subst, rules}
+use Rattle.std.proofs.Common.{◌≡◌, ◌≢◌, IsTrue, Ok, Err, false, inl, inr, arith, subst, rules}
 use Rattle.std.proofs.lemmas.Bool.{both_ways}
 use Rattle.sqlite.specs.State.{HasCleanDisk}
 use Rattle.sqlite.specs.Held.{state}
 use Rattle.exam_sql.specs.Texts.{held_texts}
-use Rattle.exam_tables.specs.Versions.{HasVersion, Widens, version}
-use Rattle.exam_tables.proofs.Committing.{commits_err, commits_ok, commits_weaker, then_commits, unchanged_commits}
+use Rattle.exam_tables.specs.Versions.{Widens, version}
+use Rattle.exam_tables.proofs.Committing.{commits_at, commits_err, commits_ok, then_commits, unchanged_commits}
+use Rattle.exam_tables.proofs.Leaving.{both_survive}
 use Rattle.exam_tables.proofs.Refusing.{part_failed}
-use Rattle.exam_store.specs.Kept.{Migrates}
-use Rattle.exam_store.proofs.Marking.{made_of, some_understood, still_made}
+use Rattle.exam_store.specs.Found.{HoldsGood, Migrates}
+use Rattle.exam_store.proofs.Marking.{made_of, older, some_understood, still_made}
 use Rattle.exam_store.proofs.Newest.{migrates, newest_alone, not_made}
 use Rattle.exam_store.proofs.migrating.migrate.Goals as goal
 
@@ -18,24 +19,28 @@ returns-clause-made g c =
     let old = state g.S.Store c.args.conn.now in
     let mid = state g.S.Store c.judged_version.new.conn in
     let new = state g.S.Store c.save_widened.new.conn in
-    commits_ok old new tt (c.in_ok-version.version.number, version) Migrates
-    (commits_weaker old new (Ok tt) Widens Migrates migrates
-    (then_commits old mid new
-    (Ok tt) Widens c.in_ok-version.ensures.judges.left c.judged_version.ensures.judges.survives
-    c.in_ok-save_widened.ensures.made))
+    let v = c.in_ok-version.version.number in
+    let other : v ≢ version = search rules in
+    let made = c.in_ok-save_widened.ensures.made in
+    commits_ok old new tt (v, version) Migrates
+    (commits_at old new (Ok tt) Widens Migrates
+    (λ clean db. migrates old.now db v (older v c.in_ok-version.ensures.known.0 other) (c.in_ok-version.ensures.judges.rows (omega (arith, made.survives.clean, clean))))
+    (then_commits old mid new (Ok tt) Widens c.in_ok-version.ensures.judges.left c.judged_version.ensures.judges.survives made))
 
 pub returns-in_err-save_widened-clause-made : goal.returns-in_err-save_widened-clause-made
 returns-in_err-save_widened-clause-made g c =
     let old = state g.S.Store c.args.conn.now in
     let mid = state g.S.Store c.judged_version.new.conn in
     let new = state g.S.Store c.save_widened.new.conn in
+    let v = c.in_ok-version.version.number in
+    let other : v ≢ version = search rules in
+    let made = c.in_err-save_widened.ensures.made in
     let e = c.in_err-save_widened.field-0.0 in
     let is : c.from_residual-in_err-save_widened.result ≡ Err e = search rules in
     rw is (commits_err old new e e Migrates
-    (commits_weaker old new (Err e) Widens Migrates migrates
-    (then_commits old mid new
-    (Err e) Widens c.in_ok-version.ensures.judges.left c.judged_version.ensures.judges.survives
-    c.in_err-save_widened.ensures.made)))
+    (commits_at old new (Err e) Widens Migrates
+    (λ clean db. migrates old.now db v (older v c.in_ok-version.ensures.known.0 other) (c.in_ok-version.ensures.judges.rows (omega (arith, made.survives.clean, clean))))
+    (then_commits old mid new (Err e) Widens c.in_ok-version.ensures.judges.left c.judged_version.ensures.judges.survives made)))
 
 pub returns-in_err-save_widened-clause-refusal : goal.returns-in_err-save_widened-clause-refusal
 returns-in_err-save_widened-clause-refusal g c = λ clean.
@@ -79,7 +84,8 @@ returns-then-version-clause-made g c =
     unchanged_commits old (state g.S.Store new)
     (c.in_ok-version.version.number, version) Migrates settled c.in_ok-version.ensures.judges.left
     (λ clean. newest_alone old.now (state g.S.Store new).now
-    (λ all was. subst (λ v. HasVersion v all) newest (c.in_ok-version.ensures.judges.rows clean all was).1))
+    (λ all was. subst (λ v. HoldsGood v old.now all) newest (c.in_ok-version.ensures.judges.rows clean all was))
+    (c.in_ok-version.ensures.judges.left clean).0.now_is)
     (λ trees is may. g.met.S.Store.settled new.store trees is may)
     c.judged_version.ensures.judges.survives
 
@@ -92,3 +98,18 @@ pub returns-in_err-version-clause-unlisted : goal.returns-in_err-version-clause-
 returns-in_err-version-clause-unlisted g c = λ clean calm none.
     let is : c.from_residual.result ≡ Err c.in_err-version.field-0.0 = search rules in
     rw is (c.in_err-version.ensures.unlisted clean none)
+
+-- refused as holding no good office
+
+pub returns-in_err-version-clause-still : goal.returns-in_err-version-clause-still
+returns-in_err-version-clause-still g c = λ clean.
+    let is : c.from_residual.result ≡ Err c.in_err-version.field-0.0 = search rules in
+    rw is (λ bad. c.judged_version.ensures.judges.survives)
+
+pub returns-in_err-save_widened-clause-still : goal.returns-in_err-save_widened-clause-still
+returns-in_err-save_widened-clause-still g c = λ clean.
+    let old = state g.S.Store c.args.conn.now in
+    let mid = state g.S.Store c.judged_version.new.conn in
+    let new = state g.S.Store c.save_widened.new.conn in
+    let is : c.from_residual-in_err-save_widened.result ≡ Err c.in_err-save_widened.field-0.0 = search rules in
+    rw is (λ bad. both_survive old mid new c.judged_version.ensures.judges.survives (c.in_err-save_widened.ensures.still clean bad))

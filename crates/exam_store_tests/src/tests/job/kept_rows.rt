@@ -237,9 +237,6 @@ appeals 9
 0000004 NEEDSTWO         arrangement refused    2027-05-07 small-room 25
 ";
 
-/// An office with every kind and state of appeals is opened, a later command leaves them as they are, and so does
-/// their register.
-
 /// Which rows the tables hold.
 const KEPT: Days<'_> = &[
     ("each import is kept in its table", &[TIMETABLE, CANDIDATES]),

@@ -1,5 +1,6 @@
 use Rattle.std.proofs.Common.{◌≡◌, [], IsTrue, IsSome, Err, IfErr, arith, inl, refl, sym, subst, rules}
-use Rattle.sqlite.specs.State.{HasCleanDisk}
+use Rattle.std.proofs.lemmas.Result.{IfErr-weaker}
+use Rattle.sqlite.specs.State.{HasCleanDisk, Survives}
 use Rattle.sqlite.specs.Held.{state}
 use Rattle.sqlite.proofs.Callers.{survives_begin}
 use Rattle.exam_tables.specs.Transactions.{Commits}
@@ -7,7 +8,8 @@ use Rattle.exam_tables.specs.Versions.{FailsToMake, Widens}
 use Rattle.exam_tables.proofs.Committing.{committed_by, undone_by}
 use Rattle.exam_tables.proofs.Creating.{not_created}
 use Rattle.exam_tables.proofs.Marked.{older_of}
-use Rattle.exam_tables.proofs.Undoing.{uncommitted, undone}
+use Rattle.exam_tables.proofs.Leaving.{both_survive}
+use Rattle.exam_tables.proofs.Undoing.{not_bad, uncommitted, undone}
 use Rattle.exam_tables.proofs.writing.save_widened.Goals as goal
 
 pub returns-clause-made : goal.returns-clause-made
@@ -85,3 +87,33 @@ pub returns-in_err-widen_tables-clause-told : goal.returns-in_err-widen_tables-c
 returns-in_err-widen_tables-clause-told g c =
     let is : c.from_residual.result ≡ Err c.in_err-widen_tables.field-0.0 = search rules in
     rw is (c.in_err-widen_tables.ensures.made (λ tree. [])).told
+
+-- refused as a bad store
+
+pub returns-clause-still : goal.returns-clause-still
+returns-clause-still g c = λ clean.
+    let old = state g.S.Store c.args.conn.now in
+    let last = state g.S.Store c.widen_tables.new.tx.conn.now in
+    let end = c.commit.new.tx.0 in
+    let made = rw c.transaction-tx.ensures.begun at c.in_ok-widen_tables.ensures.made in
+    let same : end ≡ c.conn-2-1.given.0 = search rules in
+    let clean_end : HasCleanDisk (state g.S.Store end) = subst (λ h. HasCleanDisk (state g.S.Store h)) (sym same) clean in
+    let clean_last : HasCleanDisk last = omega (arith, c.commit.ensures.survives.clean, clean_end) in
+    let going = ((made (λ tree. [])).made clean_last refl).1 in
+    IfErr-weaker c.commit.result _ _ (λ e fails bad. absurd (not_bad (IsSome old.step_limit) old (state g.S.Store end) e fails bad))
+    (uncommitted (IsSome old.step_limit) old last (state g.S.Store end)
+    (survives_begin g.S.Store c.args.conn.now last _ (made (λ tree. [])).survives) c.commit.ensures.survives
+    clean_last going c.commit.result (c.commit.ensures.failed clean_end))
+
+pub returns-in_err-widen_tables-clause-still : goal.returns-in_err-widen_tables-clause-still
+returns-in_err-widen_tables-clause-still g c = λ clean.
+    let old = state g.S.Store c.args.conn.now in
+    let last = state g.S.Store c.widen_tables.new.tx.conn.now in
+    let end = c.drop-tx.new.self.0 in
+    let made = rw c.transaction-tx.ensures.begun at c.in_err-widen_tables.ensures.made in
+    let e = c.in_err-widen_tables.field-0.0 in
+    let is : c.from_residual.result ≡ Err e = search rules in
+    let same : end ≡ c.conn-1.given.0 = search rules in
+    rw is (λ bad. subst (λ h. Survives old (state g.S.Store h) (λ _. ⊥)) same
+    (both_survive old last (state g.S.Store end)
+    (survives_begin g.S.Store c.args.conn.now last _ (made (λ tree. [])).survives) c.drop-tx.ensures.survives))
