@@ -23,7 +23,8 @@ pub fn clash_list<W: Write>(
 ) -> Result<(), SheetFault>
     ensures { Writes W.contents result writer.old writer.new (Ok (spec.clash_list view.now)) }
 {
-    let text = clash_text(alloc, view.code(), view.session(), view.clashes())?;
+    let clashes = view.clashes(alloc)?;
+    let text = clash_text(alloc, view.code(), view.session(), &clashes)?;
     send(writer, text.as_slice())
 }
 

@@ -8,7 +8,7 @@ ghost use Rattle.exam_types.specs.declared.refusal.Refusal.TheVariants.{NoMemory
 use crate::sending::send;
 use crate::sheet_fault::SheetFault;
 use crate::sheet_text::{push_bytes, push_decimal, push_left};
-use exam_commands::{kind_word, state_word, write_subject};
+use exam_commands::{state_word, write_subject};
 use exam_types::{Refusal, SessionCode};
 use exam_views::{AppealRow, SessionView};
 use std::alloc::Global;
@@ -75,7 +75,7 @@ pub(crate) fn push_line(text: &mut Vec<u8>, appeal: &AppealRow) -> Result<(), Re
     push_bytes(text, b" ")?;
     push_left(text, 16, appeal.reference.as_bytes())?;
     push_bytes(text, b" ")?;
-    push_left(text, 11, kind_word(&appeal.subject))?;
+    push_left(text, 11, appeal.kind())?;
     push_bytes(text, b" ")?;
     push_left(text, 10, state_word(appeal.state))?;
     push_bytes(text, b" ")?;

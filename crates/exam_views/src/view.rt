@@ -2,9 +2,10 @@
 ghost use Rattle.std.specs.Prelude.{◌≡◌, ◌<◌, ℕ, List, All, IfOk, IfErr, IfSome, length, map};
 ghost use Rattle.std.specs.Option.{option_map};
 ghost use Rattle.exam_types.specs.declared.refusal.Refusal.TheVariants.{NoMemory};
+ghost use Rattle.exam_commands.specs.Words as words;
 ghost use Rattle.exam_views.specs.Views as views;
 
-use exam_commands::AppealState;
+use exam_commands::{AppealState, kind_word};
 use exam_plan::{Plan, Problem, desks, shortage};
 use exam_rules::{Opening, Session, Subject};
 use exam_types::{Day, HallCode, Minute, Name, Number, PaperCode, Reference, Refusal, SessionCode};
@@ -54,6 +55,15 @@ pub struct AppealRow {
     pub state: AppealState,
     /// The day on which it was lodged.
     pub lodged: Day,
+}
+
+impl AppealRow {
+    /// What it asks for, as one word.
+    pub fn kind(&self) -> &'static [u8]
+        ensures { result.now ≡ words.kind_word self.now.subject }
+    {
+        kind_word(&self.subject)
+    }
 }
 
 /// A member of a session, without their seat.
@@ -173,10 +183,11 @@ impl SessionView {
     }
 
     /// The live papers that members do not sit, by number and code.
-    pub fn clashes(&self) -> &[Clash]
-        ensures { result.now ≡ self.now.clashes }
+    pub fn clashes(&self, alloc: Global) -> Result<Vec<Clash>, Refusal>
+        ensures ok { IfOk result (λ clashes. clashes.items ≡ self.now.clashes) }
+        ensures memory { IfErr result (λ e. e ≡ NoMemory) }
     {
-        self.clashes.as_slice()
+        Ok(Vec::from_slice(alloc, &self.clashes)?)
     }
 
     /// The appeals for the session, by number and reference.
