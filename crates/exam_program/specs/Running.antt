@@ -23,8 +23,8 @@ use Rattle.exam_program.specs.Opening.{HasTables, IsNotOpened, OpensFor}
 
 -- ---- over an open office
 
--- What serving ends in after its line: nothing, unless the network failed; or the fault of that line. Requests were
--- answered in turn on this day, and nothing else changed the store.
+-- What serving ends in after its line: nothing, unless the network failed; or the fault of that line. The store changed
+-- as if some requests had asked for it in turn, all of them on this day.
 abbrev pub ServesAfter : {S : Type 0} → Ghosts S → ℕ → OfficeIn S → Result (Unit {0}) JobFault
     → Result (Unit {0}) JobFault → OfficeIn S → Type 0
 ServesAfter g today old (Ok printed) result new = IfErr result (λ fault. fault ≡ Net) × AreServedOn g today old new

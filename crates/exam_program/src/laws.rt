@@ -3,8 +3,8 @@ ghost use Rattle.exam_program.specs.Files.{ShowTheirOffice};
 
 use sqlite_disk::Disk;
 
-/// Files that `run_database` gave back show the office that they hold to the next connection. So lines can follow one
-/// another, each over the files that the one before it gave back.
+/// Files that `run_database` gave back show the office that they hold to the next connection. So a line can follow one
+/// that opened an office, over the files that it gave back.
 pub fn files_show_their_office<D: Disk + Drop>()
     ensures { ShowTheirOffice D.Disk }
 {}
