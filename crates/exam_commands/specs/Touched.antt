@@ -1,5 +1,5 @@
 -- Which sessions a command touches, over the facts before it.
-use Rattle.std.specs.Prelude.{ℕ, ◌&&◌, ◌||◌, Bool, true, false, Option}
+use Rattle.std.specs.Prelude.{ℕ, ◌&&◌, ◌||◌, not, Bool, true, false, Option}
 use Rattle.std.specs.List.{list_any}
 use Rattle.std.specs.Option.{option_map_or}
 use Rattle.exam_rules.specs.declared.rows.Appeal.{Appeal}
@@ -42,16 +42,6 @@ names_session r (row.OfOpening named h x) s = names r named s
 names_session r (row.OfCandidate c x) s = false
 names_session r (row.OfEntry c p) s = is_paper_of r s p
 names_session r (row.OfArrangement c x) s = is_member r s c
-
--- the row is one of a session
-abbrev pub is_session_row : Row → Bool
-is_session_row (row.OfSession named x) = true
-is_session_row (row.OfPaper p x) = false
-is_session_row (row.OfHall h x) = false
-is_session_row (row.OfOpening named h x) = false
-is_session_row (row.OfCandidate c x) = false
-is_session_row (row.OfEntry c p) = false
-is_session_row (row.OfArrangement c x) = false
 
 -- the row is one of the hall
 abbrev pub names_hall : Row → Code → Bool
@@ -102,17 +92,21 @@ import_reaches r import s =
 abbrev pub is_appeal_for : Relations → Option Appeal → Code → Bool
 is_appeal_for r stored s = option_map_or (λ (a : Appeal). names r a.session s) stored false
 
+-- another appeal of the appellant, whose grant a grant of this one supersedes and which also holds for later sessions
+abbrev pub is_ended : Relations → Decision → Appeal → (ℕ × Code) × Appeal → Bool
+is_ended r d a e =
+    (is_earlier d.number a.session a.subject e && is_marked r e.0) && not (same_code e.0.1 d.reference)
+
 -- the grant supersedes one that also holds for later sessions
-abbrev pub ends_standing : Relations → ℕ → Appeal → Bool
-ends_standing r c a =
-    list_any (λ (e : (ℕ × Code) × Appeal). is_earlier c a.session a.subject e && is_marked r e.0) r.appeals
+abbrev pub ends_standing : Relations → Decision → Appeal → Bool
+ends_standing r d a = list_any (is_ended r d a) r.appeals
 
 -- A grant reaches the session of the appeal. If it sets or ends a standing grant, it also reaches each session that the
 -- appellant is a member of.
 abbrev pub grant_reaches : Relations → Decision → Appeal → Code → Bool
 grant_reaches r d a s =
     same_code a.session s
-    || ((bears_mark d.outcome || ends_standing r d.number a) && is_member r s d.number)
+    || ((bears_mark d.outcome || ends_standing r d a) && is_member r s d.number)
 
 abbrev pub decision_reaches : Relations → Decision → Code → Bool
 decision_reaches r d s =

@@ -9,7 +9,7 @@ ghost use Rattle.exam_commands.specs.Decisions as spec;
 ghost use Rattle.exam_commands.specs.Touched as touched;
 
 use crate::appeals::is_same_kind;
-use crate::command::Outcome;
+use crate::command::{Decision, Outcome};
 use exam_rules::{Appeal, Facts, Status, Subject, appeals_of};
 use exam_types::{Number, Reference};
 
@@ -45,16 +45,31 @@ pub fn earlier_grant<'a>(
     None
 }
 
-/// Whether a grant of the appeal supersedes a standing grant.
-pub fn ends_standing(facts: &Facts, number: Number, appeal: &Appeal) -> bool
-    ensures { result ≡ touched.ends_standing (relations_of facts.now) number appeal.now }
+/// Whether the decision, if it grants the appeal, supersedes a standing grant of another appeal.
+pub fn ends_standing(facts: &Facts, decision: &Decision, appeal: &Appeal) -> bool
+    ensures { result ≡ touched.ends_standing (relations_of facts.now) decision.now appeal.now }
 {
-    for (key, other) in appeals_of(facts, number) {
-        if is_earlier(number, appeal, key, other) && facts.standing.contains_key(key) {
+    for (key, other) in appeals_of(facts, decision.number) {
+        if is_ended(facts, decision, appeal, key, other) {
             return true;
         }
     }
     false
+}
+
+/// Whether the other appeal bears the mark of a standing grant that the decision, if it is a grant, supersedes.
+fn is_ended(
+    facts: &Facts,
+    decision: &Decision,
+    appeal: &Appeal,
+    key: &(Number, Reference),
+    other: &Appeal,
+) -> bool
+    ensures { result ≡ touched.is_ended (relations_of facts.now) decision.now appeal.now (key.now, other.now) }
+{
+    is_earlier(decision.number, appeal, key, other)
+        && facts.standing.contains_key(key)
+        && key.1 != decision.reference
 }
 
 /// Whether the other appeal is a grant that a grant of this one supersedes.

@@ -13,7 +13,7 @@ use Rattle.exam_commands.specs.Imports.{AreOfKind, kind_of}
 use Rattle.exam_commands.specs.declared.import_row.Kind.{Kind}
 use Rattle.exam_commands.specs.declared.import_row.Row.{Row}
 use Rattle.exam_commands.specs.declared.import_row.Row.TheVariants as row
-use Rattle.exam_commands.specs.Touched.{has_standing_member, is_of_sessions, is_session_row, names, names_hall, names_session, row_reaches}
+use Rattle.exam_commands.specs.Touched.{has_standing_member, is_of_sessions, names, names_hall, names_session, row_reaches}
 use Rattle.exam_commands.proofs.ImportKeys.{code_flips}
 use Rattle.exam_rules.proofs.Writing.{then_eq}
 
@@ -113,6 +113,16 @@ swap_session : (h g o n : Bool) → (h || ((g && h) || (o || n))) ≡ (h || (o |
 swap_session true g o n = refl
 swap_session false true o n = refl
 swap_session false false o n = refl
+
+-- the row is one of a session
+abbrev pub is_session_row : Row → Bool
+is_session_row (row.OfSession named x) = true
+is_session_row (row.OfPaper p x) = false
+is_session_row (row.OfHall h x) = false
+is_session_row (row.OfOpening named h x) = false
+is_session_row (row.OfCandidate c x) = false
+is_session_row (row.OfEntry c p) = false
+is_session_row (row.OfArrangement c x) = false
 
 module _ (r : Relations) (s : Code) where
   -- rows of sessions reach those of members with standing grants

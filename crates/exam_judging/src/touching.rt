@@ -370,11 +370,11 @@ fn add_others(
 ) -> Result<(), Refusal>
     ensures ok { OnOk result ((s : Code) → contains code_cmp codes.new s
         ≡ (((bears_mark decision.now.outcome
-        || spec.ends_standing (relations_of facts.now) decision.now.number appeal.now)
+        || spec.ends_standing (relations_of facts.now) decision.now appeal.now)
         && is_member (relations_of facts.now) s decision.now.number) || contains code_cmp codes.old s)) }
     ensures memory { IfErr result (λ e. e ≡ NoMemory) }
 {
-    if granting::bears_mark(decision.outcome) || ends_standing(facts, decision.number, appeal) {
+    if granting::bears_mark(decision.outcome) || ends_standing(facts, decision, appeal) {
         add_candidate(facts, decision.number, codes)
     } else {
         Ok(())

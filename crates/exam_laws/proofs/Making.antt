@@ -89,7 +89,7 @@ pub grant_is_for : (r : Relations) (d : Decision) (s : Code) (o : Option Appeal)
     (has_row code_cmp r.sessions s && option_map_or (λ (a : Appeal). grant_reaches r d a s) o false))
     ≡ (has_row code_cmp r.sessions s && option_map_or (λ (a : Appeal). grant_reaches r d a s) o false)
 grant_is_for r d s None = refl
-grant_is_for r d s (Some a) = among (same_code a.session s) (has_row code_cmp r.sessions s) ((bears_mark d.outcome || ends_standing r d.number a) && is_member r s d.number)
+grant_is_for r d s (Some a) = among (same_code a.session s) (has_row code_cmp r.sessions s) ((bears_mark d.outcome || ends_standing r d a) && is_member r s d.number)
 
 -- any other reads those that it touches
 read_touched : (done : Command) (r : Relations) (s : Code) → keeps_plans done ≡ false → reads r done s ≡ touches r done s

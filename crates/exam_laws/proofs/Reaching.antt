@@ -111,9 +111,9 @@ module _ (r : Relations) (refer : refers r ≡ true) (s : Code) where
     where
       inner : (o : Option Appeal) → appeal_at r d.number d.reference ≡ o → option_map_or (λ (a : Appeal). grant_reaches r d a s) o false ≡ true → Exists
       inner None at some = cc
-      inner (Some a) at some = elim (or_cases (same_code a.session s) ((bears_mark d.outcome || ends_standing r d.number a) && is_member r s d.number) some) [
+      inner (Some a) at some = elim (or_cases (same_code a.session s) ((bears_mark d.outcome || ends_standing r d a) && is_member r s d.number) some) [
         | inl same ↦ same_exists a.session same (appeal_known r refer (d.number, d.reference) a at)
-        | inr more ↦ of_member d.number (and_parts (bears_mark d.outcome || ends_standing r d.number a) (is_member r s d.number) more).1
+        | inr more ↦ of_member d.number (and_parts (bears_mark d.outcome || ends_standing r d a) (is_member r s d.number) more).1
       ]
 
   -- what a command does not touch it neither sets nor reaches

@@ -49,7 +49,7 @@ use Rattle.exam_commands.specs.Lodgings as lodgings
 use Rattle.exam_commands.specs.Orders.{IsInOrder}
 use Rattle.exam_commands.specs.State.{State}
 use Rattle.exam_commands.specs.Steps.{SameSeating, Step, StepTo, change}
-use Rattle.exam_commands.specs.Touched.{decision_reaches, ends_standing, grant_reaches, has_standing_member, is_of_sessions, is_set_by, names, reaches, row_reaches, sets_session, stands_in, touches}
+use Rattle.exam_commands.specs.Touched.{decision_reaches, ends_standing, grant_reaches, has_standing_member, is_ended, is_of_sessions, is_set_by, names, reaches, row_reaches, sets_session, stands_in, touches}
 use Rattle.exam_commands.proofs.Alike.{SpeakAlike, alike_itself, alike_seating}
 use Rattle.exam_commands.proofs.AppealKeys.{appeals_exact, openings_exact}
 use Rattle.exam_laws.proofs.Appealing.{fits_same, never_marked, not_granted, put_seating_same, seating_by, with_appeals, with_decisions}
@@ -455,6 +455,39 @@ module _ (c : ℕ) (own s : Code) (asked : Subject) (away : same_code own s ≡ 
       elsewhere : (x : Appeal) → same_code x.session s ≡ false → is_granted_appeal s n (k, x) ≡ false
       elsewhere x other = ap (λ b. nat_eq k.0 n && (b && is_granted x.status)) other ∙ none (nat_eq k.0 n) (is_granted x.status)
 
+-- if no standing grant of another appeal is superseded, none is, since the appeal itself bears no mark
+module _ (r : Relations) (d : Decision) (a : Appeal) (unmarked_own : is_marked r (d.number, d.reference) ≡ false) where
+  no_other : (row : (ℕ × Code) × Appeal) → is_ended r d a row ≡ false → (is_earlier d.number a.session a.subject row && is_marked r row.0) ≡ false
+  no_other row = by (same_code row.0.1 d.reference) refl
+    where
+      off : (b : Bool) → (b && false) ≡ false
+      off true = refl
+      off false = refl
+
+      alone : (b : Bool) → (b && true) ≡ false → b ≡ false
+      alone true is = is
+      alone false is = refl
+
+      of_own : (b : Bool) → nat_eq row.0.0 d.number ≡ b → row.0.1 ≡ d.reference
+          → (((b && (same_code row.1.session a.session && supersedes a.subject row.1.subject)) && is_granted row.1.status) && is_marked r row.0) ≡ false
+      of_own true mine same =
+          ap (λ m. ((same_code row.1.session a.session && supersedes a.subject row.1.subject) && is_granted row.1.status) && m)
+          (ap (λ (n : ℕ). is_marked r (n, row.0.1)) (eqb-true row.0.0 d.number mine) ∙ ap (λ (t : Code). is_marked r (d.number, t)) same ∙ unmarked_own)
+          ∙ off ((same_code row.1.session a.session && supersedes a.subject row.1.subject) && is_granted row.1.status)
+      of_own false other same = refl
+
+      by : (b : Bool) → same_code row.0.1 d.reference ≡ b → ((is_earlier d.number a.session a.subject row && is_marked r row.0) && not b) ≡ false
+          → (is_earlier d.number a.session a.subject row && is_marked r row.0) ≡ false
+      by true same is = of_own (nat_eq row.0.0 d.number) refl (same_code_exact row.0.1 d.reference same)
+      by false other is = alone (is_earlier d.number a.session a.subject row && is_marked r row.0) is
+
+  none_ended : (rows : List ((ℕ × Code) × Appeal)) → list_any (is_ended r d a) rows ≡ false
+      → list_any (λ (e : (ℕ × Code) × Appeal). is_earlier d.number a.session a.subject e && is_marked r e.0) rows ≡ false
+  none_ended [] none = refl
+  none_ended (row ∷ rows) none =
+      let parts = neither_any (is_ended r d a row) (list_any (is_ended r d a) rows) none in
+      ap (λ b. b || list_any (λ (e : (ℕ × Code) × Appeal). is_earlier d.number a.session a.subject e && is_marked r e.0) rows) (no_other row parts.0) ∙ none_ended rows parts.1
+
 -- if no standing grant is superseded, the appellant's are the same
 module _ (r : Relations) (c : ℕ) (own : Code) (asked : Subject) where
   still_standing : (rows : List ((ℕ × Code) × Appeal)) → list_any (λ (e : (ℕ × Code) × Appeal). is_earlier c own asked e && is_marked r e.0) rows ≡ false
@@ -502,11 +535,11 @@ module _ (r : Relations) (refer : refers r ≡ true) (stand : marks_were_granted
   unmarked : is_marked r key ≡ false
   unmarked = unmarked_open r d a stand at open_yet
 
-  own_standing : ends_standing r d.number a ≡ false → standing_grants (with_decisions r (put_row appeal_cmp given_rows key granted_row) r.standing) d.number ≡ standing_grants r d.number
+  own_standing : ends_standing r d a ≡ false → standing_grants (with_decisions r (put_row appeal_cmp given_rows key granted_row) r.standing) d.number ≡ standing_grants r d.number
   own_standing none =
       ap (filter_map (λ (x : (ℕ × Code) × Appeal). standing_grant r x.1))
       (put_passed_over appeal_cmp appeals_exact (is_standing r d.number) given_rows key granted_row (never true) (λ b then. never (is_granted b.status))
-      ∙ still_standing r d.number a.session a.subject r.appeals none)
+      ∙ still_standing r d.number a.session a.subject r.appeals (none_ended r d a unmarked r.appeals none))
     where
       never : (g : Bool) → (nat_eq d.number d.number && (g && is_marked r key)) ≡ false
       never g = ap (λ m. nat_eq d.number d.number && (g && m)) unmarked ∙ not_granted (nat_eq d.number d.number) g
@@ -516,8 +549,8 @@ module _ (r : Relations) (refer : refers r ≡ true) (stand : marks_were_granted
       → SameSeating (seating r s) (seating (with_decisions r (put_row appeal_cmp given_rows key granted_row) (with_mark d r.standing)) s)
   grant_seating o is grants untouched = seating_by r (put_row appeal_cmp given_rows key granted_row) (with_mark d r.standing) s (λ n h. by_number n h (nat_eq d.number n) refl)
     where
-      parts : (same_code a.session s ≡ false) × (((bears_mark d.outcome || ends_standing r d.number a) && is_member r s d.number) ≡ false)
-      parts = neither_any (same_code a.session s) ((bears_mark d.outcome || ends_standing r d.number a) && is_member r s d.number) untouched
+      parts : (same_code a.session s ≡ false) × (((bears_mark d.outcome || ends_standing r d a) && is_member r s d.number) ≡ false)
+      parts = neither_any (same_code a.session s) ((bears_mark d.outcome || ends_standing r d a) && is_member r s d.number) untouched
 
       t : Relations
       t = with_decisions r (put_row appeal_cmp given_rows key granted_row) (with_mark d r.standing)
@@ -541,8 +574,8 @@ module _ (r : Relations) (refer : refers r ≡ true) (stand : marks_were_granted
       of_member : (h : Code) → has_live_entry r s d.number ≡ true → fits t s d.number h ≡ fits r s d.number h
       of_member h entered =
           let member : is_member r s d.number ≡ true = ap (λ b. b && has_live_entry r s d.number) (entered_known r (parted r refer).entries s d.number entered) ∙ entered in
-          let none = neither_any (bears_mark d.outcome) (ends_standing r d.number a)
-          (only_first (bears_mark d.outcome || ends_standing r d.number a) (is_member r s d.number) member parts.1) in
+          let none = neither_any (bears_mark d.outcome) (ends_standing r d a)
+          (only_first (bears_mark d.outcome || ends_standing r d a) (is_member r s d.number) member parts.1) in
           fits_same r (put_row appeal_cmp given_rows key granted_row) (with_mark d r.standing) s d.number (granted_same d.number)
           (ap (λ b. standing_grants (with_decisions r (put_row appeal_cmp given_rows key granted_row) (cond b (put_row appeal_cmp r.standing key tt) (without_mark key r.standing))) d.number) none.0
           ∙ ap (λ marks. standing_grants (with_decisions r (put_row appeal_cmp given_rows key granted_row) marks) d.number) (unmarked_same r.standing key unmarked)

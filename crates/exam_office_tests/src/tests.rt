@@ -9,6 +9,7 @@ mod commands;
 mod decisions;
 mod examples;
 mod limits;
+mod near_limits;
 mod opening;
 mod orders;
 mod own;

@@ -61,6 +61,7 @@ lodged 1 AR2 S1 arrangement reader 0
 lodged 1 HA1 S1 hall B
 touched decide 1 AR2 standing > S1 S2
 touched decide 1 AR2 granted > S1 S2
+touched decide 1 AR1 granted > S1
 touched decide 1 HA1 granted > S1
 touched decide 1 AR2 refused > -
 touched import sessions S3 2027-06-09 > S1 S2 S3

@@ -1,11 +1,12 @@
 //! Worked examples, and a plain slow program that tries every plan of every tiny problem.
-ghost use Rattle.std.specs.Prelude.{◌≡◌, ◌<◌, ◌≤◌, ◌^◌, ◌↔◌, ℕ, false, length, All, Contains, IfOk, IsTrue, filter, slice_index_or};
-ghost use Rattle.std.specs.List.{range_with_len};
+ghost use Rattle.std.specs.Prelude.{◌≡◌, ◌<◌, ◌≤◌, ◌^◌, ◌↔◌, ℕ, false, length, All, Contains, IfOk, IsTrue, None, filter, nat_eq, slice_index_or};
+ghost use Rattle.std.specs.List.{IsDistinct, range_with_len};
 ghost use Rattle.std.specs.List.Sorted.{IsStrictlySortedBy};
 ghost use Rattle.std.specs.Ordering.{nat_cmp};
 ghost use Rattle.exam_plan.specs.HallSets.{most_halls, set_of_mask, sets_of};
-ghost use Rattle.exam_plan.specs.Matching.{IsBest, IsContested};
+ghost use Rattle.exam_plan.specs.Matching.{IsBest, IsContested, IsLawful};
 ghost use Rattle.exam_plan.specs.Problems.{IsPlan, most_members, seating_of, plan_at};
+ghost use Rattle.exam_plan.specs.Repair.{IsDeadList};
 
 use exam_plan::{Mask, Plan, Problem, desks, keep_lawful, shortage, sweep, sweep_dead};
 use exam_school::expect_same;
@@ -105,13 +106,27 @@ fn counts_to(list: &[usize], count: usize) -> bool {
     list.len() == count && list.iter().enumerate().all(|(place, item)| *item == place)
 }
 
-/// What a sweep makes of nothing: the plan, and the dead halls. No other crate's proof needs what `sweep_dead` promises of them.
-fn swept_dead(alloc: Global, problem: &Problem) -> Result<(Plan, Vec<usize>), Refusal>
-    ensures dead { IfOk result (λ (plan, dead). (h : ℕ) → Contains dead.items h
-        ↔ ((c : ℕ) × IsContested (seating_of problem.now) c × IsTrue ((seating_of problem.now).fits c h))) }
+/// A plan that seats nobody.
+fn nobody(alloc: Global, problem: &Problem) -> Result<Plan, Refusal>
+    ensures plan { IfOk result (λ plan. IsPlan problem.now plan.items) }
+    ensures lawful { IfOk result (λ plan. IsLawful (seating_of problem.now) (plan_at plan.items)) }
 {
     let nobody = vec![in alloc; None; problem.candidate_count()]?;
-    sweep_dead(alloc, problem, keep_lawful(problem, nobody)?, None)
+    keep_lawful(problem, nobody)
+}
+
+/// What a sweep makes of a plan: the new plan, and the dead halls. No other crate's proof needs what `sweep_dead`
+/// promises of them.
+fn swept_dead(alloc: Global, problem: &Problem, plan: Plan) -> Result<(Plan, Vec<usize>), Refusal>
+    requires plan { IsPlan problem.now plan.items }
+    requires lawful { IsLawful (seating_of problem.now) (plan_at plan.items) }
+    ensures order { IfOk result (λ (new, dead).
+        IsDeadList (seating_of problem.now) None (plan_at plan.items) (plan_at new.items) dead.items) }
+    ensures dead { IfOk result (λ (new, dead). (h : ℕ) → Contains dead.items h
+        ↔ ((c : ℕ) × IsContested (seating_of problem.now) c × IsTrue ((seating_of problem.now).fits c h))) }
+    ensures once { IfOk result (λ (new, dead). IsDistinct nat_eq dead.items) }
+{
+    sweep_dead(alloc, problem, plan, None)
 }
 
 /// The plan that a sweep makes of nothing.
@@ -119,8 +134,7 @@ fn swept(alloc: Global, problem: &Problem) -> Result<Plan, Refusal>
     ensures plan { IfOk result (λ plan. IsPlan problem.now plan.items) }
     ensures best { IfOk result (λ plan. IsBest (seating_of problem.now) (plan_at plan.items)) }
 {
-    let nobody = vec![in alloc; None; problem.candidate_count()]?;
-    sweep(alloc, problem, keep_lawful(problem, nobody)?, None)
+    sweep(alloc, problem, nobody(alloc, problem)?, None)
 }
 
 /// Appends a word and a list of numbers, `-` for none.
@@ -153,7 +167,7 @@ fn put_all(alloc: Global, told: &mut String, word: &str, numbers: &[usize]) -> R
 fn put_plan(alloc: Global, told: &mut String, problem: &Problem, plan: &Plan) -> Result<(), Fail>
     requires { IsPlan problem.now plan.now.items }
 {
-    let (same, dead) = swept_dead(alloc, problem)?;
+    let (same, dead) = swept_dead(alloc, problem, nobody(alloc, problem)?)?;
     if same != *plan {
         return Err(Fail::new("another plan"));
     }
@@ -266,7 +280,7 @@ unseated 1 halls 126 127 128 129 130 candidates 0 1 2 3 4 5";
 #[test]
 fn one_candidate_more_than_200_halls(rt: HostRuntime) -> Result<(), Fail> {
     let problem = equal_problem(rt.alloc(), 200, [u128::MAX, (1 << 72) - 1], 201)?;
-    let (plan, dead) = swept_dead(rt.alloc(), &problem)?;
+    let (plan, dead) = swept_dead(rt.alloc(), &problem, nobody(rt.alloc(), &problem)?)?;
     assert!(rt; plan.iter().filter(|place| place.is_some()).count() == 200);
     assert!(rt; counts_to(&dead, 200));
     let short = shortage(rt.alloc(), &problem, &swept(rt.alloc(), &problem)?)?;
@@ -365,7 +379,7 @@ fn agrees(alloc: Global, desks: [u32; 3], fits: &[[bool; 3]; 3]) -> Result<bool,
     let (most, left_out) = tried(&desks, fits);
     let problem = problem_of(alloc, desks, fits.as_slice())?;
     let plan = swept(alloc, &problem)?;
-    let (same_plan, dead) = swept_dead(alloc, &problem)?;
+    let (same_plan, dead) = swept_dead(alloc, &problem, nobody(alloc, &problem)?)?;
     let short = shortage(alloc, &problem, &plan)?;
     let seated = plan.iter().filter(|place| place.is_some()).count();
     let mut same = seated == most && short.unseated <= 3 && 3 - short.unseated == most;

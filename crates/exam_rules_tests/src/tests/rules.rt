@@ -1,6 +1,7 @@
 //! Small offices, and what the calls answer on them, as texts that are played. A text has stories, each behind `# ` and
 //! its name. The lines of a story are facts, which are added to those of the school, and questions of session S1 with
 //! their answers. So only a few functions own facts, and each is proved once.
+mod promised;
 mod questions;
 mod relisting;
 

@@ -3,8 +3,8 @@ use Rattle.std.specs.BTreeSet.{contains}
 use Rattle.std.specs.List.{list_any}
 use Rattle.exam_rules.specs.Relations.{Relations, code_cmp, relations_of}
 use Rattle.exam_commands.specs.declared.import_row.Row.{Row}
-use Rattle.exam_commands.specs.Touched.{has_standing_member, is_of_sessions, is_session_row, names_session, row_reaches}
-use Rattle.exam_judging.proofs.Gathering.{dated_last, opens_found, opens_named, rows_reach, sessions_are_of_kind}
+use Rattle.exam_commands.specs.Touched.{has_standing_member, is_of_sessions, names_session, row_reaches}
+use Rattle.exam_judging.proofs.Gathering.{dated_last, is_session_row, opens_found, opens_named, rows_reach, sessions_are_of_kind}
 use Rattle.exam_commands.proofs.Repairing.{on_ok}
 use Rattle.exam_judging.proofs.touching.add_import.Goals as goal
 

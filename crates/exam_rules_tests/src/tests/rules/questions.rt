@@ -1,7 +1,6 @@
 //! Questions of the facts, and what the rules answer.
-use exam_rules::{
-    Facts, arrangement_in_force, clashes, finish, fits, is_member, problem, session_lists, sitting,
-};
+use super::promised::{end_of, hall_fits, paper_sat, papers_not_sat, problem_of};
+use exam_rules::{Facts, arrangement_in_force, is_member, session_lists};
 use exam_school::Words;
 use exam_types::{Number, SessionCode};
 use std::alloc::Global;
@@ -25,7 +24,7 @@ fn in_force(
 /// Candidates, each with a paper that they do not sit.
 fn all_clashes(alloc: Global, facts: &Facts, session: &SessionCode) -> Result<String, Fail> {
     let mut text = String::new(alloc);
-    for (number, paper) in &clashes(alloc, facts, session)? {
+    for (number, paper) in &papers_not_sat(alloc, facts, session)? {
         let number = number.get();
         text.push_str(format!(in alloc; "{number} {paper} ")?.as_str())?;
     }
@@ -48,7 +47,7 @@ fn listed(alloc: Global, facts: &Facts, session: &SessionCode) -> Result<String,
 
 /// The places of the halls that fit the candidate at a place, and their place in the order of desks.
 fn row(alloc: Global, facts: &Facts, session: &SessionCode, place: usize) -> Result<String, Fail> {
-    let problem = problem(alloc, facts, session)?;
+    let problem = problem_of(alloc, facts, session)?;
     if place >= problem.candidate_count() {
         return Err(Fail::new("no place"));
     }
@@ -71,9 +70,9 @@ fn refusals(
     session: &SessionCode,
     number: Number,
 ) -> Result<String, Fail> {
-    let of_problem = problem(alloc, facts, session).err();
-    let of_clashes = clashes(alloc, facts, session).err();
-    let is_away = sitting(facts, session, number).is_none();
+    let of_problem = problem_of(alloc, facts, session).err();
+    let of_clashes = papers_not_sat(alloc, facts, session).err();
+    let is_away = paper_sat(facts, session, number).is_none();
     Ok(format!(in alloc; "{of_problem:?} {of_clashes:?} {is_away}")?)
 }
 
@@ -88,15 +87,15 @@ fn answer_of(
     let session = Words::of("S1").session()?;
     match word {
         "finish" => {
-            let end = finish(facts, &session, number).ok_or("finish")?.get();
+            let end = end_of(facts, &session, number).ok_or("finish")?.get();
             Ok(format!(in alloc; "{end}")?)
         }
         "fits" => {
-            let fits = fits(facts, &session, number, &words.hall()?);
+            let fits = hall_fits(facts, &session, number, &words.hall()?);
             Ok(format!(in alloc; "{fits}")?)
         }
         "sits" => {
-            let paper = sitting(facts, &session, number).ok_or("paper")?;
+            let paper = paper_sat(facts, &session, number).ok_or("paper")?;
             Ok(format!(in alloc; "{paper}")?)
         }
         "in-force" => in_force(alloc, facts, &session, number),
