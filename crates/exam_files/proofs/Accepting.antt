@@ -53,7 +53,7 @@ agreed row other same = step (has_key (key_of row) other) refl
         rw equal refl
 
 -- a row that contradicts none of those before it agrees with each
-one_more : (row : Row) (before : List Row) → conflicts row before ≡ false → AllPairs AgreeOnKey before → AllPairs AgreeOnKey (before ++ row ∷ [])
+pub one_more : (row : Row) (before : List Row) → conflicts row before ≡ false → AllPairs AgreeOnKey before → AllPairs AgreeOnKey (before ++ row ∷ [])
 one_more row before none agree = all_pairs_push AgreeOnKey before row agree at
   where
     at : (k : ℕ) (d : Row) → k < length before → AgreeOnKey (get_or before k d) row
@@ -63,7 +63,7 @@ one_more row before none agree = all_pairs_push AgreeOnKey before row agree at
     ]
 
 -- and the other way round
-clear : (before : List Row) (row : Row) (after : List Row) → AllPairs AgreeOnKey (before ++ row ∷ after) → conflicts row before ≡ false
+pub clear : (before : List Row) (row : Row) (after : List Row) → AllPairs AgreeOnKey (before ++ row ∷ after) → conflicts row before ≡ false
 clear before row after agree = list_any_none (differs row) before (All-from_get_or (λ other. differs row other ≡ false) before row at)
   where
     here : (xs : List Row) → get_or (xs ++ row ∷ after) (length xs) row ≡ row

@@ -5,6 +5,7 @@ pub mod DoorLines
 pub mod Fields
 pub mod Numbered
 pub mod OfficeSheets
+pub mod Refusing
 pub mod Steps
 pub mod Streaming
 pub mod Taking

@@ -3,6 +3,7 @@
 -- - ImportFiles: the rows that a file of a kind denotes, or its refusal, from the records that csv finds in it; each
 --   column by what exam_types says of its value
 -- - Accepted: which files are accepted, and with which rows
+-- - Refused: which record and which column a refusal names
 -- - Doors, Attendances, Clashes, Exports, Registers, Shortages, Places, Padding: the texts of the
 --   sheets
 -- - DoorLines: a door list by its lines
@@ -22,6 +23,7 @@ pub mod Left
 pub mod OfficeSheets
 pub mod Padding
 pub mod Places
+pub mod Refused
 pub mod Registers
 pub mod Shortages
 pub mod Writing

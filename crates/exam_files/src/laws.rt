@@ -1,5 +1,6 @@
 //! Laws of import files and of sheets.
-ghost use Rattle.std.specs.Prelude.{◌≡◌, ◌↔◌, ℕ, List, Ok};
+ghost use Rattle.std.specs.Prelude.{◌≡◌, ◌↔◌, ℕ, List, Ok, Err};
+ghost use Rattle.exam_types.specs.declared.refusal.Refusal.TheVariants.{BadRow, RowConflict};
 ghost use Rattle.exam_rules.specs.Orders.{AreInOrder};
 ghost use Rattle.exam_rules.specs.Relations.{Code, Relations};
 ghost use Rattle.exam_commands.specs.Good.{IsGood};
@@ -16,6 +17,7 @@ ghost use Rattle.exam_files.specs.Exports.{seat_export};
 ghost use Rattle.exam_files.specs.ImportFiles.{import_of};
 ghost use Rattle.exam_files.specs.OfficeSheets.{attendance_of, clash_list_of, door_list_of, export_of};
 ghost use Rattle.exam_files.specs.OfficeSheets.{register_of};
+ghost use Rattle.exam_files.specs.Refused.{IsFirstBad, IsFirstConflict};
 ghost use Rattle.exam_files.specs.Registers.{appeal_register};
 ghost use Rattle.exam_files.specs.Shortages.{shortage_text};
 
@@ -24,6 +26,15 @@ ghost use Rattle.exam_files.specs.Shortages.{shortage_text};
 pub fn accepted_files_are_their_rows()
     ensures { (kind : Kind) (bytes : List ℕ) (rows : List Row)
         → (import_of kind bytes ≡ Ok (record { kind = kind; rows = rows })) ↔ Accepts kind bytes rows }
+{}
+
+/// A refusal of an import file names the first record that is bad, with its first bad column, or the first that
+/// contradicts an earlier one. All records before it are rows that agree.
+pub fn refused_files_name_their_first_bad_record()
+    ensures column { (kind : Kind) (bytes : List ℕ) (number column : ℕ)
+        → (import_of kind bytes ≡ Err (BadRow number column)) ↔ IsFirstBad kind bytes number column }
+    ensures conflict { (kind : Kind) (bytes : List ℕ) (number : ℕ)
+        → (import_of kind bytes ≡ Err (RowConflict number)) ↔ IsFirstConflict kind bytes number }
 {}
 
 /// A door list has one line for each occupant of the hall, by desk from 1, and as many as its heading says. Every

@@ -26,7 +26,7 @@ pub use laws::{
     accepted_files_are_their_rows, appeal_registers_are_of_the_office,
     attendances_are_of_the_office, clash_lists_are_of_the_office, door_lists_are_of_the_office,
     door_lists_have_a_line_for_each_occupant, exports_are_of_the_office,
-    shortage_sheets_are_of_the_facts,
+    refused_files_name_their_first_bad_record, shortage_sheets_are_of_the_facts,
 };
 pub use registers::appeal_register;
 pub use sheet_fault::SheetFault;
