@@ -1,14 +1,18 @@
 -- A register that goes out line by line.
-use Rattle.std.proofs.Common.{◌≡◌, ◌⊎◌, ℕ, ◌+◌, ◌≤◌, Result, Ok, Err, OnOk, OnErr, List, [], ◌∷◌, ◌++◌, length, drop, Option, refl, ap, sym, subst, ◌∙◌, inl, inr, arith, append_assoc, append-nil}
+use Rattle.std.proofs.Common.{◌≡◌, ◌⊎◌, ℕ, ◌+◌, ◌≤◌, Result, Ok, Err, OnOk, OnErr, IfErr, List, [], ◌∷◌, ◌++◌, length, drop, Option, Some}
+use Rattle.std.proofs.Common.{refl, ap, sym, subst, ◌∙◌, inl, inr, arith, append_assoc, append-nil, drop-drop}
 use Rattle.std.specs.List.{flat_map}
 use Rattle.std.proofs.Math.Seq.{drop-append_seam}
 use Rattle.std.proofs.lemmas.List.{length-append}
 use Rattle.std.specs.Io.KnownBytes.{Appends}
 use Rattle.std.proofs.KnownBytes.{Appends-trans}
 use Rattle.exam_send.specs.Sending.{AppendsBeginning, AppendsPart}
+use Rattle.exam_views.specs.Sources.{Gives}
 use Rattle.exam_views.specs.declared.view.AppealRow.{AppealRow}
+use Rattle.exam_types.specs.declared.refusal.Refusal.{Refusal}
 use Rattle.exam_files.specs.declared.sheet_fault.SheetFault.{SheetFault}
-use Rattle.exam_files.specs.Registers.{Streams, appeal_line, register_heading, register_text}
+use Rattle.exam_files.specs.declared.sheet_fault.SheetFault.TheVariants as faults
+use Rattle.exam_files.specs.Registers.{AsksFor, Streams, TakesFew, appeal_line, register_heading, register_text}
 
 pub begins_part : (a b : Option (List ℕ)) (text : List ℕ) → AppendsPart a b text → AppendsBeginning a b text
 begins_part a b text part = (part.0, part.1, part.2, part.4)
@@ -30,6 +34,34 @@ streamed contents (Err fault) old new sent text is ok err = begins_part (content
 pub fault_streams : {W : Type 0} (contents : W → Option (List ℕ)) (result : Result (Unit {0}) SheetFault) (fault : SheetFault) (old new : W) (text : List ℕ) → result ≡ Err fault
     → AppendsBeginning (contents old) (contents new) text → Streams contents result old new text
 fault_streams contents result fault old new text is part = subst (λ r. Streams contents r old new text) (sym is) part
+
+-- ---- how many rows were asked for
+
+-- a fault after few rows, whichever it is
+pub few_asked : (most : ℕ) (refuses : Refusal → Type 0) (old new : List AppealRow) (fault : SheetFault) → TakesFew most old new → AsksFor most refuses old new fault
+few_asked most refuses old new faults.Write few = few
+few_asked most refuses old new (faults.Refused e) few = inl few
+
+-- the source gave one
+pub one_given : (refuses : Refusal → Type 0) (row : AppealRow) (old new : List AppealRow) (fault : SheetFault) → old ≡ row ∷ new → AsksFor 1 refuses old new fault
+one_given refuses row old new fault is = few_asked 1 refuses old new fault (1, omega arith, sym (ap (drop 1) is))
+
+-- whether or not the line of that one went out
+pub given_asked : (refuses : Refusal → Type 0) (row : AppealRow) (found : Option AppealRow) (old new : List AppealRow) (result : Result (Unit {0}) SheetFault) → found ≡ Some row
+    → Gives found old new → IfErr result (AsksFor 1 refuses old new)
+given_asked refuses row found old new (Ok done) is gives = tt
+given_asked refuses row found old new (Err fault) is gives = one_given refuses row old new fault (subst (λ f. Gives f old new) is gives)
+
+-- one more was asked for after so many
+pub asked_on : (most i : ℕ) (refuses : Refusal → Type 0) (old left new : List AppealRow) (fault : SheetFault) → i + 1 ≤ most → left ≡ drop i old → AsksFor 1 refuses left new fault
+    → AsksFor most refuses old new fault
+asked_on most i refuses old left new faults.Write room so_far (n, one, is) = (i + n, omega (arith, room, one), is ∙ ap (drop n) so_far ∙ drop-drop n i old)
+asked_on most i refuses old left new (faults.Refused e) room so_far (inl (n, one, is)) = inl (i + n, omega (arith, room, one), is ∙ ap (drop n) so_far ∙ drop-drop n i old)
+asked_on most i refuses old left new (faults.Refused e) room so_far (inr refused) = inr refused
+
+pub fault_asked : (most : ℕ) (refuses : Refusal → Type 0) (old new : List AppealRow) (result : Result (Unit {0}) SheetFault) (fault : SheetFault) → result ≡ Err fault
+    → AsksFor most refuses old new fault → IfErr result (AsksFor most refuses old new)
+fault_asked most refuses old new result fault is asked = subst (λ r. IfErr r (AsksFor most refuses old new)) (sym is) asked
 
 -- ---- the whole register
 
@@ -80,10 +112,10 @@ module _ (code : List ℕ) (count : ℕ) (all : List AppealRow) (old : Option (L
           let rows : length all ≡ length (so_far.given ++ left) = ap (λ (xs : List AppealRow). length xs) so_far.rows in
           absurd (omega (arith, few, parted, longer, rows, many, end))
 
-  -- those after the count are still to come
-  pub left_after : (i : ℕ) (left : List AppealRow) (now : Option (List ℕ)) → i ≡ count → HasStreamed i left now → left ≡ drop count all
-  left_after i left now end so_far =
-      sym (drop-append_seam so_far.given left) ∙ ap (λ n. drop n (so_far.given ++ left)) (so_far.many ∙ end) ∙ ap (drop count) (sym so_far.rows)
+  -- those after them are still to come
+  pub left_after : (i : ℕ) (left : List AppealRow) (now : Option (List ℕ)) → HasStreamed i left now → left ≡ drop i all
+  left_after i left now so_far =
+      sym (drop-append_seam so_far.given left) ∙ ap (λ n. drop n (so_far.given ++ left)) so_far.many ∙ ap (drop i) (sym so_far.rows)
 
   -- so many rows were there
   pub enough : (i : ℕ) (left : List AppealRow) (now : Option (List ℕ)) → count ≤ i → HasStreamed i left now → count ≤ length all

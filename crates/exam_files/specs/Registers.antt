@@ -1,5 +1,5 @@
 -- The text of an appeal register.
-use Rattle.std.specs.Prelude.{◌≡◌, ◌⊎◌, ⊤, ℕ, IsTrue, List, ◌++◌, length, codes, Option, Result, Ok, Err}
+use Rattle.std.specs.Prelude.{◌≡◌, ◌⊎◌, ◌≤◌, ⊤, ℕ, IsTrue, List, ◌++◌, length, drop, codes, Option, Result, Ok, Err}
 use Rattle.std.specs.Fmt.{decimal}
 use Rattle.std.specs.List.{flat_map}
 use Rattle.exam_views.specs.declared.view.AppealRow.{AppealRow}
@@ -46,3 +46,14 @@ abbrev pub BreaksOff : (Refusal → Type 0) → Type 0 → SheetFault → Type 0
 BreaksOff refuses ends faults.Write = ⊤
 BreaksOff refuses ends (faults.Refused e) =
     (e ≡ NoMemory) ⊎ ((IsTrue (is_source_refusal e) × refuses e) ⊎ ((e ≡ BadStore) × ends))
+
+-- no more rows than these were taken from those to come
+abbrev pub TakesFew : ℕ → List AppealRow → List AppealRow → Type 0
+TakesFew most old new = (n : ℕ) × (n ≤ most) × (new ≡ drop n old)
+
+-- After a fault no more rows than these were asked for: those behind them are still to come, or the source refused the
+-- last one.
+abbrev pub AsksFor : ℕ → (Refusal → Type 0) → List AppealRow → List AppealRow → SheetFault → Type 0
+AsksFor most refuses old new faults.Write = TakesFew most old new
+AsksFor most refuses old new (faults.Refused e) =
+    TakesFew most old new ⊎ (IsTrue (is_source_refusal e) × refuses e)

@@ -29,6 +29,8 @@ pub fn register_stream<A: AppealSource, W: Write>(
     ensures rest { A.IsHonest source.new
         → OnOk result ((A.coming source.new ≡ drop count (A.coming source.old))
         × (count ≤ length (A.coming source.old))) }
+    ensures asked { A.IsHonest source.new → IfErr result (
+        spec.AsksFor count (A.Refuses source.new) (A.coming source.old) (A.coming source.new)) }
     ensures fault { IfErr result (spec.BreaksOff (A.Refuses source.new)
         (A.IsHonest source.new → length (A.coming source.old) < count)) }
     ensures stays { A.Stays source.old source.new }
@@ -70,6 +72,8 @@ fn send_next<A: AppealSource, W: Write>(
         ⊎ ((row : Row) × (A.coming source.old ≡ row ∷ A.coming source.new)
         × AppendsBeginning (W.contents writer.old) (W.contents writer.new) (spec.appeal_line row))) }
     ensures honest { A.IsHonest source.new → A.IsHonest source.old }
+    ensures asked { A.IsHonest source.new → IfErr result (
+        spec.AsksFor 1 (A.Refuses source.new) (A.coming source.old) (A.coming source.new)) }
     ensures fault { IfErr result (spec.BreaksOff (A.Refuses source.new)
         (A.IsHonest source.new → A.coming source.old ≡ [])) }
     ensures stays { A.Stays source.old source.new }

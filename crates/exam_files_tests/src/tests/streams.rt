@@ -137,13 +137,17 @@ fn a_source_that_gives_another_count_is_refused(rt: HostRuntime) -> Result<(), F
     Ok(())
 }
 
+/// The rows behind the one that was not written whole are left in the source.
 #[test]
 fn a_register_is_cut_where_its_writer_fails(rt: HostRuntime) -> Result<(), Fail> {
     for room in 0..HEADING + LINE.len() {
-        let rows = [row().ok_or("row")?];
+        let rows = [row().ok_or("row")?, row().ok_or("row")?];
         let mut source = ListedAppeals { rows: &rows };
-        let (answer, text) = streamed(rt.alloc(), &mut source, 1, room)?;
-        assert!(rt; answer == Err(SheetFault::Write) && text.len() == room);
+        let (answer, text) = streamed(rt.alloc(), &mut source, 2, room)?;
+        let left = if room < HEADING { 2 } else { 1 };
+        assert!(rt;
+            answer == Err(SheetFault::Write) && text.len() == room && source.rows.len() == left
+        );
     }
     Ok(())
 }
