@@ -31,6 +31,7 @@ UNKNOWN = {"sessions": 4, "papers": 5, "candidates": 6, "halls": 7}  # the refus
 KEYS = {"openings": 2, "entries": 2}  # how many columns make the key; elsewhere the first alone
 FIRST_DAY, LAST_DAY = datetime.date(2000, 1, 11), datetime.date(2199, 12, 31)
 BOM = b"\xef\xbb\xbf"
+FORMULA = re.compile(r"(^|[;\t\r\n])(\s*[=+\-@＝＋－＠])")  # some spreadsheets take the wide signs too
 
 
 class Record(NamedTuple):
@@ -65,8 +66,14 @@ def records(text: bytes, comma: str = ",") -> Iterator[Record]:
         line = reader.line_num + 1
 
 
+def guarded(text: str) -> str:
+    """A text of which no spreadsheet makes a formula, though it parts at semicolons: it gets an apostrophe before each sign
+    with which a formula begins."""
+    return FORMULA.sub(r"\1'\2", text)
+
+
 def written(rows: Iterable[Iterable[object]]) -> str:
-    """Records as CSV. Each value is in quotes, so that none is parted by a spreadsheet that takes another comma."""
+    """Records as CSV, each value in quotes."""
     text = io.StringIO()
     csv.writer(text, lineterminator="\n", quoting=csv.QUOTE_ALL).writerows(rows)
     return text.getvalue()

@@ -13,7 +13,8 @@ import unittest
 
 import sample
 
-import school  # beside the tests' folder
+import files  # beside the tests' folder
+import school
 
 APPEAL = "INSERT INTO appeal VALUES (?, ?, ?, ?, ?, ?, ?, ?, ?, ?, ?)"
 
@@ -68,6 +69,38 @@ class Lists(sample.SampleSchool):
             ["yes", "MON-AM", "0001289", "Rosa Tanaka", "2027-06-07", "09:00", "11:30", "MA-1", "R12", "1",
              "2027-06-07", "09:00", "11:30", "MA-1", "", "", "Mathematics 1", ""]])
         self.assertEqual({len(row) for row in rows}, {18})
+
+    def test_no_spreadsheet_finds_a_formula(self):
+        before = self.copy()
+        self.change("UPDATE candidate SET name = ? WHERE number = 1748", ["Bo\";=cmd|'/c calc'!A1;x"])
+        self.office("close-hall", "MON-AM", "R12")
+        line = self.office("changes", before, "--csv").split("\n")[1]
+        self.assertIn(""","0001748","Bo"";'=cmd|'/c calc'!A1;x","2027-06-07",""", line)
+        self.assertEqual(line.count('"') % 2, 0)
+        for text, safe in [("=1+1", "'=1+1"), (" @a", "' @a"), ("a;-1;\t+1", "a;'-1;'\t+1"), ("a;＝1", "a;'＝1"),
+                           ("Smith-Jones; Bo", "Smith-Jones; Bo")]:
+            self.assertEqual(files.guarded(text), safe)
+
+    def test_a_terminal_gets_harmless_names(self):
+        self.change("UPDATE candidate SET name = ? WHERE number = 1748", ["To\u009b2Jm\u0085\u202eas"])
+        for words in (["door-list", "MON-AM", "R12"], ["attendance", "MON-AM", "MA-1"]):
+            bare = self.office(*words)
+            self.assertIn("0001748", bare)
+            self.assertIn(" To\u009b2Jm\u0085\u202eas\n", bare)
+            self.assertEqual(self.at_terminal(*words), bare.translate(school.UNSHOWN | {10: "\r\n"}))
+
+    def at_terminal(self, *words):
+        """What a command prints on a terminal."""
+        ours, theirs = os.openpty()
+        with open(ours, "rb", buffering=0) as terminal:
+            with open(theirs, "wb") as out:
+                process = subprocess.Popen([sample.DESK / "office", *words], env=self.environment, stdout=out)
+            said = b""
+            with contextlib.suppress(OSError):  # the other end is closed
+                while part := terminal.read(4096):
+                    said += part
+            self.assertEqual(process.wait(), 0)
+        return said.decode()
 
     def test_changes_of_no_backup(self):
         self.assertIn("there is no copy 3", self.refused("changes", "3"))
@@ -125,6 +158,8 @@ class Lists(sample.SampleSchool):
             self.assertEqual(file.read(), "0001306 LAT\n")
         for kind in sample.KINDS:
             path = os.path.join(folder, f"{kind}.csv")
+            with open(path, encoding="utf-8") as file:
+                self.assertRegex(file.readline(), '^\ufeff("[a-z]+",)+"[a-z]+"\n$')
             self.assertRegex(self.office("import", kind, path), "^added 0 changed 0 same [1-9][0-9]*\n$")
             self.assertEqual(stat.S_IMODE(os.stat(path).st_mode), 0o600)
         other = os.path.join(self.folder, "other.db")
