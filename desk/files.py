@@ -67,8 +67,8 @@ def records(text: bytes, comma: str = ",") -> Iterator[Record]:
 
 
 def guarded(text: str) -> str:
-    """A text of which no spreadsheet makes a formula, though it parts at semicolons: it gets an apostrophe before each sign
-    with which a formula begins."""
+    """A text of which no spreadsheet makes a formula, even one that parts at semicolons: an apostrophe stands before each
+    sign with which a formula could begin."""
     return FORMULA.sub(r"\1'\2", text)
 
 

@@ -187,6 +187,34 @@ class Lists(sample.SampleSchool):
             self.assertIn(said, self.refused("codes", self.write("bad.csv", text)))
         self.assertFalse(os.path.exists(os.path.join(self.folder, "bad-with-codes.csv")))
 
+    def codes_in(self, path):
+        with open(path, encoding="utf-8-sig", newline="") as file:
+            return {number: code for number, _, code in csv.reader(file)}
+
+    def test_codes_of_the_office_stay(self):
+        known = self.codes_in(sample.TOP / "examples/candidates.csv")
+        path = self.write("c.csv", "number,name,code\n0001051,Di Berg,\n0001068,Ed Costa,\n0001085,Fi Dahl,ABCDEFGH\n"
+                                   "0009999,Bo,\n")
+        said = self.office("codes", path, "--output", "o.csv")
+        self.assertIn(": 1 code made for 4 rows, 2 filled from the office\n", said)
+        codes = self.codes_in(os.path.join(self.folder, "o.csv"))
+        self.assertEqual([codes["0001051"], codes["0001068"], codes["0001085"]],
+                         [known["0001051"], known["0001068"], "ABCDEFGH"])
+        said = self.office("codes", path, "--output", "p.csv", "--new", "0001051", "0001085")
+        self.assertIn(": 3 codes made for 4 rows, 1 filled from the office\n", said)
+        other = self.codes_in(os.path.join(self.folder, "p.csv"))
+        self.assertEqual(other["0001068"], known["0001068"])
+        self.assertFalse({other["0001051"], other["0001085"]} & {*known.values(), *codes.values()})
+        self.assertIn("0001000 is not in", self.refused("codes", path, "--output", "q.csv", "--new", "0001000"))
+
+    def test_a_lost_code(self):
+        self.assertEqual(self.office("codes", "--new", "0001051"), "candidates-with-codes.csv: 1 code made for 1 row\n")
+        self.assertEqual(self.office("import", "candidates", "candidates-with-codes.csv"), "added 0 changed 1 same 0\n")
+        code = self.codes_in(os.path.join(self.folder, "candidates-with-codes.csv"))["0001051"]
+        self.assertIn(f"0001051 Di Berg, access code {code}\n", self.office("look", "0001051", "--codes"))
+        self.assertIn("9999 is not in the office; a number has seven digits",
+                      self.refused("codes", "--new", "9999", "--output", "q.csv"))
+
     def test_shortage(self):
         for session, right in [("MON-AM", "right: 12 candidates = 10 desks + 2 unseated\n"),
                                ("MON-PM", "right: 60 candidates = 58 desks + 2 unseated\n"),
