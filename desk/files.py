@@ -46,7 +46,7 @@ def read(path: str) -> bytes:
         return file.read(MOST_BYTES + 1)
 
 
-def records(text: bytes, comma: str = ",") -> Iterator[Record]:
+def records(text: bytes, comma: bytes = b",") -> Iterator[Record]:
     """The records of a file, the header among them. Blank lines are none; an open quote runs to the end.
 
     Python's reader finds them in texts, so each byte becomes a letter. It knows no byte order mark, and says nothing of
@@ -55,7 +55,7 @@ def records(text: bytes, comma: str = ",") -> Iterator[Record]:
     lines = io.TextIOWrapper(io.BytesIO(text.removeprefix(BOM)), "latin-1", newline="")
     behind = iter(["\n"])
     csv.field_size_limit(MOST_BYTES + 1)
-    reader = csv.reader(itertools.chain(lines, behind), delimiter=comma)
+    reader = csv.reader(itertools.chain(lines, behind), delimiter=comma.decode("ascii"))
     line = 1
     for fields in reader:
         closed = operator.length_hint(behind) > 0

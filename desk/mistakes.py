@@ -9,7 +9,6 @@ from typing import NamedTuple
 import files
 import school
 
-MOST_SHOWN = 5  # mistakes or notes on one column of a file
 MOST_COUNTED = 100_000  # mistakes of a file; what is behind the last of them is not looked at
 MOST_TO_MEND = 200  # bytes of a value for which a better one is sought
 LIMITS = {"sessions": 400, "papers": 2000, "halls": 500, "candidates": 20000}
@@ -26,8 +25,8 @@ CURES = {
     "desks": "a whole number from 1 to 2000", "extra": "a whole number from 0 to 100, without %",
     "requires": FEATURES, "features": FEATURES, "needs": FEATURES,
 }
-COMMAS = [(",", ""), (";", "semicolons part the columns: save it with commas"),
-          ("\t", "tabs part the columns: save it with commas")]
+COMMAS = [(b",", ""), (b";", "semicolons part the columns: save it with commas"),
+          (b"\t", "tabs part the columns: save it with commas")]
 EMPTY_ROW = "an empty row of the spreadsheet: delete it"
 RIGHT = {column: right for kind, header in files.HEADERS.items() for column, right in zip(header, files.FORMS[kind])}
 WRONG_LETTERS = re.compile("Ã.|Â.|â€|Å[\x80-\xbf¡-ÿ€-™]|\ufffd")
@@ -43,26 +42,34 @@ class Mistake(NamedTuple):
 
 
 class Found:
-    """The mistakes of a file, or the notes on it: of each column the first, and how many there are."""
+    """The mistakes of a file, or the notes on it: of each column so many as are to be shown, and how many there are."""
 
-    def __init__(self) -> None:
-        self.first: list[Mistake] = []
+    def __init__(self, most: int) -> None:
+        self.most = most
+        self.shown: list[Mistake] = []
         self.counts: Counter[str] = Counter()
+
+    def __iter__(self) -> Iterator[Mistake]:
+        """Those to be shown, by line."""
+        return iter(sorted(self.shown))
+
+    def __bool__(self) -> bool:
+        return bool(self.shown)
 
     def add(self, line: int, column: str, text: str) -> None:
         if self.is_shown(column):
-            self.first.append(Mistake(line, column, text))
+            self.shown.append(Mistake(line, column, text))
 
     def add_value(self, line: int, column: str, field: bytes, text: str | Callable[[str, bytes], str]) -> None:
         """As `add`, with the value; a text that is long to make is made only where it is shown."""
         if self.is_shown(column):
             text = text if isinstance(text, str) else text(column, field)
-            self.first.append(Mistake(line, f"{column} {files.shown(field)}", text))
+            self.shown.append(Mistake(line, f"{column} {files.shown(field)}", text))
 
     def is_shown(self, column: str) -> bool:
-        """Counts one more on a column, and says whether it is one of the first."""
+        """Counts one more on a column, and says whether it is to be shown."""
         self.counts[column] += 1
-        return self.counts[column] <= MOST_SHOWN
+        return self.counts[column] <= self.most
 
 
 class Known:
@@ -166,9 +173,9 @@ def name_cure(field: bytes) -> str:
     return f"1 to 80 bytes; it has {len(field)}"
 
 
-def looked_through(kind: str, text: bytes, known: Known) -> tuple[Found, Found]:
-    """The mistakes of a file and the notes on it; what it brings is known afterwards."""
-    file = File(kind, known)
+def looked_through(kind: str, text: bytes, known: Known, most: int = MOST_COUNTED) -> tuple[Found, Found]:
+    """The mistakes of a file and the notes on it, so many of each column; what it brings is known afterwards."""
+    file = File(kind, known, most)
     rows = file.rows(text)
     if rows is not None and file.look_at(rows):
         file.note_references()
@@ -181,9 +188,9 @@ def looked_through(kind: str, text: bytes, known: Known) -> tuple[Found, Found]:
 class File:
     """A file of rows while it is looked through."""
 
-    def __init__(self, kind: str, known: Known) -> None:
+    def __init__(self, kind: str, known: Known, most: int) -> None:
         self.kind, self.known, self.header = kind, known, files.HEADERS[kind]
-        self.wrong, self.notes = Found(), Found()
+        self.wrong, self.notes = Found(most), Found(most)
         self.missing: list[str] = []  # the columns that the header lacks; their fields are empty
         self.references = dict(files.REFERENCES.get(kind, []))
         self.first: dict[tuple[bytes, ...], files.Record] = {}  # the first record of each key
