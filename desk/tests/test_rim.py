@@ -133,7 +133,8 @@ class Strangers(sample.SampleSchool):
             with contextlib.suppress(FileNotFoundError):
                 os.remove(os.path.join(self.desk, name))
             os.symlink(victim, os.path.join(self.desk, name))
-            words = ["keep", "start", str(sample.free_port())] if "keep" in name else ["withdraw", "0001000", "MA-1"]
+            words = {"keep.lock": ["keep", "run", "8080"], "keep.log": ["keep", "start", "8080"]}.get(
+                name, ["withdraw", "0001000", "MA-1"])
             self.assertIn(f"{name} is a link", self.run_office(*words).stderr, name)
             os.remove(os.path.join(self.desk, name))
         with open(victim, encoding="utf-8") as file:
