@@ -121,11 +121,14 @@ class KeptSchool(contextlib.ExitStack):
         connected = (asyncio.open_connection("127.0.0.1", int(self.place)) if self.place.isdigit()
                      else asyncio.open_unix_connection(self.place))
         reader, writer = await connected
-        try:
+        parts = []
+        with contextlib.suppress(OSError):  # what came before a reset counts
             writer.write(request)
-            return await reader.read()
-        finally:
-            writer.close()
+            writer.write_eof()
+            while part := await reader.read(1 << 16):
+                parts.append(part)
+        writer.close()
+        return b"".join(parts)
 
 
 def web_group() -> int | None:

@@ -263,11 +263,14 @@ class Sockets(sample.SampleSchool):
     def test_folders_that_are_not_safe(self):
         folder = self.place()
         self.assertEqual(self.run_office("keep", "start", folder + "/none").returncode, 2)
-        os.chmod(folder, 0o770)
-        self.assertIn("can be written by others", self.refused("keep", "run", folder))
-        os.chmod(folder, 0o750)
-        with open(os.path.join(folder, "else"), "w", encoding="utf-8"):
-            self.assertIn("holds else", self.refused("keep", "run", folder))
+        with mock.patch("school.warn") as said:
+            for mode, name in ((0o770, "keep.socket"), (0o750, "else")):
+                os.chmod(folder, mode)
+                with open(os.path.join(folder, name), "w", encoding="utf-8"):
+                    with self.assertRaises(SystemExit), keeping.listener(os.path.join(folder, "keep.socket")):
+                        self.fail("it listens")
+        self.assertRegex(said.call_args_list[0].args[0], "can be written by others")
+        self.assertRegex(said.call_args_list[1].args[0], "holds else: give")
 
 
 if __name__ == "__main__":
