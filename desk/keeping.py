@@ -5,7 +5,6 @@ import ctypes
 import datetime
 import json
 import os
-import shutil
 import signal
 import socket
 import stat
@@ -18,7 +17,6 @@ import hold
 import school
 import turns
 
-PLACE = "days"
 MOST_LOG = 1 << 20  # bytes
 LONGEST_PAUSE = 5  # seconds from a `serve` that failed to the next
 PR_SET_PDEATHSIG = 1
@@ -127,21 +125,10 @@ class Keep:
 
     def keep_day(self, day):
         """Keeps a copy of the office at each new day, and the last of them."""
-        place = os.path.join(turns.inside(PLACE), day.isoformat())
-        if os.path.exists(place):
-            return
-        making = place + ".new"
         try:
-            turns.make_folder(PLACE)
-            shutil.rmtree(making, ignore_errors=True)
-            os.mkdir(making, 0o700)
-            school.copy_files(os.path.realpath(school.office_path()), os.path.join(making, copies.base_name()))
-            os.rename(making, place)
-            say(f"copy of the day in {place}")
-            for old in sorted(os.listdir(turns.inside(PLACE)))[:-self.days]:
-                shutil.rmtree(turns.inside(PLACE, old), ignore_errors=True)
+            if path := copies.keep_day(day, self.days):
+                say(f"copy of the day in {path}")
         except OSError as fault:
-            shutil.rmtree(making, ignore_errors=True)
             say(f"no copy of the day: {fault.strerror or fault}")
 
 

@@ -13,11 +13,11 @@ import contextlib
 import fcntl
 import json
 import os
-import pwd
 import signal
 import struct
 import time
 
+import beside
 import school
 
 PATIENCE = 10  # seconds
@@ -26,9 +26,7 @@ FLOCK = "hhqqi"  # struct flock of fcntl(2): type, whence, start, length, proces
 
 
 def folder():
-    """The folder beside the office's file; a link to that file has the folder of the file itself."""
-    path = os.path.realpath(school.office_path())
-    return os.path.join(os.path.dirname(path), "desk-" + os.path.basename(path))
+    return beside.folder(school.office_path())
 
 
 def inside(*names):
@@ -36,15 +34,12 @@ def inside(*names):
 
 
 def make_folder(*names):
-    """The path of the folder, or of one in it; it is made where it is not there, but no folder above it is."""
-    for place in [folder(), inside(*names)]:
-        with contextlib.suppress(FileExistsError):
-            os.mkdir(place, 0o700)
-    return inside(*names)
+    return beside.make_folder(school.office_path(), *names)
 
 
 def open_lock(name):
-    return os.open(os.path.join(make_folder(), name), os.O_RDWR | os.O_CREAT | os.O_CLOEXEC, 0o600)
+    make_folder()
+    return beside.open_file(school.office_path(), name, flags=os.O_RDWR | os.O_CREAT)
 
 
 def try_lock(file, lock=fcntl.flock) -> bool:
@@ -63,7 +58,8 @@ def note(file, text):
 
 def text_of(name):
     try:
-        with open(inside(name), encoding="utf-8", errors="replace") as file:
+        lock = beside.open_file(school.office_path(), name, flags=os.O_RDONLY)
+        with open(lock, encoding="utf-8", errors="replace") as file:
             return file.read().strip()
     except OSError:
         return ""
@@ -83,21 +79,10 @@ def held(name, until, whose):
         os.close(file)
 
 
-def refuse_strange_root():
-    """Ends the script of a superuser over another's office, whose files the owner could not write afterwards."""
-    with contextlib.suppress(FileNotFoundError):
-        owner = os.stat(school.office_path()).st_uid
-        if os.geteuid() == 0 != owner:
-            with contextlib.suppress(KeyError):
-                owner = pwd.getpwuid(owner).pw_name
-            school.stop(f"the office belongs to {owner}: work as that user, as with `sudo -u {owner} office ..`")
-
-
 @contextlib.contextmanager
 def alone(words):
     """The office for this process alone: waits up to PATIENCE seconds for another command, then ends the script."""
     until = time.monotonic() + PATIENCE
-    refuse_strange_root()
     with held("want.lock", until, lambda: f"another command ({text_of('want.lock')})") as want:
         note(want, f"process {os.getpid()}, {' '.join(words)}")
         ask_keep_aside()
@@ -111,6 +96,8 @@ def alone_if_possible(words):
     with contextlib.ExitStack() as stack:
         try:
             stack.enter_context(alone(words))
+        except beside.Strange:
+            raise
         except OSError:
             pass
         yield
@@ -119,7 +106,7 @@ def alone_if_possible(words):
 def keep_state():
     """Where `keep` serves: a dict with pid, and port and state if it has said them; None where it does not run."""
     try:
-        file = os.open(inside("keep.lock"), os.O_RDONLY | os.O_CLOEXEC)
+        file = beside.open_file(school.office_path(), "keep.lock", flags=os.O_RDONLY)
     except OSError:
         return None
     try:
