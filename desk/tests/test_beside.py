@@ -66,13 +66,15 @@ class Strangers(Beside):
     def test_a_copy_that_is_a_link_is_not_put_back(self):
         self.office("withdraw", "0001000", "MA-1")
         [copy] = os.listdir(os.path.join(self.desk, "copies"))
-        file = os.path.join(self.desk, "copies", copy, "office.db")
-        os.rename(file, os.path.join(self.folder, "other.db"))
-        os.symlink(os.path.join(self.folder, "other.db"), file)
         before = self.bytes_of(self.path)
-        self.assertIn("is no file", self.refused("back", "1", "--yes"))
-        self.assertIn("is no file", self.refused("changes", "1"))
-        self.assertEqual(self.bytes_of(self.path), before)
+        for name, words in (("office.db-wal", "symbolic link"), ("office.db", "is no file")):
+            file = os.path.join(self.desk, "copies", copy, name)
+            with contextlib.suppress(FileNotFoundError):
+                os.rename(file, os.path.join(self.folder, "other.db"))
+            os.symlink(os.path.join(self.folder, "other.db"), file)
+            self.assertIn(words, self.refused("back", "1", "--yes"))
+            self.assertIn(words, self.refused("changes", "1"))
+            self.assertEqual(self.bytes_of(self.path), before)
 
     def test_a_folder_in_which_others_may_write(self):
         os.mkdir(self.desk)
@@ -189,20 +191,20 @@ class Private(Beside):
         self.assertEqual(os.listdir(os.path.join(self.desk, "tmp")), [])
 
     def test_what_a_killed_command_left_goes_and_no_other(self):
-        for place in (os.path.join(self.desk, "tmp"), self.environment["TMPDIR"]):
+        os.mkdir(self.desk, 0o700)
+        for place, mode, command in ((os.path.join(self.desk, "tmp"), 0o700, ["summary"]),
+                                     (os.path.join(self.desk, "tmp"), 0o700, ["withdraw", "0001000", "MA-1"]),
+                                     (self.environment["TMPDIR"], 0o777, ["summary"])):
+            os.chmod(self.desk, mode)
             alive, kept = self.reader()
             killed, left = self.reader()
             self.assertEqual({os.path.dirname(os.path.dirname(path)) for path in (kept, left)}, {place})
             killed.kill()
             killed.wait()
-            for command in (["summary"], ["withdraw", "0001000", "MA-1"])[:1 if "desk-" not in place else 2]:
-                self.run_office(*command)
-                self.assertEqual((os.path.exists(kept), os.path.exists(left)), (True, False), command)
-                killed, left = self.reader()
-                killed.kill()
-                killed.wait()
+            os.chmod(self.desk, 0o700)
+            self.office(*command)
+            self.assertEqual((os.path.exists(kept), os.path.exists(left)), (True, False), command)
             alive.communicate("")
-            os.chmod(self.desk, 0o777)  # so that the second turn takes TMPDIR
 
     def setUp(self):
         super().setUp()
@@ -224,16 +226,19 @@ class Private(Beside):
     def test_a_folder_swept_before_its_lock_is_held(self):
         place = os.path.join(self.folder, "place")
         os.mkdir(place)
-        made = []
-        real = private.claim
+        for name, first in (("private.claim", lambda folder: folder),
+                            ("fcntl.flock", lambda file: os.path.dirname(os.readlink(f"/proc/self/fd/{file}")))):
+            module, function = name.split(".")
+            real, calls = getattr(sys.modules[module], function), []
 
-        def late(folder):
-            made.append(folder)
-            if len(made) == 1:
-                shutil.rmtree(folder)
-            return real(folder)
-        with mock.patch("private.claim", late), private.private_folder(place) as folder:
-            self.assertEqual(made, [made[0], folder])
+            def late(value, *more):
+                calls.append(value)
+                if len(calls) == 1:
+                    shutil.rmtree(first(value))
+                return real(value, *more)
+            with mock.patch(name, late), private.private_folder(place) as folder:
+                self.assertEqual((len(calls), os.listdir(place)), (2, [os.path.basename(folder)]), name)
+                self.assertEqual(os.listdir(folder), ["lock"])
 
 
 class Log(Beside):
@@ -304,7 +309,12 @@ class Back(Beside):
         self.change(APPEAL, "HA1")
         process.stdin.write("y\n")
         process.stdin.flush()
-        self.assertIn("taken away: appeal 0001051 HA1 for MON-AM: open -> gone\nthis has changed", self.question(process))
+        first = "taken away: appeal 0001051 HA1 for MON-AM: open -> gone\n"
+        self.assertIn(f"{first}this has changed", self.question(process))
+        self.change(APPEAL, "HA2")
+        process.stdin.write("y\n")
+        process.stdin.flush()
+        self.assertIn(f"{first}{first.replace('HA1', 'HA2')}this has changed", self.question(process))
         self.assertEqual(process.communicate("\n")[1], "office: nothing is changed\n")
         self.assertEqual(len(self.log()), 2)
         self.assertIn("the office is as it was", self.office("back", "1", stdin="y\n"))
