@@ -151,14 +151,12 @@ def user() -> str:
 
 
 def write_log(words: list[str], status: int | str, answer: str) -> None:
-    """Adds a line to the log, and waits until it is on the disk: when, who, the command, its status, its answer."""
+    """Adds a line to the log: when, who, the command, its status, the first line of its answer."""
     columns = [datetime.datetime.now().isoformat(" ", "seconds"), user(), " ".join(shown(words)), str(status), answer]
     line = "\t".join(map(school.plain, columns)) + "\n"
     file = beside.open_file(school.office_path(), "log", flags=os.O_WRONLY | os.O_CREAT | os.O_APPEND)
     with open(file, "wb") as log_file:
         log_file.write(line.encode("utf-8", "backslashreplace"))
-        log_file.flush()
-        os.fsync(file)
 
 
 def log(words: list[str], status: int | str, answer: str) -> None:
@@ -171,8 +169,9 @@ def log(words: list[str], status: int | str, answer: str) -> None:
 
 @contextlib.contextmanager
 def logged(words: list[str]) -> Iterator[Outcome]:
-    """A line in the log before a change, without which it does not begin, and one with its outcome after it."""
+    """A line in the log before a change, which waits until that is on the disk; and one with the outcome after it."""
     write_log(words, "begins", "")
+    beside.sync(turns.inside("log"))
     outcome = Outcome()
     try:
         yield outcome

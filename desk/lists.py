@@ -1,4 +1,6 @@
 """What the lists and the papers for people share: their words, the sessions asked for, titles, the order of names."""
+from __future__ import annotations
+
 import argparse
 import datetime
 import sys
@@ -21,7 +23,7 @@ def say(text):
     sys.stdout.flush()
 
 
-def rows(path=None):
+def rows(path: str | None = None) -> school.Rows:
     """As `school.rows`; the entries of a session are found without a look at all entries."""
     connection = school.rows(path)
     connection.executescript("PRAGMA query_only = OFF; CREATE INDEX IF NOT EXISTS paper_by_session ON paper (session); "

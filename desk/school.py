@@ -151,7 +151,7 @@ def run_over(path, *words) -> subprocess.CompletedProcess:
     return subprocess.run(line_over(path, *words), capture_output=True, encoding="utf-8", errors="replace", check=False)
 
 
-def private_copy(path):
+def private_copy(path: str) -> contextlib.AbstractContextManager[str]:
     """The path of a copy of an office's two files, in a folder of its own that goes again, as a context."""
     return private.private_copy(path, office_path())
 
@@ -161,7 +161,7 @@ class Rows(sqlite3.Connection):
     path = ""
 
 
-def rows(path=None) -> Rows:
+def rows(path: str | None = None) -> Rows:
     """The rows of an office as they are now, in memory: nobody is kept waiting, and nothing can be written back.
 
     Ends the script where the file is no office of this version. Raises `BadRows`, which becomes a line.
