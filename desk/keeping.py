@@ -12,8 +12,6 @@ import datetime
 import io
 import json
 import os
-import re
-import shutil
 import signal
 import socket
 import stat
@@ -23,12 +21,12 @@ import time
 from collections.abc import Callable, Iterator
 
 import asking
+import beside
 import copies
 import hold
 import school
 import turns
 
-PLACE = "days"
 SOCKET = "keep.socket"  # in the folder that `keep` is given
 MOST_PATH = 107  # bytes of the path of a socket
 BACKLOG = 4096  # a socket without room refuses at once; the system may allow less
@@ -181,27 +179,12 @@ class Keep:
                 say(self.fault)
 
     def keep_day(self, day: datetime.date) -> None:
-        """Keeps a copy of the office at each new day, and the last of them; whatever else lies there stays."""
-        place = turns.inside(PLACE, day.isoformat())
-        if os.path.exists(place):
-            return
-        making = place + ".new"
+        """Keeps a copy of the office at each new day, and the last of them."""
         try:
-            turns.make_folder(PLACE)
-            shutil.rmtree(making, ignore_errors=True)
-            os.mkdir(making, 0o700)
-            school.copy_files(os.path.realpath(school.office_path()), os.path.join(making, copies.base_name()))
-            os.rename(making, place)
-            say(f"copy of the day in {place}")
-            for old in sorted(filter(is_day, os.listdir(turns.inside(PLACE))))[:-self.days]:
-                shutil.rmtree(turns.inside(PLACE, old), ignore_errors=True)
+            if path := copies.keep_day(day, self.days):
+                say(f"copy of the day in {path}")
         except OSError as fault:
-            shutil.rmtree(making, ignore_errors=True)
             say(f"no copy of the day: {fault.strerror or fault}")
-
-
-def is_day(name: str) -> bool:
-    return re.fullmatch(r"\d{4}-\d\d-\d\d", name, re.ASCII) is not None
 
 
 @contextlib.contextmanager
@@ -216,6 +199,8 @@ def listener(place: str) -> Iterator[socket.socket]:
                 listening.setsockopt(socket.SOL_SOCKET, socket.SO_REUSEADDR, 1)
                 listening.bind(where)
             listening.listen(BACKLOG)
+        except beside.Strange:
+            raise
         except OSError as fault:
             school.stop(f"{asking.shown(place)} cannot be had: {fault.strerror or fault}")
         yield listening
@@ -225,7 +210,7 @@ def listener(place: str) -> Iterator[socket.socket]:
 def bound_in_folder(listening: socket.socket, path: str) -> Iterator[None]:
     """Binds a socket in a folder that is ours alone and holds nothing else. The folder's group may use it."""
     folder = os.path.dirname(path)
-    turns.refuse_strange_folder(folder)
+    beside.refuse_strange_folder(folder)
     if others := sorted(set(os.listdir(folder)) - {SOCKET}):
         school.stop(f"{folder} holds {others[0]}: give `keep` a folder that holds nothing else")
     with socket.socket(socket.AF_UNIX) as other:

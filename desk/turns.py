@@ -14,17 +14,15 @@ child inherits them.
 from __future__ import annotations
 
 import contextlib
-import errno
 import fcntl
 import json
 import os
-import pwd
 import signal
-import stat
 import struct
 import time
 from collections.abc import Callable, Iterator
 
+import beside
 import school
 
 PATIENCE = 60  # seconds that a command waits for others
@@ -35,66 +33,21 @@ FLOCK = "hhqqi"  # struct flock of fcntl(2): type, whence, start, length, proces
 
 
 def folder() -> str:
-    """The folder beside the office's file; a link to that file has the folder of the file itself."""
-    path = os.path.realpath(school.office_path())
-    return os.path.join(os.path.dirname(path), "desk-" + os.path.basename(path))
+    return beside.folder(school.office_path())
 
 
 def inside(*names: str) -> str:
     return os.path.join(folder(), *names)
 
 
-def user_name(number: int) -> str:
-    try:
-        return pwd.getpwuid(number).pw_name
-    except KeyError:
-        return str(number)
-
-
-def strange(place: str) -> str:
-    """Why nothing in a folder can be trusted, as words behind its name; "" where it is ours alone, or is not there."""
-    try:
-        found = os.lstat(place)
-    except OSError:  # whoever opens it meets the fault
-        return ""
-    if not stat.S_ISDIR(found.st_mode):
-        return "is no folder"
-    if found.st_uid != os.geteuid():
-        return f"belongs to {user_name(found.st_uid)}"
-    if found.st_mode & (stat.S_IWGRP | stat.S_IWOTH):
-        return "can be written by others"
-    return ""
-
-
-def refuse_strange_folder(place: str) -> None:
-    """Ends the script where others could put their files, links or locks into a folder of the office."""
-    if why := strange(place):
-        school.stop(f"{place} {why}: others could read or change what the office keeps there, so nothing is done; look "
-                    "at what is in it, then move it away, or give it to yourself alone (chown, chmod 0700)")
-
-
 def make_folder(*names: str) -> str:
-    """The path of the folder, or of one in it; it is made where it is not there, but no folder above it is.
-
-    Ends the script where the office, or one of these folders, is another user's, or where others may write.
-    """
-    refuse_strange_root()
-    for place in [folder(), inside(*names)]:
-        with contextlib.suppress(FileExistsError):
-            os.mkdir(place, 0o700)
-        refuse_strange_folder(place)
-    return inside(*names)
+    return beside.make_folder(school.office_path(), *names)
 
 
 def open_inside(name: str, flags: int) -> int:
-    """Opens a file of the folder, or makes it where the flags say so; ends the script where it is a link."""
-    path = os.path.join(make_folder(), name)
-    try:
-        return os.open(path, flags | os.O_NOFOLLOW | os.O_CLOEXEC, 0o600)
-    except OSError as fault:
-        if fault.errno != errno.ELOOP:
-            raise
-        school.stop(f"{path} is a link, and leads elsewhere: remove it; nothing is changed")
+    """Opens a file of the folder, or makes it where the flags say so; the folder is made where it is not there."""
+    make_folder()
+    return beside.open_file(school.office_path(), name, flags=flags)
 
 
 def open_lock(name: str) -> int:
@@ -127,19 +80,10 @@ def note(file: int, text: str) -> None:
 
 def text_of(name: str) -> str:
     try:
-        with open(inside(name), encoding="utf-8", errors="replace") as file:
+        with open(beside.open_file(school.office_path(), name, flags=os.O_RDONLY), encoding="utf-8", errors="replace") as file:
             return file.read(NOTE_BYTES).strip()
     except OSError:
         return ""
-
-
-def refuse_strange_root() -> None:
-    """Ends the script of a superuser over another's office, whose files the owner could not write afterwards."""
-    with contextlib.suppress(FileNotFoundError):
-        owner = os.stat(school.office_path()).st_uid
-        if os.geteuid() == 0 != owner:
-            name = user_name(owner)
-            school.stop(f"the office belongs to {name}: work as that user, as with `sudo -u {name} office ..`")
 
 
 class Wait:
@@ -199,6 +143,8 @@ def alone_if_possible(words: list[str]) -> Iterator[None]:
     with contextlib.ExitStack() as stack:
         try:
             stack.enter_context(alone(words))
+        except beside.Strange:
+            raise
         except OSError:
             pass
         yield
@@ -209,10 +155,8 @@ def keep_state() -> dict | None:
 
     In a folder that is not ours alone it does not run, whatever lies there.
     """
-    if strange(folder()):
-        return None
     try:
-        file = os.open(inside("keep.lock"), os.O_RDONLY | os.O_NOFOLLOW | os.O_CLOEXEC)
+        file = beside.open_file(school.office_path(), "keep.lock", flags=os.O_RDONLY)
     except OSError:
         return None
     try:
