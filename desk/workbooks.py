@@ -11,6 +11,7 @@ import lists
 import mistakes
 import school
 from exam_desk.trouble import Trouble
+from exam_desk.workbook.plans import Rows, workbook_of
 from exam_desk.workbook.reading import Reading
 from exam_desk.workbook.report import told_lines
 from exam_desk.workbook.texts import Way
@@ -66,10 +67,15 @@ def told(reading: Reading, target: str, lines_name: str, everything: bool) -> in
     return 0
 
 
-def put_new(path: str, data: bytes) -> None:
-    """Makes a file for its owner alone, and never over another."""
-    try:
-        with open(os.open(path, os.O_WRONLY | os.O_CREAT | os.O_EXCL, 0o600), "wb") as file:
-            file.write(data)
-    except FileExistsError:
+def put_workbook(path: str, rows: Rows, example: bool = False) -> None:
+    """Makes a workbook for its owner alone, and never over another file."""
+    if not path.endswith(".xlsx"):
+        school.stop("the name of the workbook must end in .xlsx")
+    if os.path.lexists(path):
         school.stop(f"{path} is there already; name another")
+    try:
+        data = workbook_of(rows, example)
+    except Trouble as trouble:
+        give_up(trouble)
+    with open(os.open(path, os.O_WRONLY | os.O_CREAT | os.O_EXCL, 0o600), "wb") as file:
+        file.write(data)

@@ -31,11 +31,18 @@ def read(data: bytes) -> bytes:
     from exam_desk.workbook import carrying
     try:
         with zipfile.ZipFile(io.BytesIO(data)) as archive:
-            if "content.xml" in archive.namelist():
+            names = archive.namelist()
+            if "content.xml" in names:
                 from exam_desk.workbook.ods import read_ods as reader
+            elif "xl/workbook.bin" in names:
+                raise Trouble("it is of the form .xlsb: save it as .xlsx")
+            elif "[Content_Types].xml" not in names or "_rels/.rels" not in names:
+                raise Trouble("it is no workbook: save it as .xlsx or .ods")
             else:
                 from exam_desk.workbook.xlsx import read_xlsx as reader
             lines = "\n".join(carrying.packed(reader(archive)))
+    except (zipfile.BadZipFile, ValueError, NotImplementedError, EOFError) as fault:
+        lines = carrying.refused(Trouble(f"it is broken or cut short: {fault}"))
     except Trouble as trouble:
         lines = carrying.refused(trouble)
     except ModuleNotFoundError:

@@ -44,7 +44,7 @@ def day_value(text: str, done: list[str], more: str = "") -> Value:
 
 def date_of_number(text: str, cell: Cell) -> Value:
     """Digits such as 20270607; a count of days is none, since nobody sees which day it is."""
-    if re.fullmatch("2[01][0-9]{6}", text) and cell.shown in (text, ""):
+    if re.fullmatch("2[01][0-9]{6}", text) and cell.shown == text:
         return day_value(f"{text[:4]}-{text[4:6]}-{text[6:]}", [])
     if re.fullmatch("[0-9]{5}", text):
         day = datetime.date(1899, 12, 30) + datetime.timedelta(days=int(text))

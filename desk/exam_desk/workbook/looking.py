@@ -9,9 +9,9 @@ from collections.abc import Callable
 from typing import IO
 
 from exam_desk.trouble import Trouble
-from exam_desk.workbook.cells import MOST_COLUMN, MOST_ROW, MOST_UNPACKED, Budget, place_of
+from exam_desk.workbook.cells import MOST_CELLS, MOST_UNPACKED, Budget, place_of
 
-MOST_DEPTH, MOST_QUIET = 256, 16 << 20  # elements in each other, bytes without a tag
+MOST_DEPTH, MOST_QUIET = 256, 4 << 20  # elements in each other, bytes without a tag
 MOST_TAGS = 8_000_000  # in all parts
 PIECE = 1 << 16
 OPEN_AND_SAVE = "open it in a spreadsheet and save it again"
@@ -32,11 +32,11 @@ class Parts:
             raise Trouble("it has a password: save it without one")
 
     def read(self, name: str, begin: Begin, end: Callable[[str], object] = lambda name: None,
-             letters: Callable[[str], object] = lambda text: None) -> None:
-        """Reads a part; the handlers get local names."""
+             letters: Callable[[str], object] = lambda text: None, wanted: frozenset[str] | None = None) -> None:
+        """Reads a part; the handlers get local names, of the wanted elements alone if some are named."""
         try:
             with self.archive.open(name) as stream:
-                self.parse(stream, begin, end, letters)
+                self.parse(stream, begin, end, letters, wanted)
         except KeyError as fault:
             raise Trouble(f"its part {name} is missing: {OPEN_AND_SAVE}") from fault
         except (zipfile.BadZipFile, OSError, EOFError, NotImplementedError) as fault:
@@ -45,30 +45,37 @@ class Parts:
             raise Trouble(f"a part of it is broken ({fault}): {OPEN_AND_SAVE}") from fault
 
     def parse(self, stream: IO[bytes], begin: Begin, end: Callable[[str], object],
-              letters: Callable[[str], object]) -> None:
+              letters: Callable[[str], object], wanted: frozenset[str] | None) -> None:
         parser = xml.parsers.expat.ParserCreate(namespace_separator=" ")
         parser.buffer_text = True
         parser.buffer_size = PIECE
-        depth = tags = quiet = 0
+        depth = tags = before = quiet = 0
+        names: dict[str, str] = {}  # the local name of each that is wanted, '' of another
 
         def start(name: str, given: dict[str, str]) -> None:
-            nonlocal depth, tags, quiet
-            depth, tags, quiet = depth + 1, tags + 1, 0
+            nonlocal depth, tags
+            depth += 1
+            tags += 1
             if depth > MOST_DEPTH:
                 raise Trouble("its XML is nested too deep: it is no workbook of a school")
-            begin(name.rpartition(" ")[2], given)
+            if name not in names:
+                short = name.rpartition(" ")[2]
+                names[name] = short if wanted is None or short in wanted else ""
+            if short := names[name]:
+                begin(short, given)
 
         def stop(name: str) -> None:
-            nonlocal depth, quiet
-            depth, quiet = depth - 1, 0
-            end(name.rpartition(" ")[2])
+            nonlocal depth
+            depth -= 1
+            if short := names[name]:
+                end(short)
         parser.StartDoctypeDeclHandler = refuse_type
         parser.StartElementHandler, parser.EndElementHandler, parser.CharacterDataHandler = start, stop, letters
         while piece := stream.read(PIECE):
-            quiet += len(piece)
+            parser.Parse(piece)
+            quiet, before = quiet + len(piece) if tags == before else 0, tags
             if quiet > MOST_QUIET:
                 raise Trouble("a piece of its XML has no end: it is no workbook of a school")
-            parser.Parse(piece)
             if tags > self.tags:
                 raise Trouble(f"it has more than {MOST_TAGS:,} elements: it is no workbook of a school")
         parser.Parse(b"", True)
@@ -126,79 +133,77 @@ class Letters:
         return text
 
 
+class Lost(Trouble):
+    """A cell refers to what is not there."""
+
+
 class SharedTexts(list[SharedText]):
     """The texts to which cells refer by number. No number below 0 is one, nor is one past the last."""
 
     def __getitem__(self, place: int) -> SharedText:  # type: ignore[override]
         if not 0 <= place < len(self):
-            raise Trouble("refers to a text that is not there")
+            raise Lost("refers to a text that is not there")
         return super().__getitem__(place)
 
 
 class Look:
     """What a look at one part finds; what it is, its first element says."""
 
-    def __init__(self, name: str, budget: Budget) -> None:
-        self.name, self.budget, self.root = name, budget, ""
+    wanted = frozenset(["worksheet", "row", "c", "f", "is", "sst", "si", "t", "rPh", "strike", "styleSheet", "comments",
+                        "comment", "chartsheet", "dialogsheet", "macrosheet"])
+
+    def __init__(self, budget: Budget) -> None:
+        self.budget, self.root = budget, ""
         self.texts = SharedTexts()  # of a part sst
-        self.cells: set[tuple[int, int]] = set()  # of a part worksheet: row and column
-        self.formulas: set[tuple[int, int]] = set()
-        self.valued: set[tuple[int, int]] = set()  # the formulas that have a result
+        self.cells = 0  # of a part worksheet
+        self.formulas: set[tuple[int, int]] = set()  # row and column
         self.struck: set[tuple[int, int]] = set()  # whose own text is struck out in part
-        self.refs: list[str] = []  # of comments, or of merged cells
-        self.row = self.column = 0
+        self.refs: list[str] = []  # of comments
+        self.row = self.after = 0  # the row, and how many cells come after the last with a reference
+        self.ref = ""
         self.reading: Letters | None = None
-        self.in_value = False
+
+    def place(self) -> tuple[int, int]:
+        """The row and the column of the present cell; one without a reference stands right of the one before."""
+        row, column = place_of(self.ref) if self.ref else (self.row, 0)
+        return row, column + self.after
 
     def begin(self, name: str, given: dict[str, str]) -> None:
-        if not self.root:
-            self.root = name
-        if self.reading is not None:
+        if name == "c":
+            self.cells += 1
+            self.ref, self.after = (given["r"], 0) if "r" in given else (self.ref, self.after + 1)
+            if self.cells > MOST_CELLS:
+                self.budget.keep("", MOST_CELLS + 1)
+        elif name == "row":
+            self.row = int(given["r"]) if "r" in given else self.row + 1
+            self.ref, self.after = "", 0
+        elif self.reading is not None:
             self.reading.begin(name, given)
-        elif self.root == "worksheet":
-            self.begin_in_sheet(name, given)
-        elif name == "si":
+        elif name == "f":
+            self.formulas.add(self.place())
+        elif name in ("is", "si"):
             self.reading = Letters()
         elif name == "comment" and "ref" in given:
             self.budget.keep("")
             self.refs.append(given["ref"])
-
-    def begin_in_sheet(self, name: str, given: dict[str, str]) -> None:
-        if name == "c":
-            self.row, self.column = place_of(given["r"]) if "r" in given else (self.row, self.column + 1)
-            if (self.row, self.column) in self.cells:
-                raise Trouble("it has a cell twice")
-            if self.row > MOST_ROW or self.column > MOST_COLUMN:
-                raise Trouble("it has a cell beyond the last row or column")
-            self.cells.add((self.row, self.column))
-            if given.get("t") in ("str", "inlineStr"):
-                self.valued.add((self.row, self.column))
-        elif name == "row":
-            self.row, self.column = int(given["r"]) if "r" in given else self.row + 1, 0
-        elif name == "v":
-            self.in_value = True
-        elif name == "f":
-            self.formulas.add((self.row, self.column))
-        elif name == "is":
-            self.reading = Letters()
+        elif not self.root:
+            self.root = name
 
     def letters(self, text: str) -> None:
         if self.reading is not None:
             self.reading.letters(text)
-        elif self.in_value and (self.row, self.column) in self.formulas and text.strip():
-            self.valued.add((self.row, self.column))
 
     def end(self, name: str) -> None:
         if self.reading is None:
-            self.in_value = False
-        elif name == "si":
+            return
+        if name == "si":
             text = self.reading.whole()
             self.budget.keep(text)
             self.texts.append(text)
             self.reading = None
         elif name == "is":
             if self.reading.struck:
-                self.struck.add((self.row, self.column))
+                self.struck.add(self.place())
             self.reading = None
         else:
             self.reading.end(name)

@@ -17,8 +17,9 @@ from openpyxl.styles import stylesheet
 from openpyxl.worksheet._reader import WorkSheetParser
 
 from exam_desk.trouble import Trouble
-from exam_desk.workbook.cells import MOST_MERGED, MOST_SHEETS, Book, Budget, Cell, Sheet, area_of, letters_of, place_of
-from exam_desk.workbook.looking import OPEN_AND_SAVE, Look, Parts, SharedText, SharedTexts, unescaped
+from exam_desk.workbook.cells import (MOST_COLUMN, MOST_MERGED, MOST_ROW, MOST_SHEETS, Book, Budget, Cell, Sheet, area_of,
+                                      place_name, place_of)
+from exam_desk.workbook.looking import OPEN_AND_SAVE, Look, Lost, Parts, SharedText, SharedTexts, unescaped
 from exam_desk.workbook.numberformats import BUILT_IN, MACINTOSH, WINDOWS, number_cell, shown_text
 
 COMMENTS = "http://schemas.openxmlformats.org/officeDocument/2006/relationships/comments"
@@ -47,9 +48,9 @@ def looked_at(parts: Parts, budget: Budget) -> dict[str, Look]:
     """A look at each part that is XML, by name."""
     looks = {}
     for name in sorted(parts.names):
-        if re.search(r"\.(xml|rels|vml)$", name, re.I) and not re.search(r"\.vml$", name, re.I):
-            look = looks[name] = Look(name, budget)
-            parts.read(name, look.begin, look.end, look.letters)
+        if re.search(r"\.(xml|rels)$", name, re.I):
+            look = looks[name] = Look(budget)
+            parts.read(name, look.begin, look.end, look.letters, Look.wanted)
             if look.root == "styleSheet" and name != STYLES:
                 raise Trouble(f"its styles stand in an unusual part, {name}: {OPEN_AND_SAVE}")
     return looks
@@ -114,28 +115,33 @@ class Reader:
 
     def cells(self, sheet: Sheet, parser: Any, look: Look) -> Iterator[tuple[int, int, Cell]]:
         """The cells of a sheet with their places."""
-        count = 0
+        count, taken = 0, {0: 0}  # of each row a bit for each column
         try:
             for _, row in parser.parse():
                 count += len(row)
                 for found in row:
-                    if cell := self.cell(found, look):
+                    place, bit = (found["row"], found["column"]), 1 << found["column"]
+                    if taken.get(place[0], 0) & bit:
+                        raise Trouble(f"it has the cell {place_name(sheet, *place)} twice: {OPEN_AND_SAVE}")
+                    taken[place[0]] = taken.get(place[0], 0) | bit
+                    if cell := self.cell(found, place, look):
                         self.budget.keep(cell.text)
-                        yield found["row"], found["column"], cell
-        except Trouble as trouble:
-            place = f"{sheet.name}!{letters_of(parser.col_counter + 1)}{parser.row_counter}"
-            raise Trouble(f"{place} {trouble.sentence}" if trouble.sentence.startswith("refers") else trouble.sentence
-                          ) from trouble
-        if count != len(look.cells):
-            raise Trouble(f"openpyxl finds {count} of the {len(look.cells)} cells of the sheet {sheet.name}: save it as "
-                          "an .xlsx of the usual form (not Strict Open XML)")
+                        yield *place, cell
+        except Lost as lost:
+            place = parser.row_counter, parser.col_counter + 1
+            raise Trouble(f"{place_name(sheet, *place)} {lost.sentence}: {OPEN_AND_SAVE}") from lost
+        if count != look.cells:
+            raise Trouble(f"openpyxl finds {count} of the {look.cells} cells of the sheet {sheet.name}: save it as an .xlsx "
+                          "of the usual form, not as Strict Open XML")
 
-    def cell(self, found: dict[str, Any], look: Look) -> Cell | None:
+    def cell(self, found: dict[str, Any], place: tuple[int, int], look: Look) -> Cell | None:
         """A cell as openpyxl's parser gives it: no day is computed, and a formula is its last result."""
-        place, value = (found["row"], found["column"]), found["value"]
-        formula = place in look.formulas
+        value, formula = found["value"], place in look.formulas
         if value is None or value == "":
-            return Cell("pending", "", "", True) if formula and place not in look.valued else None
+            pending = formula and found["data_type"] not in ("s", "str", "inlineStr")
+            return Cell("pending", "", "", True) if pending else None
+        if not (0 < place[0] <= MOST_ROW and 0 < place[1] <= MOST_COLUMN):
+            raise Trouble("it has a cell beyond the last row or column")
         form, struck = self.style(found["style_id"])
         struck = struck or place in look.struck or getattr(value, "struck", False)
         made = self.made(value, found["data_type"], form)
