@@ -92,7 +92,7 @@ class Child(unittest.TestCase):
         with tempfile.TemporaryDirectory() as folder:
             path = os.path.join(folder, "x")
             with self.assertRaisesRegex(Trouble, "File too large"):
-                self.with_child(body.replace("given = ", f"__import__('os').write(open({path!r}, 'w').fileno(), b'x'); given = "))
+                self.with_child(body.replace("given = ", f"import os; os.write(os.open({path!r}, 65), b'x'); given = "))
             self.assertFalse(os.path.exists(path) and os.path.getsize(path))
 
     def test_a_workbook_goes_over_as_it_is(self) -> None:

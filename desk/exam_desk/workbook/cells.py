@@ -2,6 +2,7 @@
 
 A workbook may come from a stranger, so whatever is read and kept has a limit.
 """
+import functools
 import re
 from dataclasses import dataclass, field
 from typing import NamedTuple
@@ -79,6 +80,12 @@ def area_of(text: str) -> tuple[int, int, int, int]:
     return (*place_of(first), *place_of(last or first))
 
 
+@functools.cache
+def quoted_name(name: str) -> str:
+    return name if re.fullmatch(r"\w+", name) else "'" + name.replace("'", "''") + "'"
+
+
+@functools.cache
 def letters_of(column: int) -> str:
     """A column as its letters: 28 is AB."""
     name = ""
@@ -92,7 +99,7 @@ def place_name(sheet: Sheet | None, row: int | None = None, column: int | None =
     """A place as people write it: Sheet!B7, Sheet!7, Sheet!B, Sheet; names that are not one word in quotes."""
     if sheet is None:
         return ""
-    name = sheet.name if re.fullmatch(r"\w+", sheet.name) else "'" + sheet.name.replace("'", "''") + "'"
+    name = quoted_name(sheet.name)
     if row is None:
         return f"{name}!{letters_of(column)}" if column else name
     return f"{name}!{letters_of(column)}{row}" if column else f"{name}!{row}"

@@ -76,7 +76,9 @@ def all_words() -> frozenset[str]:
 
 def seen(cell: Cell | None) -> Cell | None:
     """A cell, or none where it holds only what no eye sees."""
-    return None if cell is not None and cell.kind == "text" and not bare(cell.text) else cell
+    if cell is None or cell.kind != "text" or cell.text.isascii() and not cell.text.isspace():
+        return cell
+    return cell if bare(cell.text) else None
 
 
 def text_cells(cells: Mapping[int, Cell]) -> dict[int, str]:

@@ -19,6 +19,7 @@ DATE_TOKEN = re.compile(r"\[[^\]]*\]|yyyy|yy\?|yy|mmmm|mmm|mm|m|dddd|ddd|dd|d|hh
 DIGITS = re.compile(r"(?P<group>#,)?#*(?P<zeros>0*)(?:\.(?P<places>0+))?")
 
 
+@functools.lru_cache(1 << 16)
 def number_cell(raw: str, form: str, epoch: datetime.datetime = WINDOWS) -> Cell | None:
     """The cell of a number that is stored as `raw`; none where it is 0 and the format shows nothing for 0."""
     try:
@@ -81,7 +82,8 @@ def clock_text(seconds: decimal.Decimal) -> str:
     return text if whole == seconds else text + f"{float(seconds) % 1:.3f}"[1:]
 
 
-def sections(form: str) -> list[str]:
+@functools.cache
+def sections(form: str) -> tuple[str, ...]:
     """The sections of a number format: for numbers above 0, below 0, for 0, and for texts."""
     parts = [""]
     for token in TOKEN.findall(form):
@@ -89,7 +91,7 @@ def sections(form: str) -> list[str]:
             parts.append("")
         else:
             parts[-1] += token
-    return parts
+    return tuple(parts)
 
 
 @functools.cache
@@ -120,7 +122,7 @@ def shown_number(form: str, number: decimal.Decimal) -> str | None:
     parts = sections(form)
     if any(re.match(r"\[[<>=]", token) for token in TOKEN.findall(form)):
         return ""
-    numeric = parts[:3] if len(parts) > 1 or "@" not in parts[0] else ["General"]
+    numeric = parts[:3] if len(parts) > 1 or "@" not in parts[0] else ("General",)
     place = 0 if number > 0 else 1 if number < 0 else 2
     section = numeric[place] if place < len(numeric) else numeric[0]
     if not section.strip() and len(parts) > 1:
@@ -169,6 +171,8 @@ def shown_digits(token: str, number: decimal.Decimal) -> str | None:
 
 def shown_text(form: str, text: str) -> str | None:
     """How a text is shown under a number format: none where nothing is shown."""
+    if form in ("General", "@"):
+        return text
     parts = sections(form)
     section = parts[3] if len(parts) > 3 else next((part for part in parts if "@" in part), "@")
     pieces = [text if token == "@" else literal(token) for token in TOKEN.findall(section)]

@@ -1,4 +1,5 @@
 """The rows of a table: which of them count, and what their cells say."""
+import functools
 from collections.abc import Callable, Iterator, Mapping
 from typing import NamedTuple
 
@@ -57,8 +58,8 @@ def look_at_hidden(job: Job, table: Table) -> None:
     sheet, report = table.sheet, job.report
     single = {first for first, last in sheet.hidden_rows if first == last}
     spans = [span for span in sheet.hidden_rows if span[0] != span[1]]
-    lines = sorted(row for row, cells in sheet.rows.items() if row > table.header.row and any(map(seen, cells.values()))
-                   and (row in single or any(first <= row <= last for first, last in spans)))
+    lines = sorted(row for row, cells in sheet.rows.items() if row > table.header.row
+                   and (row in single or any(first <= row <= last for first, last in spans)) and any(map(seen, cells.values())))
     if not lines:
         return
     count = f"row {lines[0]} is" if len(lines) == 1 else f"{len(lines)} rows between {lines[0]} and {lines[-1]} are"
@@ -144,7 +145,7 @@ def counting_rows(job: Job, table: Table, filled: Mapping[tuple[int, int], Cell]
         here = {place: cell or filled.get((row, place)) for place, cell in own.items()}
         if not any(own.values()):
             tell_beside(job, sheet, row)
-        elif {place: folded(cell.text) for place, cell in here.items() if cell} == head:
+        elif all(folded(cell.text) == head.get(place) if cell else place not in head for place, cell in here.items()):
             job.report.note(sheet, row, None, "repeats the header; it is not read", "repeated")
         elif is_example(here):
             job.report.note(sheet, row, None, "is the example of the template; it is not read")
@@ -171,7 +172,8 @@ def is_example(here: Row) -> bool:
 def begins_other(job: Job, sheet: Sheet, row: int) -> bool:
     """Whether a second table begins here, which ends the reading."""
     cells = sheet.rows[row]
-    if sum(folded(text) in all_words() for text in text_cells(cells).values()) < 2:
+    words = [text for text in text_cells(cells).values() if text.lstrip()[:1].isalpha()]
+    if len(words) < 2 or sum(folded(text) in all_words() for text in words) < 2:
         return False
     for kind in KINDS:
         have = set(match_header(kind, row, cells, {}).columns)
@@ -183,13 +185,14 @@ def begins_other(job: Job, sheet: Sheet, row: int) -> bool:
 
 def total_word(cell: Cell | None) -> bool:
     """Whether a cell says that its row is a total."""
-    if cell is None or cell.kind != "text" or len(cell.text) > 100:
+    if cell is None or cell.kind != "text" or len(cell.text) > 100 or cell.text[:1].isdigit():
         return False
-    return bare(cell.text).rstrip(":").lower() in TOTALS or first_word(cell) in ("total", "totals", "summe")
+    return bare(cell.text).rstrip(":").lower() in TOTALS or first_word(cell.text) in ("total", "totals", "summe")
 
 
-def first_word(cell: Cell) -> str:
-    return bare(cell.text).lower().split(" ")[0].rstrip(":")
+@functools.lru_cache(1 << 16)
+def first_word(text: str) -> str:
+    return bare(text[:100]).lower().split(" ")[0].rstrip(":")
 
 
 def is_total(job: Job, table: Table, row: int, here: Row, last: int) -> bool:
@@ -199,7 +202,7 @@ def is_total(job: Job, table: Table, row: int, here: Row, last: int) -> bool:
             if name in table.header.columns]
     word = any(total_word(cell) for cell in table.sheet.rows[row].values())
     computed = any(cell and cell.formula for cell in here.values())
-    key_is_word = any(cell and cell.kind == "text" and first_word(cell) in TOTALS for cell in keys)
+    key_is_word = any(cell and cell.kind == "text" and first_word(cell.text) in TOTALS for cell in keys)
     if not (key_is_word or word and not all(keys) or computed and not any(keys)):
         return False
     whole = all(any(here.get(place) for place in table.header.columns.get(name, [])) for name in header)
@@ -276,7 +279,7 @@ def read_one(job: Job, table: Table, row: int, name: str, here: Row, place: int)
     """The text of a cell as a field, and whether it is wrong."""
     cell = here[place]
     try:
-        value = read_value(name, cell, job.way)
+        value = job.value(name, cell)
         if value.day:
             check_day(job, table, name, here, value)
     except Wrong as fault:

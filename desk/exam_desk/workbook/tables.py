@@ -7,8 +7,10 @@ from exam_desk.workbook import forms
 from exam_desk.workbook.cells import Cell, Sheet, letters_of
 from exam_desk.workbook.headers import MARKED, Given, Header, folded, seen, text_cells
 from exam_desk.workbook.report import Report
-from exam_desk.workbook.texts import Way, bare, shown_of
+from exam_desk.workbook.texts import Value, Way, bare, shown_of
+from exam_desk.workbook.values import read_value
 
+MOST_VALUES = 50_000  # that are kept, lest they are read again
 CURE_TWICE = "keep one header, or say which in a file of columns"
 
 
@@ -32,9 +34,19 @@ class Job:
     choices: Choices = Choices()
     report: Report = field(default_factory=Report)
     papers: set[str] = field(default_factory=set)  # codes that the office or the workbook has
+    values: dict[tuple[str, Cell | None], Value] = field(default_factory=dict)  # that were read before
 
     def of_kind(self, kind: str) -> Given:
         return self.given.get(kind, {})
+
+    def value(self, column: str, cell: Cell | None) -> Value:
+        """The value of a cell as a column asks for it; many cells say the same."""
+        found = self.values.get((column, cell))
+        if found is None:
+            found = read_value(column, cell, self.way)
+            if len(self.values) < MOST_VALUES:
+                self.values[column, cell] = found
+        return found
 
 
 class Table(NamedTuple):

@@ -1,5 +1,6 @@
 """What all readers of values share: the letters of a cell without what no eye sees, and why a cell has no value."""
 import decimal
+import functools
 import re
 import unicodedata
 from collections.abc import Mapping
@@ -68,7 +69,9 @@ def told(old: str, new: str, what: str, done: list[str]) -> str:
     return new
 
 
+@functools.lru_cache(1 << 16)
 def bare(text: str) -> str:
+    """A text without what no eye sees."""
     return cleaned(text)[0]
 
 
