@@ -1,4 +1,4 @@
-"""What the commands over workbooks share: their options, what the office has, and how lines and progress are printed."""
+"""What the commands over workbooks share: their options, what the office has, how lines and progress are printed."""
 from __future__ import annotations
 
 import argparse
@@ -63,7 +63,8 @@ def told(reading: Reading, target: str, lines_name: str, everything: bool) -> in
         return 1
     for kind, count in write_folder(target, reading, lines_name).items():
         print(f"{kind}: {count}")
-    print(f"0 mistakes, {changes} changes, {notes} notes: look through them in {school.plain(os.path.join(target, lines_name))}")
+    place = school.plain(os.path.join(target, lines_name))
+    print(f"0 mistakes, {changes} changes, {notes} notes: look through them in {place}")
     return 0
 
 

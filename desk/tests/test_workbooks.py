@@ -1,4 +1,4 @@
-"""Workbooks: the corpus, the way back through LibreOffice, files that a spreadsheet broke, and other readers beside ours."""
+"""Workbooks: the corpus, the way back through LibreOffice, files that a spreadsheet broke, other readers beside ours."""
 from __future__ import annotations
 
 import concurrent.futures
@@ -180,7 +180,8 @@ class Commands(sample.SampleSchool):
     def test_check_files_says_what_reads_a_workbook(self) -> None:
         self.office("dump", "facts")
         pathlib.Path(self.folder, "facts", "school.xlsx").write_bytes(b"PK")
-        self.assertIn("NOTE: school.xlsx is a workbook: `office read` makes the files of it", self.office("check-files", "facts"))
+        said = self.office("check-files", "facts")
+        self.assertIn("NOTE: school.xlsx is a workbook: `office read` makes the files of it", said)
 
     @needs_openpyxl
     def test_the_office_fills_codes_and_knows_papers(self) -> None:

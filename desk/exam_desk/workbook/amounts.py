@@ -13,6 +13,7 @@ PERCENT = re.compile(r"([0-9]{1,3})(?:[.,]0+)? ?(%|percent|per cent|Prozent)", r
 HALF_DAY = re.compile(r"(0?[1-9]|1[0-2])(?:[:.]([0-5][0-9]))?(?::00)? ?([ap])\.?m\.?", re.I)
 NONE = {"", "-", "none", "no", "keine"}
 SECONDS = "has seconds: write a time as 09:00"
+NEVER = "a hall that is open until 00:00 suits nobody; midnight is 24:00"
 MIDNIGHT = "midnight? Write 24:00 as text if the hall is open until then"
 
 
@@ -60,7 +61,7 @@ def time_of_text(column: str, text: str, done: list[str]) -> Value:
     if match := re.fullmatch(r"([0-9]{1,2}):([0-9]{2})(?::00(?:\.0+)?)?", text):
         text = f"{match[1]:0>2}:{match[2]}"
         never = column == "until" and text == "00:00"
-        return Value(text, reason(done), "a hall that is open until 00:00 suits nobody; midnight is 24:00" if never else "")
+        return Value(text, reason(done), NEVER if never else "")
     if match := HALF_DAY.fullmatch(text):
         hour = int(match[1]) % 12 + (12 if match[3].lower() == "p" else 0)
         if column == "until" and hour == 0:

@@ -36,12 +36,12 @@ def keep_codes(job: Job, candidates: list[Record]) -> None:
     for record in candidates:
         if not record.fields[2] and record.fields[0] in have:
             record.fields[2] = have[record.fields[0]]
-            job.report.change(record.sheet, record.row, record.columns[2], "code (empty) became the one that the office has",
-                              "kept")
+            job.report.change(record.sheet, record.row, record.columns[2],
+                              "code (empty) became the one that the office has", "kept")
 
 
-def put_back(job: Job, sort: str, kind: str, records: list[Record], at: Mapping[int, int], mistake: forms.Mistake,
-             said: set[str]) -> None:
+def put_back(job: Job, sort: str, kind: str, records: list[Record], at: Mapping[int, int],
+             mistake: forms.Mistake, said: set[str]) -> None:
     """A mistake of a file as a line on the cell from which it comes, unless a line on the cell says it."""
     what = mistake.what.split(" ")[0]
     if mistake.line not in at or what == "file":

@@ -1,6 +1,6 @@
-"""A process of its own, with limits of memory and time, that reads or makes one workbook: child.py read|write < BYTES
+"""A process of its own, with limits of memory and time, that reads or makes one workbook: child.py WHAT < BYTES
 
-`read` answers with the lines of `carrying`, `write` with the bytes of an .xlsx. What a workbook does to it is its own end.
+`read` answers with the lines of `carrying`, `write` with the bytes of an .xlsx. A bomb ends this process alone.
 """
 import io
 import json
@@ -19,8 +19,8 @@ LACKS = 3  # the status where it is missing
 
 def limit(most_written: int) -> None:
     """Sets the limits; files that it writes have at most so many bytes."""
-    for what, most in ((resource.RLIMIT_AS, MOST_MEMORY), (resource.RLIMIT_CPU, MOST_SECONDS), (resource.RLIMIT_CORE, 0),
-                       (resource.RLIMIT_FSIZE, most_written)):
+    for what, most in ((resource.RLIMIT_AS, MOST_MEMORY), (resource.RLIMIT_CPU, MOST_SECONDS),
+                       (resource.RLIMIT_CORE, 0), (resource.RLIMIT_FSIZE, most_written)):
         _, hard = resource.getrlimit(what)
         least = most if hard == resource.RLIM_INFINITY else min(most, hard)
         resource.setrlimit(what, (least, least))
@@ -48,7 +48,7 @@ def read(data: bytes) -> bytes:
     except ModuleNotFoundError:
         lines = carrying.refused(Trouble(MISSING))
     except MemoryError:
-        lines = carrying.refused(Trouble(f"it asks for more than {MOST_MEMORY >> 30} GB: it is no workbook of a school"))
+        lines = carrying.refused(Trouble(f"it asks for more than {MOST_MEMORY >> 30} GB: it is no school's workbook"))
     return lines.encode("utf-8", "surrogatepass")
 
 

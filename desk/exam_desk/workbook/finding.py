@@ -36,15 +36,16 @@ def tell_hidden(job: Job, sheet: Sheet, sheets: list[Sheet]) -> None:
     kind = named_kind(sheet.name)
     others = any(not other.hidden and other.rows and named_kind(other.name) == kind for other in sheets)
     if kind and not others:
-        job.report.mistake(sheet, None, None, f"is hidden: show it if it has the {kind}, or name the sheets to read with "
-                                              "--sheet")
+        job.report.mistake(sheet, None, None, f"is hidden: show it if it has the {kind}, or name the sheets to read "
+                                              "with --sheet")
     else:
         job.report.note(sheet, None, None, "is hidden, so it is not read")
 
 
 def kinds_by_name(job: Job, sheet: Sheet) -> list[str]:
     """The kinds that the file of columns or else the name of the sheet says."""
-    given = [kind for kind, said in job.given.items() if folded(str(said.get("sheet", ""))) == folded(sheet.name) != ""]
+    name = folded(sheet.name)
+    given = [kind for kind, said in job.given.items() if folded(str(said.get("sheet", ""))) == name != ""]
     named = named_kind(sheet.name)
     return given or ([named] if named else [])
 
@@ -69,8 +70,8 @@ def named_papers(job: Job, sheets: list[Sheet]) -> set[str]:
     codes = {code.decode() for code in job.known.keys["papers"] or ()}
     for sheet in sheets:
         kinds = kinds_by_name(job, sheet)
-        header = None if kinds and "papers" not in kinds else find_header("papers", sheet, job.of_kind("papers"), not kinds)
-        if header:
+        may_be = not kinds or "papers" in kinds
+        if may_be and (header := find_header("papers", sheet, job.of_kind("papers"), not kinds)):
             place = header.columns["paper"][0]
             codes |= {bare(cells[place].text).upper() for row, cells in sheet.rows.items()
                       if row > header.row and place in cells}
@@ -108,8 +109,8 @@ def tell_both(job: Job, kind: str, sheets: list[Sheet], place: int) -> bool:
     if len(sheets) < 2 or kind in job.choices.together:
         return False
     names = " and ".join(map(place_name, sheets))
-    job.report.mistake(sheets[place], None, None, f"{names} could both be the {kind}: keep one, or say --together {kind} to "
-                                                  "read them as one list, or --leave NAME")
+    job.report.mistake(sheets[place], None, None, f"{names} could both be the {kind}: keep one, or say --together "
+                                                  f"{kind} to read them as one list, or --leave NAME")
     return True
 
 
@@ -185,9 +186,10 @@ def paper_columns(job: Job, sheet: Sheet, header: Header) -> dict[int, str]:
             marks[place] = code
     crosses = first_crosses(sheet, header.row) if marks else {}
     for place in sorted(set(crosses) - set(marks) - set(header.columns["number"])):
-        what = f"{head[place].text.strip()!r} is no paper that is known, and" if place in head else "the column has no header, and"
-        job.report.mistake(sheet, header.row, place, f"{what} has crosses ({place_name(sheet, crosses[place], place)}): "
-                                                     "correct the code, or delete the column")
+        what = f"{head[place].text.strip()!r} is no paper that is known" if place in head else "the column has no header"
+        where = place_name(sheet, crosses[place], place)
+        job.report.mistake(sheet, header.row, place, f"{what}, and has crosses ({where}): correct the code, or delete "
+                                                     "the column")
     return marks
 
 

@@ -30,7 +30,8 @@ WORDS = {  # of a column what else its header may say, as `folded`
     "start": "starttime begin begins beginn time starts",
     "paper": "papercode exam examcode subjectcode prüfung",
     "title": "description bezeichnung titel",
-    "minutes": "duration durationmin durationminutes length lengthmin lengthminutes min dauer dauermin dauerminuten minuten",
+    "minutes": "duration durationmin durationminutes length lengthmin lengthminutes min dauer dauermin dauerminuten "
+               "minuten",
     "requires": "required requirements needsofthepaper",
     "hall": "hallcode room roomcode raum venue",
     "features": "feature equipment ausstattung",
@@ -71,7 +72,8 @@ def words_of(kind: str, column: str) -> frozenset[str]:
 
 @functools.cache
 def all_words() -> frozenset[str]:
-    return frozenset(word for kind, header in forms.HEADERS.items() for column in header for word in words_of(kind, column))
+    return frozenset(word for kind, header in forms.HEADERS.items() for column in header
+                     for word in words_of(kind, column))
 
 
 def seen(cell: Cell | None) -> Cell | None:
@@ -132,7 +134,8 @@ def find_header(kind: str, sheet: Sheet, given: Given, whole: bool = False) -> H
     for row in sorted(sheet.rows)[:WITHIN]:
         header = match_header(kind, row, sheet.rows[row], given)
         have = set(header.columns) | {name for name, value in given.items() if isinstance(value, dict)}
-        lacking = {name for name in forms.HEADERS[kind] if name not in have} - ({"code"} if kind == "candidates" else set())
+        optional = {"code"} if kind == "candidates" else set()
+        lacking = {name for name in forms.HEADERS[kind] if name not in have} - optional
         if whole and lacking or forms.needed_columns(kind) - have or len(header.columns) < 2:
             continue
         if best is None or len(header.columns) > len(best.columns):

@@ -1,6 +1,6 @@
 """A look at the XML of a workbook before a library reads it: limits, and what a library does not say.
 
-A document type is refused, so no entity exists. Nothing is unpacked to the disk, and nothing outside the file is opened.
+A document type is refused, so no entity exists. Nothing is unpacked to the disk, no other file is opened.
 """
 import re
 import xml.parsers.expat

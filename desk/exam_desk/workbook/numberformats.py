@@ -12,8 +12,9 @@ MOST_NUMBER = 10 ** 15  # a spreadsheet keeps fifteen digits
 LONG_NUMBER = 10 ** 11  # from here on the format General shows a power of ten
 WINDOWS, MACINTOSH = datetime.datetime(1899, 12, 30), datetime.datetime(1904, 1, 1)  # the day 0
 MACHINE_DATE = "m/d/yy?"  # the date that each machine shows in its own way
-BUILT_IN = {14: MACHINE_DATE, 22: MACHINE_DATE + " h:mm", 32: "h:mm", 33: "h:mm",
-            **{number: MACHINE_DATE for number in (*range(27, 32), *range(34, 37), *range(50, 59))}}  # beside openpyxl's
+BUILT_IN = {  # formats by number, beside those that openpyxl knows
+            14: MACHINE_DATE, 22: MACHINE_DATE + " h:mm", 32: "h:mm", 33: "h:mm",
+            **{number: MACHINE_DATE for number in (*range(27, 32), *range(34, 37), *range(50, 59))}}
 TOKEN = re.compile(r'"[^"]*"|\\.|_.|\*.|\[[^\]]*\]|General|[0#?]+(?:[0#?,.]*[0#?])?,*|.', re.I)
 DATE_TOKEN = re.compile(r"\[[^\]]*\]|yyyy|yy\?|yy|mmmm|mmm|mm|m|dddd|ddd|dd|d|hh|h|ss|s|AM/PM|\\.|\"[^\"]*\"|.")
 DIGITS = re.compile(r"(?P<group>#,)?#*(?P<zeros>0*)(?:\.(?P<places>0+))?")

@@ -8,8 +8,8 @@ from exam_desk.workbook.cells import MOST_COLUMN, MOST_MERGED, MOST_ROW, MOST_SH
 from exam_desk.workbook.looking import Parts, local
 from exam_desk.workbook.numberformats import number_cell
 
-ASIDE = ("annotation", "tracked-changes", "shapes", "dde-links", "frame", "custom-shape", "forms", "control", "ruby-text",
-         "note")  # what stands in a sheet and is no cell
+ASIDE = ("annotation", "tracked-changes", "shapes", "dde-links", "frame", "custom-shape", "forms", "control",
+         "ruby-text", "note")  # what stands in a sheet and is no cell
 SPACES = {"s": "\0", "tab": "\1", "line-break": "\2"}  # what stands in letters as an element
 HIDDEN = ("collapse", "filter")
 NUMBERS = {"float": "General", "currency": "General", "percentage": "0%"}

@@ -82,8 +82,8 @@ def decoded(data: bytes, encoding: str | None) -> str:
         text.encode()
         return text
     except UnicodeError:
-        raise Trouble("its letters are no UTF-8: save it as CSV UTF-8, or say --encoding cp1252 if a Windows program of "
-                      "Western Europe wrote it") from None
+        raise Trouble("its letters are no UTF-8: save it as CSV UTF-8, or say --encoding cp1252 if a Windows program "
+                      "of Western Europe wrote it") from None
     except LookupError:
         raise Trouble(f"there is no encoding {encoding}") from None
 

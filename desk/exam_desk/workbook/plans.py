@@ -22,7 +22,8 @@ MEANS = {
     "extra": "Extra time in percent"}
 WIDTHS = {"title": 32, "name": 32, "requires": 30, "features": 30, "needs": 30}
 LISTS = {("papers", "session"): "sessions", ("openings", "session"): "sessions", ("openings", "hall"): "halls",
-         ("arrangements", "number"): "candidates", ("entries", "number"): "candidates", ("entries", "paper"): "papers"}
+         ("arrangements", "number"): "candidates", ("entries", "number"): "candidates",
+         ("entries", "paper"): "papers"}
 LAST_ROW = {"entries": 200_001, "openings": 20_001}  # as far as lists and formats reach
 MOST_ERROR = 250  # letters of what a spreadsheet says of a value that is not on a list
 Rows = Mapping[str, Sequence[Sequence[str]]]

@@ -1,4 +1,4 @@
-"""From a workbook, or from import files that a spreadsheet broke, to the rows of the seven kinds and what is told of them."""
+"""From a workbook, or from import files that a spreadsheet broke, to the rows of the seven kinds."""
 import os
 import re
 from collections.abc import Callable, Mapping

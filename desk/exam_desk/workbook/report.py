@@ -29,7 +29,8 @@ class Report:
     def __init__(self) -> None:
         self.lines: list[Line] = []
 
-    def add(self, sort: str, sheet: Sheet | None, row: int | None, column: int | None, text: str, what: str = "") -> None:
+    def add(self, sort: str, sheet: Sheet | None, row: int | None, column: int | None, text: str,
+            what: str = "") -> None:
         self.lines.append(Line(place_name(sheet, row, column), sort, text, sheet.name if sheet else "", column, what))
 
     def mistake(self, sheet: Sheet | None, row: int | None, column: int | None, text: str, what: str = "") -> None:

@@ -59,7 +59,8 @@ def look_at_hidden(job: Job, table: Table) -> None:
     single = {first for first, last in sheet.hidden_rows if first == last}
     spans = [span for span in sheet.hidden_rows if span[0] != span[1]]
     lines = sorted(row for row, cells in sheet.rows.items() if row > table.header.row
-                   and (row in single or any(first <= row <= last for first, last in spans)) and any(map(seen, cells.values())))
+                   and (row in single or any(first <= row <= last for first, last in spans))
+                   and any(map(seen, cells.values())))
     if not lines:
         return
     count = f"row {lines[0]} is" if len(lines) == 1 else f"{len(lines)} rows between {lines[0]} and {lines[-1]} are"
@@ -70,8 +71,8 @@ def look_at_hidden(job: Job, table: Table) -> None:
             report.note(sheet, row, None, "is hidden, so it is not read, as you said", "hidden")
             del sheet.rows[row]
     else:
-        report.mistake(sheet, lines[0], None, f"{count} hidden, perhaps by a filter: show them, or say --hidden take or "
-                                              "--hidden leave")
+        report.mistake(sheet, lines[0], None, f"{count} hidden, perhaps by a filter: show them, or say --hidden take "
+                                              "or --hidden leave")
 
 
 def look_at_comments(job: Job, table: Table) -> None:
@@ -82,8 +83,8 @@ def look_at_comments(job: Job, table: Table) -> None:
 
 
 def look_at_mixed_dates(job: Job, table: Table) -> None:
-    """True dates beside texts such as 13/06/2027: a spreadsheet of the other order of day and month has turned round the
-    days up to the 12th, and left the others as text."""
+    """True dates beside texts such as 13/06/2027: a spreadsheet of the other order of day and month has turned round
+    the days up to the 12th, and left the others as text."""
     if "date" not in table.header.columns:
         return
     place = table.header.columns["date"][0]
@@ -93,9 +94,9 @@ def look_at_mixed_dates(job: Job, table: Table) -> None:
     for row, cell in cells:
         if texts and cell.kind == "date" and int(cell.text[8:10]) <= 12:
             beside = place_name(table.sheet, texts[0], place)
-            job.report.mistake(table.sheet, row, place, f"date {shown_of(cell)}: a true date, but {beside} is a text: such a "
-                               "mixture arises where a spreadsheet turns day and month round; type these dates again as "
-                               "2027-06-07", "mixed")
+            job.report.mistake(table.sheet, row, place, f"date {shown_of(cell)}: a true date, but {beside} is a text: "
+                               "such a mixture arises where a spreadsheet turns day and month round; type these dates "
+                               "again as 2027-06-07", "mixed")
 
 
 def filled_cells(job: Job, table: Table) -> dict[tuple[int, int], Cell]:
@@ -120,8 +121,8 @@ def filled_cells(job: Job, table: Table) -> dict[tuple[int, int], Cell]:
             job.report.mistake(table.sheet, top, left, f"{reach} is merged over columns: split it")
         elif top > table.header.row:
             filled.update({(row, left): cell for row in range(top + 1, min(bottom, end) + 1)})
-            job.report.change(table.sheet, top, left, f"{reach} is merged: {names[left]} {shown_of(cell)} counts for rows "
-                                                      f"{top} to {min(bottom, end)}", "merged")
+            job.report.change(table.sheet, top, left, f"{reach} is merged: {names[left]} {shown_of(cell)} counts for "
+                                                      f"rows {top} to {min(bottom, end)}", "merged")
     return filled
 
 
@@ -130,8 +131,8 @@ def tell_covered(job: Job, table: Table, reach: str, first: tuple[int, int], pla
     for row, place in places:
         cell = table.sheet.rows.get(row, {}).get(place)
         if cell is not None and (row, place) != first and seen(cell):
-            job.report.mistake(table.sheet, row, place, f"{shown_of(cell)!r} is hidden by the merged cells {reach}: split them",
-                               "covered")
+            job.report.mistake(table.sheet, row, place, f"{shown_of(cell)!r} is hidden by the merged cells {reach}: "
+                                                        "split them", "covered")
 
 
 def counting_rows(job: Job, table: Table, filled: Mapping[tuple[int, int], Cell]) -> Iterator[tuple[int, Row]]:
@@ -161,7 +162,8 @@ def tell_beside(job: Job, sheet: Sheet, row: int) -> None:
     places = [place for place, cell in sheet.rows[row].items() if seen(cell)]
     if places:
         shown = shown_of(sheet.rows[row][min(places)])
-        job.report.note(sheet, row, min(places), f"{shown!r} stands beside empty columns; the row is not read", "beside")
+        text = f"{shown!r} stands beside empty columns; the row is not read"
+        job.report.note(sheet, row, min(places), text, "beside")
 
 
 def is_example(here: Row) -> bool:
@@ -252,8 +254,8 @@ def read_marks(job: Job, table: Table, row: int, here: Row) -> list[int]:
         if mark:
             crosses.append(place)
         elif mark is None:
-            job.report.mistake(table.sheet, row, place, f"{shown_of(here[place])!r} is neither a cross nor empty (below "
-                                                        f"{what})", "cross")
+            job.report.mistake(table.sheet, row, place, f"{shown_of(here[place])!r} is neither a cross nor empty "
+                                                        f"(below {what})", "cross")
     return crosses
 
 
@@ -269,8 +271,9 @@ def read_field(job: Job, table: Table, row: int, name: str, here: Row) -> tuple[
     if any(bad for _, bad in found):
         return text, True
     if not forms.RIGHT[name](text.encode("utf-8", "surrogatepass")):
-        cure = forms.cure(name, text.encode("utf-8", "replace"))
-        job.report.mistake(table.sheet, row, places[0], f"{name} {forms.shown(text.encode('utf-8', 'replace'))}: {cure}", name)
+        said = text.encode("utf-8", "replace")
+        cure = f"{name} {forms.shown(said)}: {forms.cure(name, said)}"
+        job.report.mistake(table.sheet, row, places[0], cure, name)
         return text, True
     return text, False
 
@@ -290,7 +293,8 @@ def read_one(job: Job, table: Table, row: int, name: str, here: Row, place: int)
     if value.why and not (cell is not None and value.text == cell.shown):
         why = f" ({value.why})" if value.why.strip() else ""
         group = name if name == "date" else name + value.why.split(",")[0]
-        job.report.change(table.sheet, row, place, f"{name} {shown_of(cell)} became {value.text or '(empty)'}{why}", group)
+        became = f"{name} {shown_of(cell)} became {value.text or '(empty)'}{why}"
+        job.report.change(table.sheet, row, place, became, group)
     if value.note:
         job.report.note(table.sheet, row, place, f"{name} {value.text} {value.note}", name + value.note)
     return value.text, False
@@ -303,7 +307,8 @@ def above(table: Table, row: int, place: int) -> str:
     if not before:
         return ""
     cell = table.sheet.rows[before[0]][place]
-    return f"; {place_name(table.sheet, before[0], place)} above has {shown_of(cell)}: fill it down if it counts here too"
+    where = place_name(table.sheet, before[0], place)
+    return f"; {where} above has {shown_of(cell)}: fill it down if it counts here too"
 
 
 def check_day(job: Job, table: Table, name: str, here: Row, value: Value) -> None:

@@ -126,9 +126,11 @@ def tell_lacking(report: Report, table: Table) -> None:
                 or name == "paper" and (table.marks or table.paper):
             continue
         if name == "code":
-            report.note(table.sheet, table.header.row, None, "there is no column code: `office codes` fills the empty codes")
+            text = "there is no column code: `office codes` fills the empty codes"
+            report.note(table.sheet, table.header.row, None, text)
         else:
-            report.mistake(table.sheet, table.header.row, None, f"the column {name} is missing: add it ({forms.CURES[name]})")
+            text = f"the column {name} is missing: add it ({forms.CURES[name]})"
+            report.mistake(table.sheet, table.header.row, None, text)
 
 
 def tell_unread(job: Job, table: Table) -> None:
@@ -138,13 +140,14 @@ def tell_unread(job: Job, table: Table) -> None:
     head = table.sheet.rows[table.header.row]
     for place in sorted((set(there) | set(head)) - table.places()):
         if place not in head:
-            job.report.note(table.sheet, there[place], place, f"column {letters_of(place)} has values but no header; it is "
-                                                              "not read")
+            text = f"column {letters_of(place)} has values but no header; it is not read"
+            job.report.note(table.sheet, there[place], place, text)
         elif bare(head[place].text).upper() in papers:
-            job.report.mistake(table.sheet, table.header.row, place, f"{shown_of(head[place])} is a paper: put the crosses "
-                                                                     "on a sheet Entries, with the numbers")
+            text = f"{shown_of(head[place])} is a paper: put the crosses on a sheet Entries, with the numbers"
+            job.report.mistake(table.sheet, table.header.row, place, text)
         else:
-            job.report.note(table.sheet, table.header.row, place, f"the column {shown_of(head[place]).strip()!r} is not read")
+            text = f"the column {shown_of(head[place]).strip()!r} is not read"
+            job.report.note(table.sheet, table.header.row, place, text)
 
 
 def first_rows(sheet: Sheet, header: int) -> dict[int, int]:

@@ -38,7 +38,8 @@ def read_value(column: str, cell: Cell | None, way: Way) -> Value:
 def refuse_unread(cell: Cell) -> None:
     """Raises `Wrong` for a cell that no reader looks at."""
     if cell.kind == "pending":
-        raise Wrong("a formula that no spreadsheet has computed: open the workbook in one and save it, or type the value")
+        raise Wrong("a formula that no spreadsheet has computed: open the workbook in one and save it, or type the "
+                    "value")
     if cell.kind == "error":
         raise Wrong("an error of a formula: mend it, or type the value")
     if len(cell.text) > MOST_LETTERS:

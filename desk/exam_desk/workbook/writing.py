@@ -17,8 +17,8 @@ def refuse_there(target: str) -> None:
 
 
 def write_folder(target: str, reading: Reading, lines_name: str) -> dict[str, int]:
-    """Makes the folder with the files and all lines of the report; gives the count of rows of each kind. The records must
-    be without a mistake."""
+    """Makes the folder with the files and all lines of the report; gives the count of rows of each kind. Raises
+    `Trouble` where a line is a mistake."""
     if reading.report.count("mistake"):
         raise Trouble("there are mistakes, so nothing is written", target)
     refuse_there(target)

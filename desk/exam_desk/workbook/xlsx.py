@@ -1,4 +1,4 @@
-"""Reads .xlsx and .xlsm by openpyxl, after a look at each part. Formulas and macros are not run, links are not followed.
+"""Reads .xlsx and .xlsm by openpyxl, after a look at each part. No formula and no macro is run, no link followed.
 
 openpyxl's parser of sheets is used without its cells: these are made for each place of a merged area or of a link too.
 """
@@ -17,8 +17,8 @@ from openpyxl.styles import stylesheet
 from openpyxl.worksheet._reader import WorkSheetParser
 
 from exam_desk.trouble import Trouble
-from exam_desk.workbook.cells import (MOST_COLUMN, MOST_MERGED, MOST_ROW, MOST_SHEETS, Book, Budget, Cell, Sheet, area_of,
-                                      place_name, place_of)
+from exam_desk.workbook.cells import (MOST_COLUMN, MOST_MERGED, MOST_ROW, MOST_SHEETS, Book, Budget, Cell, Sheet,
+                                      area_of, place_name, place_of)
 from exam_desk.workbook.looking import OPEN_AND_SAVE, Look, Lost, Parts, SharedText, SharedTexts, unescaped
 from exam_desk.workbook.numberformats import BUILT_IN, MACINTOSH, WINDOWS, number_cell, shown_text
 
@@ -131,8 +131,8 @@ class Reader:
             place = parser.row_counter, parser.col_counter + 1
             raise Trouble(f"{place_name(sheet, *place)} {lost.sentence}: {OPEN_AND_SAVE}") from lost
         if count != look.cells:
-            raise Trouble(f"openpyxl finds {count} of the {look.cells} cells of the sheet {sheet.name}: save it as an .xlsx "
-                          "of the usual form, not as Strict Open XML")
+            raise Trouble(f"openpyxl finds {count} of the {look.cells} cells of the sheet {sheet.name}: save it as an "
+                          ".xlsx of the usual form, not as Strict Open XML")
 
     def cell(self, found: dict[str, Any], place: tuple[int, int], look: Look) -> Cell | None:
         """A cell as openpyxl's parser gives it: no day is computed, and a formula is its last result."""
