@@ -40,10 +40,18 @@ needs_openpyxl = unittest.skipUnless(can_import("openpyxl"), "python3-openpyxl i
 class Corpus(unittest.TestCase):
     @needs_openpyxl
     def test_every_workbook_comes_out_as_it_must(self) -> None:
+        line = [str(can_import("openpyxl")), "-B", str(HERE / "run")]
+        done = subprocess.run(line, capture_output=True, encoding="utf-8", check=False)
+        self.assertEqual(0, done.returncode, done.stdout + done.stderr)
+        self.assertGreater(int(done.stdout.split(" ")[0]), 190)
+
+    @needs_openpyxl
+    def test_the_command_reads_what_libreoffice_wrote(self) -> None:
         with concurrent.futures.ThreadPoolExecutor(AT_A_TIME) as pool:
             command = [sys.executable, "-B", str(sample.DESK / "read")]
-            verdicts = list(pool.map(lambda case: corpus.judged(case, command), corpus.all_cases()))
-        self.assertGreater(len(verdicts), 190)
+            made = [case for case in corpus.all_cases() if case.name.startswith("made-")]
+            verdicts = list(pool.map(lambda case: corpus.judged(case, command), made))
+        self.assertGreater(len(verdicts), 9)
         for verdict in verdicts:
             with self.subTest(verdict.name):
                 self.assertEqual(([], False), (verdict.wrong, verdict.silent), verdict.said)

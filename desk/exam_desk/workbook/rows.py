@@ -13,6 +13,7 @@ from exam_desk.workbook.texts import Value, Wrong, bare, shown_of
 from exam_desk.workbook.values import is_mark, read_value
 
 TOTALS = {"total", "totals", "sum", "summe", "gesamt", "count", "anzahl", "grand total", "subtotal"}
+FIRST_WORDS = {word.split(" ")[0] for word in TOTALS}
 EXAMPLE = "e.g. "  # before the first value of the template's example
 EACH = 10_000  # rows after which the progress is told
 Row = Mapping[int, Cell | None]
@@ -143,7 +144,7 @@ def counting_rows(job: Job, table: Table, filled: Mapping[tuple[int, int], Cell]
     head = {place: folded(cell.text) for place, cell in sheet.rows[table.header.row].items() if place in data}
     for row in rows:
         own = {place: seen(sheet.rows[row].get(place)) for place in data}
-        here = {place: cell or filled.get((row, place)) for place, cell in own.items()}
+        here = {place: cell or filled.get((row, place)) for place, cell in own.items()} if filled else own
         if not any(own.values()):
             tell_beside(job, sheet, row)
         elif all(folded(cell.text) == head.get(place) if cell else place not in head for place, cell in here.items()):
@@ -192,6 +193,10 @@ def total_word(cell: Cell | None) -> bool:
     return bare(cell.text).rstrip(":").lower() in TOTALS or first_word(cell.text) in ("total", "totals", "summe")
 
 
+def may_begin_total(cell: Cell) -> bool:
+    return cell.kind == "text" and not cell.text[:1].isdigit() and first_word(cell.text) in FIRST_WORDS
+
+
 @functools.lru_cache(1 << 16)
 def first_word(text: str) -> str:
     return bare(text[:100]).lower().split(" ")[0].rstrip(":")
@@ -199,6 +204,8 @@ def first_word(text: str) -> str:
 
 def is_total(job: Job, table: Table, row: int, here: Row, last: int) -> bool:
     """Whether a row is a total below the table, which is told and left out."""
+    if not any(cell.formula or may_begin_total(cell) for cell in table.sheet.rows[row].values()):
+        return False
     header = forms.HEADERS[table.kind]
     keys = [here.get(table.header.columns[name][0]) for name in header[:forms.KEYS.get(table.kind, 1)]
             if name in table.header.columns]

@@ -209,6 +209,10 @@ case("spoken-letters", own_sheet(row_xml(1, *CANDIDATES) + '<row r="2"><c r="A2"
                                  '<rPh sb="0" eb="1"><t>ada</t></rPh></is></c><c r="C2" t="inlineStr"><is><t>CODE0001</t></is></c></row>'),
      files={"candidates": [ADA_LINE]}, quiet=True)
 
+SPOKEN = "".join(f"<si><t>{text}</t><rPh sb='0' eb='1'><t>spoken</t></rPh></si>" for text in [*CANDIDATES, *ADA])
+case("spoken-letters-shared", xlsx(candidates(ADA), parts={"xl/sharedStrings.xml": f'{HEAD}<sst xmlns="{MAIN}">{SPOKEN}</sst>'}),
+     files={"candidates": [ADA_LINE]}, quiet=True)
+
 # XML of other writers
 PREFIXED = sheet_xml(row_xml(1, *CANDIDATES) + row_xml(2, *ADA)).replace("<", "<x:").replace("<x:/", "</x:").replace("<x:?", "<?").replace("xmlns=", "xmlns:x=")
 case("prefixes", own_sheet("", parts={"xl/worksheets/sheet1.xml": PREFIXED}), files={"candidates": [ADA_LINE]}, quiet=True)
