@@ -14,9 +14,10 @@ import signal
 import sqlite3
 import subprocess
 import sys
-from typing import NamedTuple
+from typing import NamedTuple, NoReturn
 
 import bad_rows
+import beside
 import private
 
 FEATURES = ["step-free", "screen", "reader", "small-room", "computer", "quiet"]  # the value of a place is 1, 2, 4 ..
@@ -59,17 +60,17 @@ def plain(text) -> str:
     return str(text).translate(UNSHOWN)
 
 
-def warn(message):
+def warn(message: object) -> None:
     print(f"office: {plain(message)}", file=sys.stderr)
 
 
-def stop(message):
+def stop(message: object) -> NoReturn:
     """Ends the script with a message and status 1."""
     warn(message)
     raise SystemExit(1)
 
 
-def begin():
+def begin() -> None:
     """Call it first: HUP, INT and TERM let a script clean up, a fault becomes a line, and all goes out as UTF-8."""
     def leave(number, _):
         raise SystemExit(128 + number)
@@ -86,12 +87,12 @@ def tell(kind, fault, place):
     """What a fault of a file or of the database comes to: a line in place of a list of calls."""
     if issubclass(kind, BrokenPipeError):
         os.dup2(os.open(os.devnull, os.O_WRONLY), sys.stdout.fileno())  # nobody reads what is left
+    elif issubclass(kind, (beside.Strange, bad_rows.BadRows)):
+        warn(fault)
     elif issubclass(kind, OSError):
         warn(f"{fault.filename}: {fault.strerror}" if fault.filename else fault)
     elif issubclass(kind, sqlite3.Error):
         warn(f"{office_path()}: {fault}")
-    elif issubclass(kind, bad_rows.BadRows):
-        warn(fault)
     else:
         sys.__excepthook__(kind, fault, place)
 
