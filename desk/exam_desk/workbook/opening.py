@@ -13,7 +13,7 @@ from exam_desk.workbook.looking import OPEN_AND_SAVE
 
 CHILD = pathlib.Path(__file__).resolve().parent / "child.py"
 PYTHON = "/usr/bin/python3"  # the one for which Debian installs its libraries
-MOST_SECONDS = 120  # of the clock, for the process that reads
+MOST_SECONDS = 600  # of the clock, for the process that reads; of the processor it has fewer
 OLD = b"\xd0\xcf\x11\xe0\xa1\xb1\x1a\xe1"  # of Microsoft's compound files
 NO_WORKBOOK = "it is no workbook, whatever its name: open it in a spreadsheet and save it as .xlsx or .ods"
 OTHERS = (b"<html", b"<!doctype", b"<table", b"<?xml", b"<meta", b"%pdf", b"{\\rtf")
