@@ -276,6 +276,8 @@ case("ods-table-in-cell", ods('<table:table table:name="Candidates">' + ods_row(
 
 # CSV of other programs
 case("csv-sep", "sep=|\nnumber|name|code\n17|Lin, Ada|CODE0001\n".encode(), suffix="csv", files={"candidates": ['0000017,"Lin, Ada",CODE0001']})
+case("csv-guarded", b'number,name,code\n"=""0000017""",Ada Lin,CODE0001\n', suffix="csv", files={"candidates": ["0000017,Ada Lin,CODE0001"]},
+     told=[["'harder-csv-guarded'!A2", "0000017"]])
 case("csv-utf-16", "number\tname\tcode\n17\tAda L\u00f6f\tCODE0001\n".encode("utf-16"), suffix="txt", files={"candidates": ["0000017,Ada L\u00f6f,CODE0001"]})
 case("csv-lines-in-cells", b'number;name;code\n17;"Ada\nLin";CODE0001\n', 1, suffix="csv", only=True, mistakes=[["'harder-csv-lines-in-cells'!B2", "line end"]])
 case("csv-open-quote", b'number,name,code\n17,"Ada Lin,CODE0001\n', 1, suffix="csv", stderr=["quote"])
