@@ -19,6 +19,9 @@ import corpus  # noqa: E402
 import rawbook  # noqa: E402
 from exam_desk.trouble import Trouble  # noqa: E402
 from exam_desk.workbook import carrying, opening  # noqa: E402
+from exam_desk.workbook.reading import Reading  # noqa: E402
+from exam_desk.workbook.report import Report  # noqa: E402
+from exam_desk.workbook.writing import write_folder  # noqa: E402
 
 AT_A_TIME = 4
 
@@ -106,6 +109,21 @@ class Child(unittest.TestCase):
     def test_a_workbook_goes_over_as_it_is(self) -> None:
         book = opening.read_csv("number,name\n17,\"Ada \u00e9 \u202e\nLin\"\n".encode(), "list")
         self.assertEqual(book, carrying.unpacked(carrying.packed(book)))
+
+
+class Writing(unittest.TestCase):
+    def test_a_folder_is_made_whole_or_not_at_all(self) -> None:
+        reading = Reading({"candidates": []}, Report())
+        with tempfile.TemporaryDirectory() as folder:
+            target = os.path.join(folder, "new")
+            reading.report.mistake(None, None, None, "wrong")
+            with self.assertRaises(Trouble):
+                write_folder(target, reading, "read.txt")
+            self.assertEqual([], os.listdir(folder))
+            os.mkdir(target)
+            with self.assertRaisesRegex(Trouble, "is there already"):
+                write_folder(target, Reading({}, Report()), "read.txt")
+            self.assertEqual([], os.listdir(target))
 
 
 class Commands(sample.SampleSchool):

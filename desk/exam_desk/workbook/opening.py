@@ -1,7 +1,9 @@
 """Opens a workbook: what it is its bytes say, not its name. Those in a zip are read by a process of their own."""
 import importlib.util
+import os
 import pathlib
 import re
+import stat
 import subprocess
 import sys
 
@@ -13,7 +15,7 @@ from exam_desk.workbook.looking import OPEN_AND_SAVE
 
 CHILD = pathlib.Path(__file__).resolve().parent / "child.py"
 PYTHON = "/usr/bin/python3"  # the one for which Debian installs its libraries
-MOST_SECONDS = 120  # of the clock, for the process that reads
+MOST_SECONDS = 600  # of the clock, for the process that reads; of the processor it has fewer
 OLD = b"\xd0\xcf\x11\xe0\xa1\xb1\x1a\xe1"  # of Microsoft's compound files
 NO_WORKBOOK = "it is no workbook, whatever its name: open it in a spreadsheet and save it as .xlsx or .ods"
 OTHERS = (b"<html", b"<!doctype", b"<table", b"<?xml", b"<meta", b"%pdf", b"{\\rtf")
@@ -22,6 +24,8 @@ ALSO = {"xlsx": ("xlsx", "xlsm", "xltx", "xltm"), "ods": ("ods", "ots"), "csv": 
 
 def open_book(path: str, encoding: str | None = None) -> Book:
     """The workbook at a path; raises `Trouble` where it cannot be read whole. The encoding is that of a CSV file."""
+    if not stat.S_ISREG(os.stat(path).st_mode):
+        raise Trouble("it is no file")
     with open(path, "rb") as file:
         data = file.read(MOST_FILE + 1)
     if len(data) > MOST_FILE:
@@ -88,6 +92,12 @@ def decoded(data: bytes, encoding: str | None) -> str:
         raise Trouble(f"there is no encoding {encoding}") from None
 
 
+def text_cell(shown: str) -> Cell:
+    """A field of CSV. Some programs write ="0000017" so that a spreadsheet leaves the zeros."""
+    match = re.fullmatch('="([^"]*)"', shown)
+    return Cell("text", match[1] if match else shown, shown)
+
+
 def read_csv(data: bytes, name: str, encoding: str | None = None) -> Book:
     """A file of one sheet whose cells are texts. What parts its columns is what its first lines have most of."""
     text, notes = decoded(data, encoding), []
@@ -103,8 +113,7 @@ def read_csv(data: bytes, name: str, encoding: str | None = None) -> Book:
     for record in forms.records(text.encode(), re.escape(comma).encode() if comma == "|" else comma.encode()):
         if not record.closed:
             raise Trouble(f"a quote is not closed in line {record.line}")
-        cells = {column: Cell("text", field.decode(), field.decode()) for column, field in enumerate(record.fields, 1)
-                 if field}
+        cells = {column: text_cell(field.decode()) for column, field in enumerate(record.fields, 1) if field}
         for cell in cells.values():
             budget.keep(cell.text)
         if cells:

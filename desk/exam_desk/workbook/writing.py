@@ -4,6 +4,7 @@ import shutil
 import tempfile
 
 from exam_desk.trouble import Trouble
+from exam_desk.workbook import forms
 from exam_desk.workbook.checking import file_parts
 from exam_desk.workbook.headers import KINDS
 from exam_desk.workbook.reading import Reading
@@ -41,7 +42,7 @@ def write_kind(folder: str, kind: str, reading: Reading) -> int:
 
 
 def lines_of(report: Report) -> bytes:
-    return "".join(f"{line.whole()}\n" for line in report.lines).encode("utf-8", "backslashreplace")
+    return "".join(f"{forms.plain(line.whole())}\n" for line in report.lines).encode("utf-8", "backslashreplace")
 
 
 def put(path: str, text: bytes) -> None:

@@ -172,6 +172,14 @@ case("total-of-crosses", xlsx(TWO_PAPERS, sheet("Entries", ["number", "MA-1", "F
 case("total-below-nothing", xlsx(TWO_PAPERS, sheet("Entries", ["number", "MA-1", "FR"], ["0000001", "x", None], [None, ("f", "SUM(B2)", 1), ("f", "SUM(C2)", 0)])),
      files={"papers": TWO_LINES, "entries": ["0000001,MA-1"]}, told=[["Entries!3", "total"]])
 
+case("marks-as-shown", xlsx(TWO_PAPERS, sheet("Entries", ["number", "MA-1", "FR"], ["0000001", ("n", "1", '"-"'), "x"], ["0000002", ("n", "1", '"x"'), None])),
+     files={"papers": TWO_LINES, "entries": ["0000001,FR", "0000002,MA-1"]})
+case("total-as-code", xlsx(sheet("Openings", OPENINGS, ["S1", "A", 10, "12:00", "no"], ["TOTAL", "A", 10, "12:00", "no"])), 1, only=True,
+     mistakes=[["Openings!3", "total"]])
+case("crosses-of-candidates", xlsx(TWO_PAPERS, sheet("Candidates", [*CANDIDATES, "MA-1"], [*ADA, "x"])), 1, only=True, mistakes=[["Candidates!D1", "MA-1", "Entries"]])
+case("noise-of-numbers", xlsx(sheet("Arrangements", ARRANGEMENTS, ["0000001", "-", ("n", "0.30000000000000004", "0%")])), files={"arrangements": ["0000001,-,30"]},
+     told=[["Arrangements!C2", "30%", "30"]])
+
 # names of sheets and headers
 case("other-names", xlsx(sheet("Pr\u00fcfungen", ["Pr\u00fcfung", "Bezeichnung", "Termin", "Dauer (min)", "Requirements"], ["MA-1", "Mathe", "S1", 90, "-"]),
                          sheet("R\u00e4ume", ["Raum", "Title", "Ausstattung"], ["A", "Aula", "step-free und screen"]),
@@ -268,6 +276,8 @@ case("ods-table-in-cell", ods('<table:table table:name="Candidates">' + ods_row(
 
 # CSV of other programs
 case("csv-sep", "sep=|\nnumber|name|code\n17|Lin, Ada|CODE0001\n".encode(), suffix="csv", files={"candidates": ['0000017,"Lin, Ada",CODE0001']})
+case("csv-guarded", b'number,name,code\n"=""0000017""",Ada Lin,CODE0001\n', suffix="csv", files={"candidates": ["0000017,Ada Lin,CODE0001"]},
+     told=[["'harder-csv-guarded'!A2", "0000017"]])
 case("csv-utf-16", "number\tname\tcode\n17\tAda L\u00f6f\tCODE0001\n".encode("utf-16"), suffix="txt", files={"candidates": ["0000017,Ada L\u00f6f,CODE0001"]})
 case("csv-lines-in-cells", b'number;name;code\n17;"Ada\nLin";CODE0001\n', 1, suffix="csv", only=True, mistakes=[["'harder-csv-lines-in-cells'!B2", "line end"]])
 case("csv-open-quote", b'number,name,code\n17,"Ada Lin,CODE0001\n', 1, suffix="csv", stderr=["quote"])
