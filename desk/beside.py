@@ -73,11 +73,6 @@ def open_folder(office: str, *names: str) -> int:
     return inner
 
 
-def refuse_strange_folder(path: str) -> None:
-    """Raises `Strange` where a folder is a link, another's, or others may write there."""
-    os.close(opened(path, AS_FOLDER))
-
-
 def open_file(office: str, *names: str, flags: int) -> int:
     """A descriptor of a file in the folder, for its owner alone where it is new; `Strange` as for a folder."""
     outer = open_folder(office, *names[:-1])
@@ -110,6 +105,12 @@ def strange(found: os.stat_result, flags: int) -> str:
     if not flags & os.O_DIRECTORY and not stat.S_ISREG(found.st_mode):
         return "is no file, but a device or a pipe"
     return ""
+
+
+def refuse_strange(path: str) -> None:
+    """Raises `Strange` where a folder is not to be trusted; one that is not there does no harm."""
+    with contextlib.suppress(FileNotFoundError):
+        os.close(opened(path, AS_FOLDER))
 
 
 def sync(path: str) -> None:

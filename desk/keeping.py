@@ -210,7 +210,7 @@ def listener(place: str) -> Iterator[socket.socket]:
 def bound_in_folder(listening: socket.socket, path: str) -> Iterator[None]:
     """Binds a socket in a folder that is ours alone and holds nothing else. The folder's group may use it."""
     folder = os.path.dirname(path)
-    beside.refuse_strange_folder(folder)
+    beside.refuse_strange(folder)
     if others := sorted(set(os.listdir(folder)) - {SOCKET}):
         school.stop(f"{folder} holds {others[0]}: give `keep` a folder that holds nothing else")
     with socket.socket(socket.AF_UNIX) as other:

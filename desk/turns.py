@@ -45,7 +45,7 @@ def make_folder(*names: str) -> str:
 
 
 def open_inside(name: str, flags: int) -> int:
-    """Opens a file of the folder, or makes it where the flags say so; the folder is made where it is not there."""
+    """Opens a file of the folder, or makes it where the flags say so."""
     make_folder()
     return beside.open_file(school.office_path(), name, flags=flags)
 
@@ -80,7 +80,8 @@ def note(file: int, text: str) -> None:
 
 def text_of(name: str) -> str:
     try:
-        with open(beside.open_file(school.office_path(), name, flags=os.O_RDONLY), encoding="utf-8", errors="replace") as file:
+        lock = beside.open_file(school.office_path(), name, flags=os.O_RDONLY)
+        with open(lock, encoding="utf-8", errors="replace") as file:
             return file.read(NOTE_BYTES).strip()
     except OSError:
         return ""
