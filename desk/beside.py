@@ -104,6 +104,12 @@ def strange(found: os.stat_result, flags: int) -> str:
     return ""
 
 
+def refuse_strange(path: str) -> None:
+    """Raises `Strange` where a folder is not to be trusted; one that is not there does no harm."""
+    with contextlib.suppress(FileNotFoundError):
+        os.close(opened(path, AS_FOLDER))
+
+
 def sync(path: str) -> None:
     """Waits until a file, or what a folder lists, is on the disk."""
     file = os.open(path, os.O_RDONLY | os.O_NOFOLLOW | os.O_CLOEXEC)

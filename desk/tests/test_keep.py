@@ -194,7 +194,7 @@ class NewDay(sample.SampleSchool):
         self.assertEqual(sorted(os.listdir(os.path.join(self.desk, "days"))), ["2027-05-02", "2027-05-03"])
 
     async def two_days(self, today):
-        keep = keeping.Keep(sample.free_port(), 2, turns.open_lock("keep.lock"))
+        keep = keeping.Keep(str(sample.free_port()), 2, turns.open_lock("keep.lock"))
         served = asyncio.create_task(keep.run())
         for day in (1, 2, 3):
             today.return_value = datetime.date(2027, 5, day)
