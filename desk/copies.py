@@ -154,6 +154,7 @@ def write_log(words: list[str], status: int | str, answer: str) -> None:
     """Adds a line to the log: when, who, the command, its status, the first line of its answer."""
     columns = [datetime.datetime.now().isoformat(" ", "seconds"), user(), " ".join(shown(words)), str(status), answer]
     line = "\t".join(map(school.plain, columns)) + "\n"
+    turns.make_folder()
     file = beside.open_file(school.office_path(), "log", flags=os.O_WRONLY | os.O_CREAT | os.O_APPEND)
     with open(file, "wb") as log_file:
         log_file.write(line.encode("utf-8", "backslashreplace"))
