@@ -46,7 +46,7 @@ def read(path: str) -> bytes:
         return file.read(MOST_BYTES + 1)
 
 
-def records(text: bytes, comma: str = ",") -> Iterator[Record]:
+def records(text: bytes, comma: bytes = b",") -> Iterator[Record]:
     """The records of a file, the header among them. Blank lines are none; an open quote runs to the end.
 
     Python's reader finds them in texts, so each byte becomes a letter. It knows no byte order mark, and says nothing of
@@ -55,15 +55,22 @@ def records(text: bytes, comma: str = ",") -> Iterator[Record]:
     lines = io.TextIOWrapper(io.BytesIO(text.removeprefix(BOM)), "latin-1", newline="")
     behind = iter(["\n"])
     csv.field_size_limit(MOST_BYTES + 1)
-    reader = csv.reader(itertools.chain(lines, behind), delimiter=comma)
+    reader = csv.reader(itertools.chain(lines, behind), delimiter=comma.decode("ascii"))
     line = 1
     for fields in reader:
         closed = operator.length_hint(behind) > 0
         if fields and not closed:
             fields[-1] = fields[-1][:-1]
         if fields:
-            yield Record(line, tuple(field.encode("latin-1") for field in fields), closed)
+            yield Record(line, as_bytes(fields), closed)
         line = reader.line_num + 1
+
+
+def as_bytes(fields: list) -> tuple[bytes, ...]:
+    """The fields of a row. Each text goes as its bytes come, since a row can have a million of them."""
+    for place, field in enumerate(fields):
+        fields[place] = field.encode("latin-1")
+    return tuple(fields)
 
 
 def guarded(text: str) -> str:
@@ -91,13 +98,13 @@ def whole(low: int, high: int) -> Form:
     return lambda text: digits(text) and low <= int(text) <= high
 
 
-SEVEN_DIGITS, LIKE_A_DATE = form(rb"[0-9]{7}"), form(rb"[0-9]{4}-[0-9]{2}-[0-9]{2}")
+LIKE_A_DATE = form(rb"[0-9]{4}-[0-9]{2}-[0-9]{2}")
 CONTROL = re.compile(rb"[\x00-\x1f\x7f]")
 FEATURES = [name.encode() for name in school.FEATURES]
 
 
 def is_number(text: bytes) -> bool:
-    return SEVEN_DIGITS(text) is not None and int(text) > 0
+    return len(text) == 7 and text.isdigit() and text != b"0000000"
 
 
 def is_date(text: bytes) -> bool:

@@ -1,15 +1,15 @@
 """The mistakes of import files: what the program refuses, in words, and what only a human eye can judge."""
+import heapq
 import itertools
 import re
 import sqlite3
 from collections import Counter, defaultdict
-from collections.abc import Callable, Iterator, Sequence
+from collections.abc import Callable, Iterable, Iterator, Sequence
 from typing import NamedTuple
 
 import files
 import school
 
-MOST_SHOWN = 5  # mistakes or notes on one column of a file
 MOST_COUNTED = 100_000  # mistakes of a file; what is behind the last of them is not looked at
 MOST_TO_MEND = 200  # bytes of a value for which a better one is sought
 LIMITS = {"sessions": 400, "papers": 2000, "halls": 500, "candidates": 20000}
@@ -26,13 +26,12 @@ CURES = {
     "desks": "a whole number from 1 to 2000", "extra": "a whole number from 0 to 100, without %",
     "requires": FEATURES, "features": FEATURES, "needs": FEATURES,
 }
-COMMAS = [(",", ""), (";", "semicolons part the columns: save it with commas"),
-          ("\t", "tabs part the columns: save it with commas")]
+COMMAS = [(b",", ""), (b";", "semicolons part the columns: save it with commas"),
+          (b"\t", "tabs part the columns: save it with commas")]
 EMPTY_ROW = "an empty row of the spreadsheet: delete it"
 RIGHT = {column: right for kind, header in files.HEADERS.items() for column, right in zip(header, files.FORMS[kind])}
 WRONG_LETTERS = re.compile("Ã.|Â.|â€|Å[\x80-\xbf¡-ÿ€-™]|\ufffd")
 LIKE_A_NUMBER = re.compile(rb"[0-9]+E[0-9]+|[1-9][0-9]?0{4,}").fullmatch
-SPOILED_CODE = "may be what a spreadsheet made of a code such as 1E5, or will make of it"
 LOST_ZEROS = re.compile(rb"([0-9]{1,7})(\.0+)?").fullmatch
 
 
@@ -43,26 +42,35 @@ class Mistake(NamedTuple):
 
 
 class Found:
-    """The mistakes of a file, or the notes on it: of each column the first, and how many there are."""
+    """The mistakes of a file, or the notes on it: of each column so many as are to be shown, and how many there are."""
 
-    def __init__(self) -> None:
-        self.first: list[Mistake] = []
+    def __init__(self, most: int) -> None:
+        self.most, self.count = most, 0
+        self.shown: list[Mistake] = []
         self.counts: Counter[str] = Counter()
+
+    def __iter__(self) -> Iterator[Mistake]:
+        """Those to be shown, by line."""
+        return iter(sorted(self.shown))
+
+    def __bool__(self) -> bool:
+        return bool(self.shown)
 
     def add(self, line: int, column: str, text: str) -> None:
         if self.is_shown(column):
-            self.first.append(Mistake(line, column, text))
+            self.shown.append(Mistake(line, column, text))
 
     def add_value(self, line: int, column: str, field: bytes, text: str | Callable[[str, bytes], str]) -> None:
         """As `add`, with the value; a text that is long to make is made only where it is shown."""
         if self.is_shown(column):
             text = text if isinstance(text, str) else text(column, field)
-            self.first.append(Mistake(line, f"{column} {files.shown(field)}", text))
+            self.shown.append(Mistake(line, f"{column} {files.shown(field)}", text))
 
     def is_shown(self, column: str) -> bool:
-        """Counts one more on a column, and says whether it is one of the first."""
+        """Counts one more on a column, and says whether it is to be shown."""
+        self.count += 1
         self.counts[column] += 1
-        return self.counts[column] <= MOST_SHOWN
+        return self.counts[column] <= self.most
 
 
 class Known:
@@ -166,9 +174,9 @@ def name_cure(field: bytes) -> str:
     return f"1 to 80 bytes; it has {len(field)}"
 
 
-def looked_through(kind: str, text: bytes, known: Known) -> tuple[Found, Found]:
-    """The mistakes of a file and the notes on it; what it brings is known afterwards."""
-    file = File(kind, known)
+def looked_through(kind: str, text: bytes, known: Known, most: int = MOST_COUNTED) -> tuple[Found, Found]:
+    """The mistakes of a file and the notes on it, so many of each column; what it brings is known afterwards."""
+    file = File(kind, known, most)
     rows = file.rows(text)
     if rows is not None and file.look_at(rows):
         file.note_references()
@@ -181,11 +189,13 @@ def looked_through(kind: str, text: bytes, known: Known) -> tuple[Found, Found]:
 class File:
     """A file of rows while it is looked through."""
 
-    def __init__(self, kind: str, known: Known) -> None:
+    def __init__(self, kind: str, known: Known, most: int) -> None:
         self.kind, self.known, self.header = kind, known, files.HEADERS[kind]
-        self.wrong, self.notes = Found(), Found()
+        self.wrong, self.notes = Found(most), Found(most)
         self.missing: list[str] = []  # the columns that the header lacks; their fields are empty
-        self.references = dict(files.REFERENCES.get(kind, []))
+        references = dict(files.REFERENCES.get(kind, []))
+        self.columns = [(column, right, references.get(place), NOTES.get(column, no_notes))
+                        for place, (column, right) in enumerate(zip(self.header, files.FORMS[kind]))]
         self.first: dict[tuple[bytes, ...], files.Record] = {}  # the first record of each key
 
     def rows(self, text: bytes) -> Iterator[files.Record] | None:
@@ -237,10 +247,9 @@ class File:
     def look_at(self, rows: Iterator[files.Record]) -> bool:
         """Looks at all rows; false where it gives up, since too many are wrong."""
         for record in rows:
-            if self.is_whole(record):
+            if self.is_whole(record) and self.is_new(self.mended(record)):
                 self.look_at_values(record)
-                self.compare(self.mended(record))
-            if self.wrong.counts.total() >= MOST_COUNTED:
+            if self.wrong.count >= MOST_COUNTED:
                 self.wrong.add(record.line, "file", f"{MOST_COUNTED:,} mistakes; what is behind them is not looked at")
                 return False
         return True
@@ -257,44 +266,41 @@ class File:
         return False
 
     def look_at_values(self, record: files.Record) -> None:
-        for place, (column, field, right) in enumerate(zip(self.header, record.fields, files.FORMS[self.kind])):
+        for field, (column, right, table, notes) in zip(record.fields, self.columns):
             if column in self.missing:
                 continue
             if not right(field):
                 self.wrong.add_value(record.line, column, field, cure)
-            elif place in self.references and field not in (self.known.keys[self.references[place]] or {field}):
-                self.wrong.add_value(record.line, column, field, f"is not among the {self.references[place]}")
-            else:
-                self.note_value(record.line, column, field)
-
-    def note_value(self, line: int, column: str, field: bytes) -> None:
-        """Notes what a value may have become on its way, though it has a right form."""
-        if column in ("name", "title"):
-            for note in name_notes(field.decode()):
-                self.notes.add_value(line, column, field, note)
-        elif column in ("session", "paper", "hall", "code") and LIKE_A_NUMBER(field):
-            self.notes.add_value(line, column, field, SPOILED_CODE)
+                continue
+            if table and field not in (self.known.keys[table] or {field}):
+                self.wrong.add_value(record.line, column, field, f"is not among the {table}")
+            for note in notes(field):
+                self.notes.add_value(record.line, column, field, note)
 
     def mended(self, record: files.Record) -> files.Record:
         """A row with the zeros that its number has lost: what refers to the number is right once the number is."""
-        number = with_zeros(record.fields[0]) if self.header[0] == "number" else record.fields[0]
-        return record if number == record.fields[0] else record._replace(fields=(number, *record.fields[1:]))
+        if self.header[0] != "number" or files.is_number(record.fields[0]):
+            return record
+        return record._replace(fields=(with_zeros(record.fields[0]), *record.fields[1:]))
 
-    def compare(self, record: files.Record) -> None:
-        """Compares a row with the first one of its key."""
+    def is_new(self, record: files.Record) -> bool:
+        """Compares a row with the first one of its key; false where it is the same again."""
         first = self.first.setdefault(files.key_of(self.kind, record.fields), record)
-        if first.fields != record.fields:
-            self.wrong.add(record.line, "row", f"line {first.line} has the same key and other contents: keep one")
-        elif first is not record:
+        if first is record:
+            return True
+        if first.fields == record.fields:
             self.notes.add(record.line, "row", f"the same as line {first.line}; it counts once")
+            return False
+        self.wrong.add(record.line, "row", f"line {first.line} has the same key and other contents: keep one")
+        return True
 
     def note_references(self) -> None:
         """Notes what the rows refer to and nobody knows."""
-        for place, table in self.references.items() if self.first else ():
-            keys = self.known.keys[table]
-            if not keys:
-                why = f"{table}.csv could not be read whole" if keys is None else f"no {table} are known"
-                self.notes.add(1, self.header[place], f"{why}, so these are not compared")
+        for column, _, table, _ in self.columns if self.first else ():
+            if table and not self.known.keys[table]:
+                cannot = self.known.keys[table] is None
+                why = f"{table}.csv could not be read whole" if cannot else f"no {table} are known"
+                self.notes.add(1, column, f"{why}, so these are not compared")
 
     def take(self) -> None:
         """Adds the rows to what is known, and notes what they say together."""
@@ -312,9 +318,9 @@ class File:
         names = {record.fields[0]: record.fields[1] for record in self.first.values()}
 
         def text(_: str, number: bytes) -> str:
-            others = sorted(sharing - {number})
-            twins = any(names.get(other) == names[number] for other in others)
-            return (", ".join(files.shown(other)[1:-1] for other in others[:3]) + " has the same access code"
+            others = [other for other in heapq.nsmallest(4, sharing) if other != number][:3]
+            twins = any(names.get(other) == names[number] for other in sharing if other != number)
+            return (", ".join(files.shown(other)[1:-1] for other in others) + " has the same access code"
                     + (" and the same name: one candidate under two numbers?" if twins else ""))
         for record in self.first.values():
             number, _, code = record.fields
@@ -361,11 +367,27 @@ def count_cure(record: files.Record, wanted: int) -> str:
     return "put a value with a comma in double quotes" if len(record.fields) > wanted else "values are missing"
 
 
-def name_notes(text: str) -> Iterator[str]:
-    """What may be wrong with a name or a title."""
+def no_notes(_: bytes) -> Iterable[str]:
+    return ()
+
+
+def name_notes(field: bytes) -> Iterator[str]:
+    """What may be wrong with a name or a title that has a right form."""
+    text = field.decode("utf-8", "replace")
+    if text.isascii() and text.isprintable() and text == text.strip():
+        return
     if WRONG_LETTERS.search(text):
         yield "looks like letters that were read in a wrong encoding"
     if text != text.strip() or "\u00a0" in text:
         yield "has a space at an end, or a hard space"
     if school.plain(text) != text:
         yield "holds marks that no screen shows"
+
+
+def code_notes(field: bytes) -> Iterable[str]:
+    """What may have become of a code."""
+    spoiled = "may be what a spreadsheet made of a code such as 1E5, or will make of it"
+    return [spoiled] if LIKE_A_NUMBER(field) else ()
+
+
+NOTES = {"name": name_notes, "title": name_notes, **dict.fromkeys(["session", "paper", "hall", "code"], code_notes)}

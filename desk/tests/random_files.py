@@ -175,9 +175,9 @@ class Schools:
     def fault(self, kind: str, count: int, text: bytes, said: str | None) -> str | None:
         """Where the desk's verdict is not the program's. Of references that it cannot compare it says so."""
         wrong, notes = mistakes.looked_through(kind, text, mistakes.Known(self.known[count]))
-        uncompared = any(note.text.endswith("so these are not compared") for note in notes.first)
-        if bool(wrong.first) != (said is not None) and not (uncompared and said in ("refused 4", "refused 6", "refused 7")):
-            return f"check-files finds {wrong.first}"
+        uncompared = any(note.text.endswith("so these are not compared") for note in notes)
+        if bool(wrong) != (said is not None) and not (uncompared and said in ("refused 4", "refused 6", "refused 7")):
+            return f"check-files finds {[*wrong]}"
         first = first_refusal(kind, text, mistakes.Known(self.known[count]))
         return None if first == said else f"the desk's reader says {first}"
 
