@@ -22,6 +22,9 @@ LINKS = {errno.ELOOP: "is a link, which is not followed", errno.ENOTDIR: "is no 
 class Strange(OSError):
     """What belongs to another, what others may write, or a link: it is not used."""
 
+    def __str__(self) -> str:
+        return f"{self.filename} {self.strerror}"
+
 
 def folder(office: str) -> str:
     """The folder beside an office's file; a link to that file has the folder of the file itself."""
@@ -44,7 +47,7 @@ def refuse_stranger(office: str) -> None:
         if owner != os.geteuid():
             name = user_name(owner)
             how = f"belongs to {name}: work as that user, as with `sudo -u {name} office ..`"
-            raise Strange(errno.EPERM, how, office)
+            raise Strange(errno.EPERM, how, "the office")
 
 
 def make_folder(office: str, *names: str) -> str:
@@ -98,7 +101,7 @@ def strange(found: os.stat_result, flags: int) -> str:
     if found.st_uid != os.geteuid():
         return f"belongs to {user_name(found.st_uid)}: look who made it, and move it away"
     if found.st_mode & OTHERS:
-        return "others may write there: look what they left, then `chmod go-w` it, or move it away"
+        return "can be written by others: look what they left, then `chmod go-w` it, or move it away"
     if not flags & os.O_DIRECTORY and not stat.S_ISREG(found.st_mode):
         return "is no file, but a device or a pipe"
     return ""

@@ -17,6 +17,7 @@ import sys
 from typing import NamedTuple
 
 import bad_rows
+import beside
 import private
 
 FEATURES = ["step-free", "screen", "reader", "small-room", "computer", "quiet"]  # the value of a place is 1, 2, 4 ..
@@ -86,12 +87,12 @@ def tell(kind, fault, place):
     """What a fault of a file or of the database comes to: a line in place of a list of calls."""
     if issubclass(kind, BrokenPipeError):
         os.dup2(os.open(os.devnull, os.O_WRONLY), sys.stdout.fileno())  # nobody reads what is left
+    elif issubclass(kind, (beside.Strange, bad_rows.BadRows)):
+        warn(fault)
     elif issubclass(kind, OSError):
         warn(f"{fault.filename}: {fault.strerror}" if fault.filename else fault)
     elif issubclass(kind, sqlite3.Error):
         warn(f"{office_path()}: {fault}")
-    elif issubclass(kind, bad_rows.BadRows):
-        warn(fault)
     else:
         sys.__excepthook__(kind, fault, place)
 

@@ -62,7 +62,7 @@ class Strangers(Beside):
             shutil.rmtree(self.desk, ignore_errors=True)
             os.mkdir(self.desk, 0o700)
             os.symlink(target, os.path.join(self.desk, name))
-            self.assertRegex(self.refused("withdraw", "0001000", "MA-1"), f"/{name}: is (no folder, or )?a link", name)
+            self.assertRegex(self.refused("withdraw", "0001000", "MA-1"), f"/{name} is (no folder, or )?a link", name)
             self.assertEqual((self.bytes_of(victim), os.listdir(folder)), (b"x" * 2000, []), name)
             self.assertEqual(self.bytes_of(self.path), before, name)
         os.rename(self.desk, folder + "/desk")
@@ -86,7 +86,7 @@ class Strangers(Beside):
         os.mkdir(self.desk)
         os.chmod(self.desk, 0o777)
         for words in (["withdraw", "0001000", "MA-1"], ["check"], ["back"], ["back", "1", "--yes"], ["changes", "1"]):
-            self.assertIn("others may write there", self.refused(*words))
+            self.assertIn("can be written by others", self.refused(*words))
         self.assertIn("MON-AM", self.office("summary"))
         self.assertEqual(os.listdir(self.desk), [])
 
@@ -104,7 +104,7 @@ class Strangers(Beside):
         for name in os.listdir(self.folder):
             os.chown(os.path.join(self.folder, name), NOBODY, NOBODY)
         for words in (["withdraw", "0001000", "MA-1"], ["check"], ["back"], ["serve", "8080"]):
-            self.assertIn("belongs to nobody: work as that user", self.refused(*words))
+            self.assertIn("the office belongs to nobody: work as that user", self.refused(*words))
         self.assertIn("MON-AM", self.office("summary"))
         self.assertFalse(os.path.exists(self.desk))
         owners = {os.stat(os.path.join(self.folder, name)).st_uid for name in os.listdir(self.folder)}
