@@ -23,14 +23,14 @@ class Lodged(NamedTuple):
         return STATES.get(self.state, "?") + (", standing" if self.standing else "")
 
 
-def subject(row):
+def subject(row: sqlite3.Row) -> str:
     """What an appeal is about, as the register has it: a hall, a paper, or needs and extra time."""
     if row["kind"] == school.ARRANGEMENT:
         return f"{school.feature_text(row['needs'])} {row['extra']}"
     return row["target"]
 
 
-def last_day(session_day):
+def last_day(session_day: str) -> str:
     """The last day to decide: the day before the session."""
     return (datetime.date.fromisoformat(session_day) - datetime.timedelta(days=1)).isoformat()
 

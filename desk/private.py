@@ -33,7 +33,7 @@ def private_copy(path: str, office: str) -> Iterator[str]:
         try:
             copy = copy_into(stack.enter_context(own_folder(office)), source)
         except OSError as fault:
-            if fault.errno not in ELSEWHERE:
+            if fault.errno not in ELSEWHERE and not isinstance(fault, beside.Strange):
                 raise
             stack.close()
             copy = copy_into(stack.enter_context(private_folder(tempfile.gettempdir())), source)

@@ -14,7 +14,7 @@ import signal
 import sqlite3
 import subprocess
 import sys
-from typing import NamedTuple
+from typing import NamedTuple, NoReturn
 
 import bad_rows
 import beside
@@ -60,17 +60,17 @@ def plain(text) -> str:
     return str(text).translate(UNSHOWN)
 
 
-def warn(message):
+def warn(message: object) -> None:
     print(f"office: {plain(message)}", file=sys.stderr)
 
 
-def stop(message):
+def stop(message: object) -> NoReturn:
     """Ends the script with a message and status 1."""
     warn(message)
     raise SystemExit(1)
 
 
-def begin():
+def begin() -> None:
     """Call it first: HUP, INT and TERM let a script clean up, a fault becomes a line, and all goes out as UTF-8."""
     def leave(number, _):
         raise SystemExit(128 + number)

@@ -68,6 +68,7 @@ class Strangers(Beside):
         os.rename(self.desk, folder + "/desk")
         os.symlink(folder + "/desk", self.desk)
         self.assertIn("is no folder, or a link to one", self.refused("withdraw", "0001000", "MA-1"))
+        self.assertIn("MON-AM", self.office("summary"))
 
     def test_a_copy_that_is_a_link_is_not_put_back(self):
         self.office("withdraw", "0001000", "MA-1")
