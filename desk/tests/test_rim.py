@@ -218,6 +218,21 @@ class Turns(sample.SampleSchool):
                                                  "try again"])
 
 
+class Waiting(sample.KeptSchool):
+    def test_keep_takes_the_turn_for_a_candidate_who_waits_and_gives_it_back(self):
+        said = []
+        client = threading.Thread(target=lambda: said.append(self.ask()[0]))
+        with mock.patch.dict(os.environ, self.environment), turns.opened("turn.lock") as turn:
+            with turns.alone(["check"]):
+                self.assertTrue(turns.is_free(turn))
+                client.start()
+                sample.until(lambda: not turns.is_free(turn))
+                self.assertEqual(said, [])
+            client.join()
+            self.assertEqual(said, [200])
+            sample.until(lambda: turns.is_free(turn))
+
+
 class Days(sample.SampleSchool):
     def test_only_days_are_removed(self):
         days = os.path.join(self.desk, "days")
