@@ -1,5 +1,6 @@
 """Import files of 4 MB that take long to read, each with its kind, and what a script takes to read one."""
 import os
+import resource
 import subprocess
 import sys
 import tempfile
@@ -75,11 +76,15 @@ def write(path: str, name: str, header: str) -> None:
         file.write((head + make())[:files.MOST_BYTES])
 
 
+def limit_time() -> None:
+    resource.setrlimit(resource.RLIMIT_CPU, (2 * MOST_SECONDS, 2 * MOST_SECONDS))
+
+
 def took(words: list[str], **environment: str) -> Took:
-    """What a script of python takes from its start to its end, and what it says."""
+    """What a script of python takes, and what it says; it is ended after twice the time that it may take."""
     with tempfile.TemporaryFile() as out:
         child = subprocess.Popen([sys.executable, "-B", *words], stdout=out, stderr=out, cwd=sample.DESK,
-                                 env={**os.environ, "TODAY": sample.TODAY, **environment})
+                                 env={**os.environ, "TODAY": sample.TODAY, **environment}, preexec_fn=limit_time)
         _, status, usage = os.wait4(child.pid, 0)
         child.returncode = os.waitstatus_to_exitcode(status)
         out.seek(0)

@@ -23,7 +23,8 @@ VALUES = [
     "é".encode() * 41, b"\xff", b"\xc3", b"\xed\xa0\x80", b"\xf4\x90\x80\x80", b"\xc0\x80", b"\xf0\x9f\x92\xa9", b"a\0b",
     b"a\x7fb", b"a\x80b", b"\xc2\x85", b"\xe2\x80\xa8", files.BOM, b"ABCDEFGH", b"ABCDEFG", b"A" * 16, b"A" * 17,
     "١٢٣٤٥٦٧".encode(), "０００１０００".encode(), b"1e5", b"\t1", b"1\n", b"MA-1", b"=1+1", b'"', b'""', b'a"b', b"'", b"\\",
-    b'\\"', b"a,b", b"a\nb", b"a\rb", b"a\r\nb", b"100\xe9"]
+    b'\\"', b"a,b", b"a\nb", b"a\rb", b"a\r\nb", b"100\xe9",
+    "Åsa".encode(), b"a\x0bb"]
 SIGNS = [b'"', b",", b"\n", b"\r", b"\0", b"\xff", b"-", b" ", b"0"]
 KNOWN = [7, 7, 7, 5, 3, 1, 0]  # how many kinds of rows an office has
 

@@ -210,6 +210,14 @@ class Words(unittest.TestCase):
         halls = b"session,hall,desks,until,reserved\n" + b"".join(b"\xff,H%d,1,12:00,no\n" % place for place in range(257))
         self.assertIn("257 open halls in session \ufffd; a session holds 256", self.mistakes_in("openings", halls)[0])
 
+    def test_where_records_begin_and_end(self):
+        text = files.BOM + 'a,Å\x0b\x1c\u2028\n\n\r"b\r\nc",""\r\nd\r"e""'.encode()  # in UTF-8 Å has the byte 85
+        self.assertEqual(list(files.records(text)), [
+            (1, (b"a", "Å\x0b\x1c\u2028".encode()), True), (4, (b"b\r\nc", b""), True), (6, (b"d",), True),
+            (7, (b'e"',), False)])
+        self.assertEqual(list(files.records(b'"')), [(1, (b"",), False)])
+        self.assertEqual(list(files.records(b'a;"b;c";', b";")), [(1, (b"a", b"b;c", b""), True)])
+
     def test_too_many_mistakes_end_it(self):
         found, _ = mistakes.looked_through("entries", b"number,paper\n" + b"a\n" * 100_001, known := mistakes.Known(), 5)
         self.assertEqual(found.counts, {"row": mistakes.MOST_COUNTED, "file": 1})
@@ -220,7 +228,7 @@ class Words(unittest.TestCase):
 
 class Big(unittest.TestCase):
     def test_big_files_take_little(self):
-        for name in ("doubled quotes", "rows that lack a value", "one row of short values", "candidates with one code"):
+        for name in ("doubled quotes", "rows that lack a value", "candidates with one code"):
             with self.subTest(name), tempfile.TemporaryDirectory() as folder:
                 big_files.write(os.path.join(folder, f"{big_files.BIG[name][0]}.csv"), name, "with a header")
                 took = big_files.took(["check-files", folder], OFFICE=os.path.join(folder, "none.db"))
