@@ -19,7 +19,7 @@ import keeping
 import turns
 
 NOBODY = 65534
-STARTS = 6
+STARTS = 4
 
 
 def answers(school):
