@@ -58,10 +58,10 @@ def records(text: bytes, comma: bytes = b",") -> Iterator[Record]:
     reader = csv.reader(itertools.chain(lines, behind), delimiter=comma.decode("ascii"))
     line = 1
     for fields in reader:
-        closed = operator.length_hint(behind) > 0
-        if fields and not closed:
-            fields[-1] = fields[-1][:-1]
         if fields:
+            closed = operator.length_hint(behind) > 0
+            if not closed:
+                fields[-1] = fields[-1][:-1]
             yield Record(line, as_bytes(fields), closed)
         line = reader.line_num + 1
 

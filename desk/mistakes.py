@@ -205,7 +205,8 @@ class File:
         if text[:2] in (b"\xff\xfe", b"\xfe\xff"):
             self.wrong.add(1, "file", "saved as Unicode text (UTF-16): save it as CSV UTF-8")
             text = text.decode("utf-16", "replace").encode()
-        for comma, why in COMMAS:
+        first = next(files.records(text), None)
+        for comma, why in COMMAS if first else ():
             found = files.records(text, comma)
             for place, record in enumerate(itertools.islice(found, 4)):
                 missing = missing_columns(self.kind, record.fields)
@@ -214,7 +215,6 @@ class File:
                     self.header_mistakes(record, place, why)
                     empty = len(record.fields) > len(self.header)
                     return (row._replace(fields=self.filled(row.fields, empty)) for row in found)
-        first = next(files.records(text), None)
         others = [other for other in files.HEADERS if files.is_header(other, first)]
         why = f"these are {others[0]}" if others else "no such header is found" if first else "the file is empty"
         self.wrong.add(1, "file", f"the first line must be {','.join(self.header)}; {why}")

@@ -68,12 +68,12 @@ BIG: dict[str, tuple[str, Callable[[], bytes]]] = {
 }
 
 
-def write(path: str, name: str, header: str) -> None:
-    """Writes a file, with a header if that is no empty text."""
+def write(path: str, name: str, header: str, most: int = files.MOST_BYTES) -> None:
+    """Writes the first bytes of a file, with a header if that is no empty text."""
     kind, make = BIG[name]
     head = ",".join(files.HEADERS[kind]).encode() + b"\n" if header else b""
     with open(path, "wb") as file:
-        file.write((head + make())[:files.MOST_BYTES])
+        file.write((head + make())[:most])
 
 
 def limit_time() -> None:

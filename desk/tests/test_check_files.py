@@ -228,9 +228,10 @@ class Words(unittest.TestCase):
 
 class Big(unittest.TestCase):
     def test_big_files_take_little(self):
+        """A quarter of each; bench/big-files reads the whole of these and others."""
         for name in ("doubled quotes", "rows that lack a value", "candidates with one code"):
             with self.subTest(name), tempfile.TemporaryDirectory() as folder:
-                big_files.write(os.path.join(folder, f"{big_files.BIG[name][0]}.csv"), name, "with a header")
+                big_files.write(os.path.join(folder, f"{big_files.BIG[name][0]}.csv"), name, "with a header", 1 << 20)
                 took = big_files.took(["check-files", folder], OFFICE=os.path.join(folder, "none.db"))
                 self.assertFalse(took.is_bad(), took)
                 self.assertRegex(took.said, "\n1 files, [0-9]+ mistakes, [0-9]+ notes\n$")
