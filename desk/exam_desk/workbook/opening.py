@@ -110,7 +110,9 @@ def read_csv(data: bytes, name: str, encoding: str | None = None) -> Book:
     if comma != ",":
         notes.append(f"its columns are parted by {'tabs' if comma == chr(9) else comma}")
     sheet, budget = Sheet(name), Budget()
-    for record in forms.records(text.encode(), re.escape(comma).encode() if comma == "|" else comma.encode()):
+    if not comma.isascii() or comma in '"\r\n':
+        raise Trouble(f"{comma} cannot part columns, as its first line says: save it with commas or semicolons")
+    for record in forms.records(text.encode(), comma.encode()):
         if not record.closed:
             raise Trouble(f"a quote is not closed in line {record.line}")
         cells = {column: text_cell(field.decode()) for column, field in enumerate(record.fields, 1) if field}
