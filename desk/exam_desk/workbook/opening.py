@@ -110,7 +110,7 @@ def read_csv(data: bytes, name: str, encoding: str | None = None) -> Book:
     if comma != ",":
         notes.append(f"its columns are parted by {'tabs' if comma == chr(9) else comma}")
     sheet, budget = Sheet(name), Budget()
-    if not comma.isascii() or comma in '"\r\n':
+    if comma != "\t" and not (comma.isascii() and comma.isprintable() and comma != '"'):
         raise Trouble(f"{comma} cannot part columns, as its first line says: save it with commas or semicolons")
     for record in forms.records(text.encode(), comma.encode()):
         if not record.closed:
