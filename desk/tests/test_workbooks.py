@@ -19,6 +19,7 @@ import corpus  # noqa: E402
 import rawbook  # noqa: E402
 from exam_desk.trouble import Trouble  # noqa: E402
 from exam_desk.workbook import carrying, opening  # noqa: E402
+from exam_desk.workbook.plans import workbook_of  # noqa: E402
 from exam_desk.workbook.reading import Reading  # noqa: E402
 from exam_desk.workbook.report import Report  # noqa: E402
 from exam_desk.workbook.writing import write_folder  # noqa: E402
@@ -124,6 +125,17 @@ class Writing(unittest.TestCase):
             with self.assertRaisesRegex(Trouble, "is there already"):
                 write_folder(target, Reading({}, Report()), "read.txt")
             self.assertEqual([], os.listdir(target))
+
+
+    @needs_openpyxl
+    def test_texts_stay_texts_whatever_they_look_like(self) -> None:
+        names = ["=1+1", "#N/A", "A_x0041_", "0017", "2027-06-01", "1E5", "'t Hooft", "=HYPERLINK(\"x\")", "TRUE", "\u05d0 \u00e9"]
+        rows = [[f"{place:07}", name, f"CODE{place:04}"] for place, name in enumerate(names, 1)]
+        book = opening.read_zip(workbook_of({"candidates": rows}))
+        [sheet] = [sheet for sheet in book.sheets if sheet.name == "Candidates"]
+        found = [[cell.text for _, cell in sorted(cells.items())] for row, cells in sorted(sheet.rows.items()) if row > 1]
+        self.assertEqual(rows, found)
+        self.assertEqual({"text"}, {cell.kind for cells in sheet.rows.values() for cell in cells.values()})
 
 
 class Commands(sample.SampleSchool):
