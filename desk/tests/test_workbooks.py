@@ -2,6 +2,7 @@
 from __future__ import annotations
 
 import concurrent.futures
+import csv
 import json
 import os
 import pathlib
@@ -205,8 +206,8 @@ class Commands(sample.SampleSchool):
         """A file as a spreadsheet writes it that has turned numbers, dates and times into its own."""
         lines = [",".join(self.header(kind)), *self.rows("facts", kind)]
         out = []
-        for line in lines:
-            fields = [field.lstrip("0") if len(field) == 7 and field.isdigit() else field for field in line.split(",")]
+        for record in csv.reader(lines):
+            fields = [field.lstrip("0") if len(field) == 7 and field.isdigit() else field for field in record]
             fields = ["/".join(reversed(field.split("-"))) if field[:2] == "20" and field.count("-") == 2 else field
                       for field in fields]
             out.append(";".join([*(field.removeprefix("0") if ":" in field else field for field in fields), "", ""]))
