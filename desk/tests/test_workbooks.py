@@ -2,6 +2,7 @@
 from __future__ import annotations
 
 import concurrent.futures
+import csv
 import json
 import os
 import pathlib
@@ -19,6 +20,7 @@ import corpus  # noqa: E402
 import rawbook  # noqa: E402
 from exam_desk.trouble import Trouble  # noqa: E402
 from exam_desk.workbook import carrying, opening  # noqa: E402
+from exam_desk.workbook.plans import workbook_of  # noqa: E402
 from exam_desk.workbook.reading import Reading  # noqa: E402
 from exam_desk.workbook.report import Report  # noqa: E402
 from exam_desk.workbook.writing import write_folder  # noqa: E402
@@ -126,6 +128,17 @@ class Writing(unittest.TestCase):
             self.assertEqual([], os.listdir(target))
 
 
+    @needs_openpyxl
+    def test_texts_stay_texts_whatever_they_look_like(self) -> None:
+        names = ["=1+1", "#N/A", "A_x0041_", "0017", "2027-06-01", "1E5", "'t Hooft", "=HYPERLINK(\"x\")", "TRUE", "\u05d0 \u00e9"]
+        rows = [[f"{place:07}", name, f"CODE{place:04}"] for place, name in enumerate(names, 1)]
+        book = opening.read_zip(workbook_of({"candidates": rows}))
+        [sheet] = [sheet for sheet in book.sheets if sheet.name == "Candidates"]
+        found = [[cell.text for _, cell in sorted(cells.items())] for row, cells in sorted(sheet.rows.items()) if row > 1]
+        self.assertEqual(rows, found)
+        self.assertEqual({"text"}, {cell.kind for cells in sheet.rows.values() for cell in cells.values()})
+
+
 class Commands(sample.SampleSchool):
     """The commands over the sample school."""
 
@@ -193,8 +206,8 @@ class Commands(sample.SampleSchool):
         """A file as a spreadsheet writes it that has turned numbers, dates and times into its own."""
         lines = [",".join(self.header(kind)), *self.rows("facts", kind)]
         out = []
-        for line in lines:
-            fields = [field.lstrip("0") if len(field) == 7 and field.isdigit() else field for field in line.split(",")]
+        for record in csv.reader(lines):
+            fields = [field.lstrip("0") if len(field) == 7 and field.isdigit() else field for field in record]
             fields = ["/".join(reversed(field.split("-"))) if field[:2] == "20" and field.count("-") == 2 else field
                       for field in fields]
             out.append(";".join([*(field.removeprefix("0") if ":" in field else field for field in fields), "", ""]))
