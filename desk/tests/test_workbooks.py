@@ -142,9 +142,9 @@ class Writing(unittest.TestCase):
 class Commands(sample.SampleSchool):
     """The commands over the sample school."""
 
-    def rows(self, folder: str, kind: str) -> list[str]:
-        with open(os.path.join(self.folder, folder, f"{kind}.csv"), encoding="utf-8-sig") as file:
-            return file.read().split("\n")[1:-1]
+    def rows(self, folder: str, kind: str) -> list[list[str]]:
+        with open(os.path.join(self.folder, folder, f"{kind}.csv"), encoding="utf-8-sig", newline="") as file:
+            return list(csv.reader(file))[1:]
 
     @needs_openpyxl
     def test_the_template_has_the_seven_sheets_and_an_example_that_is_left(self) -> None:
@@ -204,9 +204,8 @@ class Commands(sample.SampleSchool):
 
     def spoiled(self, kind: str) -> str:
         """A file as a spreadsheet writes it that has turned numbers, dates and times into its own."""
-        lines = [",".join(self.header(kind)), *self.rows("facts", kind)]
         out = []
-        for record in csv.reader(lines):
+        for record in [self.header(kind), *self.rows("facts", kind)]:
             fields = [field.lstrip("0") if len(field) == 7 and field.isdigit() else field for field in record]
             fields = ["/".join(reversed(field.split("-"))) if field[:2] == "20" and field.count("-") == 2 else field
                       for field in fields]
@@ -224,16 +223,16 @@ class Commands(sample.SampleSchool):
 
     @needs_openpyxl
     def test_the_office_fills_codes_and_knows_papers(self) -> None:
-        first = self.office("dump", "facts") and self.rows("facts", "candidates")[0].split(",")
-        paper = self.rows("facts", "papers")[0].split(",")[0]
+        first = self.office("dump", "facts") and self.rows("facts", "candidates")[0]
+        paper = self.rows("facts", "papers")[0][0]
         book = rawbook.xlsx({"name": "Candidates", "rows": [["number", "name"], [first[0], first[1]]]},
                             {"name": "Entries", "rows": [["number", paper], [first[0], "x"]]})
         pathlib.Path(self.folder, "b.xlsx").write_bytes(book)
         said = self.office("read", "b.xlsx", "new")
         self.assertIn("code (empty) became the one that the office has", said)
         self.assertNotIn(first[2], said)
-        self.assertEqual([",".join(first)], self.rows("new", "candidates"))
-        self.assertEqual([f"{first[0]},{paper}"], self.rows("new", "entries"))
+        self.assertEqual([first], self.rows("new", "candidates"))
+        self.assertEqual([[first[0], paper]], self.rows("new", "entries"))
 
 
 if __name__ == "__main__":
