@@ -12,6 +12,7 @@ mod limits;
 mod opening;
 mod orders;
 mod own;
+mod parts;
 mod questions;
 mod replies;
 mod seating;
