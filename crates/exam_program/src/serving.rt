@@ -20,15 +20,16 @@ const LONGEST_SILENCE: u64 = 2;
 /// How many seconds a connection may last, so that a slow client does not block the office.
 const LONGEST_CONNECTION: u64 = 10;
 
-/// How many milliseconds a read waits once its time is over. What has arrived by then is read all the same, so a
-/// program that was stopped and continued loses no request that has arrived.
-const LAST_LOOK: u64 = 1;
+/// How many milliseconds a read or a write waits once its time is over. What has arrived by then is read all the same,
+/// and what the client has room for is sent. So a program that was stopped and continued loses no request that has
+/// arrived, and no answer to a client that waits.
+const LAST_MOMENT: u64 = 1;
 
 /// The server ends after so many connections.
 const MOST_CONNECTIONS: usize = 4_294_967_295;
 
 /// A connection with a time for each read and write, and for the whole. Once the time is over, a read gives only what
-/// has arrived, and a write fails.
+/// has arrived, and a write sends only what the client has room for.
 #[derive(Drop)]
 struct Timed<'s> {
     stream: &'s TcpStream,
@@ -37,11 +38,12 @@ struct Timed<'s> {
 }
 
 impl Timed<'_> {
-    /// How much longer a read or a write that began at this moment may last.
+    /// How much longer a read or a write that began at this moment may wait.
     fn time_left(&self, began: Instant) -> io::Result<Duration> {
         let silence = left_of(self.rt, LONGEST_SILENCE, began)?;
         let connection = left_of(self.rt, LONGEST_CONNECTION, self.since)?;
-        Ok(silence.min(connection))
+        let left = silence.min(connection);
+        Ok(left.max(Duration::from_millis(LAST_MOMENT)))
     }
 }
 
@@ -55,8 +57,7 @@ impl Read for Timed<'_> {
         let began = Instant::now(self.rt)?;
         let mut stream = self.stream;
         for _ in 0..u64::MAX {
-            let wait = self.time_left(began)?.max(Duration::from_millis(LAST_LOOK));
-            self.stream.set_read_timeout(Some(wait))?;
+            self.stream.set_read_timeout(Some(self.time_left(began)?))?;
             match stream.read(buf) {
                 // A signal interrupted the read, for example because the program was stopped and continued.
                 Err(error) if error.kind() == ErrorKind::Interrupted => {}
@@ -72,11 +73,7 @@ impl Write for Timed<'_> {
         let began = Instant::now(self.rt)?;
         let mut stream = self.stream;
         for _ in 0..u64::MAX {
-            let left = self.time_left(began)?;
-            if left.is_zero() {
-                return Err(io::Error::from(ErrorKind::TimedOut));
-            }
-            self.stream.set_write_timeout(Some(left))?;
+            self.stream.set_write_timeout(Some(self.time_left(began)?))?;
             match stream.write(buf) {
                 Err(error) if error.kind() == ErrorKind::Interrupted => {}
                 done => return done,
@@ -109,8 +106,8 @@ pub fn serve<S: Alter, O: Write, E: Write>(
     serve_each(rt, store, today, &listener, err)
 }
 
-/// Serves one connection after the other, until one cannot be accepted, or until it has served as many as it may. Only
-/// the requests change the store, and today is the day of each.
+/// Serves one connection after the other, until one cannot be accepted, or until it has served as many as it may. The
+/// store changes as if requests had asked for it, and today is the day of each.
 pub fn serve_each<S: Alter, E: Write>(
     rt: &HostRuntime,
     store: &mut Store<S>,
