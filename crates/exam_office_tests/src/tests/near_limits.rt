@@ -46,7 +46,7 @@ fn shared_feature(hall: u32) -> &'static str {
 
 /// Opens the hall P so many. The later one is open a minute longer.
 fn open_hall(alloc: Global, school: &mut School, hall: u32, desks: u32) -> Result<(), Fail> {
-    let minute = 640 + hall;
+    let minute = hall.wrapping_add(640);
     let (hour, past) = (minute / 60, minute % 60);
     let line = format!(in alloc; "opening S1 P{hall} {desks} {hour}:{past:02}")?;
     add_fact(alloc, school, line.as_str())
@@ -70,7 +70,8 @@ fn add_candidate(
     let feature = shared_feature(first);
     let needs = format!(in alloc; "arrangement {number} {feature} {first}")?;
     add_fact(alloc, school, needs.as_str())?;
-    for hall in end..first / 10 * 10 + 11 {
+    let behind = (first / 10 * 10).wrapping_add(11);
+    for hall in end..behind {
         let barred = format!(in alloc; "granted {number} R{hall} S1 hall P{hall}")?;
         add_fact(alloc, school, barred.as_str())?;
     }
