@@ -199,8 +199,6 @@ def listener(place: str) -> Iterator[socket.socket]:
                 listening.setsockopt(socket.SOL_SOCKET, socket.SO_REUSEADDR, 1)
                 listening.bind(where)
             listening.listen(BACKLOG)
-        except beside.Strange:
-            raise
         except OSError as fault:
             school.stop(f"{asking.shown(place)} cannot be had: {fault.strerror or fault}")
         yield listening
