@@ -203,7 +203,7 @@ class Lists(sample.SampleSchool):
     def test_signals_leave_nothing(self):
         temporary = os.path.join(self.folder, "temporary")
         os.mkdir(temporary)
-        slow = self.write("slow", f"#!/bin/sh\nsleep 30\n")
+        slow = self.write("slow", "#!/bin/sh\nsleep 30\n")
         os.chmod(slow, 0o700)
         for number in (signal.SIGHUP, signal.SIGINT, signal.SIGTERM):
             environment = {**self.environment, "TMPDIR": temporary, "EXAMOFFICE": slow}
