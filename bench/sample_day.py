@@ -20,6 +20,7 @@ class Step(NamedTuple):
     number: str = ""
     page: str = "appeals"
     body: str = ""
+    code: str = ""  # that is shown, where it is not the candidate's of the sample school
 
     def name(self):
         return " ".join(self.words) or f"{self.method} {self.number}/{self.page}"
@@ -144,7 +145,7 @@ class Office:
         """The bytes of a request."""
         body = step.body.encode()
         head = (f"{step.method} /candidates/{step.number}/{step.page} HTTP/1.1\r\nHost: x\r\n"
-                f"Exam-Code: {self.codes.get(step.number, 'NOCODE00')}\r\nContent-Length: {len(body)}\r\n\r\n")
+                f"Exam-Code: {step.code or self.codes.get(step.number, 'NOCODE00')}\r\nContent-Length: {len(body)}\r\n\r\n")
         return head.encode() + body
 
     def ask(self, step):

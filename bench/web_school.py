@@ -101,6 +101,10 @@ class School(contextlib.ExitStack):
         with contextlib.suppress(AssertionError):
             wait_for(lambda: not pathlib.Path(f"/proc/{process}").exists(), "the end of nginx", 20)
 
+    def behind_text(self):
+        """Where nginx finds what it hands requests on to."""
+        return f"http://127.0.0.1:{self.behind}"
+
     def configuration(self, front):
         """web/nginx.conf with the ports and the places of this trial, and nothing else changed."""
         text = (built.TOP / "web/nginx.conf").read_text("utf-8")
@@ -111,7 +115,7 @@ class School(contextlib.ExitStack):
                          ("worker_processes auto;", "worker_processes 1;"),
                          ("/var/log/nginx/", f"{self.folder}/"),
                          ("listen 127.0.0.1:8000;", f"listen 127.0.0.1:{front};"),
-                         ("http://127.0.0.1:8080", f"http://127.0.0.1:{self.behind}"),
+                         ("http://unix:/run/examoffice/keep.socket", self.behind_text()),
                          ("/usr/share/examoffice/web", str(built.TOP / "web")),
                          ("root /var/www/examoffice", f"root {self.public}"),
                          ("\nhttp {\n", f"\nhttp {{\n   {temporary}\n"), *self.changes]:

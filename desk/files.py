@@ -1,7 +1,12 @@
 """The seven kinds of import file: their headers, the form of each value, and the records of a file as the program reads
 them (the reader `csv` of Rust in its default setting, over RFC 4180)."""
+import csv
 import datetime
+import io
+import itertools
+import operator
 import re
+from collections.abc import Callable, Iterable, Iterator
 from typing import NamedTuple
 
 import school
@@ -26,101 +31,110 @@ UNKNOWN = {"sessions": 4, "papers": 5, "candidates": 6, "halls": 7}  # the refus
 KEYS = {"openings": 2, "entries": 2}  # how many columns make the key; elsewhere the first alone
 FIRST_DAY, LAST_DAY = datetime.date(2000, 1, 11), datetime.date(2199, 12, 31)
 BOM = b"\xef\xbb\xbf"
+FORMULA = re.compile(r"(^|[;\t\r\n])(\s*[=+\-@＝＋－＠])")  # some spreadsheets take the wide signs too
 
 
 class Record(NamedTuple):
     line: int  # of the file, where it begins
-    fields: list[bytes]
+    fields: tuple[bytes, ...]
     closed: bool  # no quote is left open
 
 
-def records(text, comma=b","):
-    """The records of a file, the header among them. Blank lines are none; an open quote runs to the end."""
-    unquoted = re.compile(rb"[^" + comma + rb"\r\n]*")
-    place = len(BOM) if text.startswith(BOM) else 0
+def read(path: str) -> bytes:
+    """The bytes of a file, at most one more than an import takes."""
+    with open(path, "rb") as file:
+        return file.read(MOST_BYTES + 1)
+
+
+def records(text: bytes, comma: bytes = b",") -> Iterator[Record]:
+    """The records of a file, the header among them. Blank lines are none; an open quote runs to the end.
+
+    Python's reader finds them in texts, so each byte becomes a letter. It knows no byte order mark, and says nothing of
+    an open quote: such a quote holds the blank line that is put behind the file.
+    """
+    lines = io.TextIOWrapper(io.BytesIO(text.removeprefix(BOM)), "latin-1", newline="")
+    behind = iter(["\n"])
+    csv.field_size_limit(MOST_BYTES + 1)
+    reader = csv.reader(itertools.chain(lines, behind), delimiter=comma.decode("ascii"))
     line = 1
-    fields = []
-    while place < len(text):
-        if not fields and text[place] in b"\r\n":
-            line += newlines(text, place, place + 1)
-            place += 1
-            continue
-        start = place if not fields else start
-        field, place, closed = read_field(text, place, unquoted)
-        fields.append(field)
-        ended = place >= len(text) or text[place] in b"\r\n"
-        if not ended:
-            place += 1  # the comma
-            if place >= len(text):
-                fields.append(b"")
-                ended = True
-        if ended:
-            yield Record(line, fields, closed)
-            line += newlines(text, start, place)
-            fields = []
+    for fields in reader:
+        if fields:
+            closed = operator.length_hint(behind) > 0
+            if not closed:
+                fields[-1] = fields[-1][:-1]
+            yield Record(line, as_bytes(fields), closed)
+        line = reader.line_num + 1
 
 
-def read_field(text, place, unquoted):
-    """A field, the place of the comma or line end behind it, and whether its quote is closed."""
-    field = b""
-    if text[place:place + 1] == b'"':
-        place += 1
-        while True:
-            end = text.find(b'"', place)
-            if end < 0:
-                return field + text[place:], len(text), False
-            field += text[place:end]
-            place = end + 1
-            if text[place:place + 1] != b'"':
-                break
-            field += b'"'
-            place += 1
-    rest = unquoted.match(text, place)
-    return field + rest.group(), rest.end(), True
+def as_bytes(fields: list) -> tuple[bytes, ...]:
+    """The fields of a row. Each text goes as its bytes come, since a row can have a million of them."""
+    for place, field in enumerate(fields):
+        fields[place] = field.encode("latin-1")
+    return tuple(fields)
 
 
-def newlines(text, start, end):
-    """How many lines end between two places: at LF, CR LF, or CR alone."""
-    return text.count(b"\n", start, end) + text.count(b"\r", start, end) - text.count(b"\r\n", start, end + 1)
+def guarded(text: str) -> str:
+    """A text of which no spreadsheet makes a formula, even one that parts at semicolons: an apostrophe stands before each
+    sign with which a formula could begin."""
+    return FORMULA.sub(r"\1'\2", text)
 
 
-def is_number(text):
-    return re.fullmatch(rb"[0-9]{7}", text) and int(text) > 0
+def written(rows: Iterable[Iterable[object]]) -> str:
+    """Records as CSV, each value in quotes."""
+    text = io.StringIO()
+    csv.writer(text, lineterminator="\n", quoting=csv.QUOTE_ALL).writerows(rows)
+    return text.getvalue()
 
 
-def is_date(text):
-    if not re.fullmatch(rb"[0-9]{4}-[0-9]{2}-[0-9]{2}", text):
+Form = Callable[[bytes], object]  # true where a value has the right form
+
+
+def form(pattern: bytes) -> Form:
+    return re.compile(pattern).fullmatch
+
+
+def whole(low: int, high: int) -> Form:
+    digits = form(rb"0|[1-9][0-9]{0,3}")
+    return lambda text: digits(text) and low <= int(text) <= high
+
+
+LIKE_A_DATE = form(rb"[0-9]{4}-[0-9]{2}-[0-9]{2}")
+CONTROL = re.compile(rb"[\x00-\x1f\x7f]")
+FEATURES = [name.encode() for name in school.FEATURES]
+
+
+def is_number(text: bytes) -> bool:
+    return len(text) == 7 and text.isdigit() and text != b"0000000"
+
+
+def is_date(text: bytes) -> bool:
+    if not LIKE_A_DATE(text):
         return False
     try:
-        return FIRST_DAY <= datetime.date.fromisoformat(text.decode()) <= LAST_DAY
+        return FIRST_DAY <= datetime.date.fromisoformat(text.decode("ascii")) <= LAST_DAY
     except ValueError:
         return False
 
 
-def is_name(text):
+def is_name(text: bytes) -> bool:
+    return 1 <= len(text) <= 80 and not CONTROL.search(text) and is_utf_8(text)
+
+
+def is_utf_8(text: bytes) -> bool:
     try:
         text.decode()
     except UnicodeDecodeError:
         return False
-    return 1 <= len(text) <= 80 and not re.search(rb"[\x00-\x1f\x7f]", text)
+    return True
 
 
-def is_features(text):
+def is_features(text: bytes) -> bool:
     named = text.split(b"+")
-    names = [name.encode() for name in school.FEATURES]
-    return text == b"-" or (set(named) <= set(names) and named == sorted(set(named), key=names.index))
-
-
-def form(pattern):
-    return re.compile(pattern).fullmatch
-
-
-def whole(low, high):
-    return lambda text: re.fullmatch(rb"0|[1-9][0-9]{0,3}", text) and low <= int(text) <= high
+    return text == b"-" or named == [name for name in FEATURES if name in named]
 
 
 is_code, is_hall = form(rb"[A-Z0-9-]{1,12}"), form(rb"[A-Z0-9]{1,8}")
-FORMS = {  # of each kind by column
+FORMS: dict[str, list[Form]] = {  # of each kind by column
     "sessions": [is_code, is_date, form(rb"([01][0-9]|2[0-3]):[0-5][0-9]")],
     "papers": [is_code, is_name, is_code, whole(1, 600), is_features],
     "halls": [is_hall, is_name, is_features],
@@ -131,11 +145,11 @@ FORMS = {  # of each kind by column
 }
 
 
-def is_header(kind, record):
-    return record is not None and [field.decode("latin-1") for field in record.fields] == HEADERS[kind]
+def is_header(kind: str, record: Record | None) -> bool:
+    return record is not None and record.fields == tuple(name.encode() for name in HEADERS[kind])
 
 
-def bad_column(kind, record):
+def bad_column(kind: str, record: Record) -> int | None:
     """The first bad column of a record, from 1; 0 for a wrong count of fields, None where all is right."""
     if len(record.fields) != len(HEADERS[kind]):
         return 0
@@ -145,11 +159,17 @@ def bad_column(kind, record):
     return None
 
 
-def key_of(kind, record):
-    return tuple(record.fields[:KEYS.get(kind, 1)])
+def key_of(kind: str, fields: tuple[bytes, ...]) -> tuple[bytes, ...]:
+    return fields[:KEYS.get(kind, 1)]
 
 
-def shown(field):
+def shown(field: bytes) -> str:
     """A field for a terminal, in quotes, at most some 60 letters of it."""
-    text = school.plain(field.decode("utf-8", "replace"))
+    text = school.plain(field[:300].decode("utf-8", "replace"))
     return f"'{text[:57]}..'" if len(text) > 60 else f"'{text}'"
+
+
+def row_shown(fields: tuple[bytes, ...]) -> str:
+    """The fields of a row for a terminal, in one line, at most some 240 letters of it."""
+    text = ",".join(shown(field)[1:-1] for field in fields[:120])
+    return f"{text[:237]}.." if len(text) > 240 or len(fields) > 120 else text

@@ -1,185 +1,271 @@
-"""What `keep` does: serves the office, with one lock for all that use it, and comes back after each command."""
+"""What `keep` does: serves the office, with one lock for all that use it, and comes back after each command.
+
+It begins `serve` anew whatever ends it or keeps it from beginning. Nothing ends `keep` itself but its signals, or a port
+or a socket that cannot be had.
+"""
+from __future__ import annotations
+
 import asyncio
 import contextlib
 import ctypes
 import datetime
+import io
 import json
 import os
-import shutil
 import signal
 import socket
 import stat
 import subprocess
 import sys
 import time
+from collections.abc import Callable, Iterator
 
+import asking
+import beside
 import copies
 import hold
 import school
 import turns
 
-PLACE = "days"
+SOCKET = "keep.socket"  # in the folder that `keep` is given
+MOST_PATH = 107  # bytes of the path of a socket
+BACKLOG = 4096  # a socket without room refuses at once; the system may allow less
 MOST_LOG = 1 << 20  # bytes
+MOST_FAULT = 60  # letters of a fault that others are shown
 LONGEST_PAUSE = 5  # seconds from a `serve` that failed to the next
+TURN_SECONDS = 3  # that commands wait at most until candidates who waited have their answers
+ENDING_SECONDS = 5  # in which `serve` ends by itself
 PR_SET_PDEATHSIG = 1
 
 
-def say(text):
+def say(text: object) -> None:
     """Writes a line, unless the file that takes it is full: whoever makes faults all day must not fill the disk."""
     found = os.fstat(sys.stderr.fileno())
     if stat.S_ISREG(found.st_mode) and found.st_size > MOST_LOG:
         return
     line = f"{datetime.datetime.now().isoformat(' ', 'seconds')} {school.plain(text)}\n"
     with contextlib.suppress(OSError):  # a full disk is no reason to end
-        os.write(sys.stderr.fileno(), line.encode())
+        os.write(sys.stderr.fileno(), line.encode("utf-8", "backslashreplace"))
 
 
 class Keep:
     """Serves through a `Hold` until it is told to end."""
 
-    def __init__(self, port, days, lock):
-        self.port, self.days, self.lock = port, days, lock
+    def __init__(self, place: str, days: int, lock: int) -> None:
+        self.place, self.days, self.lock = place, days, lock
         self.hold = hold.Hold()
         self.wanted = asyncio.Event()  # a command wants the office, or it is time to end
         self.ending = False
-        self.fault = ""
+        self.fault = ""  # what `serve` complained of last
 
-    def show(self, **state):
+    def show(self, **state: object) -> None:
         """Writes into the lock file what `keep` does."""
-        turns.note(self.lock, json.dumps({"pid": os.getpid(), "port": self.port, **state}))
+        said = {"pid": os.getpid(), "place": self.place, **state}
+        turns.note(self.lock, json.dumps(said, ensure_ascii=False))
 
-    def end(self):
+    def show_fault(self, fault: str) -> None:
+        say(fault)
+        self.show(state=school.plain(fault)[:MOST_FAULT])
+
+    def end(self) -> None:
         self.ending = True
         self.wanted.set()
 
-    async def run(self):
+    async def run(self) -> None:
         loop = asyncio.get_running_loop()
         for number in (signal.SIGTERM, signal.SIGINT, signal.SIGHUP):
             loop.add_signal_handler(number, self.end)
         loop.add_signal_handler(signal.SIGUSR1, self.wanted.set)
-        try:
-            server = await asyncio.start_server(self.hold.take, "127.0.0.1", self.port, backlog=512, limit=1 << 16)
-        except OSError as fault:
-            school.stop(f"port {self.port} cannot be had: {fault.strerror}")
-        self.show()
-        failures = 0
-        async with server:
-            while not self.ending:
-                began = time.monotonic()
-                failed = await self.serve()
-                failures = failures + 1 if failed and time.monotonic() - began < LONGEST_PAUSE else 0
-                if failures and not self.ending:
-                    await asyncio.sleep(min(0.1 * 2 ** failures, LONGEST_PAUSE))
+        with listener(self.place) as listening:
+            async with await asyncio.start_server(self.hold.take, sock=listening, backlog=BACKLOG, limit=1 << 16):
+                self.show()
+                await self.serve_again_and_again()
         say("ended")
 
-    async def serve(self):
-        """Serves until a command wants the office, the day ends, `keep` ends, or `serve` does: then it gives True."""
-        with contextlib.ExitStack() as want, contextlib.ExitStack() as office:
-            want.enter_context(await self.locked("want.lock"))
-            office.enter_context(await self.locked("office.lock"))
+    async def serve_again_and_again(self) -> None:
+        failures = 0
+        while not self.ending:
+            began = time.monotonic()
+            failed = await self.served()
+            failures = failures + 1 if failed and time.monotonic() - began < LONGEST_PAUSE else 0
+            if failures and not self.ending:
+                await asyncio.sleep(min(0.1 * 2 ** failures, LONGEST_PAUSE))
+
+    async def served(self) -> bool:
+        """Serves once, and gives whether that failed."""
+        try:
+            return await self.serve()
+        except (Exception, SystemExit) as fault:  # whatever it is, candidates wait
+            self.show_fault(f"serve cannot begin: {fault or type(fault).__name__}")
+            return True
+
+    async def serve(self) -> bool:
+        """Serves until a command wants the office, the day ends, `keep` ends, or `serve` fails: then it gives True."""
+        with contextlib.ExitStack() as turn, contextlib.ExitStack() as want, contextlib.ExitStack() as office:
+            first = turn.enter_context(turns.opened("turn.lock"))
+            await self.locked(want.enter_context(turns.opened("want.lock")), first)
+            await self.locked(office.enter_context(turns.opened("office.lock")), first)
             if self.ending:
                 return False
             self.wanted.clear()  # a command wants the office only while it holds want.lock
+            self.hold.broken.clear()
             day = school.today()
             self.keep_day(day)
-            process = await start_serve(port := free_port())
-            want.close()
-            tasks = [asyncio.create_task(task) for task in
-                     (process.wait(), self.wanted.wait(), day_has_ended(day), self.read_faults(process))]
+            process = await start_serve(port := asking.free_port())
+            faults = asyncio.create_task(self.read_faults(process))
+            fault = "serve cannot be watched"
             try:
-                await self.open(process, port, day, tasks[1])
-                await asyncio.wait(tasks[:3], return_when=asyncio.FIRST_COMPLETED)
-                failed = tasks[0].done()
+                want.close()
+                fault = await self.until_over(process, asking.Server(process.pid, str(port)), day, turn)
             finally:
                 self.hold.close()
-                await stopped(process)
-                for task in tasks[1:3]:
-                    task.cancel()
-                await tasks[3]
-            self.show(state=f"serve ended: {self.fault}" if failed else "aside")
-            if failed:
-                say(f"serve ended with status {process.returncode}")
-            return failed
+                self.show(state=fault[:MOST_FAULT] or "aside")
+                await stopped(process, at_once=self.hold.broken.is_set())
+                await faults
+            if fault:
+                self.show_fault(": ".join(filter(None, [fault, self.fault])))
+            return fault != ""
 
-    async def open(self, process, port, day, wanted):
-        """Hands requests on once `serve` has said that it serves."""
-        line = asyncio.create_task(process.stdout.readline())
-        await asyncio.wait([line, wanted], return_when=asyncio.FIRST_COMPLETED)
-        if line.done() and line.result().startswith(b"serving"):
-            self.hold.open(port)
-            self.show(state="serving", serve=process.pid, day=day.isoformat())
-        line.cancel()
-
-    async def locked(self, name):
-        """A lock, once it is free or `keep` ends, as a context."""
-        context = contextlib.ExitStack()
-        file = turns.open_lock(name)
-        context.callback(os.close, file)
-        while not self.ending and not turns.try_lock(file):
-            await asyncio.sleep(0.01)
-        return context
-
-    async def read_faults(self, process):
-        """Reads what `serve` complains of: it would stop at a full pipe."""
-        while line := await process.stderr.readline():
-            self.fault = line.decode("utf-8", "replace").strip()
-            say(self.fault)
-
-    def keep_day(self, day):
-        """Keeps a copy of the office at each new day, and the last of them."""
-        place = os.path.join(turns.inside(PLACE), day.isoformat())
-        if os.path.exists(place):
-            return
-        making = place + ".new"
+    async def until_over(self, process: asyncio.subprocess.Process, server: asking.Server, day: datetime.date,
+                         turn: contextlib.ExitStack) -> str:
+        """Waits until `serve` is to end, or has ended; gives its fault, "" without one."""
+        ended, _, _, broken = ends = [asyncio.create_task(task) for task in (
+            process.wait(), self.wanted.wait(), day_has_ended(day), self.hold.broken.wait())]
+        opening = asyncio.create_task(self.open(process, server, day))
+        following = asyncio.create_task(self.let_commands_follow(opening, turn))
         try:
-            turns.make_folder(PLACE)
-            shutil.rmtree(making, ignore_errors=True)
-            os.mkdir(making, 0o700)
-            school.copy_files(os.path.realpath(school.office_path()), os.path.join(making, copies.base_name()))
-            os.rename(making, place)
-            say(f"copy of the day in {place}")
-            for old in sorted(os.listdir(turns.inside(PLACE)))[:-self.days]:
-                shutil.rmtree(turns.inside(PLACE, old), ignore_errors=True)
+            await asyncio.wait([opening, *ends], return_when=asyncio.FIRST_COMPLETED)
+            if opening.done() and opening.result():
+                return opening.result()
+            await asyncio.wait(ends, return_when=asyncio.FIRST_COMPLETED)
+            if broken.done():
+                return f"serve begins anew after {self.hold.fault}"
+            return f"serve ended with status {process.returncode}" if ended.done() else ""
+        finally:
+            for task in (opening, following, *ends):
+                task.cancel()
+
+    async def open(self, process: asyncio.subprocess.Process, server: asking.Server, day: datetime.date) -> str:
+        """Hands requests on once `serve` has said that it serves; gives what speaks against it."""
+        if not (await process.stdout.readline()).startswith(b"serving"):
+            return ""  # it ends
+        if not asking.listens(server):
+            return f"/proc does not show that serve has port {server.place}"
+        self.hold.open(server)
+        self.show(state="serving", serve=process.pid, day=day.isoformat())
+        return ""
+
+    async def let_commands_follow(self, opening: asyncio.Task, turn: contextlib.ExitStack) -> None:
+        """Frees turn.lock once those candidates have their answers who wait when `serve` begins."""
+        await asyncio.wait([opening])
+        waited, until = self.hold.asked, time.monotonic() + TURN_SECONDS
+        while self.hold.answered < waited and time.monotonic() < until:
+            await asyncio.sleep(turns.PAUSE)
+        turn.close()
+
+    async def locked(self, file: int, first: int) -> None:
+        """Waits until a lock is had or `keep` ends; takes the lock of who goes first while candidates wait."""
+        while not self.ending and not turns.try_lock(file):
+            if self.hold.waiting():
+                turns.try_lock(first)
+            await asyncio.sleep(turns.PAUSE)
+
+    async def read_faults(self, process: asyncio.subprocess.Process) -> None:
+        """Reads what `serve` complains of: it would stop at a full pipe."""
+        self.fault = ""
+        while part := await process.stderr.read(1 << 12):
+            for line in part.decode("utf-8", "replace").splitlines():
+                self.fault = line.strip()
+                say(self.fault)
+
+    def keep_day(self, day: datetime.date) -> None:
+        """Keeps a copy of the office at each new day, and the last of them."""
+        try:
+            if path := copies.keep_day(day, self.days):
+                say(f"copy of the day in {path}")
         except OSError as fault:
-            shutil.rmtree(making, ignore_errors=True)
             say(f"no copy of the day: {fault.strerror or fault}")
 
 
-async def start_serve(port):
-    line = school.line_over(school.office_path(), "serve", str(port))
+@contextlib.contextmanager
+def listener(place: str) -> Iterator[socket.socket]:
+    """A socket that listens at a place; ends the script where it cannot be had."""
+    family, where = asking.address(place)
+    with socket.socket(family) as listening, contextlib.ExitStack() as undo:
+        try:
+            if family == socket.AF_UNIX:
+                undo.enter_context(bound_in_folder(listening, place))
+            else:
+                listening.setsockopt(socket.SOL_SOCKET, socket.SO_REUSEADDR, 1)
+                listening.bind(where)
+            listening.listen(BACKLOG)
+        except OSError as fault:
+            school.stop(f"{asking.shown(place)} cannot be had: {fault.strerror or fault}")
+        yield listening
+
+
+@contextlib.contextmanager
+def bound_in_folder(listening: socket.socket, path: str) -> Iterator[None]:
+    """Binds a socket in a folder that is ours alone and holds nothing else. The folder's group may use it."""
+    folder = os.path.dirname(path)
+    beside.refuse_strange(folder)
+    if others := sorted(set(os.listdir(folder)) - {SOCKET}):
+        school.stop(f"{folder} holds {others[0]}: give `keep` a folder that holds nothing else")
+    with socket.socket(socket.AF_UNIX) as other:
+        if other.connect_ex(path) == 0:
+            school.stop(f"{path} cannot be had: another process serves there")
+    with contextlib.suppress(FileNotFoundError):
+        os.remove(path)  # a `keep` that was killed left it
+    listening.bind(path)
+    try:
+        group = os.stat(folder).st_gid
+        os.chown(path, -1, group)
+        os.chmod(path, 0o660)
+        yield
+    finally:
+        with contextlib.suppress(OSError):
+            os.remove(path)
+
+
+async def start_serve(port: int) -> asyncio.subprocess.Process:
     return await asyncio.create_subprocess_exec(
-        *line, stdin=subprocess.DEVNULL, stdout=subprocess.PIPE, stderr=subprocess.PIPE,
+        *serve_line(port), stdin=subprocess.DEVNULL, stdout=subprocess.PIPE, stderr=subprocess.PIPE,
         preexec_fn=end_with(os.getpid()))
 
 
-def end_with(parent):
+def serve_line(port: int) -> list[str]:
+    """The line that serves. Raises OSError where there is no program, which ends a command and not `keep`."""
+    complaint = io.StringIO()
+    try:
+        with contextlib.redirect_stderr(complaint):
+            return school.line_over(school.office_path(), "serve", str(port))
+    except SystemExit:
+        raise OSError(complaint.getvalue().strip().removeprefix("office: ")) from None
+
+
+def end_with(parent: int) -> Callable[[], None]:
     """What a child does first, so that it ends where `keep` is killed."""
     library = ctypes.CDLL(None)
 
-    def arrange():
+    def arrange() -> None:
         library.prctl(PR_SET_PDEATHSIG, signal.SIGTERM)
         if os.getppid() != parent:
             os._exit(1)
     return arrange
 
 
-async def stopped(process):
+async def stopped(process: asyncio.subprocess.Process, at_once: bool) -> None:
+    """Ends `serve`: what it answered is kept, whenever it ends."""
     with contextlib.suppress(ProcessLookupError):
-        process.terminate()
+        process.kill() if at_once else process.terminate()
     try:
-        await asyncio.wait_for(process.wait(), 5)
+        await asyncio.wait_for(process.wait(), ENDING_SECONDS)
     except asyncio.TimeoutError:
         process.kill()
         await process.wait()
 
 
-async def day_has_ended(day):
+async def day_has_ended(day: datetime.date) -> None:
     """Waits for another date: no length of a night is reckoned, so a missing midnight or a set clock does no harm."""
     while school.today() == day:
         await asyncio.sleep(0.5)
-
-
-def free_port():
-    with contextlib.closing(socket.socket()) as listener:
-        listener.bind(("127.0.0.1", 0))
-        return listener.getsockname()[1]

@@ -1,16 +1,13 @@
 """What the lists and the papers for people share: their words, the sessions asked for, titles, the order of names."""
+from __future__ import annotations
+
 import argparse
 import datetime
-import re
 import sys
 import unicodedata
 
 import school
 
-BAD_ROWS = "there are rows that no office has; `office check` names the table"
-BARE = [("session", "code"), ("session", "day"), ("paper", "code"), ("hall", "code"), ("opening", "hall"),
-        ("candidate", "number"), ("candidate", "code"), ("appeal", "number"), ("appeal", "ref"), ("appeal", "target"),
-        ("appeal", "lodged"), ("seat", "hall")]  # columns whose values need no escape
 LETTERS = str.maketrans({"ø": "o", "æ": "ae", "œ": "oe", "ł": "l", "đ": "d", "ð": "d", "þ": "th", "ı": "i"})
 
 
@@ -26,27 +23,9 @@ def say(text):
     sys.stdout.flush()
 
 
-def begin():
-    """As `school.begin`; a fault over rows that no office has becomes a line too."""
-    school.begin()
-    sys.excepthook = tell
-
-
-def tell(kind, fault, place):
-    if issubclass(kind, (LookupError, ValueError, TypeError, ArithmeticError)):
-        school.warn(f"{school.office_path()}: {BAD_ROWS} ({kind.__name__}: {fault})")
-    else:
-        school.tell(kind, fault, place)
-
-
-def rows(path=None):
-    """As `school.rows`; codes, numbers and days can go into a page as they are, and the entries of a session are found
-    without a look at all entries."""
+def rows(path: str | None = None) -> school.Rows:
+    """As `school.rows`; the entries of a session are found without a look at all entries."""
     connection = school.rows(path)
-    for table, column in BARE:
-        values = connection.execute(f"SELECT DISTINCT {column} FROM {table}")
-        if not all(re.fullmatch("[A-Z0-9-]*", str(value)) for value, in values):
-            school.stop(f"{path or school.office_path()}: {BAD_ROWS} (table {table})")
     connection.executescript("PRAGMA query_only = OFF; CREATE INDEX IF NOT EXISTS paper_by_session ON paper (session); "
                              "CREATE INDEX IF NOT EXISTS entry_by_paper ON entry (paper); PRAGMA query_only = ON")
     return connection

@@ -1,11 +1,17 @@
 """The mistakes of import files: what the program refuses, in words, and what only a human eye can judge."""
+import heapq
+import itertools
 import re
+import sqlite3
 from collections import Counter, defaultdict
+from collections.abc import Callable, Iterable, Iterator, Sequence
 from typing import NamedTuple
 
 import files
 import school
 
+MOST_COUNTED = 100_000  # mistakes of a file; what is behind the last of them is not looked at
+MOST_TO_MEND = 200  # bytes of a value for which a better one is sought
 LIMITS = {"sessions": 400, "papers": 2000, "halls": 500, "candidates": 20000}
 MOST_MEMBERS, MOST_OPENINGS = 4096, 256  # of a session
 CODE = "1 to 12 of A-Z, 0-9 and -"
@@ -25,7 +31,8 @@ COMMAS = [(b",", ""), (b";", "semicolons part the columns: save it with commas")
 EMPTY_ROW = "an empty row of the spreadsheet: delete it"
 RIGHT = {column: right for kind, header in files.HEADERS.items() for column, right in zip(header, files.FORMS[kind])}
 WRONG_LETTERS = re.compile("Ã.|Â.|â€|Å[\x80-\xbf¡-ÿ€-™]|\ufffd")
-LIKE_A_NUMBER = re.compile(rb"[0-9]+E[0-9]+|[1-9][0-9]?0{4,}")
+LIKE_A_NUMBER = re.compile(rb"[0-9]+E[0-9]+|[1-9][0-9]?0{4,}").fullmatch
+LOST_ZEROS = re.compile(rb"([0-9]{1,7})(\.0+)?").fullmatch
 
 
 class Mistake(NamedTuple):
@@ -34,73 +41,109 @@ class Mistake(NamedTuple):
     text: str
 
 
+class Found:
+    """The mistakes of a file, or the notes on it: of each column so many as are to be shown, and how many there are."""
+
+    def __init__(self, most: int) -> None:
+        self.most, self.count = most, 0
+        self.shown: list[Mistake] = []
+        self.counts: Counter[str] = Counter()
+
+    def __iter__(self) -> Iterator[Mistake]:
+        """Those to be shown, by line."""
+        return iter(sorted(self.shown))
+
+    def __bool__(self) -> bool:
+        return bool(self.shown)
+
+    def add(self, line: int, column: str, text: str) -> None:
+        if self.is_shown(column):
+            self.shown.append(Mistake(line, column, text))
+
+    def add_value(self, line: int, column: str, field: bytes, text: str | Callable[[str, bytes], str]) -> None:
+        """As `add`, with the value; a text that is long to make is made only where it is shown."""
+        if self.is_shown(column):
+            text = text if isinstance(text, str) else text(column, field)
+            self.shown.append(Mistake(line, f"{column} {files.shown(field)}", text))
+
+    def is_shown(self, column: str) -> bool:
+        """Counts one more on a column, and says whether it is to be shown."""
+        self.count += 1
+        self.counts[column] += 1
+        return self.counts[column] <= self.most
+
+
 class Known:
     """What the office knows, or will know after the files that were looked at before; None for what cannot be said."""
 
-    def __init__(self, connection=None):
-        self.keys = {kind: set() for kind in LIMITS}
-        self.papers = {}  # the session of each
-        self.openings, self.entries, self.withdrawn, self.standing = set(), set(), set(), set()
-        self.codes = defaultdict(set)  # the numbers with an access code
+    def __init__(self, connection: sqlite3.Connection | None = None) -> None:
+        self.keys: dict[str, set[bytes] | None] = {kind: set() for kind in LIMITS}
+        self.papers: dict[bytes, bytes] = {}  # the session of each
+        self.openings: set[tuple[bytes, ...]] = set()
+        self.entries: set[tuple[bytes, ...]] = set()
+        self.withdrawn: set[tuple[bytes, ...]] = set()
+        self.standing: set[bytes] = set()
+        self.codes: defaultdict[bytes, set[bytes]] = defaultdict(set)  # the numbers with an access code
         if connection:
             self.read(connection)
 
-    def read(self, connection):
-        def rows(query):
-            return [tuple(str(value).encode() for value in row) for row in connection.execute(query)]
+    def read(self, connection: sqlite3.Connection) -> None:
+        def rows(query: str) -> Iterator[tuple[bytes, ...]]:
+            return (tuple(str(value).encode() for value in row) for row in connection.execute(query))
         number = "printf('%07d', number)"
-        self.keys["sessions"] = {key for key, in rows("SELECT code FROM session")}
-        self.keys["halls"] = {key for key, in rows("SELECT code FROM hall")}
-        self.papers = dict(rows("SELECT code, session FROM paper"))
-        self.keys["papers"] = set(self.papers)
-        self.openings = set(rows("SELECT session, hall FROM opening"))
-        self.entries = set(rows(f"SELECT {number}, paper FROM entry WHERE live = 1"))
-        self.withdrawn = set(rows(f"SELECT {number}, paper FROM entry WHERE live = 0"))
+        for kind in ("sessions", "halls", "papers"):
+            self.keys[kind] = {key for key, in rows(f"SELECT code FROM {kind[:-1]}")}
+        self.papers.update((code, session) for code, session in rows("SELECT code, session FROM paper"))
+        self.openings.update(rows("SELECT session, hall FROM opening"))
+        self.entries.update(rows(f"SELECT {number}, paper FROM entry WHERE live = 1"))
+        self.withdrawn.update(rows(f"SELECT {number}, paper FROM entry WHERE live = 0"))
         self.standing = {key for key, in rows(f"SELECT {number} FROM standing JOIN appeal USING (number, ref) "
                                               f"WHERE state = {school.GRANTED}")}
         for number, code in rows(f"SELECT {number}, code FROM candidate"):
-            self.keys["candidates"].add(number)
             self.codes[code].add(number)
+        self.keys["candidates"] = set().union(*self.codes.values())
 
-    def take(self, kind, rows):
+    def take(self, kind: str, rows: Sequence[tuple[bytes, ...]]) -> None:
         """Adds the rows of a file."""
-        if kind in self.keys and self.keys[kind] is not None:
-            self.keys[kind] |= {row[0] for row in rows}
+        keys = self.keys.get(kind)
+        if keys is not None:
+            keys.update(row[0] for row in rows)
         if kind == "papers":
             self.papers.update((row[0], row[2]) for row in rows)
         elif kind == "openings":
-            self.openings |= {(row[0], row[1]) for row in rows}
+            self.openings.update(row[:2] for row in rows)
         elif kind == "entries":
-            self.entries |= {tuple(row) for row in rows} - self.withdrawn
+            self.entries.update(row for row in rows if row not in self.withdrawn)
         elif kind == "candidates":
             for row in rows:
                 self.codes[row[2]].add(row[0])
 
-    def passed_limit(self):
+    def passed_limit(self) -> str | None:
         """The first limit that is passed, in words, or none."""
         for kind, most in LIMITS.items():
-            if len(self.keys[kind] or ()) > most:
-                return f"{len(self.keys[kind])} {kind}; an office holds {most}"
+            if (count := len(self.keys[kind] or ())) > most:
+                return f"{count} {kind}; an office holds {most}"
         opened = Counter(session for session, _ in self.openings)
         members = {(number, self.papers.get(paper)) for number, paper in self.entries}
-        sitting = Counter(session for _, session in members)
+        sitting = Counter(session for _, session in members if session)
         for counts, most, what in [(opened, MOST_OPENINGS, "open halls"), (sitting, MOST_MEMBERS, "candidates")]:
             for session, count in counts.items():
-                if session and count > most:
-                    return f"{count} {what} in session {session.decode()}; a session holds {most}"
+                if count > most:
+                    return f"{count} {what} in session {files.shown(session)[1:-1]}; a session holds {most}"
         return None
 
 
-def cure(column, field):
+def cure(column: str, field: bytes) -> str:
     """What to write in place of a wrong value."""
-    text = field.decode("utf-8", "replace")
     if column in ("name", "title"):
         return name_cure(field)
     if column == "code" and not field:
         return "`office codes` fills the codes that are empty, in a new file"
     if (number := with_zeros(field)) != field and column == "number":
-        return f"leading zeros lost? {number.decode()} ({CURES[column]})"
-    text = text.strip(" %'")
+        return f"leading zeros lost? {number.decode('ascii')} ({CURES[column]})"
+    if len(field) > MOST_TO_MEND:
+        return CURES[column]
+    text = field.decode("utf-8", "replace").strip(" %'")
     time = re.sub("(:[0-9]{2}):00$", r"\1", text).zfill(5)
     for better in (text, text.upper(), text.lower(), time, date_in_order(text)):
         if better and RIGHT[column](better.encode()):
@@ -111,162 +154,212 @@ def cure(column, field):
     return CURES[column]
 
 
-def date_in_order(text):
+def date_in_order(text: str) -> str:
     """A date with points, in which the day comes first; every other text is none."""
     match = re.fullmatch(r"([0-9]{1,2})\. ?([0-9]{1,2})\. ?([0-9]{4})", text)
     return f"{match[3]}-{match[2]:0>2}-{match[1]:0>2}" if match else ""
 
 
-def with_zeros(field):
+def with_zeros(field: bytes) -> bytes:
     """A number with the zeros that a spreadsheet takes away; every other value as it is."""
-    match = re.fullmatch(rb"([0-9]{1,7})(\.0+)?", field)
+    match = LOST_ZEROS(field)
     return match[1].zfill(7) if match else field
 
 
-def name_cure(field):
-    try:
-        field.decode()
-    except UnicodeDecodeError:
+def name_cure(field: bytes) -> str:
+    if not files.is_utf_8(field):
         return "the letters are no UTF-8: save the file as CSV UTF-8"
-    if re.search(rb"[\x00-\x1f\x7f]", field):
+    if files.CONTROL.search(field):
         return "it holds a line end or another control character"
     return f"1 to 80 bytes; it has {len(field)}"
 
 
-def first_refusal(kind, text, known):
-    """What the program says of a file, over an office that knows this: its line, or None where it takes the file."""
-    if len(text) > files.MOST_BYTES:
-        return "refused 20"
-    found = list(files.records(text))
-    if not files.is_header(kind, found[0] if found else None):
-        return "refused 2"
-    seen = {}
-    for place, record in enumerate(found[1:], 1):
-        column = files.bad_column(kind, record)
-        if column is not None:
-            return f"refused 1 record {place} column {column}"
-        if seen.setdefault(files.key_of(kind, record), record.fields) != record.fields:
-            return f"refused 3 record {place}"
-    for record in found[1:]:
-        for column, table in files.REFERENCES.get(kind, []):
-            if record.fields[column] not in known.keys[table]:
-                return f"refused {files.UNKNOWN[table]}"
-    known.take(kind, [record.fields for record in found[1:]])
-    return "refused 20" if known.passed_limit() else None
+def looked_through(kind: str, text: bytes, known: Known, most: int = MOST_COUNTED) -> tuple[Found, Found]:
+    """The mistakes of a file and the notes on it, so many of each column; what it brings is known afterwards."""
+    file = File(kind, known, most)
+    rows = file.rows(text)
+    if rows is not None and file.look_at(rows):
+        file.note_references()
+        file.take()
+    elif kind in known.keys:
+        known.keys[kind] = None
+    return file.wrong, file.notes
 
 
-def looked_through(kind, text, known):
-    """All mistakes of a file and all notes on it; what it brings is known afterwards."""
-    mistakes, notes = [], []
-    found, header, missing = table_of(kind, text, mistakes)
-    if found is None:
-        if kind in known.keys:
-            known.keys[kind] = None
-        return [Mistake(1, "file", header)], []
-    seen = {}
-    for record in found:
-        row_mistakes(kind, record, known, mistakes)
-        repeated(kind, record, seen, mistakes, notes)
-        notes += [note for column, field in zip(files.HEADERS[kind], record.fields) if RIGHT[column](field)
-                  for note in field_notes(record.line, column, field)]
-    whole = [record for record in found if len(record.fields) == len(files.HEADERS[kind])]
-    if files.HEADERS[kind][0] == "number":  # what refers to a number is right once the number is
-        whole = [record._replace(fields=[with_zeros(record.fields[0]), *record.fields[1:]]) for record in whole]
-    known.take(kind, [record.fields for record in whole])
-    if passed := known.passed_limit():
-        mistakes.append(Mistake(1, "file", passed))
-    mistakes = [mistake for mistake in mistakes if mistake.what.split(" ")[0] not in missing]
-    return sorted(mistakes), sorted(notes + row_notes(kind, whole, known))
+class File:
+    """A file of rows while it is looked through."""
+
+    def __init__(self, kind: str, known: Known, most: int) -> None:
+        self.kind, self.known, self.header = kind, known, files.HEADERS[kind]
+        self.wrong, self.notes = Found(most), Found(most)
+        self.missing: list[str] = []  # the columns that the header lacks; their fields are empty
+        references = dict(files.REFERENCES.get(kind, []))
+        self.columns = [(column, right, references.get(place), NOTES.get(column, no_notes))
+                        for place, (column, right) in enumerate(zip(self.header, files.FORMS[kind]))]
+        self.first: dict[tuple[bytes, ...], files.Record] = {}  # the first record of each key
+
+    def rows(self, text: bytes) -> Iterator[files.Record] | None:
+        """The records after the header, even where that is wrong in one of the usual ways; None where there is none."""
+        if len(text) > files.MOST_BYTES:
+            self.wrong.add(1, "file", f"more than {files.MOST_BYTES} bytes: split it")
+        if text[:2] in (b"\xff\xfe", b"\xfe\xff"):
+            self.wrong.add(1, "file", "saved as Unicode text (UTF-16): save it as CSV UTF-8")
+            text = text.decode("utf-16", "replace").encode()
+        first = next(files.records(text), None)
+        for comma, why in COMMAS if first else ():
+            found = files.records(text, comma)
+            for place, record in enumerate(itertools.islice(found, 4)):
+                missing = missing_columns(self.kind, record.fields)
+                if missing is not None:
+                    self.missing = missing
+                    self.header_mistakes(record, place, why)
+                    empty = len(record.fields) > len(self.header)
+                    return (row._replace(fields=self.filled(row.fields, empty)) for row in found)
+        others = [other for other in files.HEADERS if files.is_header(other, first)]
+        why = f"these are {others[0]}" if others else "no such header is found" if first else "the file is empty"
+        self.wrong.add(1, "file", f"the first line must be {','.join(self.header)}; {why}")
+        return None
+
+    def header_mistakes(self, record: files.Record, place: int, commas: str) -> None:
+        """What is wrong with a header that was found."""
+        if place:
+            self.wrong.add(1, "file", f"the header stands in line {record.line}: delete what is before it")
+        if commas:
+            self.wrong.add(record.line, "file", commas)
+        for name in self.missing:
+            how = "leave it empty, and `office codes` fills it" if name == "code" else CURES[name]
+            self.wrong.add(record.line, "file", f"the column {name} is missing: add it ({how})")
+        if len(record.fields) > len(self.header) - len(self.missing):
+            self.wrong.add(record.line, "file", "empty columns at the end: delete them")
+        wanted = tuple(name.encode() for name in self.header)
+        if not self.missing and trimmed(record.fields, len(wanted)) != wanted:
+            self.wrong.add(record.line, "file", f"the header must be {','.join(self.header)}")
+
+    def filled(self, fields: tuple[bytes, ...], empty: bool) -> tuple[bytes, ...]:
+        """A row without the empty columns of its header, and with an empty field for each column that is missing."""
+        if empty or self.missing:
+            fields = trimmed(fields, len(self.header))
+        if not self.missing or len(fields) != len(self.header) - len(self.missing):
+            return fields
+        rest = iter(fields)
+        return tuple(b"" if name in self.missing else next(rest) for name in self.header)
+
+    def look_at(self, rows: Iterator[files.Record]) -> bool:
+        """Looks at all rows; false where it gives up, since too many are wrong."""
+        for record in rows:
+            if self.is_whole(record) and self.is_new(self.mended(record)):
+                self.look_at_values(record)
+            if self.wrong.count >= MOST_COUNTED:
+                self.wrong.add(record.line, "file", f"{MOST_COUNTED:,} mistakes; what is behind them is not looked at")
+                return False
+        return True
+
+    def is_whole(self, record: files.Record) -> bool:
+        """Whether a row has all its values."""
+        count, wanted = len(record.fields), len(self.header)
+        if count != wanted:
+            self.wrong.add(record.line, "row", f"{count} fields in place of {wanted}; {count_cure(record, wanted)}")
+        elif not any(record.fields):
+            self.wrong.add(record.line, "row", EMPTY_ROW)
+        else:
+            return True
+        return False
+
+    def look_at_values(self, record: files.Record) -> None:
+        for field, (column, right, table, notes) in zip(record.fields, self.columns):
+            if column in self.missing:
+                continue
+            if not right(field):
+                self.wrong.add_value(record.line, column, field, cure)
+                continue
+            if table and field not in (self.known.keys[table] or {field}):
+                self.wrong.add_value(record.line, column, field, f"is not among the {table}")
+            for note in notes(field):
+                self.notes.add_value(record.line, column, field, note)
+
+    def mended(self, record: files.Record) -> files.Record:
+        """A row with the zeros that its number has lost: what refers to the number is right once the number is."""
+        if self.header[0] != "number" or files.is_number(record.fields[0]):
+            return record
+        return record._replace(fields=(with_zeros(record.fields[0]), *record.fields[1:]))
+
+    def is_new(self, record: files.Record) -> bool:
+        """Compares a row with the first one of its key; false where it is the same again."""
+        first = self.first.setdefault(files.key_of(self.kind, record.fields), record)
+        if first is record:
+            return True
+        if first.fields == record.fields:
+            self.notes.add(record.line, "row", f"the same as line {first.line}; it counts once")
+            return False
+        self.wrong.add(record.line, "row", f"line {first.line} has the same key and other contents: keep one")
+        return True
+
+    def note_references(self) -> None:
+        """Notes what the rows refer to and nobody knows."""
+        for column, _, table, _ in self.columns if self.first else ():
+            if table and not self.known.keys[table]:
+                cannot = self.known.keys[table] is None
+                why = f"{table}.csv could not be read whole" if cannot else f"no {table} are known"
+                self.notes.add(1, column, f"{why}, so these are not compared")
+
+    def take(self) -> None:
+        """Adds the rows to what is known, and notes what they say together."""
+        self.known.take(self.kind, [record.fields for record in self.first.values()])
+        if passed := self.known.passed_limit():
+            self.wrong.add(1, "file", passed)
+        if self.kind == "candidates":
+            self.note_shared_codes()
+        elif self.kind == "entries":
+            self.note_withdrawn()
+        elif self.kind == "arrangements":
+            self.note_standing()
+
+    def note_shared_codes(self) -> None:
+        names = {record.fields[0]: record.fields[1] for record in self.first.values()}
+
+        def text(_: str, number: bytes) -> str:
+            others = [other for other in heapq.nsmallest(4, sharing) if other != number][:3]
+            twins = any(names.get(other) == names[number] for other in sharing if other != number)
+            return (", ".join(files.shown(other)[1:-1] for other in others) + " has the same access code"
+                    + (" and the same name: one candidate under two numbers?" if twins else ""))
+        for record in self.first.values():
+            number, _, code = record.fields
+            sharing = self.known.codes[code] if code else ()
+            if len(sharing) > 1:
+                self.notes.add_value(record.line, "number", number, text)
+
+    def note_withdrawn(self) -> None:
+        for record in self.first.values():
+            if record.fields in self.known.withdrawn:
+                self.notes.add(record.line, "row", "is withdrawn in the office and stays so; `office reinstate`")
+
+    def note_standing(self) -> None:
+        for record in self.first.values():
+            if record.fields[0] in self.known.standing:
+                self.notes.add(record.line, "row", "a standing grant is in force for this candidate in its place")
 
 
-def table_of(kind, text, mistakes):
-    """The records after the header, even where that is wrong in one of the usual ways, else None; why there are none;
-    and the columns that the header lacks, whose fields are empty."""
-    if len(text) > files.MOST_BYTES:
-        mistakes.append(Mistake(1, "file", f"{len(text)} bytes; a file holds {files.MOST_BYTES}: split it"))
-    if text[:2] in (b"\xff\xfe", b"\xfe\xff"):
-        mistakes.append(Mistake(1, "file", "saved as Unicode text (UTF-16): save it as CSV UTF-8"))
-        text = text.decode("utf-16", "replace").encode()
+def missing_columns(kind: str, fields: tuple[bytes, ...]) -> list[str] | None:
+    """The columns that a header lacks, however it is spelt; None where it is no header. None of them makes the key or
+    refers to another file."""
     wanted = files.HEADERS[kind]
-    for comma, name in COMMAS:
-        found = list(files.records(text, comma))
-        place, missing = header_place(kind, found)
-        if place is not None:
-            header_mistakes(kind, found[place], place, name, missing, mistakes)
-            fields = [trimmed(record.fields, len(wanted)) for record in found[place + 1:]]
-            if missing:
-                fields = [filled(row, wanted, missing) for row in fields]
-            elif len(found[place].fields) <= len(wanted):
-                fields = [record.fields for record in found[place + 1:]]
-            return [record._replace(fields=row) for record, row in zip(found[place + 1:], fields)], "", missing
-    first = next(files.records(text), None)
-    others = [other for other in files.HEADERS if files.is_header(other, first)]
-    why = f"these are {others[0]}" if others else "the file is empty" if first is None else "no such header is found"
-    return None, f"the first line must be {','.join(wanted)}; {why}", []
-
-
-def header_place(kind, found):
-    """Where the header stands among the first records, however it is spelt, or none; and the columns that it lacks. None
-    of these makes the key or refers to another file."""
-    wanted = files.HEADERS[kind]
+    fields = trimmed(fields, len(wanted))
+    if len(fields) > len(wanted):
+        return None
+    head = [field.decode("utf-8", "replace").strip().lower() for field in fields]
+    there = [name for name in wanted if name in head]
+    missing = [name for name in wanted if name not in head]
     needed = {*wanted[:files.KEYS.get(kind, 1)], *(wanted[column] for column, _ in files.REFERENCES.get(kind, []))}
-    for place, record in enumerate(found[:4]):
-        head = [field.decode("utf-8", "replace").strip().lower() for field in record.fields]
-        missing = [name for name in wanted if name not in head]
-        there = [name for name in wanted if name in head]
-        if needed.isdisjoint(missing) and len(there) > 1 and trimmed(head, len(there)) == there:
-            return place, missing
-    return None, []
+    is_one = needed.isdisjoint(missing) and len(there) > 1 and head[:len(there)] == there and not any(head[len(there):])
+    return missing if is_one else None
 
 
-def filled(fields, wanted, missing):
-    """A row with an empty field for each column that is missing, if it has all others."""
-    if len(fields) != len(wanted) - len(missing):
-        return fields
-    rest = iter(fields)
-    return [b"" if name in missing else next(rest) for name in wanted]
-
-
-def header_mistakes(kind, record, place, commas, missing, mistakes):
-    """What is wrong with a header that was found."""
-    wanted = [name.encode() for name in files.HEADERS[kind]]
-    if place:
-        mistakes.append(Mistake(1, "file", f"the header stands in line {record.line}: delete what is before it"))
-    if commas:
-        mistakes.append(Mistake(record.line, "file", commas))
-    for name in missing:
-        how = "leave it empty, and `office codes` fills it" if name == "code" else CURES[name]
-        mistakes.append(Mistake(record.line, "file", f"the column {name} is missing: add it ({how})"))
-    if len(record.fields) > len(wanted) - len(missing):
-        mistakes.append(Mistake(record.line, "file", "empty columns at the end: delete them"))
-    if not missing and trimmed(record.fields, len(wanted)) != wanted:
-        mistakes.append(Mistake(record.line, "file", f"the header must be {','.join(files.HEADERS[kind])}"))
-
-
-def trimmed(fields, wanted):
+def trimmed(fields: tuple[bytes, ...], wanted: int) -> tuple[bytes, ...]:
     """A row without its empty fields beyond the wanted ones."""
     return fields[:wanted] if not any(fields[wanted:]) else fields
 
 
-def row_mistakes(kind, record, known, mistakes):
-    header = files.HEADERS[kind]
-    if len(record.fields) == len(header) and not any(record.fields):
-        mistakes.append(Mistake(record.line, "row", EMPTY_ROW))
-        return
-    if len(record.fields) != len(header):
-        why = count_cure(record, len(header))
-        mistakes.append(Mistake(record.line, "row", f"{len(record.fields)} fields in place of {len(header)}; {why}"))
-        return
-    references = dict(files.REFERENCES.get(kind, []))
-    for place, (column, field, right) in enumerate(zip(header, record.fields, files.FORMS[kind])):
-        what = f"{column} {files.shown(field)}"
-        if not right(field):
-            mistakes.append(Mistake(record.line, what, cure(column, field)))
-        elif place in references and field not in (known.keys[references[place]] or {field}):
-            mistakes.append(Mistake(record.line, what, f"is not among the {references[place]}"))
-
-
-def count_cure(record, wanted):
+def count_cure(record: files.Record, wanted: int) -> str:
     if not record.closed:
         return "a quote is not closed"
     if not any(record.fields):
@@ -274,44 +367,27 @@ def count_cure(record, wanted):
     return "put a value with a comma in double quotes" if len(record.fields) > wanted else "values are missing"
 
 
-def repeated(kind, record, seen, mistakes, notes):
-    line, fields = seen.setdefault(files.key_of(kind, record), (record.line, record.fields))
-    if fields != record.fields:
-        mistakes.append(Mistake(record.line, "row", f"line {line} has the same key and other contents: keep one"))
-    elif line != record.line:
-        notes.append(Mistake(record.line, "row", f"the same as line {line}; it counts once"))
+def no_notes(_: bytes) -> Iterable[str]:
+    return ()
 
 
-def field_notes(line, column, field):
-    """What a value may have become on its way, though it has a right form."""
+def name_notes(field: bytes) -> Iterator[str]:
+    """What may be wrong with a name or a title that has a right form."""
     text = field.decode("utf-8", "replace")
-    what = f"{column} {files.shown(field)}"
-    if column in ("name", "title"):
-        if WRONG_LETTERS.search(text):
-            yield Mistake(line, what, "looks like letters that were read in a wrong encoding")
-        if text != text.strip() or "\u00a0" in text:
-            yield Mistake(line, what, "has a space at an end, or a hard space")
-        if school.plain(text) != text:
-            yield Mistake(line, what, "holds marks that no screen shows")
-    elif column in ("session", "paper", "hall", "code") and LIKE_A_NUMBER.fullmatch(field):
-        yield Mistake(line, what, "may be what a spreadsheet made of a code such as 1E5, or will make of it")
+    if text.isascii() and text.isprintable() and text == text.strip():
+        return
+    if WRONG_LETTERS.search(text):
+        yield "looks like letters that were read in a wrong encoding"
+    if text != text.strip() or "\u00a0" in text:
+        yield "has a space at an end, or a hard space"
+    if school.plain(text) != text:
+        yield "holds marks that no screen shows"
 
 
-def row_notes(kind, found, known):
-    """What rows say together, or beside what the office has."""
-    notes = []
-    names = {record.fields[0]: record.fields[1] for record in found} if kind == "candidates" else {}
-    for record in found:
-        key = files.key_of(kind, record)
-        if kind == "candidates":
-            others = known.codes[record.fields[2]] - {record.fields[0]} if record.fields[2] else set()
-            twins = [number.decode() for number in sorted(others) if names.get(number) == record.fields[1]]
-            if others:
-                shown = ", ".join(number.decode("utf-8", "replace") for number in sorted(others)[:3])
-                notes.append(Mistake(record.line, "code", f"{school.plain(shown)} has the same access code"
-                                     + (" and the same name: one candidate under two numbers?" if twins else "")))
-        elif kind == "entries" and key in known.withdrawn:
-            notes.append(Mistake(record.line, "row", "is withdrawn in the office and stays so; `office reinstate`"))
-        elif kind == "arrangements" and key[0] in known.standing:
-            notes.append(Mistake(record.line, "row", "a standing grant is in force for this candidate in its place"))
-    return notes
+def code_notes(field: bytes) -> Iterable[str]:
+    """What may have become of a code."""
+    spoiled = "may be what a spreadsheet made of a code such as 1E5, or will make of it"
+    return [spoiled] if LIKE_A_NUMBER(field) else ()
+
+
+NOTES = {"name": name_notes, "title": name_notes, **dict.fromkeys(["session", "paper", "hall", "code"], code_notes)}

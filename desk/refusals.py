@@ -1,10 +1,13 @@
 """What a refusal of the program means, in words; for an import with the line and the value; for 23 with its cause."""
 import contextlib
 import errno
+import itertools
 import os
 import re
+import sqlite3
 import stat
 import tempfile
+from collections.abc import Iterable
 
 import files
 import school
@@ -46,16 +49,17 @@ OTHER = {
                    "not give it again; a sheet can be printed again",
     "net fault": "the port is taken, or the system gives no more connections; take another one, from 1024 on",
 }
+MOST_LINES = 5  # of an import file that are shown
 WHOLE_OR_NOT = "a command is there whole or not at all: look, or give it again"
 
 
-def number_of(answer):
+def number_of(answer: str) -> int | None:
     """The number of a refusal; None where the line is none."""
     found = re.match(r"refused (\d+)", answer)
     return int(found[1]) if found else None
 
 
-def explained(words, answer):
+def explained(words: list[str], answer: str) -> list[str]:
     """The lines to print below what the program said."""
     number = number_of(answer)
     sentence = SENTENCES.get(number) or OTHER.get(answer.split("\n")[0])
@@ -63,33 +67,36 @@ def explained(words, answer):
     if number == 23:
         lines = [f"{sentence}: {cause()}", WHOLE_OR_NOT]
     elif number and words[0] == "import":
-        with contextlib.suppress(OSError, IndexError):  # the file may have changed since
+        with contextlib.suppress(OSError):  # the file may have changed since
             lines += places(words, number, answer)
     return [f"  {line}" for line in lines]
 
 
-def places(words, number, answer):
-    """The line of the import file and the value that a refusal is about."""
+def places(words: list[str], number: int, answer: str) -> list[str]:
+    """The line of the import file and the value that a refusal is about; none where the file has changed since."""
     values = [word for word in words[1:] if word != "--"]
     if len(values) != 2 or values[0] not in files.HEADERS or not os.path.isfile(values[1]):
         return []
     kind, path = values
-    with open(path, "rb") as file:
-        found = list(files.records(file.read(files.MOST_BYTES + 1)))
+    found = files.records(files.read(path))
     name = os.path.basename(path)
     if number == 2:
-        first = ",".join(files.shown(field)[1:-1] for field in found[0].fields) if found else ""
-        return [f"line 1 of {name}: {first[:120]}", f"must be:  {','.join(files.HEADERS[kind])}"]
-    if number in (1, 3):
-        record, column = re.match(r"refused \d+ record (\d+)(?: column (\d+))?", answer).groups()
-        return record_lines(kind, name, found[int(record)], int(column or 0), number)
-    return [line for column, table in files.REFERENCES.get(kind, []) if number == files.UNKNOWN[table]
-            for line in unknown_lines(name, found, column, table)]
+        first = next(found, None)
+        return [f"line 1 of {name}: {files.row_shown(first.fields) if first else ''}",
+                f"must be:  {','.join(files.HEADERS[kind])}"]
+    if told := re.match(r"refused (?:1|3) record ([0-9]+)(?: column ([0-9]+))?", answer):
+        record = next(itertools.islice(found, int(told[1]), None), None)
+        return record_lines(kind, name, record, int(told[2] or 0), number) if record else []
+    next(found, None)  # the header
+    for column, table in files.REFERENCES.get(kind, []):
+        if number == files.UNKNOWN[table]:
+            return unknown_lines(name, found, column, table)
+    return []
 
 
-def record_lines(kind, name, record, column, number):
-    lines = [f"line {record.line} of {name}: " + ",".join(files.shown(field)[1:-1] for field in record.fields)]
-    if column:
+def record_lines(kind: str, name: str, record: files.Record, column: int, number: int) -> list[str]:
+    lines = [f"line {record.line} of {name}: {files.row_shown(record.fields)}"]
+    if 1 <= column <= len(record.fields) == len(files.HEADERS[kind]):
         lines.append(f"{files.HEADERS[kind][column - 1]} is {files.shown(record.fields[column - 1])}")
     elif number == 1 and not record.closed:
         lines.append("a quote is not closed")
@@ -98,23 +105,25 @@ def record_lines(kind, name, record, column, number):
     return lines
 
 
-def unknown_lines(name, found, column, table):
+def unknown_lines(name: str, found: Iterable[files.Record], column: int, table: str) -> list[str]:
     """The first lines whose reference the office does not have."""
     with contextlib.closing(school.rows()) as connection:
         known = known_keys(connection, table)
-    wrong = [record for record in found[1:] if record.fields[column] not in known]
-    lines = [f"line {record.line} of {name}: {table[:-1]} is {files.shown(record.fields[column])}"
-             for record in wrong[:5]]
-    return lines + ([f".. and {len(wrong) - 5} more lines"] if len(wrong) > 5 else [])
+    wrong = ((record.line, record.fields[column]) for record in found
+             if len(record.fields) > column and record.fields[column] not in known)
+    lines = [f"line {line} of {name}: {table[:-1]} is {files.shown(field)}"
+             for line, field in itertools.islice(wrong, MOST_LINES)]
+    more = sum(1 for _ in wrong)
+    return lines + ([f".. and {more} more lines"] if more else [])
 
 
-def known_keys(connection, table):
+def known_keys(connection: sqlite3.Connection, table: str) -> set[bytes]:
     """The keys of sessions, papers, halls or candidates in the office, as the files spell them."""
     key = "printf('%07d', number)" if table == "candidates" else "code"
-    return {code.encode() for code, in connection.execute(f"SELECT {key} FROM {table[:-1]}")}
+    return {str(code).encode() for code, in connection.execute(f"SELECT {key} FROM {table[:-1]}")}
 
 
-def lasting_cause():
+def lasting_cause() -> str | None:
     """Why the file cannot be used, where waiting does not help; None where nothing of that kind is found."""
     path = school.office_path()
     place = os.path.dirname(os.path.realpath(path))
@@ -139,7 +148,7 @@ def lasting_cause():
     return no_room(place) or damage(path)
 
 
-def no_room(place):
+def no_room(place: str) -> str | None:
     try:
         with tempfile.TemporaryFile(dir=place) as file:
             file.write(bytes(1 << 18))
@@ -151,7 +160,7 @@ def no_room(place):
     return None
 
 
-def damage(path):
+def damage(path: str) -> str | None:
     """What is wrong with the head of the file, or of the file beside it."""
     with open(path, "rb") as file:
         head = file.read(32)
@@ -164,7 +173,7 @@ def damage(path):
     return None
 
 
-def holder():
+def holder() -> tuple[int, list[str]] | None:
     """A process that has the file open, as a pair of its number and its words; None where none is to be seen."""
     with contextlib.suppress(OSError):
         wanted = os.stat(school.office_path())
@@ -175,7 +184,7 @@ def holder():
     return None
 
 
-def has_open(process, wanted):
+def has_open(process: str, wanted: os.stat_result) -> bool:
     """Whether a process has a file open; of another user's process that cannot be seen."""
     folder = f"/proc/{process}/fd"
     with contextlib.suppress(OSError):
@@ -186,13 +195,13 @@ def has_open(process, wanted):
     return False
 
 
-def may_pass():
+def may_pass() -> bool:
     """Whether waiting may help: another command has the file, and no `serve`, or nothing is to be seen."""
     found = holder()
     return "serve" not in found[1] if found else lasting_cause() is None
 
 
-def cause():
+def cause() -> str:
     """Why the database cannot be used, as far as it can be found out."""
     found = holder()
     if found is None:

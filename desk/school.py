@@ -7,19 +7,18 @@ from __future__ import annotations
 
 import contextlib
 import datetime
-import errno
-import html
 import os
 import pathlib
 import shutil
 import signal
 import sqlite3
-import stat
 import subprocess
 import sys
-import tempfile
-import time
-from typing import NamedTuple
+from typing import NamedTuple, NoReturn
+
+import bad_rows
+import beside
+import private
 
 FEATURES = ["step-free", "screen", "reader", "small-room", "computer", "quiet"]  # the value of a place is 1, 2, 4 ..
 TABLES = ["office", "session", "paper", "hall", "opening", "candidate", "entry", "arrangement", "appeal", "standing",
@@ -61,17 +60,17 @@ def plain(text) -> str:
     return str(text).translate(UNSHOWN)
 
 
-def warn(message):
+def warn(message: object) -> None:
     print(f"office: {plain(message)}", file=sys.stderr)
 
 
-def stop(message):
+def stop(message: object) -> NoReturn:
     """Ends the script with a message and status 1."""
     warn(message)
     raise SystemExit(1)
 
 
-def begin():
+def begin() -> None:
     """Call it first: HUP, INT and TERM let a script clean up, a fault becomes a line, and all goes out as UTF-8."""
     def leave(number, _):
         raise SystemExit(128 + number)
@@ -88,6 +87,8 @@ def tell(kind, fault, place):
     """What a fault of a file or of the database comes to: a line in place of a list of calls."""
     if issubclass(kind, BrokenPipeError):
         os.dup2(os.open(os.devnull, os.O_WRONLY), sys.stdout.fileno())  # nobody reads what is left
+    elif issubclass(kind, (beside.Strange, bad_rows.BadRows)):
+        warn(fault)
     elif issubclass(kind, OSError):
         warn(f"{fault.filename}: {fault.strerror}" if fault.filename else fault)
     elif issubclass(kind, sqlite3.Error):
@@ -151,74 +152,36 @@ def run_over(path, *words) -> subprocess.CompletedProcess:
     return subprocess.run(line_over(path, *words), capture_output=True, encoding="utf-8", errors="replace", check=False)
 
 
-@contextlib.contextmanager
-def private_copy(path):
-    """The path of a copy of an office's two files, in a folder of its own that goes again."""
-    with tempfile.TemporaryDirectory(prefix="office-") as folder:
-        copy = os.path.join(folder, "office.db")
-        copy_files(path, copy)
-        yield copy
+def private_copy(path: str) -> contextlib.AbstractContextManager[str]:
+    """The path of a copy of an office's two files, in a folder of its own that goes again, as a context."""
+    return private.private_copy(path, office_path())
 
 
-def copy_files(source, target):
-    """Copies the two files of an office as they were at one moment, though a program may write meanwhile.
-
-    A program that has the office open only adds to the second file. One that opens it changes the first file, or begins
-    the second anew: then the copy is made again.
-    """
-    for _ in range(200):
-        before = moment(source)
-        if before is not None:
-            copy_file(source, target)
-            with contextlib.suppress(FileNotFoundError):
-                copy_file(source + "-wal", target + "-wal")
-            if before == moment(source):
-                return
-        for ending in ("", "-wal"):
-            with contextlib.suppress(FileNotFoundError):
-                os.remove(target + ending)
-        time.sleep(0.02)
-    raise OSError(f"{source} changes all the time")
+class Rows(sqlite3.Connection):
+    """The rows of an office; `path` is that of its file."""
+    path = ""
 
 
-def copy_file(source, target):
-    with open(source, "rb") as file, open(os.open(target, os.O_WRONLY | os.O_CREAT | os.O_EXCL, 0o600), "wb") as copy:
-        shutil.copyfileobj(file, copy, 1 << 20)
-
-
-def moment(path):
-    """What tells one state of the first file and one beginning of the second from others; None just after a change."""
-    first = os.stat(path)
-    if not stat.S_ISREG(first.st_mode):
-        raise OSError(errno.EINVAL, "is no file", path)
-    if 0 <= time.time_ns() - first.st_mtime_ns < 20_000_000:  # a change within one tick of the clock is not seen
-        return None
-    try:
-        with open(path + "-wal", "rb") as file:
-            beginning = file.read(32)
-    except FileNotFoundError:
-        beginning = None
-    return first.st_ino, first.st_size, first.st_mtime_ns, beginning
-
-
-def rows(path=None) -> sqlite3.Connection:
+def rows(path: str | None = None) -> Rows:
     """The rows of an office as they are now, in memory: nobody is kept waiting, and nothing can be written back.
 
-    Ends the script where the file is no office of this version.
+    Ends the script where the file is no office of this version. Raises `BadRows`, which becomes a line.
     """
     path = path or office_path()
     try:
         with private_copy(path) as copy, contextlib.closing(sqlite3.connect(copy)) as file:
             file.execute("PRAGMA locking_mode = EXCLUSIVE")  # no third file
             check_tables(file, path)
-            memory = sqlite3.connect(":memory:")
+            memory = sqlite3.connect(":memory:", factory=Rows)
             file.backup(memory)
+        memory.path = path
+        memory.text_factory = lambda text: text.decode("utf-8", "replace")
+        bad_rows.refuse(memory, path)
     except OSError as fault:
         stop(f"{path}: {fault.strerror or fault}")
     except sqlite3.Error as fault:
         stop(f"{path} holds no office: {fault}")
     memory.row_factory = sqlite3.Row
-    memory.text_factory = lambda text: text.decode("utf-8", "replace")
     memory.execute("PRAGMA query_only = ON")
     return memory
 
@@ -246,13 +209,6 @@ def clock(minutes: int) -> str:
     return f"{minutes // 60:02}:{minutes % 60:02}"
 
 
-def page(title, body) -> str:
-    """An HTML page for paper. The title is escaped here, the body by whoever makes it."""
-    return (f'<!doctype html>\n<html lang="en"><head><meta charset="utf-8"><title>{html.escape(str(title))}</title>\n'
-            "<style>@page { size: A4; margin: 15mm } body { font: 10pt sans-serif } td, th { text-align: left }"
-            f"</style></head>\n<body>\n{body}\n</body></html>\n")
-
-
 def session_row(connection, session) -> sqlite3.Row:
     """The day and the start of a session; ends the script where the office has no such session."""
     found = connection.execute("SELECT code, day, start FROM session WHERE code = ?", [session]).fetchone()
@@ -270,11 +226,14 @@ def openings(connection, session) -> list[Opening]:
     return [Opening(*row[:5], bool(row["reserved"])) for row in found]
 
 
-def members(connection, session) -> list[Member]:
-    """Who sits what in a session, by number, by the rules of the handbook."""
+def members(connection: Rows, session) -> list[Member]:
+    """Who sits what in a session, by number, by the rules of the handbook. Raises `BadRows` where who has a seat has it
+    in a hall that is not open."""
     head = session_row(connection, session)
     papers = {row["code"]: row for row in connection.execute("SELECT * FROM paper WHERE session = ?", [session])}
     seats = dict(connection.execute("SELECT number, hall FROM seat WHERE session = ?", [session]))
+    if not {opening.hall for opening in openings(connection, session)}.issuperset(seats.values()):
+        raise bad_rows.BadRows(connection.path, "seat")
     granted = connection.execute("SELECT * FROM appeal WHERE session = ? AND state = ?", [session, GRANTED]).fetchall()
     wanted = {row["number"]: row["target"] for row in granted if row["kind"] == CLASH}
     force = arrangements(connection, head, granted)

@@ -3,6 +3,7 @@ import contextlib
 import os
 import pathlib
 import shutil
+import socket
 import subprocess
 import tempfile
 
@@ -101,11 +102,14 @@ def in_fresh_debian(tarball, package):
     print("a fresh Debian: installed, a day run, removed without a trace; the tarball too")
 
 
-def remove(root, users):
-    """The office outlives the package; its user does not outlive a purge."""
+def remove(root: pathlib.Path, users: str) -> None:
+    """The office outlives the package; its user does not outlive a purge, nor a `keep` of theirs the removal."""
     office = root / OFFICE / "office.db"
+    in_root(root, "examoffice", "office", "keep", "start", free_port())
+    same(len(processes_in(root)) > 0, True, "a `keep` before the removal")
     kept = office.read_bytes()
     in_root(root, "root", "dpkg", "-r", "examoffice")
+    same(processes_in(root), [], "processes after the removal")
     same((office.read_bytes() == kept, "examoffice:" in users_of(root)), (True, True), "the office and its user, removed")
     in_root(root, "root", "dpkg", "-P", "examoffice")
     found = office.read_bytes() == kept, office.stat().st_uid, users_of(root)
@@ -114,6 +118,22 @@ def remove(root, users):
     in_root(root, "root", "dpkg", "-i", "/tmp/examoffice.deb")
     in_root(root, "root", "dpkg", "-P", "examoffice")
     same(((root / OFFICE).exists(), users_of(root)), (False, users), "an empty folder and the users after a purge")
+
+
+def free_port() -> int:
+    with contextlib.closing(socket.socket()) as listener:
+        listener.bind(("127.0.0.1", 0))
+        return listener.getsockname()[1]
+
+
+def processes_in(root: pathlib.Path) -> list[str]:
+    """The numbers of the processes that work in the Debian below a folder."""
+    found = []
+    for process in filter(str.isdigit, os.listdir("/proc")):
+        with contextlib.suppress(OSError):
+            if os.path.samestat(os.stat(f"/proc/{process}/root"), root.stat()):
+                found.append(process)
+    return found
 
 
 def in_root(root, user, *words, folder=None, path=ENVIRONMENT["PATH"]):

@@ -1,5 +1,7 @@
 """The sample school for tests: an office of its own for each, in a folder of its own."""
 import contextlib
+import http.client
+import json
 import os
 import pathlib
 import shutil
@@ -7,6 +9,7 @@ import socket
 import subprocess
 import sys
 import tempfile
+import time
 import unittest
 
 DESK = pathlib.Path(__file__).resolve().parent.parent
@@ -14,6 +17,8 @@ TOP = DESK.parent
 sys.path.insert(0, str(DESK))
 KINDS = ["sessions", "papers", "halls", "openings", "candidates", "arrangements", "entries"]
 TODAY = "2027-05-01"
+NUMBER, CODE = "0001051", "VMGNZGEDP9"
+PATIENCE = 60  # seconds; long, since a busy machine is no fault
 
 
 def built_program():
@@ -26,6 +31,15 @@ def free_port():
     with contextlib.closing(socket.socket()) as listener:
         listener.bind(("127.0.0.1", 0))
         return listener.getsockname()[1]
+
+
+def until(condition):
+    end = time.monotonic() + PATIENCE
+    while not (found := condition()):
+        if time.monotonic() > end:
+            raise AssertionError("it did not come")
+        time.sleep(0.02)
+    return found
 
 
 @unittest.skipUnless(built_program(), "the program is not built: EXAMOFFICE may name one")
@@ -72,3 +86,35 @@ class SampleSchool(unittest.TestCase):
         with open(path, "wb") as file:
             file.write(text.encode() if isinstance(text, str) else text)
         return path
+
+
+class KeptSchool(SampleSchool):
+    """An office that `keep` serves at a port."""
+
+    def setUp(self):
+        super().setUp()
+        self.begin()
+
+    def begin(self):
+        self.port = free_port()
+        self.office("keep", "start", str(self.port))
+        self.addCleanup(self.run_office, "keep", "stop")
+
+    def state(self):
+        with contextlib.suppress(OSError, ValueError), open(os.path.join(self.desk, "keep.lock"), "rb") as file:
+            return json.loads(file.read())
+        return {}
+
+    def ask(self, method="GET", what="seats", body=None, code=CODE):
+        """The status and the body of one request; the client has 60 seconds of patience, and asks once."""
+        with contextlib.closing(http.client.HTTPConnection("127.0.0.1", self.port, timeout=PATIENCE)) as connection:
+            connection.request(method, f"/candidates/{NUMBER}/{what}", body, {"exam-code": code})
+            answer = connection.getresponse()
+            return answer.status, json.loads(answer.read())
+
+    def appeal(self, ref):
+        return self.ask("POST", "appeals", json.dumps(
+            {"kind": "hall", "hall": "PC1", "ref": ref, "session": "MON-AM", "reason": "a draught"}))
+
+    def served_by(self):
+        return until(lambda: self.state().get("serve"))

@@ -6,9 +6,13 @@ import tempfile
 import unittest
 
 import sample
+import big_files
+import random_files
 import files
 import mistakes
 import school
+
+TRIES, SEED = 150, 20261128
 
 
 def with_line(kind, number, line, encoding="utf-8"):
@@ -129,9 +133,15 @@ class Verdicts(sample.SampleSchool):
             for kind, text in spoiled():
                 with self.subTest(kind=kind, text=text[:300]):
                     said = self.verdict_of_program(folder, kind, text)
-                    self.assertEqual(mistakes.first_refusal(kind, text, mistakes.Known(connection)), said)
+                    self.assertEqual(random_files.first_refusal(kind, text, mistakes.Known(connection)), said)
                     found, _ = mistakes.looked_through(kind, text, mistakes.Known(connection))
-                    self.assertEqual(bool(found), said is not None, found)
+                    self.assertEqual(bool(found), said is not None, [*found])
+
+    def test_files_at_random(self):
+        with tempfile.TemporaryDirectory() as folder, random_files.schools(folder, SEED) as schools:
+            for _ in range(TRIES):
+                self.assertIsNone(schools.try_one())
+            self.assertLess({"taken", "lines", "ends"}, schools.counts.keys())
 
 
 class Words(unittest.TestCase):
@@ -177,9 +187,54 @@ class Words(unittest.TestCase):
             "looks like letters that were read in a wrong encoding",
             "0000003 has the same access code and the same name: one candidate under two numbers?",
             "0000002 has the same access code and the same name: one candidate under two numbers?",
-            "0000003 has the same access code and the same name: one candidate under two numbers?",
             "the same as line 3; it counts once",
             "may be what a spreadsheet made of a code such as 1E5, or will make of it"])
+
+    def test_what_cannot_be_compared_is_noted(self):
+        text = b"number,paper\n0001000,MA-1\n0001017,MA-1\n"
+        self.assertEqual(self.mistakes_in("entries", text), ([], [
+            "no candidates are known, so these are not compared", "no papers are known, so these are not compared"]))
+        known = mistakes.Known()
+        self.assertEqual(self.mistakes_in("papers", b"no header\n", known)[0],
+                         ["the first line must be paper,title,session,minutes,requires; no such header is found"])
+        self.assertEqual(self.mistakes_in("entries", text, known), ([], [
+            "no candidates are known, so these are not compared",
+            "papers.csv could not be read whole, so these are not compared"]))
+        self.assertEqual(self.mistakes_in("entries", b"number,paper\n"), ([], []))
+
+    def test_no_bytes_end_it_otherwise(self):
+        same = b"number,name,code\n100\351,Ada,ABCDEFGH\n0000002,Ada,ABCDEFGH\n"
+        self.assertEqual(self.mistakes_in("candidates", same), (["seven digits; format the column as text"], [
+            "0000002 has the same access code and the same name: one candidate under two numbers?",
+            "100\ufffd has the same access code and the same name: one candidate under two numbers?"]))
+        halls = b"session,hall,desks,until,reserved\n" + b"".join(b"\xff,H%d,1,12:00,no\n" % place for place in range(257))
+        self.assertIn("257 open halls in session \ufffd; a session holds 256", self.mistakes_in("openings", halls)[0])
+
+    def test_where_records_begin_and_end(self):
+        text = files.BOM + 'a,Å\x0b\x1c\u2028\n\n\r"b\r\nc",""\r\nd\r"e""'.encode()  # in UTF-8 Å has the byte 85
+        self.assertEqual(list(files.records(text)), [
+            (1, (b"a", "Å\x0b\x1c\u2028".encode()), True), (4, (b"b\r\nc", b""), True), (6, (b"d",), True),
+            (7, (b'e"',), False)])
+        self.assertEqual(list(files.records(b'"')), [(1, (b"",), False)])
+        self.assertEqual(list(files.records(b'a;"b;c";', b";")), [(1, (b"a", b"b;c", b""), True)])
+
+    def test_too_many_mistakes_end_it(self):
+        found, _ = mistakes.looked_through("entries", b"number,paper\n" + b"a\n" * 100_001, known := mistakes.Known(), 5)
+        self.assertEqual(found.counts, {"row": mistakes.MOST_COUNTED, "file": 1})
+        halls = b"hall,title,features\n" + b"a\n" * 100_001
+        mistakes.looked_through("halls", halls, known, 5)
+        self.assertIsNone(known.keys["halls"])
+
+
+class Big(unittest.TestCase):
+    def test_big_files_take_little(self):
+        """A quarter of each; bench/big-files reads the whole of these and others."""
+        for name in ("doubled quotes", "rows that lack a value", "candidates with one code"):
+            with self.subTest(name), tempfile.TemporaryDirectory() as folder:
+                big_files.write(os.path.join(folder, f"{big_files.BIG[name][0]}.csv"), name, "with a header", 1 << 20)
+                took = big_files.took(["check-files", folder], OFFICE=os.path.join(folder, "none.db"))
+                self.assertFalse(took.is_bad(), took)
+                self.assertRegex(took.said, "\n1 files, [0-9]+ mistakes, [0-9]+ notes\n$")
 
 
 if __name__ == "__main__":

@@ -2,15 +2,12 @@
 import asyncio
 import contextlib
 import datetime
-import http.client
-import json
 import os
 import signal
 import socket
 import sqlite3
 import subprocess
 import threading
-import time
 import unittest
 from unittest import mock
 
@@ -18,17 +15,7 @@ import sample
 import keeping
 import turns
 
-NUMBER, CODE = "0001051", "VMGNZGEDP9"
-PATIENCE = 60  # seconds; long, since a busy machine is no fault
-
-
-def until(condition):
-    end = time.monotonic() + PATIENCE
-    while not (found := condition()):
-        if time.monotonic() > end:
-            raise AssertionError("it did not come")
-        time.sleep(0.02)
-    return found
+NUMBER = sample.NUMBER
 
 
 def has_ended(process):
@@ -37,32 +24,7 @@ def has_ended(process):
     return True
 
 
-class Kept(sample.SampleSchool):
-    def setUp(self):
-        super().setUp()
-        self.port = sample.free_port()
-        self.office("keep", "start", str(self.port))
-        self.addCleanup(self.run_office, "keep", "stop")
-
-    def state(self):
-        with contextlib.suppress(OSError, ValueError), open(os.path.join(self.desk, "keep.lock"), "rb") as file:
-            return json.loads(file.read())
-        return {}
-
-    def ask(self, method="GET", what="seats", body=None, code=CODE):
-        """The status and the body of one request; the client has 60 seconds of patience, and asks once."""
-        with contextlib.closing(http.client.HTTPConnection("127.0.0.1", self.port, timeout=PATIENCE)) as connection:
-            connection.request(method, f"/candidates/{NUMBER}/{what}", body, {"exam-code": code})
-            answer = connection.getresponse()
-            return answer.status, json.loads(answer.read())
-
-    def appeal(self, ref):
-        return self.ask("POST", "appeals", json.dumps(
-            {"kind": "hall", "hall": "PC1", "ref": ref, "session": "MON-AM", "reason": "a draught"}))
-
-    def served_by(self):
-        return until(lambda: self.state().get("serve"))
-
+class Kept(sample.KeptSchool):
     def stored(self):
         """Number, state and reason of the appeals in the file, once nothing serves."""
         self.office("keep", "stop")
@@ -111,7 +73,7 @@ class Kept(sample.SampleSchool):
             self.assertEqual(self.office("check"), "good\n")
             self.assertIn("SHORTAGE", self.office("shortage", "MON-AM"))
         served = len(answers)
-        until(lambda: len(answers) > served)
+        sample.until(lambda: len(answers) > served)
         over.set()
         thread.join()
         self.assertEqual(set(answers), {200})
@@ -147,7 +109,7 @@ class Kept(sample.SampleSchool):
         self.assertEqual(self.appeal("HA1"), (200, {"state": "open"}))
         serve = self.served_by()
         os.kill(self.state()["pid"], signal.SIGKILL)
-        until(lambda: has_ended(serve))
+        sample.until(lambda: has_ended(serve))
         self.assertEqual(self.office("withdraw", "0001000", "MA-1"), "withdrawn\n")
         self.office("keep", "start", str(self.port))
         self.assertEqual(self.ask("GET", "appeals")[1]["appeals"][0]["state"], "open")
@@ -156,7 +118,7 @@ class Kept(sample.SampleSchool):
     def test_command_killed(self):
         process = subprocess.Popen([sample.DESK / "office", "import", "entries", "/dev/stdin"], env=self.environment,
                                    stdin=subprocess.PIPE, stderr=subprocess.DEVNULL)
-        until(lambda: self.state().get("state") == "aside")
+        sample.until(lambda: self.state().get("state") == "aside")
         process.kill()
         process.communicate()
         self.assertEqual(self.ask()[0], 200)
@@ -194,7 +156,7 @@ class NewDay(sample.SampleSchool):
         self.assertEqual(sorted(os.listdir(os.path.join(self.desk, "days"))), ["2027-05-02", "2027-05-03"])
 
     async def two_days(self, today):
-        keep = keeping.Keep(sample.free_port(), 2, turns.open_lock("keep.lock"))
+        keep = keeping.Keep(str(sample.free_port()), 2, turns.open_lock("keep.lock"))
         served = asyncio.create_task(keep.run())
         for day in (1, 2, 3):
             today.return_value = datetime.date(2027, 5, day)

@@ -13,7 +13,8 @@ import unittest
 
 import sample
 
-import school  # beside the tests' folder
+import files  # beside the tests' folder
+import school
 
 APPEAL = "INSERT INTO appeal VALUES (?, ?, ?, ?, ?, ?, ?, ?, ?, ?, ?)"
 
@@ -68,6 +69,38 @@ class Lists(sample.SampleSchool):
             ["yes", "MON-AM", "0001289", "Rosa Tanaka", "2027-06-07", "09:00", "11:30", "MA-1", "R12", "1",
              "2027-06-07", "09:00", "11:30", "MA-1", "", "", "Mathematics 1", ""]])
         self.assertEqual({len(row) for row in rows}, {18})
+
+    def test_no_spreadsheet_finds_a_formula(self):
+        before = self.copy()
+        self.change("UPDATE candidate SET name = ? WHERE number = 1748", ["Bo\";=cmd|'/c calc'!A1;x"])
+        self.office("close-hall", "MON-AM", "R12")
+        line = self.office("changes", before, "--csv").split("\n")[1]
+        self.assertIn(""","0001748","Bo"";'=cmd|'/c calc'!A1;x","2027-06-07",""", line)
+        self.assertEqual(line.count('"') % 2, 0)
+        for text, safe in [("=1+1", "'=1+1"), (" @a", "' @a"), ("a;-1;\t+1", "a;'-1;'\t+1"), ("a;＝1", "a;'＝1"),
+                           ("Smith-Jones; Bo", "Smith-Jones; Bo")]:
+            self.assertEqual(files.guarded(text), safe)
+
+    def test_a_terminal_gets_harmless_names(self):
+        self.change("UPDATE candidate SET name = ? WHERE number = 1748", ["To\u009b2Jm\u0085\u202eas"])
+        for words in (["door-list", "MON-AM", "R12"], ["attendance", "MON-AM", "MA-1"]):
+            bare = self.office(*words)
+            self.assertIn("0001748", bare)
+            self.assertIn(" To\u009b2Jm\u0085\u202eas\n", bare)
+            self.assertEqual(self.at_terminal(*words), bare.translate(school.UNSHOWN | {10: "\r\n"}))
+
+    def at_terminal(self, *words):
+        """What a command prints on a terminal."""
+        ours, theirs = os.openpty()
+        with open(ours, "rb", buffering=0) as terminal:
+            with open(theirs, "wb") as out:
+                process = subprocess.Popen([sample.DESK / "office", *words], env=self.environment, stdout=out)
+            said = b""
+            with contextlib.suppress(OSError):  # the other end is closed
+                while part := terminal.read(4096):
+                    said += part
+            self.assertEqual(process.wait(), 0)
+        return said.decode()
 
     def test_changes_of_no_backup(self):
         self.assertIn("there is no copy 3", self.refused("changes", "3"))
@@ -125,6 +158,8 @@ class Lists(sample.SampleSchool):
             self.assertEqual(file.read(), "0001306 LAT\n")
         for kind in sample.KINDS:
             path = os.path.join(folder, f"{kind}.csv")
+            with open(path, encoding="utf-8") as file:
+                self.assertRegex(file.readline(), '^\ufeff("[a-z]+",)+"[a-z]+"\n$')
             self.assertRegex(self.office("import", kind, path), "^added 0 changed 0 same [1-9][0-9]*\n$")
             self.assertEqual(stat.S_IMODE(os.stat(path).st_mode), 0o600)
         other = os.path.join(self.folder, "other.db")
@@ -151,6 +186,34 @@ class Lists(sample.SampleSchool):
                            ("number,name,code\n0000001,Bo,abc\n", "line 2 of"), ("", "line 1 of")]:
             self.assertIn(said, self.refused("codes", self.write("bad.csv", text)))
         self.assertFalse(os.path.exists(os.path.join(self.folder, "bad-with-codes.csv")))
+
+    def codes_in(self, path):
+        with open(path, encoding="utf-8-sig", newline="") as file:
+            return {number: code for number, _, code in csv.reader(file)}
+
+    def test_codes_of_the_office_stay(self):
+        known = self.codes_in(sample.TOP / "examples/candidates.csv")
+        path = self.write("c.csv", "number,name,code\n0001051,Di Berg,\n0001068,Ed Costa,\n0001085,Fi Dahl,ABCDEFGH\n"
+                                   "0009999,Bo,\n")
+        said = self.office("codes", path, "--output", "o.csv")
+        self.assertIn(": 1 code made for 4 rows, 2 filled from the office\n", said)
+        codes = self.codes_in(os.path.join(self.folder, "o.csv"))
+        self.assertEqual([codes["0001051"], codes["0001068"], codes["0001085"]],
+                         [known["0001051"], known["0001068"], "ABCDEFGH"])
+        said = self.office("codes", path, "--output", "p.csv", "--new", "0001051", "0001085")
+        self.assertIn(": 3 codes made for 4 rows, 1 filled from the office\n", said)
+        other = self.codes_in(os.path.join(self.folder, "p.csv"))
+        self.assertEqual(other["0001068"], known["0001068"])
+        self.assertFalse({other["0001051"], other["0001085"]} & {*known.values(), *codes.values()})
+        self.assertIn("0001000 is not in", self.refused("codes", path, "--output", "q.csv", "--new", "0001000"))
+
+    def test_a_lost_code(self):
+        self.assertEqual(self.office("codes", "--new", "0001051"), "candidates-with-codes.csv: 1 code made for 1 row\n")
+        self.assertEqual(self.office("import", "candidates", "candidates-with-codes.csv"), "added 0 changed 1 same 0\n")
+        code = self.codes_in(os.path.join(self.folder, "candidates-with-codes.csv"))["0001051"]
+        self.assertIn(f"0001051 Di Berg, access code {code}\n", self.office("look", "0001051", "--codes"))
+        self.assertIn("9999 is not in the office; a number has seven digits",
+                      self.refused("codes", "--new", "9999", "--output", "q.csv"))
 
     def test_shortage(self):
         for session, right in [("MON-AM", "right: 12 candidates = 10 desks + 2 unseated\n"),

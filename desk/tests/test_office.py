@@ -157,8 +157,8 @@ class Back(sample.SampleSchool):
             self.assertEqual(stat.S_IMODE(os.stat(path).st_mode), mode, path)
         with open(os.path.join(self.desk, "log"), encoding="utf-8") as log:
             lines = [line.rstrip("\n").split("\t")[2:] for line in log]
-        self.assertEqual(lines, [["withdraw 0001000 MA-1", "0", "withdrawn"],
-                                 ["withdraw 0001000 MA-1", "1", "refused 9"]])
+        self.assertEqual(lines, [["withdraw 0001000 MA-1", *end] for end in
+                                 (["begins", ""], ["0", "withdrawn"], ["begins", ""], ["1", "refused 9"])])
 
     def test_a_bad_copy_is_refused(self):
         self.office("withdraw", "0001000", "MA-1")

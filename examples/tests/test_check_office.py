@@ -79,6 +79,7 @@ WRONG_ROWS = {
                                             "sheet S1.attendance.MA-1, line 6"),
     "the start is another": ("UPDATE session SET start = 541 WHERE code = 'S1'", "sheet S1.door-list.A, line 2"),
     "a name is another": ("UPDATE candidate SET name = 'Noel' WHERE number = 5", "sheet S1.door-list.B, line 3"),
+    "a code that is a path": ("UPDATE session SET code = '../S3' WHERE code = 'S3'", "sheet ../S3.appeals: no session, hall or paper"),
     "a hall more": ("INSERT INTO opening VALUES ('S3', 'A', 1, 720, 0)", "sheet S3.door-list.A is missing"),
     "a hall suits who has no desk": ("UPDATE hall SET features = 16 WHERE code = 'B'",
                                      "session S1, shortage: hall B is not listed, and suits candidate 0000004, who is"),

@@ -1,0 +1,122 @@
+"""The folder beside an office: who may use it, and how what lies in it is opened.
+
+Beside office.db lies desk-office.db, with the locks, the log and the copies. It belongs to the user to whom the office
+belongs, and nobody else may write there: whoever could, might lay links where files are expected. So a folder of
+another user or one in which others may write is refused, no link in it is followed, and nobody but that user makes
+anything there, a superuser neither.
+"""
+from __future__ import annotations
+
+import contextlib
+import errno
+import os
+import pwd
+import stat
+
+OTHERS = stat.S_IWGRP | stat.S_IWOTH
+AS_FOLDER = os.O_RDONLY | os.O_DIRECTORY | os.O_NOFOLLOW | os.O_CLOEXEC
+AS_FILE = os.O_NOFOLLOW | os.O_NONBLOCK | os.O_CLOEXEC  # a pipe in the place of a file keeps nobody waiting
+LINKS = {errno.ELOOP: "is a link, which is not followed", errno.ENOTDIR: "is no folder, or a link to one"}
+
+
+class Strange(OSError):
+    """What belongs to another, what others may write, or a link: it is not used."""
+
+    def __str__(self) -> str:
+        return f"{self.filename} {self.strerror}"
+
+
+def folder(office: str) -> str:
+    """The folder beside an office's file; a link to that file has the folder of the file itself."""
+    path = os.path.realpath(office)
+    return os.path.join(os.path.dirname(path), "desk-" + os.path.basename(path))
+
+
+def user_name(number: int) -> str:
+    """The name of a user; the number of one without a name."""
+    try:
+        return pwd.getpwuid(number).pw_name
+    except KeyError:
+        return str(number)
+
+
+def refuse_stranger(office: str) -> None:
+    """Raises `Strange` where the office belongs to another, who could not use afterwards what is made beside it."""
+    with contextlib.suppress(FileNotFoundError):
+        owner = os.stat(office).st_uid
+        if owner != os.geteuid():
+            name = user_name(owner)
+            how = f"belongs to {name}: work as that user, as with `sudo -u {name} office ..`"
+            raise Strange(errno.EPERM, how, "the office")
+
+
+def make_folder(office: str, *names: str) -> str:
+    """The path of the folder, or of one in it; each is made where it is not there, but no folder above them is."""
+    refuse_stranger(office)
+    for count in range(len(names) + 1):
+        with contextlib.suppress(FileExistsError):
+            os.mkdir(os.path.join(folder(office), *names[:count]), 0o700)
+        os.close(open_folder(office, *names[:count]))
+    return os.path.join(folder(office), *names)
+
+
+def open_folder(office: str, *names: str) -> int:
+    """A descriptor of the folder, or of one in it; `Strange` where one on the way is not to be trusted."""
+    refuse_stranger(office)
+    path = folder(office)
+    inner = opened(path, AS_FOLDER)
+    with contextlib.ExitStack() as outer:
+        for name in names:
+            outer.callback(os.close, inner)
+            path = os.path.join(path, name)
+            inner = opened(path, AS_FOLDER, inner)
+    return inner
+
+
+def open_file(office: str, *names: str, flags: int) -> int:
+    """A descriptor of a file in the folder, for its owner alone where it is new; `Strange` as for a folder."""
+    outer = open_folder(office, *names[:-1])
+    try:
+        return opened(os.path.join(folder(office), *names), flags | AS_FILE, outer)
+    finally:
+        os.close(outer)
+
+
+def opened(path: str, flags: int, outer: int | None = None) -> int:
+    """Opens the last name of a path, in an open folder if there is one. What it raises names the whole path."""
+    try:
+        file = os.open(path if outer is None else os.path.basename(path), flags, 0o600, dir_fd=outer)
+    except OSError as fault:
+        if fault.errno in LINKS:
+            raise Strange(fault.errno, LINKS[fault.errno], path) from None
+        raise OSError(fault.errno, fault.strerror, path) from None
+    if wrong := strange(os.fstat(file), flags):
+        os.close(file)
+        raise Strange(errno.EPERM, wrong, path)
+    return file
+
+
+def strange(found: os.stat_result, flags: int) -> str:
+    """Why what was opened is not to be trusted; nothing where it is."""
+    if found.st_uid != os.geteuid():
+        return f"belongs to {user_name(found.st_uid)}: look who made it, and move it away"
+    if found.st_mode & OTHERS:
+        return "can be written by others: look what they left, then `chmod go-w` it, or move it away"
+    if not flags & os.O_DIRECTORY and not stat.S_ISREG(found.st_mode):
+        return "is no file, but a device or a pipe"
+    return ""
+
+
+def refuse_strange(path: str) -> None:
+    """Raises `Strange` where a folder is not to be trusted; one that is not there does no harm."""
+    with contextlib.suppress(FileNotFoundError):
+        os.close(opened(path, AS_FOLDER))
+
+
+def sync(path: str) -> None:
+    """Waits until a file, or what a folder lists, is on the disk."""
+    file = os.open(path, os.O_RDONLY | os.O_NOFOLLOW | os.O_CLOEXEC)
+    try:
+        os.fsync(file)
+    finally:
+        os.close(file)

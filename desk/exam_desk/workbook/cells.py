@@ -1,0 +1,105 @@
+"""The cells of a workbook as they are stored, and the names of places in it. Nothing is decided here.
+
+A workbook may come from a stranger, so whatever is read and kept has a limit.
+"""
+import functools
+import re
+from dataclasses import dataclass, field
+from typing import NamedTuple
+
+from exam_desk.trouble import Trouble
+
+MOST_FILE = 64 << 20  # bytes of the workbook
+MOST_UNPACKED = 512 << 20  # bytes that come out of it, in all
+MOST_CELLS = 2_000_000  # that are not empty, in all
+MOST_TEXT = 128 << 20  # letters that are kept, in all
+MOST_SHEETS, MOST_ROW, MOST_COLUMN = 500, 1_048_576, 16_384
+MOST_MERGED = 200_000  # rows that merged cells cover
+
+
+class Cell(NamedTuple):
+    """A cell that holds something."""
+
+    kind: str  # text, number, percent, date, time, bool, error, or pending: a formula without a result
+    text: str  # a text; the digits of a number; 2027-06-07 or 2027-06-07T09:00:00; the seconds of a time
+    shown: str  # what the officer sees, as far as that is known, else ''
+    formula: bool = False
+    struck: bool = False  # all of it, or a part
+    unseen: bool = False  # its number format shows nothing
+
+
+@dataclass
+class Sheet:
+    """A sheet; rows and columns count from 1, and empty cells are left out."""
+
+    name: str
+    hidden: bool = False
+    rows: dict[int, dict[int, Cell]] = field(default_factory=dict)  # by row, then by column
+    hidden_rows: list[tuple[int, int]] = field(default_factory=list)  # the first and the last
+    hidden_columns: list[tuple[int, int]] = field(default_factory=list)
+    merged: list[tuple[int, int, int, int]] = field(default_factory=list)  # first row and column, last row and column
+    comments: list[tuple[int, int]] = field(default_factory=list)  # row and column
+
+
+class Book(NamedTuple):
+    """A workbook: its form is xlsx, ods or csv; the notes are for the officer."""
+
+    form: str
+    sheets: list[Sheet]
+    notes: list[str]
+
+
+class Budget:
+    """What may still be kept of a workbook."""
+
+    def __init__(self) -> None:
+        self.cells, self.text = MOST_CELLS, MOST_TEXT
+
+    def keep(self, text: str, cells: int = 1) -> None:
+        """Takes some cells of one text out of the budget; raises `Trouble` where nothing is left."""
+        self.cells -= cells
+        self.text -= len(text) * cells
+        if self.cells < 0 or self.text < 0:
+            raise Trouble(f"it has more than {MOST_CELLS:,} cells or {MOST_TEXT >> 20} MB of letters: split it")
+
+
+def place_of(text: str) -> tuple[int, int]:
+    """A reference such as AB12 as row and column."""
+    match = re.fullmatch(r"\$?([A-Z]{1,3})\$?([0-9]{1,7})", text)
+    if not match:
+        raise Trouble(f"it has a cell {text[:20]!r}")
+    column = 0
+    for letter in match[1]:
+        column = 26 * column + ord(letter) - 64
+    return int(match[2]), column
+
+
+def area_of(text: str) -> tuple[int, int, int, int]:
+    """A reference such as A2:B7 as first row and column, last row and column."""
+    first, _, last = text.partition(":")
+    return (*place_of(first), *place_of(last or first))
+
+
+@functools.cache
+def quoted_name(name: str) -> str:
+    return name if re.fullmatch(r"\w+", name) else "'" + name.replace("'", "''") + "'"
+
+
+@functools.cache
+def letters_of(column: int) -> str:
+    """A column as its letters: 28 is AB."""
+    name = ""
+    while column:
+        column, rest = divmod(column - 1, 26)
+        name = chr(65 + rest) + name
+    return name
+
+
+def place_name(sheet: Sheet | None, row: int | None = None, column: int | None = None) -> str:
+    """A place as people write it: Sheet!B7, Sheet!7, Sheet!B, Sheet; names that are not one word in quotes."""
+    if sheet is None:
+        return ""
+    name = quoted_name(sheet.name)
+    if row is None:
+        return f"{name}!{letters_of(column)}" if column else name
+    return f"{name}!{letters_of(column)}{row}" if column else f"{name}!{row}"

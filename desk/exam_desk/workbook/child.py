@@ -1,0 +1,72 @@
+"""A process of its own, with limits of memory and time, that reads or makes one workbook: child.py WHAT < BYTES
+
+`read` answers with the lines of `carrying`, `write` with the bytes of an .xlsx. A bomb ends this process alone.
+"""
+import io
+import json
+import pathlib
+import resource
+import sys
+import zipfile
+
+MOST_MEMORY = 1 << 30  # bytes
+MOST_SECONDS = 60  # of the processor
+
+
+MISSING = "python3-openpyxl is missing: apt install python3-openpyxl"
+LACKS = 3  # the status where it is missing
+
+
+def limit(most_written: int) -> None:
+    """Sets the limits; files that it writes have at most so many bytes."""
+    for what, most in ((resource.RLIMIT_AS, MOST_MEMORY), (resource.RLIMIT_CPU, MOST_SECONDS),
+                       (resource.RLIMIT_CORE, 0), (resource.RLIMIT_FSIZE, most_written)):
+        _, hard = resource.getrlimit(what)
+        least = most if hard == resource.RLIM_INFINITY else min(most, hard)
+        resource.setrlimit(what, (least, least))
+
+
+def read(data: bytes) -> bytes:
+    from exam_desk.trouble import Trouble
+    from exam_desk.workbook import carrying
+    try:
+        with zipfile.ZipFile(io.BytesIO(data)) as archive:
+            names = archive.namelist()
+            if "content.xml" in names:
+                from exam_desk.workbook.ods import read_ods as reader
+            elif "xl/workbook.bin" in names:
+                raise Trouble("it is of the form .xlsb: save it as .xlsx")
+            elif "[Content_Types].xml" not in names or "_rels/.rels" not in names:
+                raise Trouble("it is no workbook: save it as .xlsx or .ods")
+            else:
+                from exam_desk.workbook.xlsx import read_xlsx as reader
+            lines = "\n".join(carrying.packed(reader(archive)))
+    except (zipfile.BadZipFile, ValueError, NotImplementedError, EOFError) as fault:
+        lines = carrying.refused(Trouble(f"it is broken or cut short: {fault}"))
+    except Trouble as trouble:
+        lines = carrying.refused(trouble)
+    except ModuleNotFoundError:
+        lines = carrying.refused(Trouble(MISSING))
+    except MemoryError:
+        lines = carrying.refused(Trouble(f"it asks for more than {MOST_MEMORY >> 30} GB: it is no school's workbook"))
+    return lines.encode("utf-8", "surrogatepass")
+
+
+def write(data: bytes) -> bytes:
+    try:
+        from exam_desk.workbook.making import made
+    except ModuleNotFoundError:
+        sys.stderr.write(f"{MISSING}\n")
+        sys.exit(LACKS)
+    return made(json.loads(data))
+
+
+def main(what: str) -> None:
+    sys.path[0] = str(pathlib.Path(__file__).resolve().parents[2])
+    limit(0 if what == "read" else MOST_MEMORY)  # openpyxl writes sheets to temporary files of the owner
+    given = sys.stdin.buffer.read()
+    sys.stdout.buffer.write({"read": read, "write": write}[what](given))
+
+
+if __name__ == "__main__":
+    main(sys.argv[1])

@@ -1,0 +1,153 @@
+"""Headers of sheets: by which words a sheet is of a kind, and a column one of the import files."""
+import functools
+import re
+import unicodedata
+from collections.abc import Mapping
+from typing import NamedTuple
+
+from exam_desk.workbook import forms
+from exam_desk.workbook.cells import Cell, Sheet
+from exam_desk.workbook.texts import bare
+
+WITHIN = 20  # rows of a sheet in which its header is looked for
+KINDS = list(forms.HEADERS)
+SHEET_NAMES = {
+    "sessions": "sessions sittings prüfungstermine termine",
+    "papers": "papers exams subjects examinations prüfungen fächer",
+    "halls": "halls rooms venues räume",
+    "openings": "openings hallopenings roomopenings openhalls",
+    "candidates": "candidates students pupils learners prüflinge schüler",
+    "arrangements": "arrangements accessarrangements nachteilsausgleich",
+    "entries": "entries registrations examentries anmeldungen",
+}
+WORDS = {  # of a column what else its header may say, as `folded`
+    "number": "candidatenumber candidateno candidateid number no candno studentnumber studentid pupilnumber nummer "
+              "candidate prüfungsnummer",
+    "name": "fullname candidatename studentname pupilname",
+    "code": "accesscode webcode pin zugangscode",
+    "session": "sessioncode sitting termin",
+    "date": "day examdate sessiondate datum",
+    "start": "starttime begin begins beginn time starts",
+    "paper": "papercode exam examcode subjectcode prüfung",
+    "title": "description bezeichnung titel",
+    "minutes": "duration durationmin durationminutes length lengthmin lengthminutes min dauer dauermin dauerminuten "
+               "minuten",
+    "requires": "required requirements needsofthepaper",
+    "hall": "hallcode room roomcode raum venue",
+    "features": "feature equipment ausstattung",
+    "desks": "desk seats capacity places plätze",
+    "until": "end ends endtime closes openuntil till bis",
+    "reserved": "reservedhall reserviert",
+    "needs": "need arrangement arrangements requirement bedarf",
+    "extra": "extratime extrapercent extratimepercent extratime% extra% zeitzuschlag",
+}
+OF_KIND = {("papers", "paper"): "code subject", ("papers", "title"): "name subjectname papername papertitle",
+           ("papers", "requires"): "features needs", ("halls", "hall"): "code",
+           ("halls", "title"): "name hallname roomname", ("sessions", "session"): "code",
+           ("entries", "paper"): "subject code"}
+FIRST_NAME = "firstname firstnames givenname forename vorname".split()
+LAST_NAME = "lastname surname familyname nachname".split()
+MARKED = {"papers": "requires", "halls": "features", "arrangements": "needs"}  # may be columns of crosses
+Given = Mapping[str, object]  # of a kind what the file of columns says: a header, headers, {always = ..}, sheet
+
+
+class Header(NamedTuple):
+    """The header of a sheet: its row, and of each column of the office the columns of the sheet, which are joined."""
+
+    row: int
+    columns: dict[str, list[int]]
+    twice: dict[str, list[int]]  # the columns that could all be one
+
+
+@functools.lru_cache(1 << 14)
+def folded(text: str) -> str:
+    """A header without capitals, spaces and marks."""
+    return re.sub(r"[\W_]+", "", unicodedata.normalize("NFKC", bare(text)).casefold()) + ("%" if "%" in text else "")
+
+
+@functools.cache
+def words_of(kind: str, column: str) -> frozenset[str]:
+    return frozenset({column, *WORDS.get(column, "").split(), *OF_KIND.get((kind, column), "").split()})
+
+
+@functools.cache
+def all_words() -> frozenset[str]:
+    return frozenset(word for kind, header in forms.HEADERS.items() for column in header
+                     for word in words_of(kind, column))
+
+
+def seen(cell: Cell | None) -> Cell | None:
+    """A cell, or none where it holds only what no eye sees."""
+    if cell is None or cell.kind != "text" or cell.text.isascii() and not cell.text.isspace():
+        return cell
+    return cell if bare(cell.text) else None
+
+
+def text_cells(cells: Mapping[int, Cell]) -> dict[int, str]:
+    return {column: cell.text for column, cell in cells.items() if cell.kind == "text" and len(cell.text) <= 200}
+
+
+def named_kind(name: str) -> str | None:
+    """The kind that the name of a sheet says."""
+    word = folded(name)
+    return next((kind for kind, names in SHEET_NAMES.items() if word in names.split()), None)
+
+
+def match_header(kind: str, row: int, cells: Mapping[int, Cell], given: Given) -> Header:
+    """A row as the header of a kind."""
+    texts = text_cells(cells)
+    heads = {column: folded(text) for column, text in texts.items()}
+    header = Header(row, {}, {})
+    for name in forms.HEADERS[kind]:
+        asked = given.get(name)
+        if isinstance(asked, str | list):
+            match_asked(header, name, [asked] if isinstance(asked, str) else asked, heads)
+        elif asked is None:
+            words = words_of(kind, name)
+            like = sorted((column for column, head in heads.items() if head in words),
+                          key=lambda column: (heads[column] != name, column))
+            if like:
+                header.columns[name] = like[:1]
+            if len(like) > 1:
+                header.twice[name] = like
+    if kind == "candidates" and "name" not in header.columns and "name" not in given:
+        first = [column for column, head in heads.items() if head in FIRST_NAME]
+        last = [column for column, head in heads.items() if head in LAST_NAME]
+        if len(first) == 1 and len(last) == 1:
+            header.columns["name"] = [first[0], last[0]]
+    return header
+
+
+def match_asked(header: Header, name: str, wanted: list[str], heads: Mapping[int, str]) -> None:
+    """Finds the headers that the file of columns has for a column."""
+    places = [[column for column, head in heads.items() if head == folded(want)] for want in wanted]
+    if all(places):
+        header.columns[name] = [columns[0] for columns in places]
+    for columns in places:
+        if len(columns) > 1:
+            header.twice[name] = columns
+
+
+def find_header(kind: str, sheet: Sheet, given: Given, whole: bool = False) -> Header | None:
+    """The header of a kind among the first rows of a sheet; `whole` asks for every column of the kind."""
+    best = None
+    for row in sorted(sheet.rows)[:WITHIN]:
+        header = match_header(kind, row, sheet.rows[row], given)
+        have = set(header.columns) | {name for name, value in given.items() if isinstance(value, dict)}
+        optional = {"code"} if kind == "candidates" else set()
+        lacking = {name for name in forms.HEADERS[kind] if name not in have} - optional
+        if whole and lacking or forms.needed_columns(kind) - have or len(header.columns) < 2:
+            continue
+        if best is None or len(header.columns) > len(best.columns):
+            best = header
+    return best
+
+
+def is_exact(kind: str, sheet: Sheet) -> bool:
+    """Whether a sheet has just the columns of a kind, under their own names."""
+    header = find_header(kind, sheet, {}, True)
+    if header is None:
+        return False
+    cells = sheet.rows[header.row]
+    names = [cells[columns[0]].text for columns in header.columns.values()]
+    return names == forms.HEADERS[kind] and len(cells) == len(names)

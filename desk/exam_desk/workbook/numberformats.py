@@ -1,0 +1,209 @@
+"""What a stored number is under its number format, and what the officer sees of it."""
+import datetime
+import decimal
+import functools
+import re
+
+from exam_desk.workbook.cells import Cell
+
+DAY_SECONDS = 86_400
+LAST_SERIAL = 2_950_000  # a day in the year 9976
+MOST_NUMBER = 10 ** 15  # a spreadsheet keeps fifteen digits
+LONG_NUMBER = 10 ** 11  # from here on the format General shows a power of ten
+WINDOWS, MACINTOSH = datetime.datetime(1899, 12, 30), datetime.datetime(1904, 1, 1)  # the day 0
+MACHINE_DATE = "m/d/yy?"  # the date that each machine shows in its own way
+BUILT_IN = {  # formats by number, beside those that openpyxl knows
+            14: MACHINE_DATE, 22: MACHINE_DATE + " h:mm", 32: "h:mm", 33: "h:mm",
+            **{number: MACHINE_DATE for number in (*range(27, 32), *range(34, 37), *range(50, 59))}}
+TOKEN = re.compile(r'"[^"]*"|\\.|_.|\*.|\[[^\]]*\]|General|[0#?]+(?:[0#?,.]*[0#?])?,*|.', re.I)
+DATE_TOKEN = re.compile(r"\[[^\]]*\]|yyyy|yy\?|yy|mmmm|mmm|mm|m|dddd|ddd|dd|d|hh|h|ss|s|AM/PM|\\.|\"[^\"]*\"|.")
+DIGITS = re.compile(r"(?P<group>#,)?#*(?P<zeros>0*)(?:\.(?P<places>0+))?")
+
+
+@functools.lru_cache(1 << 16)
+def number_cell(raw: str, form: str, epoch: datetime.datetime = WINDOWS) -> Cell | None:
+    """The cell of a number that is stored as `raw`; none where it is 0 and the format shows nothing for 0."""
+    try:
+        number = decimal.Decimal(raw)
+    except decimal.InvalidOperation:
+        return Cell("number", raw[:40], raw[:40])
+    if not number.is_finite() or abs(number) > MOST_NUMBER:
+        return Cell("number", raw[:40], raw[:40])
+    tidy = tidied(number)
+    plain = format(tidy, "f") if tidy else "0"
+    marks = format_marks(form)
+    if marks & {"date", "time"}:
+        return moment_cell(number, plain, form, marks, epoch)
+    shown = shown_number(form, tidy * 100 if "percent" in marks else tidy)
+    if shown is None:
+        return Cell("number", plain, "", unseen=True) if tidy else None
+    if "percent" in marks:
+        times = format((tidy * 100).normalize(), "f") if tidy else "0"
+        return Cell("percent", times, shown or f"{times}%")
+    if "power" in marks:
+        return Cell("number", plain, f"{float(number):.2E}")
+    return Cell("number", plain, shown)
+
+
+def tidied(number: decimal.Decimal) -> decimal.Decimal:
+    """A number at fifteen digits: what lies beyond is noise of a spreadsheet's binary numbers."""
+    return decimal.Context(prec=15).create_decimal(number).normalize()
+
+
+def whole_seconds(days: decimal.Decimal) -> decimal.Decimal:
+    """A part of a day in seconds, without the noise of binary numbers."""
+    seconds = round(days * DAY_SECONDS, 3)
+    near = decimal.Decimal(round(seconds))
+    return near if abs(seconds - near) < decimal.Decimal("0.05") else seconds
+
+
+def moment_cell(number: decimal.Decimal, plain: str, form: str, marks: frozenset[str],
+                epoch: datetime.datetime) -> Cell:
+    """The cell of a number under a format of dates or of times."""
+    seconds = whole_seconds(number)
+    if "date" in marks or number >= 1 and "elapsed" not in marks:
+        if not 0 <= number < LAST_SERIAL:
+            return Cell("number", plain, "")
+        days, rest = divmod(seconds, DAY_SECONDS)
+        when = epoch + datetime.timedelta(days=int(days))
+        if not rest and "date" not in marks:
+            return Cell("time", str(seconds), "")
+        text = f"{when:%Y-%m-%d}" + (f"T{clock_text(rest)}" if rest else "")
+        return Cell("date", text, painted(form, when + datetime.timedelta(seconds=float(rest))))
+    shown = ""
+    if "elapsed" not in marks and 0 <= number < 1:
+        shown = painted(form, epoch + datetime.timedelta(seconds=float(seconds)))
+    return Cell("time", str(seconds), shown)
+
+
+def clock_text(seconds: decimal.Decimal) -> str:
+    """A time of day from its seconds."""
+    whole = int(seconds)
+    text = f"{whole // 3600:02}:{whole // 60 % 60:02}:{whole % 60:02}"
+    return text if whole == seconds else text + f"{float(seconds) % 1:.3f}"[1:]
+
+
+@functools.cache
+def sections(form: str) -> tuple[str, ...]:
+    """The sections of a number format: for numbers above 0, below 0, for 0, and for texts."""
+    parts = [""]
+    for token in TOKEN.findall(form):
+        if token == ";":
+            parts.append("")
+        else:
+            parts[-1] += token
+    return tuple(parts)
+
+
+@functools.cache
+def format_marks(form: str) -> frozenset[str]:
+    """What a number format makes of a number: date, time, elapsed (time), percent, power (of ten)."""
+    bare = re.sub(r'"[^"]*"|\\.|_.|\*.', "", sections(form)[0])
+    elapsed = re.search(r"\[(h+|m+|s+)\]", bare, re.I)
+    bare = re.sub(r"\[[^\]]*\]", "", bare).lower()
+    marks = set()
+    digits = re.search("[0#?]", re.sub(r"s[.,]0+", "s", bare).replace("yy?", "yy"))
+    if bare not in ("general", "@") and not digits:
+        clock = bool(re.search("[hs]", bare) or elapsed)
+        if re.search("[ydge]|b[12]", bare) or "m" in bare and not clock or "mmm" in bare:
+            marks.add("date")
+        if clock:
+            marks.add("time")
+        if elapsed:
+            marks.add("elapsed")
+    if "%" in bare:
+        marks.add("percent")
+    if re.search(r"e[+-]", bare) and digits:
+        marks.add("power")
+    return frozenset(marks)
+
+
+def shown_number(form: str, number: decimal.Decimal) -> str | None:
+    """How a number is shown: '' where that is not known, none where nothing is shown."""
+    parts = sections(form)
+    if any(re.match(r"\[[<>=]", token) for token in TOKEN.findall(form)):
+        return ""
+    numeric = parts[:3] if len(parts) > 1 or "@" not in parts[0] else ("General",)
+    place = 0 if number > 0 else 1 if number < 0 else 2
+    section = numeric[place] if place < len(numeric) else numeric[0]
+    if not section.strip() and len(parts) > 1:
+        return None
+    minus = "-" if number < 0 and place >= len(numeric) else ""
+    shown, known = "", 0
+    for token in TOKEN.findall(section or "General"):
+        text = shown_token(token, abs(number))
+        if text is None:
+            return ""
+        known += token.lower() == "general" or token[0] in "0#?"
+        shown += text
+    return minus + shown.strip() if known < 2 else ""
+
+
+def shown_token(token: str, number: decimal.Decimal) -> str | None:
+    """What a piece of a number format shows; none where that is not known."""
+    if token.lower() == "general":
+        return f"{float(number):.5E}" if number >= LONG_NUMBER else format(number, "f") if number else "0"
+    if token[0] in "0#":
+        return shown_digits(token, number)
+    if token[0] == "[":
+        return token[2:-1].split("-")[0] if token.startswith("[$") else ""
+    return literal(token)
+
+
+def literal(token: str) -> str | None:
+    """The letters that a piece of a number format shows as they are; none of a piece that means something."""
+    if token[0] in "_*" and len(token) == 2:
+        return " " if token[0] == "_" else ""
+    if token[0] in '"\\':
+        return token.strip('"') if token[0] == '"' else token[1:]
+    return token if token in " -+/():!^&'~{}<>=$€£%" else None
+
+
+def shown_digits(token: str, number: decimal.Decimal) -> str | None:
+    match = DIGITS.fullmatch(token.replace("#,##", "#,"))
+    if not match:
+        return None
+    places = len(match["places"] or "")
+    rounded = number.quantize(decimal.Decimal(1).scaleb(-places), decimal.ROUND_HALF_UP)
+    whole, _, rest = format(rounded, "f").partition(".")
+    whole = "" if whole == "0" and not match["zeros"] else whole.zfill(len(match["zeros"]))
+    return (f"{int(whole or 0):,}" if match["group"] else whole) + (f".{rest}" if rest else "")
+
+
+def shown_text(form: str, text: str) -> str | None:
+    """How a text is shown under a number format: none where nothing is shown."""
+    if form in ("General", "@"):
+        return text
+    parts = sections(form)
+    section = parts[3] if len(parts) > 3 else next((part for part in parts if "@" in part), "@")
+    pieces = [text if token == "@" else literal(token) for token in TOKEN.findall(section)]
+    return "".join(piece or "" for piece in pieces) if pieces else None
+
+
+def painted(form: str, when: datetime.datetime) -> str:
+    """How a date is shown, where the format is plain; '' where the officer's machine decides."""
+    words = DATE_TOKEN.findall(sections(form)[0])
+    if "yy?" in words:
+        return ""
+    out: list[str] = []
+    clock, half = False, "AM/PM" in words
+    for place, word in enumerate(words):
+        later = [other for other in words[place + 1:] if other in ("ss", "s", "hh", "h", "dd", "d", "yyyy", "yy")]
+        minute = word in ("mm", "m") and (clock or later[:1] in (["ss"], ["s"]))
+        out.append("" if word.startswith("[") else date_word(word, when, half, minute))
+        if word in ("hh", "h", "dd", "d", "yyyy", "yy", "ss", "s"):
+            clock = word in ("hh", "h")
+    return "".join(out).strip()
+
+
+def date_word(word: str, when: datetime.datetime, half: bool, minute: bool) -> str:
+    """What a piece of a format of dates shows; `half`: hours count to 12, `minute`: m are minutes."""
+    hour = (when.hour + 11) % 12 + 1 if half else when.hour
+    numbers = {"h": hour, "m": when.minute if minute else when.month, "s": when.second, "d": when.day}
+    if word in ("hh", "mm", "ss", "dd"):
+        return f"{numbers[word[0]]:02}"
+    if word in numbers:
+        return str(numbers[word])
+    names = {"yyyy": f"{when.year}", "yy": f"{when:%y}", "mmm": f"{when:%b}", "mmmm": f"{when:%B}", "ddd": f"{when:%a}",
+             "dddd": f"{when:%A}", "AM/PM": f"{when:%p}"}
+    return names.get(word, word.strip('"\\'))

@@ -1,0 +1,123 @@
+"""Opens a workbook: what it is its bytes say, not its name. Those in a zip are read by a process of their own."""
+import importlib.util
+import os
+import pathlib
+import re
+import stat
+import subprocess
+import sys
+
+from exam_desk.trouble import Trouble
+from exam_desk.workbook import carrying, forms
+from exam_desk.workbook.child import LACKS
+from exam_desk.workbook.cells import MOST_FILE, Book, Budget, Cell, Sheet
+from exam_desk.workbook.looking import OPEN_AND_SAVE
+
+CHILD = pathlib.Path(__file__).resolve().parent / "child.py"
+PYTHON = "/usr/bin/python3"  # the one for which Debian installs its libraries
+MOST_SECONDS = 600  # of the clock, for the process that reads; of the processor it has fewer
+OLD = b"\xd0\xcf\x11\xe0\xa1\xb1\x1a\xe1"  # of Microsoft's compound files
+NO_WORKBOOK = "it is no workbook, whatever its name: open it in a spreadsheet and save it as .xlsx or .ods"
+OTHERS = (b"<html", b"<!doctype", b"<table", b"<?xml", b"<meta", b"%pdf", b"{\\rtf")
+ALSO = {"xlsx": ("xlsx", "xlsm", "xltx", "xltm"), "ods": ("ods", "ots"), "csv": ("csv", "txt", "tsv")}
+
+
+def open_book(path: str, encoding: str | None = None) -> Book:
+    """The workbook at a path; raises `Trouble` where it cannot be read whole. The encoding is that of a CSV file."""
+    if not stat.S_ISREG(os.stat(path).st_mode):
+        raise Trouble("it is no file")
+    with open(path, "rb") as file:
+        data = file.read(MOST_FILE + 1)
+    if len(data) > MOST_FILE:
+        raise Trouble(f"it is larger than {MOST_FILE >> 20} MB")
+    name = pathlib.PurePath(path)
+    book = read_zip(data) if is_zip(data) else read_csv(data, name.stem, encoding)
+    suffix = name.suffix[1:].lower()
+    if suffix not in ALSO[book.form]:
+        book.notes.append(f"the name ends in .{suffix}, but it is a file .{book.form}; it is read as that")
+    return book
+
+
+def is_zip(data: bytes) -> bool:
+    """Whether a file is a zip or else a text; raises `Trouble` where it is neither."""
+    if data.startswith(OLD):
+        if "EncryptedPackage".encode("utf-16-le") in data:
+            raise Trouble("it has a password: save it without one")
+        raise Trouble("it is of the old form .xls: open it in a spreadsheet and save it as .xlsx or .ods")
+    if data.startswith(b"PK"):
+        return True
+    start = data[:1000].lstrip(b"\xef\xbb\xbf \r\n\t").lower()
+    if start.startswith(OTHERS) or b"\0" in data[:1000] and data[:2] not in (b"\xff\xfe", b"\xfe\xff"):
+        raise Trouble(NO_WORKBOOK)
+    return False
+
+
+def read_zip(data: bytes) -> Book:
+    """The workbook in a zip."""
+    return carrying.unpacked(ask_child("read", data).decode("utf-8", "surrogatepass").split("\n"))
+
+
+def ask_child(what: str, data: bytes) -> bytes:
+    """What the process with limits answers. Where this python lacks openpyxl, Debian's may have it."""
+    python = sys.executable
+    if importlib.util.find_spec("openpyxl") is None and pathlib.Path(PYTHON).exists():
+        python = PYTHON
+    try:
+        done = subprocess.run([python, "-B", str(CHILD), what], input=data, capture_output=True, check=False,
+                              timeout=MOST_SECONDS)
+    except subprocess.TimeoutExpired as fault:
+        raise Trouble(f"it takes more than {MOST_SECONDS} seconds: it is no workbook of a school") from fault
+    if done.returncode < 0:
+        raise Trouble("it takes too long or too much memory: it is no workbook of a school")
+    if done.returncode:
+        said = done.stderr.decode("utf-8", "replace").strip().split("\n")[-1]
+        if done.returncode == LACKS:
+            raise Trouble(said)
+        raise Trouble(f"a part of it is broken ({said[:200]}): {OPEN_AND_SAVE}")
+    return done.stdout
+
+
+def decoded(data: bytes, encoding: str | None) -> str:
+    """The letters of a CSV file, without half ones."""
+    if encoding is None:
+        encoding = "utf-16" if data[:2] in (b"\xff\xfe", b"\xfe\xff") else "utf-8-sig"
+    try:
+        text = data.decode(encoding)
+        text.encode()
+        return text
+    except UnicodeError:
+        raise Trouble("its letters are no UTF-8: save it as CSV UTF-8, or say --encoding cp1252 if a Windows program "
+                      "of Western Europe wrote it") from None
+    except LookupError:
+        raise Trouble(f"there is no encoding {encoding}") from None
+
+
+def text_cell(shown: str) -> Cell:
+    """A field of CSV. Some programs write ="0000017" so that a spreadsheet leaves the zeros."""
+    match = re.fullmatch('="([^"]*)"', shown)
+    return Cell("text", match[1] if match else shown, shown)
+
+
+def read_csv(data: bytes, name: str, encoding: str | None = None) -> Book:
+    """A file of one sheet whose cells are texts. What parts its columns is what its first lines have most of."""
+    text, notes = decoded(data, encoding), []
+    lines = [line for line in text.splitlines()[:20] if line.strip()]
+    if lines and (match := re.fullmatch("sep=(.)", lines[0])):
+        comma = match[1]
+        text = text.replace(lines[0], "", 1)
+    else:
+        comma = max(",;\t|", key=lambda mark: max((line.count(mark) for line in lines), default=0))
+    if comma != ",":
+        notes.append(f"its columns are parted by {'tabs' if comma == chr(9) else comma}")
+    sheet, budget = Sheet(name), Budget()
+    if comma != "\t" and not (comma.isascii() and comma.isprintable() and comma != '"'):
+        raise Trouble(f"{comma} cannot part columns, as its first line says: save it with commas or semicolons")
+    for record in forms.records(text.encode(), comma.encode()):
+        if not record.closed:
+            raise Trouble(f"a quote is not closed in line {record.line}")
+        cells = {column: text_cell(field.decode()) for column, field in enumerate(record.fields, 1) if field}
+        for cell in cells.values():
+            budget.keep(cell.text)
+        if cells:
+            sheet.rows[record.line] = cells
+    return Book("csv", [sheet], notes)

@@ -1,0 +1,89 @@
+"""From a workbook, or from import files that a spreadsheet broke, to the rows of the seven kinds."""
+import os
+import re
+from collections.abc import Callable, Mapping
+from typing import NamedTuple
+
+from exam_desk.trouble import Trouble
+from exam_desk.workbook import forms
+from exam_desk.workbook.cells import Book
+from exam_desk.workbook.checking import check_files
+from exam_desk.workbook.finding import find_entries, find_tables, named_papers, usable_sheets
+from exam_desk.workbook.headers import KINDS, Given, named_kind
+from exam_desk.workbook.opening import open_book
+from exam_desk.workbook.report import Report
+from exam_desk.workbook.rows import Record, read_table
+from exam_desk.workbook.tables import Choices, Job, Table
+from exam_desk.workbook.texts import Way
+
+Progress = Callable[[str], None]
+
+
+class Reading(NamedTuple):
+    """What was read: of each kind the records, and the lines. Where a line is a mistake nothing may be written."""
+
+    records: dict[str, list[Record]]
+    report: Report
+
+
+def read_workbook(path: str, known: forms.Known, way: Way, given: Mapping[str, Given], choices: Choices,
+                  encoding: str | None = None, progress: Progress = lambda text: None) -> Reading:
+    """Reads a workbook or a CSV export beside what the office has; raises `Trouble` where it cannot be read."""
+    progress("opening")
+    try:
+        book = open_book(path, encoding)
+    except Trouble as trouble:
+        raise Trouble(f"cannot be read: {trouble.sentence}", path) from trouble
+    return read_book(book, Job(known, way, given, choices), progress)
+
+
+def mend_folder(folder: str, known: forms.Known, way: Way, encoding: str | None = None,
+                progress: Progress = lambda text: None) -> Reading:
+    """Reads the import files of a folder by the rules of a workbook's cells, each as a sheet of its name."""
+    book, together = Book("csv", [], []), []
+    for name in sorted(os.listdir(folder), key=lambda name: (len(name), name)):
+        match = re.fullmatch(rf"({'|'.join(KINDS)})(-[0-9]+)?\.csv", name)
+        if match:
+            try:
+                found = open_book(os.path.join(folder, name), encoding)
+            except Trouble as trouble:
+                raise Trouble(f"cannot be read: {trouble.sentence}", os.path.join(folder, name)) from trouble
+            book.sheets.extend(found.sheets)
+            book.notes.extend(f"{name}: {note}" for note in found.notes)
+            together.append(match[1])
+        elif name.lower().endswith((".csv", ".xlsx", ".xlsm", ".ods")):
+            book.notes.append(f"{name} is none of the seven files; it is not read")
+    if not book.sheets:
+        raise Trouble("none of the seven files is there", folder)
+    given: dict[str, Given] = {}
+    return read_book(book, Job(known, way, given, Choices(together=together)), progress)
+
+
+def read_book(book: Book, job: Job, progress: Progress) -> Reading:
+    """Finds the tables of a workbook, reads their rows, and checks what comes out as the files of an import."""
+    for text in book.notes:
+        job.report.note(None, None, None, text)
+    sheets = usable_sheets(job, book.sheets)
+    job.papers = named_papers(job, sheets)
+    tables, rest = find_tables(job, sheets)
+    records: dict[str, list[Record]] = {}
+    read_tables(job, tables, [kind for kind in KINDS if kind != "entries"], records, progress)
+    codes = {code.decode() for code in job.known.keys["papers"] or ()}
+    job.papers = codes | {record.fields[0] for record in records.get("papers", [])}
+    lists, rest = find_entries(job, rest, tables)
+    read_tables(job, tables + lists, ["entries"], records, progress)
+    for sheet in rest:
+        if not named_kind(sheet.name):  # of the others a mistake is said
+            job.report.note(sheet, None, None, "is not read: no row is the header of one of the seven kinds")
+    if not any(records.values()) and not job.report.count("mistake"):
+        job.report.mistake(None, None, None, "no sheet has rows of one of the seven kinds: see `office template`")
+    check_files(job, records, progress)
+    return Reading(records, job.report)
+
+
+def read_tables(job: Job, tables: list[Table], kinds: list[str], records: dict[str, list[Record]],
+                progress: Progress) -> None:
+    for kind in kinds:
+        for table in tables:
+            if table.kind == kind:
+                records.setdefault(kind, []).extend(read_table(job, table, progress))

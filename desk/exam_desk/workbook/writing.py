@@ -1,0 +1,51 @@
+"""Writes what was read as a new folder of import files, for its owner alone, whole or not at all."""
+import os
+import shutil
+import tempfile
+
+from exam_desk.trouble import Trouble
+from exam_desk.workbook import forms
+from exam_desk.workbook.checking import file_parts
+from exam_desk.workbook.headers import KINDS
+from exam_desk.workbook.reading import Reading
+from exam_desk.workbook.report import Report
+
+
+def refuse_there(target: str) -> None:
+    """Raises `Trouble` where something has the name of the folder."""
+    if os.path.lexists(target):
+        raise Trouble("is there already; name a new folder", target)
+
+
+def write_folder(target: str, reading: Reading, lines_name: str) -> dict[str, int]:
+    """Makes the folder with the files and all lines of the report; gives the count of rows of each kind. Raises
+    `Trouble` where a line is a mistake."""
+    if reading.report.count("mistake"):
+        raise Trouble("there are mistakes, so nothing is written", target)
+    refuse_there(target)
+    making = tempfile.mkdtemp(prefix=".read-", dir=os.path.dirname(os.path.abspath(target)))
+    try:
+        counts = {kind: write_kind(making, kind, reading) for kind in KINDS if reading.records.get(kind)}
+        put(os.path.join(making, lines_name), lines_of(reading.report))
+        os.rename(making, target)
+    except BaseException:
+        shutil.rmtree(making, ignore_errors=True)
+        raise
+    return counts
+
+
+def write_kind(folder: str, kind: str, reading: Reading) -> int:
+    rows = [record.fields for record in reading.records[kind]]
+    for place, (text, _) in enumerate(file_parts(kind, rows), 1):
+        put(os.path.join(folder, f"{kind}.csv" if place == 1 else f"{kind}-{place}.csv"), text)
+    return len(rows)
+
+
+def lines_of(report: Report) -> bytes:
+    return "".join(f"{forms.plain(line.whole())}\n" for line in report.lines).encode("utf-8", "backslashreplace")
+
+
+def put(path: str, text: bytes) -> None:
+    """Makes a file for its owner alone."""
+    with open(os.open(path, os.O_WRONLY | os.O_CREAT | os.O_EXCL, 0o600), "wb") as file:
+        file.write(text)

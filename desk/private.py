@@ -1,0 +1,145 @@
+"""Copies of an office's two files as they were at one moment; and private ones, which last as long as a command.
+
+A private copy lies in a folder of its own in desk-office.db/tmp, or in TMPDIR where nothing can be written there. Who
+uses it holds the lock in that folder. The system lets go of the lock of a process that ends, in whatever way, and the
+next command removes the folders whose lock is free.
+"""
+from __future__ import annotations
+
+import contextlib
+import errno
+import fcntl
+import os
+import shutil
+import stat
+import tempfile
+import time
+from collections.abc import Iterator
+
+import beside
+
+PLACE, PREFIX, LOCK = "tmp", "office-copy-", "lock"
+ELSEWHERE = {errno.EACCES, errno.EPERM, errno.EROFS, errno.ENOSPC, errno.EDQUOT}  # another folder may do
+TRIES, PAUSE = 200, 0.02  # seconds from one to the next
+
+
+@contextlib.contextmanager
+def private_copy(path: str, office: str) -> Iterator[str]:
+    """The path of a copy of an office's two files that goes again; it lies beside the other office that is named."""
+    source = path if os.path.abspath(path).startswith(beside.folder(office) + os.sep) else os.path.realpath(path)
+    with contextlib.suppress(OSError):
+        sweep(tempfile.gettempdir())
+    with contextlib.ExitStack() as stack:
+        try:
+            copy = copy_into(stack.enter_context(own_folder(office)), source)
+        except OSError as fault:
+            if fault.errno not in ELSEWHERE and not isinstance(fault, beside.Strange):
+                raise
+            stack.close()
+            copy = copy_into(stack.enter_context(private_folder(tempfile.gettempdir())), source)
+        yield copy
+
+
+def copy_into(folder: str, source: str) -> str:
+    copy = os.path.join(folder, "office.db")
+    copy_files(source, copy)
+    return copy
+
+
+@contextlib.contextmanager
+def own_folder(office: str) -> Iterator[str]:
+    """A private folder beside an office; in TMPDIR where there is no office."""
+    place = beside.make_folder(office, PLACE) if os.path.isfile(office) else tempfile.gettempdir()
+    with private_folder(place) as folder:
+        yield folder
+
+
+@contextlib.contextmanager
+def private_folder(place: str) -> Iterator[str]:
+    """A new folder in a place, with its lock held, which goes again; what killed commands left there goes first."""
+    sweep(place)
+    lock = None
+    while lock is None:  # another command can sweep the folder before its lock is held
+        folder = tempfile.mkdtemp(prefix=PREFIX, dir=place)
+        lock = claim(folder)
+    try:
+        yield folder
+    finally:
+        shutil.rmtree(folder, ignore_errors=True)
+        os.close(lock)
+
+
+def claim(folder: str) -> int | None:
+    """The lock of a private folder, held; None where another process holds it, or the folder is gone."""
+    try:
+        lock = os.open(os.path.join(folder, LOCK), os.O_RDWR | os.O_CREAT | os.O_NOFOLLOW | os.O_CLOEXEC, 0o600)
+    except FileNotFoundError:
+        return None
+    with contextlib.suppress(BlockingIOError):
+        fcntl.flock(lock, fcntl.LOCK_EX | fcntl.LOCK_NB)
+        if os.fstat(lock).st_nlink:  # else it was removed before it was held
+            return lock
+    os.close(lock)
+    return None
+
+
+def sweep(place: str) -> None:
+    """Removes this user's private folders in a place whose locks are free."""
+    with os.scandir(place) as entries:
+        for entry in entries:
+            with contextlib.suppress(OSError):
+                if is_private(entry) and (lock := claim(entry.path)) is not None:
+                    shutil.rmtree(entry.path, ignore_errors=True)
+                    os.close(lock)
+
+
+def is_private(entry: os.DirEntry) -> bool:
+    found = entry.stat(follow_symlinks=False)
+    return entry.name.startswith(PREFIX) and stat.S_ISDIR(found.st_mode) and found.st_uid == os.geteuid()
+
+
+def copy_files(source: str, target: str) -> None:
+    """Copies the two files of an office as they were at one moment, though a program may write meanwhile. No link is
+    followed.
+
+    A program that has the office open only adds to the second file. One that opens it changes the first file, or begins
+    the second anew: then the copy is made again.
+    """
+    for _ in range(TRIES):
+        before = moment(source)
+        if before is not None:
+            copy_file(source, target)
+            with contextlib.suppress(FileNotFoundError):
+                copy_file(source + "-wal", target + "-wal")
+            if before == moment(source):
+                return
+        for ending in ("", "-wal"):
+            with contextlib.suppress(FileNotFoundError):
+                os.remove(target + ending)
+        time.sleep(PAUSE)
+    raise OSError(errno.EBUSY, "changes all the time", source)
+
+
+def open_source(path: str) -> int:
+    return os.open(path, os.O_RDONLY | os.O_NOFOLLOW | os.O_CLOEXEC)
+
+
+def copy_file(source: str, target: str) -> None:
+    with (open(open_source(source), "rb") as file,
+          open(os.open(target, os.O_WRONLY | os.O_CREAT | os.O_EXCL, 0o600), "wb") as copy):
+        shutil.copyfileobj(file, copy, 1 << 20)
+
+
+def moment(path: str) -> tuple[int, int, int, bytes | None] | None:
+    """What tells one state of the first file and one beginning of the second from others; None just after a change."""
+    first = os.lstat(path)
+    if not stat.S_ISREG(first.st_mode):
+        raise OSError(errno.EINVAL, "is no file", path)
+    if 0 <= time.time_ns() - first.st_mtime_ns < 20_000_000:  # a change within one tick of the clock is not seen
+        return None
+    try:
+        with open(open_source(path + "-wal"), "rb") as file:
+            beginning = file.read(32)
+    except FileNotFoundError:
+        beginning = None
+    return first.st_ino, first.st_size, first.st_mtime_ns, beginning

@@ -1,0 +1,170 @@
+"""Nothing is sent to a process that is not the one that is meant, whoever has its port, and whenever they took it."""
+import asyncio
+import contextlib
+import os
+import select
+import socket
+import subprocess
+import sys
+import tempfile
+import time
+import unittest
+from unittest import mock
+
+import sample
+import asking
+import hold
+
+ANSWER = b"HTTP/1.1 200 OK\r\nContent-Length: 2\r\n\r\nok"
+REQUEST = b"GET /candidates/0001051/seats HTTP/1.1\r\nexam-code: VMGNZGEDP9\r\n\r\n"
+LISTENER = """
+import socket, sys
+with socket.socket(socket.AF_UNIX if "/" in sys.argv[1] else socket.AF_INET) as listener:
+    listener.bind(sys.argv[1] if "/" in sys.argv[1] else ("127.0.0.1", 0))
+    listener.listen()
+    print(listener.getsockname()[1], flush=True)
+    while True:
+        with listener.accept()[0] as client:
+            client.settimeout(5)
+            got = client.recv(4096)
+            print(len(got), flush=True)
+            client.sendall(sys.argv[2].encode() if got else b"")
+"""
+
+
+@contextlib.contextmanager
+def listening(path="port"):
+    """Another process that listens; gives it and its place."""
+    line = [sys.executable, "-c", LISTENER, path, ANSWER.decode()]
+    with subprocess.Popen(line, stdout=subprocess.PIPE, text=True) as process:
+        try:
+            named = process.stdout.readline().strip()
+            yield process, path if "/" in path else named
+        finally:
+            process.kill()
+
+
+class Asking(unittest.TestCase):
+    def asks(self, server):
+        return asyncio.run(asyncio.wait_for(asking.answer(server, REQUEST), 30))
+
+    def refuses(self, server, thief):
+        """Nothing is sent: whoever listens reads the end."""
+        with self.assertRaises(asking.Stranger):
+            self.asks(server)
+        self.assertTrue(select.select([thief.stdout], [], [], 10)[0], "it was not even connected")
+        self.assertEqual(thief.stdout.readline(), "0\n")
+
+    def test_a_port_of_the_process_that_is_meant(self):
+        with listening() as (process, place):
+            self.assertEqual(self.asks(asking.Server(process.pid, place)), ANSWER)
+            self.assertEqual(process.stdout.readline(), f"{len(REQUEST)}\n")
+
+    def test_a_port_that_another_process_took(self):
+        with listening() as (thief, place), listening() as (meant, _):
+            self.refuses(asking.Server(meant.pid, place), thief)
+            self.refuses(asking.Server(os.getpid(), place), thief)
+
+    def test_a_port_of_a_process_that_has_ended(self):
+        with listening() as (thief, place), listening() as (meant, _):
+            meant.kill()  # and is not waited for, so its number stays
+            while os.path.exists(f"/proc/{meant.pid}/exe"):
+                time.sleep(0.01)
+            self.refuses(asking.Server(meant.pid, place), thief)
+        with self.assertRaises(OSError):
+            self.asks(asking.Server(meant.pid, place))
+
+    def test_a_listener_at_another_address_is_not_it(self):
+        with socket.create_server(("127.0.0.2", 0)) as other:
+            self.assertFalse(asking.listens(asking.Server(os.getpid(), str(other.getsockname()[1]))))
+        self.assertFalse(asking.listens(asking.Server(os.getpid(), str(sample.free_port()))))
+
+    def test_it_looks_after_the_connection(self):
+        with listening() as (process, place):
+            with mock.patch("asking.refuse_stranger", side_effect=lambda connection, _: connection.getpeername()) as look:
+                self.assertEqual(self.asks(asking.Server(process.pid, place)), ANSWER)
+            look.assert_called_once()
+
+    def test_a_socket(self):
+        with tempfile.TemporaryDirectory() as folder:
+            with listening(f"{folder}/a") as (process, place):
+                self.assertEqual(self.asks(asking.Server(process.pid, place)), ANSWER)
+                self.assertEqual(process.stdout.readline(), f"{len(REQUEST)}\n")
+                self.refuses(asking.Server(os.getpid(), place), process)
+
+    def test_status(self):
+        for text, status in [(ANSWER, 200), (ANSWER[:-1], 0), (b"", 0), (ANSWER + b"x", 0), (b"\r\n\r\n", 0),
+                             (b"HTTP/1.1 500 X\r\nContent-Length: 0\r\n\r\n", 500)]:
+            self.assertEqual(asking.status_of(text), status, text)
+
+
+class Held(unittest.IsolatedAsyncioTestCase):
+    """The door, in this process: so whoever takes the port is of the right process, and only the turn holds it off."""
+
+    async def asyncSetUp(self):
+        self.hold = hold.Hold()
+        self.got = []
+        self.gate = asyncio.Event()
+        self.server = await asyncio.start_server(self.serve, "127.0.0.1", 0)
+        self.port = self.server.sockets[0].getsockname()[1]
+        self.addAsyncCleanup(self.end)
+
+    async def end(self):
+        self.gate.set()
+        self.server.close()
+        await asyncio.sleep(0)
+
+    async def serve(self, reader, writer):
+        with contextlib.suppress(OSError):
+            self.got.append(await reader.read())
+            await self.gate.wait()
+            writer.write(self.answer if len(self.got) == 1 else ANSWER)
+            writer.close()
+
+    answer = ANSWER
+
+    def open(self):
+        self.hold.open(asking.Server(os.getpid(), str(self.port)))
+
+    async def until(self, condition):
+        for _ in range(500):
+            if condition():
+                return
+            await asyncio.sleep(0.01)
+        self.fail("it did not come")
+
+    async def test_who_waits_for_the_turn_asks_nobody_once_it_is_closed(self):
+        self.open()
+        asked = [asyncio.create_task(self.hold.answer(REQUEST)) for _ in range(20)]
+        await self.until(lambda: len(self.got) == 1)
+        self.hold.close()
+        self.gate.set()
+        await self.until(lambda: any(task.done() for task in asked))
+        await asyncio.sleep(0.2)
+        self.assertEqual((len(self.got), self.hold.waiting()), (1, 19))
+        self.open()
+        self.assertEqual(await asyncio.gather(*asked), [ANSWER] * 20)
+
+    async def test_an_answer_500_is_handed_on_and_begins_anew_once_in_a_while(self):
+        self.gate.set()
+        self.answer = ANSWER.replace(b"200", b"500")
+        self.open()
+        self.assertEqual(await self.hold.answer(REQUEST), self.answer)
+        self.assertEqual((self.hold.broken.is_set(), self.hold.opened.is_set()), (True, False))
+        self.got.clear()
+        self.hold.broken.clear()
+        self.open()
+        self.assertEqual(await self.hold.answer(REQUEST), self.answer)
+        self.assertEqual((self.hold.broken.is_set(), self.hold.opened.is_set()), (False, True))
+
+    async def test_no_answer_in_time_begins_anew(self):
+        with mock.patch("hold.ANSWER_SECONDS", 0.2), mock.patch("hold.GAP_SECONDS", 1):
+            self.open()
+            self.assertEqual(await self.hold.answer(REQUEST), hold.LATE)
+        self.assertTrue(self.hold.broken.is_set())
+        self.assertIn("no answer within", self.hold.fault)
+        self.assertEqual(len(self.got), 1)
+
+
+if __name__ == "__main__":
+    unittest.main()

@@ -1,0 +1,364 @@
+"""The folder beside the office: links and strangers, copies, private copies, the log, what `back` says."""
+import contextlib
+import datetime
+import os
+import shutil
+import sqlite3
+import stat
+import subprocess
+import sys
+import unittest
+from unittest import mock
+
+import sample
+import copies
+import private
+import school
+import undo
+
+NOBODY = 65534
+APPEAL = "INSERT INTO appeal VALUES (1051, ?, 'MON-AM', 1, 'PC1', 0, 0, 'a draught', 1, NULL, '2027-05-01')"
+SPOILED = {  # a change that spoils each table
+    "session": "UPDATE session SET day = '2027-02-30'", "paper": "DELETE FROM session",
+    "opening": "UPDATE opening SET desks = 0", "appeal": APPEAL.replace("'PC1'", "'<b>'"),
+    "arrangement": "DELETE FROM candidate", "standing": "INSERT INTO standing VALUES (1, 'A')",
+    "candidate": "UPDATE candidate SET code = 'A' || char(0)", "seat": "UPDATE seat SET hall = 'NONE'",
+}
+READER = """import sys; sys.path.insert(0, sys.argv[1])
+import school
+with school.private_copy(school.office_path()) as copy:
+    print(copy, flush=True)
+    sys.stdin.read()
+"""
+
+
+class Beside(sample.SampleSchool):
+    def change(self, statement, *values):
+        with contextlib.closing(sqlite3.connect(self.path)) as file:
+            file.execute(statement, values)
+            file.commit()
+
+    def bytes_of(self, path):
+        with open(path, "rb") as file:
+            return file.read()
+
+    def log(self):
+        """The command, the status and the answer of each line of the log."""
+        with open(os.path.join(self.desk, "log"), encoding="utf-8") as log:
+            return [line.rstrip("\n").split("\t")[2:] for line in log]
+
+    def here(self):
+        return mock.patch.dict(os.environ, self.environment)
+
+
+class Strangers(Beside):
+    def test_no_link_is_followed(self):
+        victim = self.write("victim", "x" * 2000)
+        folder = os.path.join(self.folder, "elsewhere")
+        os.mkdir(folder, 0o700)
+        before = self.bytes_of(self.path)
+        for name, target in (("log", victim), ("want.lock", victim), ("office.lock", victim), ("copies", folder),
+                             ("tmp", folder)):
+            shutil.rmtree(self.desk, ignore_errors=True)
+            os.mkdir(self.desk, 0o700)
+            os.symlink(target, os.path.join(self.desk, name))
+            self.assertRegex(self.refused("withdraw", "0001000", "MA-1"), f"/{name} is (no folder, or )?a link", name)
+            self.assertEqual((self.bytes_of(victim), os.listdir(folder)), (b"x" * 2000, []), name)
+            self.assertEqual(self.bytes_of(self.path), before, name)
+        os.rename(self.desk, folder + "/desk")
+        os.symlink(folder + "/desk", self.desk)
+        self.assertIn("is no folder, or a link to one", self.refused("withdraw", "0001000", "MA-1"))
+        self.assertIn("MON-AM", self.office("summary"))
+
+    def test_a_copy_that_is_a_link_is_not_put_back(self):
+        self.office("withdraw", "0001000", "MA-1")
+        [copy] = os.listdir(os.path.join(self.desk, "copies"))
+        before = self.bytes_of(self.path)
+        for name, words in (("office.db-wal", "symbolic link"), ("office.db", "is no file")):
+            file = os.path.join(self.desk, "copies", copy, name)
+            with contextlib.suppress(FileNotFoundError):
+                os.rename(file, os.path.join(self.folder, "other.db"))
+            os.symlink(os.path.join(self.folder, "other.db"), file)
+            self.assertIn(words, self.refused("back", "1", "--yes"))
+            self.assertIn(words, self.refused("changes", "1"))
+            self.assertEqual(self.bytes_of(self.path), before)
+
+    def test_a_folder_in_which_others_may_write(self):
+        os.mkdir(self.desk)
+        os.chmod(self.desk, 0o777)
+        for words in (["withdraw", "0001000", "MA-1"], ["check"], ["back"], ["back", "1", "--yes"], ["changes", "1"]):
+            self.assertIn("can be written by others", self.refused(*words))
+        self.assertIn("MON-AM", self.office("summary"))
+        self.assertEqual(os.listdir(self.desk), [])
+
+    @unittest.skipUnless(os.getuid() == 0, "only root can give a folder away")
+    def test_a_folder_of_another(self):
+        os.mkdir(self.desk, 0o700)
+        os.chown(self.desk, NOBODY, NOBODY)
+        for words in (["withdraw", "0001000", "MA-1"], ["back"]):
+            self.assertIn("belongs to nobody: look who made it", self.refused(*words))
+        self.assertIn("MON-AM", self.office("summary"))
+        self.assertEqual(os.listdir(self.desk), [])
+
+    @unittest.skipUnless(os.getuid() == 0, "only root can work on an office of another")
+    def test_root_does_not_work_on_an_office_of_another(self):
+        for name in os.listdir(self.folder):
+            os.chown(os.path.join(self.folder, name), NOBODY, NOBODY)
+        for words in (["withdraw", "0001000", "MA-1"], ["check"], ["back"], ["serve", "8080"]):
+            self.assertIn("the office belongs to nobody: work as that user", self.refused(*words))
+        self.assertIn("MON-AM", self.office("summary"))
+        self.assertFalse(os.path.exists(self.desk))
+        owners = {os.stat(os.path.join(self.folder, name)).st_uid for name in os.listdir(self.folder)}
+        self.assertEqual(owners, {NOBODY})
+
+
+class Copies(Beside):
+    def numbered(self, *names):
+        for name in names:
+            os.makedirs(os.path.join(self.desk, "copies", name), 0o700)
+
+    def test_the_order_does_not_ask_the_clock(self):
+        old = [f"2099-01-01 00.00.{place:02}.000000 withdraw 0001000 MA-1" for place in range(copies.MOST_COPIES)]
+        self.numbered(*old)
+        self.office("withdraw", "0001000", "MA-1")
+        self.assertRegex(self.office("back"), r"^  1  20[2-8].* before withdraw 0001000 MA-1\n  2  2099-01-01 00:00:49")
+        with self.here():
+            os.rename(copies.listed()[0], os.path.join(self.desk, "copies", "000009 2098-01-01 00.00.00 withdraw"))
+            made = [os.path.basename(copies.keep_copy("reinstate")) for _ in range(2)]
+            self.assertEqual([name[:7] for name in made], ["000010 ", "000011 "])
+            self.assertEqual(list(map(os.path.basename, copies.listed()[:3])),
+                             [*made[::-1], "000009 2098-01-01 00.00.00 withdraw"])
+
+    def test_the_one_just_made_stays(self):
+        with self.here(), mock.patch("copies.MOST_BYTES", 1), mock.patch("copies.MOST_COPIES", 0):
+            made = [copies.keep_copy("withdraw") for _ in range(2)]
+            self.assertEqual(copies.listed(), made[1:])
+
+    def test_a_copy_of_1_0_0_is_put_back(self):
+        before = self.office("export", "MON-AM")
+        self.office("withdraw", "0001000", "MA-1")
+        place = os.path.join(self.desk, "copies")
+        [name] = os.listdir(place)
+        os.rename(os.path.join(place, name), os.path.join(place, "2026-11-27 09.00.00.123456 withdraw 1"))
+        self.assertEqual(self.office("back"), "  1  2026-11-27 09:00:00  before withdraw 1\n")
+        self.office("back", "1", "--yes")
+        self.assertEqual(self.office("export", "MON-AM"), before)
+
+    def test_what_is_no_copy_is_left_alone(self):
+        self.numbered("foo", "000003 yesterday", "2027-05-01")
+        os.symlink(self.folder, os.path.join(self.desk, "copies", "000007 2027-05-01 00.00.00 link"))
+        self.assertEqual(self.office("back"), "no copies\n")
+        with self.here(), mock.patch("copies.MOST_BYTES", 1):
+            copies.keep_copy("withdraw")
+        self.assertEqual(len(os.listdir(os.path.join(self.desk, "copies"))), 5)
+
+    def test_days_alone_are_removed(self):
+        others = ["2027-04-01.new", "letters", "2027-04-01 by hand"]
+        for name in (*others, "2027-04-01", "2027-04-02", "2099-01-01"):
+            os.makedirs(os.path.join(self.desk, "days", name), 0o700)
+        with self.here():
+            self.assertTrue(copies.keep_day(datetime.date(2027, 5, 1), 2))
+            self.assertIsNone(copies.keep_day(datetime.date(2027, 5, 1), 2))
+        self.assertEqual(sorted(os.listdir(os.path.join(self.desk, "days"))),
+                         sorted([*others, "2027-05-01", "2099-01-01"]))
+
+    def test_what_is_put_back_is_on_the_disk_first(self):
+        self.office("withdraw", "0001000", "MA-1")
+        events = []
+
+        def synced(file):
+            events.append(os.readlink(f"/proc/self/fd/{file}"))
+
+        def renamed(source, target):
+            events.append(("renamed", target))
+            os.rename(source, target)
+        with self.here(), mock.patch("os.fsync", synced), mock.patch("os.replace", renamed):
+            undo.put_back(copies.listed()[0])
+            kept = copies.listed()[0]
+        place = events.index(("renamed", self.path))
+        self.assertRegex(events[0], "/tmp/office-copy-[^/]*/office.db$")
+        self.assertIn(os.path.join(self.desk, "copies"), events[:place])
+        self.assertEqual([name for name in events[:place] if name.endswith("/copies/office.db")], events[1:2])
+        self.assertEqual(events[place - 1:], [self.folder, ("renamed", self.path), self.folder])
+        self.assertIn("office.db", os.listdir(kept))
+
+
+class Private(Beside):
+    def reader(self):
+        """A process that has a private copy, and the path of that."""
+        process = subprocess.Popen([sys.executable, "-B", "-c", READER, sample.DESK], env=self.environment,
+                                   stdin=subprocess.PIPE, stdout=subprocess.PIPE, text=True)
+        self.addCleanup(process.stdout.close)
+        self.addCleanup(process.communicate)
+        return process, process.stdout.readline().rstrip("\n")
+
+    def test_it_lies_beside_the_office_and_goes_again(self):
+        with self.here(), school.private_copy(self.path) as copy:
+            self.assertEqual(os.path.dirname(os.path.dirname(copy)), os.path.join(self.desk, "tmp"))
+            for path, mode in ((copy, 0o600), (os.path.dirname(copy), 0o700), (os.path.join(self.desk, "tmp"), 0o700)):
+                self.assertEqual(stat.S_IMODE(os.stat(path).st_mode), mode)
+        self.assertEqual(os.listdir(os.path.join(self.desk, "tmp")), [])
+
+    def test_what_a_killed_command_left_goes_and_no_other(self):
+        os.mkdir(self.desk, 0o700)
+        for place, mode, command in ((os.path.join(self.desk, "tmp"), 0o700, ["summary"]),
+                                     (os.path.join(self.desk, "tmp"), 0o700, ["withdraw", "0001000", "MA-1"]),
+                                     (self.environment["TMPDIR"], 0o777, ["summary"])):
+            os.chmod(self.desk, mode)
+            alive, kept = self.reader()
+            killed, left = self.reader()
+            self.assertEqual({os.path.dirname(os.path.dirname(path)) for path in (kept, left)}, {place})
+            killed.kill()
+            killed.wait()
+            os.chmod(self.desk, 0o700)
+            self.office(*command)
+            self.assertEqual((os.path.exists(kept), os.path.exists(left)), (True, False), command)
+            alive.communicate("")
+
+    def setUp(self):
+        super().setUp()
+        self.environment["TMPDIR"] = os.path.join(self.folder, "elsewhere")
+        os.mkdir(self.environment["TMPDIR"])
+
+    def test_a_full_disk(self):
+        real = private.copy_files
+
+        def full(source, target):
+            if target.startswith(self.desk):
+                raise OSError(28, "No space left on device", target)
+            real(source, target)
+        with self.here(), mock.patch("private.copy_files", full), mock.patch("tempfile.tempdir", None):
+            with school.private_copy(self.path) as copy:
+                self.assertTrue(copy.startswith(self.environment["TMPDIR"]))
+        self.assertEqual(os.listdir(self.environment["TMPDIR"]) + os.listdir(os.path.join(self.desk, "tmp")), [])
+
+    def test_a_folder_swept_before_its_lock_is_held(self):
+        place = os.path.join(self.folder, "place")
+        os.mkdir(place)
+        for name, first in (("private.claim", lambda folder: folder),
+                            ("fcntl.flock", lambda file: os.path.dirname(os.readlink(f"/proc/self/fd/{file}")))):
+            module, function = name.split(".")
+            real, calls = getattr(sys.modules[module], function), []
+
+            def late(value, *more):
+                calls.append(value)
+                if len(calls) == 1:
+                    shutil.rmtree(first(value))
+                return real(value, *more)
+            with mock.patch(name, late), private.private_folder(place) as folder:
+                self.assertEqual((len(calls), os.listdir(place)), (2, [os.path.basename(folder)]), name)
+                self.assertEqual(os.listdir(folder), ["lock"])
+
+
+class Log(Beside):
+    def program(self, text):
+        """A program that does this in place of the real one."""
+        path = self.write("program", f"#!/bin/sh\n{text}\n")
+        os.chmod(path, 0o700)
+        return path
+
+    def test_a_killed_change_has_a_line(self):
+        words = ["withdraw", "0001000", "MA-1"]
+        self.run_office(*words, EXAMOFFICE=self.program("kill -9 $PPID"))
+        self.assertEqual(self.log(), [[" ".join(words), "begins", ""]])
+        self.run_office(*words, EXAMOFFICE=self.program("kill -TERM $PPID; exec sleep 5"))
+        self.assertEqual(self.log()[1:], [[" ".join(words), "begins", ""],
+                                          [" ".join(words), "1", "stopped: look whether it is done"]])
+
+    def test_the_line_before_is_on_the_disk(self):
+        with self.here(), mock.patch("os.fsync") as synced:
+            copies.keep_copy("withdraw")
+            before = synced.call_count
+            with copies.logged(["withdraw"]):
+                self.assertEqual((synced.call_count - before, len(self.log())), (1, 1))
+            self.assertEqual(self.log()[1:], [["withdraw", "1", "stopped: look whether it is done"]])
+
+    def test_a_program_that_cannot_be_started(self):
+        path = self.write("broken", "\x7fELF")
+        os.chmod(path, 0o700)
+        self.assertIn("cannot be started", self.refused("withdraw", "0001000", "MA-1", EXAMOFFICE=path))
+        self.assertEqual(os.listdir(os.path.join(self.desk, "copies")), [])
+
+    def test_reasons_stay_out(self):
+        self.change(APPEAL, "HA1")
+        self.office("decide", "0001051", "HA1", "refused", "unwell since May")
+        names = "\n".join(os.listdir(os.path.join(self.desk, "copies")))
+        texts = b"".join(self.bytes_of(os.path.join(self.desk, name)) for name in ("log", "want.lock"))
+        self.assertNotIn("unwell", names + texts.decode())
+        self.assertEqual(self.log()[1][0], "decide 0001051 HA1 refused")
+
+
+class Back(Beside):
+    def ask(self):
+        process = subprocess.Popen([sample.DESK / "office", "back", "1"], env=self.environment, stdin=subprocess.PIPE,
+                                   stdout=subprocess.PIPE, stderr=subprocess.PIPE, text=True)
+        self.addCleanup(process.communicate)
+        return process
+
+    def question(self, process):
+        said = ""
+        while not said.endswith("[y/N] "):
+            part = process.stdout.read(1)
+            self.assertTrue(part, said)
+            said += part
+        return said
+
+    def test_each_appeal_and_decision_is_named(self):
+        self.change(APPEAL, "HA1")
+        self.change("INSERT INTO appeal VALUES (1000, 'HA1', 'MON-AM', 1, 'AULA', 0, 0, '', 1, NULL, '2027-05-01')")
+        self.office("withdraw", "0001017", "MA-1")
+        self.office("decide", "0001051", "HA1", "refused", "no")
+        self.change(APPEAL.replace("1051", "1085"), "B2")
+        process = self.ask()
+        lines = ["taken away: appeal 0001051 HA1 for MON-AM: refused -> open",
+                 "taken away: appeal 0001085 B2 for MON-AM: open -> gone"]
+        self.assertEqual(self.question(process).split("\n")[:-1], lines)
+        self.assertIn("nothing is changed", process.communicate("n\n")[1])
+        said = self.office("back", "1", "--yes").split("\n")
+        self.assertEqual(said[1:], [*lines, ""])
+        self.assertEqual(self.log()[-1][1:], ["0", "; ".join([self.log()[-1][2].split("; ")[0],
+                                                              *(line.removeprefix("taken away: ") for line in lines)])])
+
+    def test_it_asks_again_where_more_came(self):
+        self.office("withdraw", "0001017", "MA-1")
+        process = self.ask()
+        self.assertNotIn("taken away", self.question(process))
+        self.change(APPEAL, "HA1")
+        process.stdin.write("y\n")
+        process.stdin.flush()
+        first = "taken away: appeal 0001051 HA1 for MON-AM: open -> gone\n"
+        self.assertIn(f"{first}this has changed", self.question(process))
+        self.change(APPEAL, "HA2")
+        process.stdin.write("y\n")
+        process.stdin.flush()
+        self.assertIn(f"{first}{first.replace('HA1', 'HA2')}this has changed", self.question(process))
+        self.assertEqual(process.communicate("\n")[1], "office: nothing is changed\n")
+        self.assertEqual(len(self.log()), 2)
+        self.assertIn("the office is as it was", self.office("back", "1", stdin="y\n"))
+
+    def test_an_office_that_cannot_be_read(self):
+        self.office("withdraw", "0001017", "MA-1")
+        self.write("office.db", b"rubbish" * 1000)
+        self.assertIn("taken away: nobody can say which appeals", self.office("back", "1", "--yes"))
+
+
+class Faults(Beside):
+    def test_a_fault_of_ours_stays_a_list_of_calls(self):
+        for fault in ("{}[1]", "int('x')", "1 / 0"):
+            line = [sys.executable, "-B", "-c", f"import sys; sys.path.insert(0, {str(sample.DESK)!r})\n"
+                    f"import school\nschool.begin()\nwith school.rows() as rows:\n    {fault}"]
+            done = subprocess.run(line, env=self.environment, capture_output=True, text=True, check=False)
+            self.assertIn("Traceback", done.stderr)
+
+    def test_rows_that_no_office_has_are_named_by_table(self):
+        for table, change in SPOILED.items():
+            shutil.copy2(os.path.join(self.made, "office.db"), self.path)
+            with contextlib.suppress(FileNotFoundError):
+                os.remove(self.path + "-wal")
+            self.change(change, *(["A1"] if table == "appeal" else []))
+            for words in (["summary"], ["why", "MON-AM"]):
+                self.assertIn(f"office.db: there are rows that no office has (table {table})", self.refused(*words))
+
+
+if __name__ == "__main__":
+    unittest.main()

@@ -1,0 +1,292 @@
+"""What stands round the program, under users, signals, links and hangs: nothing of another's is taken or written to, and
+`keep` comes back. What needs root is passed over without."""
+import asyncio
+import contextlib
+import json
+import os
+import shutil
+import signal
+import subprocess
+import sys
+import threading
+import time
+import unittest
+from unittest import mock
+
+import sample
+import asking
+import keeping
+import turns
+
+NOBODY = 65534
+STARTS = 4
+
+
+def answers(school):
+    with contextlib.suppress(OSError):
+        return school.ask()[0] == 200
+    return False
+
+
+class Ending(sample.KeptSchool):
+    """`keep`, and what would end it or keep it from serving."""
+
+    def begin(self):
+        """Serves by a link, which can be taken away, in place of the program."""
+        self.program = os.path.join(self.folder, "program")
+        os.symlink(sample.built_program(), self.program)
+        self.environment["EXAMOFFICE"] = self.program
+        super().begin()
+        self.process = self.state()["pid"]
+
+    def test_the_program_is_away_for_a_moment(self):
+        os.rename(self.program, self.program + ".away")
+        os.kill(self.process, signal.SIGUSR1)
+        sample.until(lambda: "there is no program" in self.state().get("state", ""))
+        self.assertIn("there is no program", self.run_office("keep", "status").stdout)
+        os.rename(self.program + ".away", self.program)
+        sample.until(lambda: answers(self))
+        self.assertEqual(self.state()["pid"], self.process)
+
+    def test_the_program_cannot_be_run(self):
+        os.remove(self.program)
+        self.write("program", "no program")
+        os.chmod(self.program, 0o700)
+        os.kill(self.process, signal.SIGUSR1)
+        sample.until(lambda: "serve cannot begin" in self.state().get("state", ""))
+        os.remove(self.program)
+        os.symlink(sample.built_program(), self.program)
+        sample.until(lambda: answers(self))
+        self.assertEqual(self.state()["pid"], self.process)
+
+    def test_status_does_not_say_serving_for_what_hangs(self):
+        os.kill(self.state()["serve"], signal.SIGSTOP)
+        done = self.run_office("keep", "status")
+        self.assertEqual(done.returncode, 1)
+        self.assertIn("does not serve now", done.stdout)
+
+
+class Hanging(sample.SampleSchool):
+    def test_a_serve_that_hangs_is_replaced_and_its_client_is_answered(self):
+        with (mock.patch.dict(os.environ, self.environment), mock.patch("hold.ANSWER_SECONDS", 1),
+              mock.patch("keeping.say"), mock.patch("asking.answer", self.hanging_once)):
+            self.assertTrue(asyncio.run(self.hangs()).endswith(b'{"error":37}'))
+
+    async def hanging_once(self, server, request, really=asking.answer):
+        if not self.asked:
+            os.kill(server.process, signal.SIGSTOP)
+        self.asked.append(server.process)
+        return await really(server, request)
+
+    async def hangs(self):
+        self.asked = []
+        keep = keeping.Keep(str(sample.free_port()), 2, turns.open_lock("keep.lock"))
+        served = asyncio.create_task(keep.run())
+        answer = await keep.hold.answer(b"GET / HTTP/1.0\r\n\r\n")
+        keep.end()
+        await served
+        os.close(keep.lock)
+        self.assertGreater(len(set(self.asked)), 1)
+        return answer
+
+
+class Starting(sample.SampleSchool):
+    def test_a_command_that_comes_before_the_handler_does_not_kill_it(self):
+        """Each start is met by the signal of a command as soon as `keep` has its lock."""
+        for _ in range(STARTS):
+            line = [sample.DESK / "office", "keep", "run", str(sample.free_port())]
+            with subprocess.Popen(line, env=self.environment, stderr=subprocess.DEVNULL) as process:
+                with mock.patch.dict(os.environ, self.environment):
+                    sample.until(lambda: turns.keep_state() or process.poll() is not None)
+                    turns.ask_keep_aside()
+                sample.until(lambda: process.poll() is not None or "serving" in self.text("keep.lock"))
+                process.terminate()
+                self.assertEqual(process.wait(), 0)
+
+    def text(self, name):
+        with open(os.path.join(self.desk, name), encoding="utf-8", errors="replace") as file:
+            return file.read()
+
+    def test_a_long_fault_is_cut_and_a_cut_text_is_none(self):
+        with mock.patch.dict(os.environ, self.environment), mock.patch("keeping.say"):
+            lock = turns.open_lock("keep.lock")
+            keeping.Keep("8080", 2, lock).show_fault("\u6f22\"\n" * 1000)
+            self.assertEqual(json.loads(turns.text_of("keep.lock"))["place"], "8080")
+            os.close(lock)
+        for said in (b'{"pid": 7, "place": "8080", "state": "serve ended: \xc3', b"[1, 2]", b"[" * 1000, b"\xff\x00", b"7"):
+            self.assertEqual(turns.said_by(7, said), {"pid": 7})
+
+
+class Strangers(sample.SampleSchool):
+    def test_a_folder_in_which_others_may_write(self):
+        os.mkdir(self.desk)
+        for mode, words in ((0o777, ["withdraw", "0001000", "MA-1"]), (0o770, ["keep", "start", "8080"]), (0o702, ["check"]),
+                            (0o777, ["lodge", "0001051", "MON-AM", "hall", "PC1", ""])):
+            os.chmod(self.desk, mode)
+            self.assertIn("desk-office.db can be written by others", self.refused(*words))
+        self.assertEqual(os.listdir(self.desk), [])
+
+    def test_links(self):
+        victim = self.write("victim", "a\n" * 1000)
+        os.mkdir(self.desk, 0o700)
+        for name in ("want.lock", "turn.lock", "office.lock", "keep.lock", "keep.log"):
+            with contextlib.suppress(FileNotFoundError):
+                os.remove(os.path.join(self.desk, name))
+            os.symlink(victim, os.path.join(self.desk, name))
+            words = {"keep.lock": ["keep", "run", "8080"], "keep.log": ["keep", "start", "8080"]}.get(
+                name, ["withdraw", "0001000", "MA-1"])
+            self.assertIn(f"{name} is a link", self.run_office(*words).stderr, name)
+            os.remove(os.path.join(self.desk, name))
+        with open(victim, encoding="utf-8") as file:
+            self.assertEqual(file.read(), "a\n" * 1000)
+
+    @unittest.skipUnless(os.geteuid() == 0, "a folder of another user needs root")
+    def test_root_and_the_office_of_another(self):
+        for name in os.listdir(self.folder):
+            os.chown(os.path.join(self.folder, name), NOBODY, NOBODY)
+        os.chown(self.folder, NOBODY, NOBODY)
+        for words in (["withdraw", "0001000", "MA-1"], ["keep", "start", "8080"], ["keep", "run", "8080"], ["keep", "stop"],
+                      ["keep", "status"], ["lodge", "0001051", "MON-AM", "hall", "PC1", ""]):
+            self.assertRegex(self.refused(*words), "the office belongs to .*: work as that user")
+        self.assertFalse(os.path.exists(self.desk))
+
+    @unittest.skipUnless(os.geteuid() == 0, "a folder of another user needs root")
+    def test_a_folder_of_another(self):
+        os.mkdir(self.desk, 0o700)
+        os.chown(self.desk, NOBODY, NOBODY)
+        self.assertRegex(self.refused("withdraw", "0001000", "MA-1"), "desk-office.db belongs to ")
+        self.assertEqual(os.listdir(self.desk), [])
+
+    def test_a_lodging_that_is_no_text(self):
+        self.assertIn("reason is", self.refused("lodge", "0001051", "MON-AM", "hall", "PC1", b"\xff"))
+
+
+class Elsewhere(sample.SampleSchool):
+    """Locks of another process namespace have no process, those of another machine a negative one."""
+
+    def test_no_signal_goes_to_a_group(self):
+        for process in (0, -1, -42):
+            with mock.patch("turns.keep_state", return_value={"pid": process}), mock.patch("os.kill") as sent:
+                with self.assertRaises(SystemExit), mock.patch("school.warn"):
+                    turns.ask_keep_aside()
+                sent.assert_not_called()
+
+    @unittest.skipUnless(shutil.which("unshare") and os.geteuid() == 0, "a namespace needs root")
+    def test_a_command_in_another_namespace(self):
+        port = str(sample.free_port())
+        self.office("keep", "start", port)
+        self.addCleanup(self.run_office, "keep", "stop")
+        for words in (["withdraw", "0001000", "MA-1"], ["keep", "stop"]):
+            line = ["unshare", "--pid", "--fork", "--mount-proc", sys.executable, sample.DESK / "office", *words]
+            done = subprocess.run(line, env=self.environment, capture_output=True, text=True, check=False,
+                                  start_new_session=True)
+            self.assertEqual(done.returncode, 1, done)
+            self.assertIn("from another container or another machine", done.stderr)
+        self.assertIn(f"serving 127.0.0.1 {port}", self.office("keep", "status"))
+
+
+class Turns(sample.SampleSchool):
+    def test_a_command_lets_candidates_go_first(self):
+        """No command begins while `keep` holds the lock for candidates who wait; it says behind whom it waits."""
+        with (mock.patch.dict(os.environ, self.environment), mock.patch("turns.SILENCE", 0.1),
+              mock.patch("school.warn") as said):
+            turn = turns.open_lock("turn.lock")
+            turns.try_lock(turn)
+            timer = threading.Timer(0.5, os.close, [turn])
+            timer.start()
+            began = time.monotonic()
+            with turns.alone(["withdraw"]):
+                self.assertGreater(time.monotonic() - began, 0.4)
+            timer.join()
+        said.assert_called_once_with("waiting for `keep` (it answers candidates who wait)")
+
+    def test_no_command_is_refused_before_a_minute(self):
+        self.assertGreaterEqual(turns.PATIENCE, 60)
+        with (mock.patch.dict(os.environ, self.environment), mock.patch("turns.PATIENCE", 0.5),
+              mock.patch("turns.SILENCE", 0.2), mock.patch("school.warn") as said):
+            want = turns.open_lock("want.lock")
+            turns.try_lock(want)
+            turns.note(want, "process 7, import entries")
+            began = time.monotonic()
+            with self.assertRaises(SystemExit), turns.alone(["withdraw"]):
+                self.fail("it began")
+            self.assertGreater(time.monotonic() - began, 0.5)
+            os.close(want)
+        whom = "another command (process 7, import entries)"
+        self.assertEqual([call.args[0] for call in said.call_args_list],
+                         [f"waiting for {whom}", f"{whom} has the office, and 0.5 seconds are over; nothing is changed, "
+                                                 "try again"])
+
+
+class Waiting(sample.KeptSchool):
+    def test_keep_takes_the_turn_for_a_candidate_who_waits_and_gives_it_back(self):
+        said = []
+        client = threading.Thread(target=lambda: said.append(self.ask()[0]))
+        with mock.patch.dict(os.environ, self.environment), turns.opened("turn.lock") as turn:
+            with turns.alone(["check"]):
+                self.assertTrue(turns.is_free(turn))
+                client.start()
+                sample.until(lambda: not turns.is_free(turn))
+                self.assertEqual(said, [])
+            client.join()
+            self.assertEqual(said, [200])
+            sample.until(lambda: turns.is_free(turn))
+
+
+class Days(sample.SampleSchool):
+    def test_only_days_are_removed(self):
+        days = os.path.join(self.desk, "days")
+        names = ["2027-04-01", "2027-04-02", "2027-04-03", "0 of mine", "2027-04-01.new", "2027-04-1"]
+        os.makedirs(days, 0o700)
+        os.chmod(self.desk, 0o700)
+        for name in names:
+            os.mkdir(os.path.join(days, name), 0o700)
+        with mock.patch.dict(os.environ, self.environment), mock.patch("keeping.say"):
+            keeping.Keep.keep_day(mock.Mock(days=2), keeping.school.today())
+        self.assertEqual(sorted(os.listdir(days)), sorted([*names[2:], sample.TODAY]))
+
+
+class Sockets(sample.SampleSchool):
+    """`keep` in a folder: its group may use the socket, and nobody else comes to it."""
+
+    def place(self):
+        folder = os.path.join(self.folder, "run")
+        with contextlib.suppress(FileExistsError):
+            os.mkdir(folder)
+        os.chmod(folder, 0o750)
+        return folder
+
+    def test_a_socket(self):
+        folder = self.place()
+        path = os.path.join(folder, "keep.socket")
+        self.assertIn(f"serving {path}, for ", self.office("keep", "start", folder))
+        self.addCleanup(self.run_office, "keep", "stop")
+        found = os.stat(path)
+        self.assertEqual((found.st_mode & 0o777, found.st_gid, os.listdir(folder)),
+                         (0o660, os.stat(folder).st_gid, ["keep.socket"]))
+        self.assertRegex(self.office("lodge", "0001051", "MON-AM", "hall", "PC1", "a draught"), "D1 open")
+        os.kill(json.loads(self.office_lock())["pid"], signal.SIGKILL)
+        sample.until(lambda: self.run_office("keep", "status").returncode)
+        self.assertIn(f"serving {path}", self.office("keep", "start", folder))
+        self.office("keep", "stop")
+        self.assertEqual(os.listdir(folder), [])
+
+    def office_lock(self):
+        with open(os.path.join(self.desk, "keep.lock"), encoding="utf-8") as file:
+            return file.read()
+
+    def test_folders_that_are_not_safe(self):
+        folder = self.place()
+        self.assertEqual(self.run_office("keep", "start", folder + "/none").returncode, 2)
+        with mock.patch("school.warn") as said:
+            for mode, name in ((0o770, "keep.socket"), (0o750, "else")):
+                os.chmod(folder, mode)
+                with open(os.path.join(folder, name), "w", encoding="utf-8"):
+                    with self.assertRaises(SystemExit), keeping.listener(os.path.join(folder, "keep.socket")):
+                        self.fail("it listens")
+        self.assertRegex(said.call_args_list[0].args[0], "cannot be had: others may write there")
+        self.assertRegex(said.call_args_list[1].args[0], "holds else: give")
+
+
+if __name__ == "__main__":
+    unittest.main()

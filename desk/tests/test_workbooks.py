@@ -1,0 +1,239 @@
+"""Workbooks: the corpus, the way back through LibreOffice, files that a spreadsheet broke, other readers beside ours."""
+from __future__ import annotations
+
+import concurrent.futures
+import csv
+import json
+import os
+import pathlib
+import shutil
+import subprocess
+import sys
+import tempfile
+import unittest
+
+import sample
+
+HERE = pathlib.Path(__file__).resolve().parent / "workbooks"
+sys.path.append(str(HERE))
+import corpus  # noqa: E402
+import rawbook  # noqa: E402
+from exam_desk.trouble import Trouble  # noqa: E402
+from exam_desk.workbook import carrying, opening  # noqa: E402
+from exam_desk.workbook.plans import workbook_of  # noqa: E402
+from exam_desk.workbook.reading import Reading  # noqa: E402
+from exam_desk.workbook.report import Report  # noqa: E402
+from exam_desk.workbook.writing import write_folder  # noqa: E402
+
+AT_A_TIME = 4
+
+
+def can_import(module: str) -> str | None:
+    """A python that has a library of Debian: this one, or Debian's own."""
+    for python in (sys.executable, "/usr/bin/python3"):
+        done = subprocess.run([python, "-c", f"import {module}"], capture_output=True, check=False) \
+            if os.path.exists(python) else None
+        if done is not None and done.returncode == 0:
+            return python
+    return None
+
+
+ODF, LIBREOFFICE = can_import("odf.opendocument"), shutil.which("soffice")
+needs_openpyxl = unittest.skipUnless(can_import("openpyxl"), "python3-openpyxl is missing")
+
+
+class Corpus(unittest.TestCase):
+    @needs_openpyxl
+    def test_every_workbook_comes_out_as_it_must(self) -> None:
+        line = [str(can_import("openpyxl")), "-B", str(HERE / "run")]
+        done = subprocess.run(line, capture_output=True, encoding="utf-8", check=False)
+        self.assertEqual(0, done.returncode, done.stdout + done.stderr)
+        self.assertGreater(int(done.stdout.split(" ")[0]), 190)
+
+    @needs_openpyxl
+    def test_the_command_reads_what_libreoffice_wrote(self) -> None:
+        with concurrent.futures.ThreadPoolExecutor(AT_A_TIME) as pool:
+            command = [sys.executable, "-B", str(sample.DESK / "read")]
+            made = [case for case in corpus.all_cases() if case.name.startswith("made-")]
+            verdicts = list(pool.map(lambda case: corpus.judged(case, command), made))
+        self.assertGreater(len(verdicts), 9)
+        for verdict in verdicts:
+            with self.subTest(verdict.name):
+                self.assertEqual(([], False), (verdict.wrong, verdict.silent), verdict.said)
+
+    @unittest.skipUnless(ODF, "python3-odf is missing")
+    def test_another_reader_finds_the_same_cells(self) -> None:
+        for path in sorted((HERE / "made").glob("*.ods")):
+            if path.stem == "password":
+                continue
+            done = subprocess.run([str(ODF), str(HERE / "cells-by-odf"), path], capture_output=True, check=True)
+            book = opening.open_book(str(path))
+            ours = {sheet.name: sorted([row, column, cell.shown] for row, cells in sheet.rows.items()
+                                       for column, cell in cells.items()) for sheet in book.sheets}
+            self.assertEqual(json.loads(done.stdout), ours)
+
+
+class Child(unittest.TestCase):
+    """The process that reads ends for itself."""
+
+    def with_child(self, body: str) -> None:
+        with tempfile.TemporaryDirectory() as folder:
+            child, before = pathlib.Path(folder, "child.py"), opening.CHILD
+            child.write_text(body, "utf-8")
+            opening.CHILD = child
+            try:
+                opening.ask_child("read", b"")
+            finally:
+                opening.CHILD = before
+
+    def test_its_death_is_a_sentence(self) -> None:
+        with self.assertRaisesRegex(Trouble, "too long or too much memory"):
+            self.with_child("import os; os.kill(os.getpid(), 9)")
+
+    def test_its_fault_is_a_sentence(self) -> None:
+        with self.assertRaisesRegex(Trouble, "broken .ZeroDivisionError"):
+            self.with_child("1 / 0")
+
+    def test_memory_has_a_limit(self) -> None:
+        body = (HERE.parent.parent / "exam_desk/workbook/child.py").read_text("utf-8")
+        body = body.replace("given = sys.stdin.buffer.read()", "given = bytes(2 << 30)")
+        with self.assertRaisesRegex(Trouble, "MemoryError"):
+            self.with_child(body)
+
+    def test_no_file_can_be_written(self) -> None:
+        body = (HERE.parent.parent / "exam_desk/workbook/child.py").read_text("utf-8")
+        with tempfile.TemporaryDirectory() as folder:
+            path = os.path.join(folder, "x")
+            with self.assertRaisesRegex(Trouble, "File too large"):
+                self.with_child(body.replace("given = ", f"import os; os.write(os.open({path!r}, 65), b'x'); given = "))
+            self.assertFalse(os.path.exists(path) and os.path.getsize(path))
+
+    def test_a_workbook_goes_over_as_it_is(self) -> None:
+        book = opening.read_csv("number,name\n17,\"Ada \u00e9 \u202e\nLin\"\n".encode(), "list")
+        self.assertEqual(book, carrying.unpacked(carrying.packed(book)))
+
+
+class Writing(unittest.TestCase):
+    def test_a_folder_is_made_whole_or_not_at_all(self) -> None:
+        reading = Reading({"candidates": []}, Report())
+        with tempfile.TemporaryDirectory() as folder:
+            target = os.path.join(folder, "new")
+            reading.report.mistake(None, None, None, "wrong")
+            with self.assertRaises(Trouble):
+                write_folder(target, reading, "read.txt")
+            self.assertEqual([], os.listdir(folder))
+            os.mkdir(target)
+            with self.assertRaisesRegex(Trouble, "is there already"):
+                write_folder(target, Reading({}, Report()), "read.txt")
+            self.assertEqual([], os.listdir(target))
+
+
+    @needs_openpyxl
+    def test_texts_stay_texts_whatever_they_look_like(self) -> None:
+        names = ["=1+1", "#N/A", "A_x0041_", "0017", "2027-06-01", "1E5", "'t Hooft", "=HYPERLINK(\"x\")", "TRUE", "\u05d0 \u00e9"]
+        rows = [[f"{place:07}", name, f"CODE{place:04}"] for place, name in enumerate(names, 1)]
+        book = opening.read_zip(workbook_of({"candidates": rows}))
+        [sheet] = [sheet for sheet in book.sheets if sheet.name == "Candidates"]
+        found = [[cell.text for _, cell in sorted(cells.items())] for row, cells in sorted(sheet.rows.items()) if row > 1]
+        self.assertEqual(rows, found)
+        self.assertEqual({"text"}, {cell.kind for cells in sheet.rows.values() for cell in cells.values()})
+
+
+class Commands(sample.SampleSchool):
+    """The commands over the sample school."""
+
+    def rows(self, folder: str, kind: str) -> list[list[str]]:
+        with open(os.path.join(self.folder, folder, f"{kind}.csv"), encoding="utf-8-sig", newline="") as file:
+            return list(csv.reader(file))[1:]
+
+    @needs_openpyxl
+    def test_the_template_has_the_seven_sheets_and_an_example_that_is_left(self) -> None:
+        said = self.office("template", "new.xlsx")
+        self.assertEqual("new.xlsx: fill it, then office read new.xlsx\n", said)
+        self.assertEqual(0o600, os.stat(os.path.join(self.folder, "new.xlsx")).st_mode & 0o777)
+        book = opening.open_book(os.path.join(self.folder, "new.xlsx"))
+        self.assertEqual([kind.capitalize() for kind in corpus.KINDS], [sheet.name for sheet in book.sheets])
+        for sheet, header in zip(book.sheets, corpus.KINDS.values()):
+            self.assertEqual(header, ",".join(cell.text for _, cell in sorted(sheet.rows[1].items())))
+            self.assertTrue(sheet.rows[2][1].text.startswith("e.g. "), sheet.rows[2])
+        done = self.run_office("read", "new.xlsx")
+        self.assertEqual(1, done.returncode)
+        self.assertIn("no sheet has rows", done.stdout)
+        self.assertEqual(1, self.run_office("template", "new.xlsx").returncode)
+
+    @needs_openpyxl
+    def test_a_workbook_of_the_office_reads_as_its_files(self) -> None:
+        self.office("dump", "facts")
+        self.office("dump", "--workbook", "facts.xlsx")
+        self.office("read", "facts.xlsx", "again")
+        for kind in corpus.KINDS:
+            self.assertEqual(self.rows("facts", kind), self.rows("again", kind))
+        self.assertEqual(0o700, os.stat(os.path.join(self.folder, "again")).st_mode & 0o777)
+        for name in os.listdir(os.path.join(self.folder, "again")):
+            self.assertEqual(0o600, os.stat(os.path.join(self.folder, "again", name)).st_mode & 0o777)
+
+    @needs_openpyxl
+    @unittest.skipUnless(LIBREOFFICE, "LibreOffice is missing")
+    def test_a_workbook_that_went_through_libreoffice_imports_as_the_same(self) -> None:
+        self.office("dump", "--workbook", "facts.xlsx")
+        for form in ("ods", "xlsx"):
+            line = ["soffice", "--headless", "--norestore", f"-env:UserInstallation=file://{self.folder}/profile",
+                    "--convert-to", form, "--outdir", f"{self.folder}/saved", "facts.xlsx"]
+            subprocess.run(line, cwd=self.folder, check=True, capture_output=True, timeout=120)
+            self.office("read", f"saved/facts.{form}", f"from-{form}")
+        for kind in corpus.KINDS:
+            self.assertEqual(self.rows("from-xlsx", kind), self.rows("from-ods", kind))
+            said = self.office("import", kind, f"from-ods/{kind}.csv")
+            self.assertEqual(f"added 0 changed 0 same {len(self.rows('from-ods', kind))}\n", said)
+
+    def test_files_that_a_spreadsheet_broke_are_mended(self) -> None:
+        self.office("dump", "facts")
+        broken = os.path.join(self.folder, "broken")
+        os.mkdir(broken)
+        for kind in corpus.KINDS:
+            pathlib.Path(broken, f"{kind}.csv").write_text(self.spoiled(kind), "utf-8")
+        done = self.run_office("mend", "broken", "new")
+        self.assertEqual((1, ""), (done.returncode, done.stderr))
+        self.assertIn("or say --dates day-first", done.stdout)
+        self.assertFalse(os.path.exists(os.path.join(self.folder, "new")))
+        said = self.office("mend", "broken", "new", "--dates", "day-first")
+        self.assertIn("candidates!A2: number 1000 became 0001000 (zeros in front)", said)
+        for kind in corpus.KINDS:
+            self.assertEqual(self.rows("facts", kind), self.rows("new", kind))
+        self.assertIn("7 files, 0 mistakes", self.office("check-files", "new"))
+
+    def spoiled(self, kind: str) -> str:
+        """A file as a spreadsheet writes it that has turned numbers, dates and times into its own."""
+        out = []
+        for record in [self.header(kind), *self.rows("facts", kind)]:
+            fields = [field.lstrip("0") if len(field) == 7 and field.isdigit() else field for field in record]
+            fields = ["/".join(reversed(field.split("-"))) if field[:2] == "20" and field.count("-") == 2 else field
+                      for field in fields]
+            out.append(";".join([*(field.removeprefix("0") if ":" in field else field for field in fields), "", ""]))
+        return "\r\n".join([*out, ";;;", ""])
+
+    def header(self, kind: str) -> list[str]:
+        return corpus.KINDS[kind].split(",")
+
+    def test_check_files_says_what_reads_a_workbook(self) -> None:
+        self.office("dump", "facts")
+        pathlib.Path(self.folder, "facts", "school.xlsx").write_bytes(b"PK")
+        said = self.office("check-files", "facts")
+        self.assertIn("NOTE: school.xlsx is a workbook: `office read` makes the files of it", said)
+
+    @needs_openpyxl
+    def test_the_office_fills_codes_and_knows_papers(self) -> None:
+        first = self.office("dump", "facts") and self.rows("facts", "candidates")[0]
+        paper = self.rows("facts", "papers")[0][0]
+        book = rawbook.xlsx({"name": "Candidates", "rows": [["number", "name"], [first[0], first[1]]]},
+                            {"name": "Entries", "rows": [["number", paper], [first[0], "x"]]})
+        pathlib.Path(self.folder, "b.xlsx").write_bytes(book)
+        said = self.office("read", "b.xlsx", "new")
+        self.assertIn("code (empty) became the one that the office has", said)
+        self.assertNotIn(first[2], said)
+        self.assertEqual([first], self.rows("new", "candidates"))
+        self.assertEqual([[first[0], paper]], self.rows("new", "entries"))
+
+
+if __name__ == "__main__":
+    unittest.main()

@@ -1,0 +1,78 @@
+"""What a release says of itself."""
+import importlib.machinery
+import importlib.util
+import pathlib
+import re
+import shutil
+import subprocess
+import sys
+import tempfile
+import unittest
+
+TOP = pathlib.Path(__file__).resolve().parent.parent.parent
+CHANGES = """# Changes
+
+A release a paragraph.
+
+## 1.0.1 (2026-11-28)
+
+The first
+paragraph.
+
+- one
+  item
+- another one
+
+## 1.0.0 (2026-11-27)
+
+The first release.
+"""
+MEANT = """examoffice (1.0.1) unstable; urgency=medium
+
+  * The first paragraph.
+  * one item
+  * another one
+
+ -- NAME  Sat, 28 Nov 2026 00:00:00 +0000
+
+examoffice (1.0.0) unstable; urgency=medium
+
+  * The first release.
+
+ -- NAME  Fri, 27 Nov 2026 00:00:00 +0000
+"""
+
+
+def release():
+    """The script `release` as a module."""
+    sys.dont_write_bytecode = True
+    loader = importlib.machinery.SourceFileLoader("release", str(TOP / "release"))
+    module = importlib.util.module_from_spec(importlib.util.spec_from_loader("release", loader))
+    loader.exec_module(module)
+    return module
+
+
+class Release(unittest.TestCase):
+    def setUp(self):
+        self.release = release()
+
+    def test_changelog_of_debian(self):
+        found = self.release.debian_changelog(CHANGES)
+        self.assertEqual(found, MEANT.replace("NAME", self.release.MAINTAINER))
+
+    @unittest.skipUnless(shutil.which("dpkg-parsechangelog"), "dpkg-dev is not installed")
+    def test_debian_reads_it(self):
+        with tempfile.NamedTemporaryFile("w", encoding="utf-8") as file:
+            file.write(self.release.debian_changelog((TOP / "CHANGELOG.md").read_text("utf-8")))
+            file.flush()
+            done = subprocess.run(["dpkg-parsechangelog", "-l", file.name], capture_output=True, text=True, check=True)
+        newest = re.search(r"^## (\S+)", (TOP / "CHANGELOG.md").read_text("utf-8"), re.M)[1]
+        self.assertEqual(done.stderr, "")
+        self.assertIn(f"\nVersion: {newest}\n", done.stdout)
+
+    def test_notice_names_who_holds_the_rights(self):
+        self.assertTrue(self.release.notice(([], [])).startswith("Copyright (c) "))
+
+
+if __name__ == "__main__":
+    unittest.main()
