@@ -10,8 +10,8 @@ import shutil
 from collections.abc import Iterator
 from dataclasses import dataclass
 
-import beside
-import private
+from exam_desk import beside
+from exam_desk import private
 import school
 import turns
 

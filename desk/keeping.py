@@ -21,7 +21,7 @@ import time
 from collections.abc import Callable, Iterator
 
 import asking
-import beside
+from exam_desk import beside
 import copies
 import hold
 import school

@@ -16,11 +16,12 @@ import subprocess
 import sys
 from typing import NamedTuple, NoReturn
 
-import bad_rows
-import beside
-import private
+from exam_desk import bad_rows
+from exam_desk.trouble import BadRows, Trouble
+from exam_desk.words import FEATURES, clock, feature_text, features, plain  # noqa: F401
+from exam_desk import beside
+from exam_desk import private
 
-FEATURES = ["step-free", "screen", "reader", "small-room", "computer", "quiet"]  # the value of a place is 1, 2, 4 ..
 TABLES = ["office", "session", "paper", "hall", "opening", "candidate", "entry", "arrangement", "appeal", "standing",
           "seat"]
 VERSION = 3
@@ -28,8 +29,6 @@ SHEETS = ["door-list", "attendance", "clashes", "shortage", "appeals", "export"]
 DESK = pathlib.Path(__file__).resolve().parent
 HALL, CLASH, ARRANGEMENT = 1, 2, 3  # the kinds of an appeal
 OPEN, GRANTED = 1, 2  # the states of an appeal that count here
-HIDDEN = {*range(0x20), *range(0x7f, 0xa0), 0x61c, 0x200e, 0x200f, *range(0x2028, 0x202f), *range(0x2066, 0x206a)}
-UNSHOWN = dict.fromkeys(HIDDEN, "?")
 
 
 class Opening(NamedTuple):
@@ -53,11 +52,6 @@ class Member(NamedTuple):
     clashes: list[str]  # the papers that they are entered for and do not sit
     requires: int  # the features that the paper requires
     barred: frozenset[str]  # the halls that their granted appeals name
-
-
-def plain(text) -> str:
-    """A text for a terminal: control characters, marks of direction and line separators are shown as `?`."""
-    return str(text).translate(UNSHOWN)
 
 
 def warn(message: object) -> None:
@@ -87,7 +81,7 @@ def tell(kind, fault, place):
     """What a fault of a file or of the database comes to: a line in place of a list of calls."""
     if issubclass(kind, BrokenPipeError):
         os.dup2(os.open(os.devnull, os.O_WRONLY), sys.stdout.fileno())  # nobody reads what is left
-    elif issubclass(kind, (beside.Strange, bad_rows.BadRows)):
+    elif issubclass(kind, (beside.Strange, Trouble)):
         warn(fault)
     elif issubclass(kind, OSError):
         warn(f"{fault.filename}: {fault.strerror}" if fault.filename else fault)
@@ -197,18 +191,6 @@ def check_tables(file, path):
         stop(f"{path} holds no office that this program reads; `office check` says more")
 
 
-def features(mask: int) -> list[str]:
-    return [name for place, name in enumerate(FEATURES) if mask >> place & 1]
-
-
-def feature_text(mask: int) -> str:
-    return "+".join(features(mask)) or "-"
-
-
-def clock(minutes: int) -> str:
-    return f"{minutes // 60:02}:{minutes % 60:02}"
-
-
 def session_row(connection, session) -> sqlite3.Row:
     """The day and the start of a session; ends the script where the office has no such session."""
     found = connection.execute("SELECT code, day, start FROM session WHERE code = ?", [session]).fetchone()
@@ -233,7 +215,7 @@ def members(connection: Rows, session) -> list[Member]:
     papers = {row["code"]: row for row in connection.execute("SELECT * FROM paper WHERE session = ?", [session])}
     seats = dict(connection.execute("SELECT number, hall FROM seat WHERE session = ?", [session]))
     if not {opening.hall for opening in openings(connection, session)}.issuperset(seats.values()):
-        raise bad_rows.BadRows(connection.path, "seat")
+        raise BadRows(connection.path, "seat")
     granted = connection.execute("SELECT * FROM appeal WHERE session = ? AND state = ?", [session, GRANTED]).fetchall()
     wanted = {row["number"]: row["target"] for row in granted if row["kind"] == CLASH}
     force = arrangements(connection, head, granted)

@@ -22,7 +22,7 @@ import struct
 import time
 from collections.abc import Callable, Iterator
 
-import beside
+from exam_desk import beside
 import school
 
 PATIENCE = 60  # seconds that a command waits for others

@@ -6,9 +6,9 @@ import os
 import sqlite3
 
 import appeals
-import beside
+from exam_desk import beside
 import copies
-import private
+from exam_desk import private
 import school
 import turns
 

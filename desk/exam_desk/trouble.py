@@ -1,8 +1,9 @@
-"""The one way in which a function of this package gives up."""
+"""What goes wrong for reasons that a person can mend. Every other exception is a fault of the scripts."""
+from __future__ import annotations
 
 
 class Trouble(Exception):
-    """Why something is not done: a sentence for people, and the file, sheet or cell that it speaks of, or ''."""
+    """Why something is not done: a sentence for people, and the file, sheet, cell or field that it speaks of, or ''."""
 
     def __init__(self, sentence: str, place: str = "") -> None:
         super().__init__(sentence, place)
@@ -11,3 +12,15 @@ class Trouble(Exception):
 
     def __str__(self) -> str:
         return f"{self.place}: {self.sentence}" if self.place else self.sentence
+
+
+class BadRows(Trouble):
+    """Rows that no office has, by file and table."""
+
+    def __init__(self, path: str, table: str) -> None:
+        super().__init__(f"there are rows that no office has (table {table}); `office check` says more, "
+                         "`office back` lists copies", path)
+
+
+class Stale(Trouble):
+    """The office is another than the one that was looked at; nothing was changed."""

@@ -12,7 +12,7 @@ from unittest import mock
 
 import sample
 import copies
-import private
+from exam_desk import private
 import school
 import undo
 

@@ -7,15 +7,9 @@ from __future__ import annotations
 
 import sqlite3
 
+from exam_desk.trouble import BadRows
+
 MOST = 9_999_999  # no number of an office is greater
-
-
-class BadRows(Exception):
-    """Rows that no office has; it says in which file and table."""
-
-    def __init__(self, path: str, table: str):
-        super().__init__(f"{path}: there are rows that no office has (table {table}); `office check` says more, "
-                         "`office back` lists copies")
 
 
 def code(column: str) -> str:

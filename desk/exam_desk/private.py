@@ -16,7 +16,7 @@ import tempfile
 import time
 from collections.abc import Iterator
 
-import beside
+from exam_desk import beside
 
 PLACE, PREFIX, LOCK = "tmp", "office-copy-", "lock"
 ELSEWHERE = {errno.EACCES, errno.EPERM, errno.EROFS, errno.ENOSPC, errno.EDQUOT}  # another folder may do

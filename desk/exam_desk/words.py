@@ -1,0 +1,37 @@
+"""The words that every part of the desk shares: texts without hidden characters, times, features, days."""
+from __future__ import annotations
+
+import datetime
+
+FEATURES = ["step-free", "screen", "reader", "small-room", "computer", "quiet"]  # the value of a place is 1, 2, 4 ..
+HIDDEN = {*range(0x20), *range(0x7f, 0xa0), 0x61c, 0x200e, 0x200f, *range(0x2028, 0x202f), *range(0x2066, 0x206a)}
+UNSHOWN = dict.fromkeys(HIDDEN, "?")
+
+
+def plain(text: object) -> str:
+    """A text for a terminal: control characters, marks of direction and line separators are shown as `?`."""
+    return str(text).translate(UNSHOWN)
+
+
+def features(mask: int) -> list[str]:
+    return [name for place, name in enumerate(FEATURES) if mask >> place & 1]
+
+
+def feature_text(mask: int) -> str:
+    return "+".join(features(mask)) or "-"
+
+
+def clock(minutes: int) -> str:
+    return f"{minutes // 60:02}:{minutes % 60:02}"
+
+
+def long_day(day: str) -> str:
+    """2027-06-07 as Monday, 7 June 2027."""
+    date = datetime.date.fromisoformat(day)
+    return f"{date:%A}, {date.day} {date:%B} {date.year}"
+
+
+def short_day(day: str) -> str:
+    """2027-06-07 as Mon 7 June 2027."""
+    date = datetime.date.fromisoformat(day)
+    return f"{date:%a} {date.day} {date:%B} {date.year}"
