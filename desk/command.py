@@ -85,7 +85,7 @@ def arguments(name: str, doc: str | None) -> argparse.ArgumentParser:
 
 def office() -> Office:
     """The office that is meant."""
-    return Office(office_path(), program(), today, user())
+    return Office(office_path(), program(), today, user(), warn)
 
 
 def office_path() -> str:
