@@ -14,10 +14,10 @@ import signal
 import sqlite3
 import subprocess
 import sys
-from typing import NamedTuple, NoReturn
+from typing import NoReturn
 
 from exam_desk import bad_rows
-from exam_desk.trouble import BadRows, Trouble
+from exam_desk.trouble import Trouble
 from exam_desk.words import FEATURES, clock, feature_text, features, plain  # noqa: F401
 from exam_desk import beside
 from exam_desk import private
@@ -27,31 +27,6 @@ TABLES = ["office", "session", "paper", "hall", "opening", "candidate", "entry",
 VERSION = 3
 SHEETS = ["door-list", "attendance", "clashes", "shortage", "appeals", "export"]
 DESK = pathlib.Path(__file__).resolve().parent
-HALL, CLASH, ARRANGEMENT = 1, 2, 3  # the kinds of an appeal
-OPEN, GRANTED = 1, 2  # the states of an appeal that count here
-
-
-class Opening(NamedTuple):
-    hall: str
-    title: str
-    features: int
-    desks: int
-    until: int  # minutes of the day
-    reserved: bool
-
-
-class Member(NamedTuple):
-    number: str  # seven digits
-    name: str
-    paper: str  # the one that they sit
-    needs: int  # of the arrangement in force, without what the paper requires
-    extra: int  # percent
-    finish: int  # minutes of the day, may pass 24:00
-    hall: str | None
-    desk: int | None
-    clashes: list[str]  # the papers that they are entered for and do not sit
-    requires: int  # the features that the paper requires
-    barred: frozenset[str]  # the halls that their granted appeals name
 
 
 def warn(message: object) -> None:
@@ -189,92 +164,3 @@ def check_tables(file, path):
         stop(f"an earlier version of the program made {path}; `office migrate` carries it over")
     if version != (VERSION,) or not found.issuperset(TABLES):
         stop(f"{path} holds no office that this program reads; `office check` says more")
-
-
-def session_row(connection, session) -> sqlite3.Row:
-    """The day and the start of a session; ends the script where the office has no such session."""
-    found = connection.execute("SELECT code, day, start FROM session WHERE code = ?", [session]).fetchone()
-    if found is None:
-        codes = [code for code, in connection.execute("SELECT code FROM session ORDER BY day, start, code")]
-        stop(f"there is no session {session}; the office has {', '.join(codes[:20]) or 'none'}"
-             + (" .." if len(codes) > 20 else ""))
-    return found
-
-
-def openings(connection, session) -> list[Opening]:
-    """The halls that are open in a session, by code."""
-    found = connection.execute("SELECT hall, title, features, desks, until, reserved FROM opening "
-                               "JOIN hall ON hall.code = hall WHERE session = ? ORDER BY hall", [session])
-    return [Opening(*row[:5], bool(row["reserved"])) for row in found]
-
-
-def members(connection: Rows, session) -> list[Member]:
-    """Who sits what in a session, by number, by the rules of the handbook. Raises `BadRows` where who has a seat has it
-    in a hall that is not open."""
-    head = session_row(connection, session)
-    papers = {row["code"]: row for row in connection.execute("SELECT * FROM paper WHERE session = ?", [session])}
-    seats = dict(connection.execute("SELECT number, hall FROM seat WHERE session = ?", [session]))
-    if not {opening.hall for opening in openings(connection, session)}.issuperset(seats.values()):
-        raise BadRows(connection.path, "seat")
-    granted = connection.execute("SELECT * FROM appeal WHERE session = ? AND state = ?", [session, GRANTED]).fetchall()
-    wanted = {row["number"]: row["target"] for row in granted if row["kind"] == CLASH}
-    force = arrangements(connection, head, granted)
-    barred = {}
-    for row in granted:
-        if row["kind"] == HALL:
-            barred.setdefault(row["number"], set()).add(row["target"])
-    found = []
-    for number, (name, live) in entered(connection, session).items():
-        paper = wanted[number] if wanted.get(number) in live else live[0]
-        needs, extra = force.get(number, (0, 0))
-        finish = head["start"] + -(-papers[paper]["minutes"] * (100 + extra) // 100)
-        found.append(Member(f"{number:07}", name, paper, needs, extra, finish, seats.get(number), None,
-                            [code for code in live if code != paper], papers[paper]["requires"],
-                            frozenset(barred.get(number, ()))))
-    return with_desks(found)
-
-
-def entered(connection, session):
-    """For each candidate with a live entry in a session the name and the papers, by number and code."""
-    found = {}
-    for number, name, paper in connection.execute(
-            "SELECT entry.number, name, paper FROM entry JOIN paper ON paper.code = paper "
-            "JOIN candidate ON candidate.number = entry.number WHERE live = 1 AND session = ? "
-            "ORDER BY entry.number, paper", [session]):
-        found.setdefault(number, (name, []))[1].append(paper)
-    return found
-
-
-def arrangements(connection, head, granted):
-    """The needs and the extra time of each candidate who has any in a session: of the grant for it, else of the latest
-    standing grant for a session that is not later, else of the import."""
-    force = {number: pair for number, *pair in connection.execute("SELECT number, needs, extra FROM arrangement")}
-    standing = connection.execute(
-        "SELECT appeal.number, needs, extra FROM standing JOIN appeal USING (number, ref) "
-        "JOIN session ON session.code = session WHERE state = ? AND session.day <= ? "
-        "ORDER BY session.day, session.code", [GRANTED, head["day"]])
-    force.update((number, pair) for number, *pair in standing)
-    force.update((row["number"], (row["needs"], row["extra"])) for row in granted if row["kind"] == ARRANGEMENT)
-    return force
-
-
-def with_desks(found):
-    """The members with their desks: in each hall from 1, by sitting paper, then by number."""
-    taken = {}
-    desks = {}
-    for member in sorted(found, key=lambda member: (member.paper, member.number)):
-        if member.hall is not None:
-            taken[member.hall] = desks[member.number] = taken.get(member.hall, 0) + 1
-    return [member._replace(desk=desks.get(member.number)) for member in found]
-
-
-def obstacles(member, opening) -> list[str]:
-    """Why a hall does not suit a member; nothing where it does."""
-    found = [f"no {name}" for name in features((member.needs | member.requires) & ~opening.features)]
-    if member.finish > opening.until:
-        found.append(f"closes {clock(opening.until)}")
-    if opening.reserved and not member.needs and not member.extra:
-        found.append("reserved")
-    if opening.hall in member.barred:
-        found.append("barred by a granted appeal")
-    return found

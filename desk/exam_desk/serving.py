@@ -9,8 +9,7 @@ import signal
 import subprocess
 from collections.abc import Callable, Iterator, Sequence
 
-import asking
-from exam_desk import running
+from exam_desk import asking, running
 from exam_desk.office import Office
 from exam_desk.trouble import Trouble
 
