@@ -25,7 +25,7 @@ def check(office: Office, path: str) -> None:
 
 def taken_away(office: Office, copy: str) -> list[str]:
     """A line for each appeal and decision that the office has and a copy has not."""
-    now, then = (appeals.read(office, path) for path in (os.path.realpath(office.path), copies.file_in(office, copy)))
+    now, then = appeals.read(office, os.path.realpath(office.path)), appeals.read(office, copies.file_in(office, copy))
     return [UNKNOWN] if now is None else appeals.lost(now, then or {})
 
 
