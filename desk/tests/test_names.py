@@ -18,7 +18,7 @@ IN_ORDER = [
     "Иванов, Пётр", "كريم، منى", "佐藤，愛",
 ]
 UNDER = {"van der Berg, Jan": "v", "Jan van der Berg": "b", "Madonna": "m", "Ilya Łoś": "l", "\u200fOrr, Di": "o",
-         ", Zed": "z", "Berg,": "b", ",": "", "": "", " \u00a0": ""}  # the letter under which a name is looked for
+         ", Zed": "z", "كريم، منى": "ك", "Berg,": "b", ",": "", "": "", " \u00a0": ""}  # the letter under which a name is looked for
 
 
 class Names(unittest.TestCase):
