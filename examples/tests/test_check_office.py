@@ -427,7 +427,7 @@ rmdir "$2.used"
             while not begun.exists() and process.poll() is None:
                 time.sleep(0.01)
             process.terminate()
-            self.assertEqual((process.communicate()[1], process.returncode), ("check-office: stopped\n", 2))
+            self.assertEqual((process.communicate(timeout=30)[1], process.returncode), ("check-office: stopped\n", 2))
         self.assertEqual(list(self.folder.glob("check-office-*")), [])
         self.assertFalse([pid for pid in begun.read_text().split() if os.path.exists(f"/proc/{pid}")])
 
