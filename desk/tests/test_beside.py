@@ -227,7 +227,7 @@ class Private(Beside):
             if target.startswith(self.desk):
                 raise OSError(28, "No space left on device", target)
             real(source, target)
-        with self.here(), mock.patch("private.copy_files", full), mock.patch("tempfile.tempdir", None):
+        with self.here(), mock.patch("exam_desk.private.copy_files", full), mock.patch("tempfile.tempdir", None):
             with school.private_copy(self.path) as copy:
                 self.assertTrue(copy.startswith(self.environment["TMPDIR"]))
         self.assertEqual(os.listdir(self.environment["TMPDIR"]) + os.listdir(os.path.join(self.desk, "tmp")), [])
@@ -235,9 +235,9 @@ class Private(Beside):
     def test_a_folder_swept_before_its_lock_is_held(self):
         place = os.path.join(self.folder, "place")
         os.mkdir(place)
-        for name, first in (("private.claim", lambda folder: folder),
+        for name, first in (("exam_desk.private.claim", lambda folder: folder),
                             ("fcntl.flock", lambda file: os.path.dirname(os.readlink(f"/proc/self/fd/{file}")))):
-            module, function = name.split(".")
+            module, _, function = name.rpartition(".")
             real, calls = getattr(sys.modules[module], function), []
 
             def late(value, *more):

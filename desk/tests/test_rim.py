@@ -284,7 +284,7 @@ class Sockets(sample.SampleSchool):
                 with open(os.path.join(folder, name), "w", encoding="utf-8"):
                     with self.assertRaises(SystemExit), keeping.listener(os.path.join(folder, "keep.socket")):
                         self.fail("it listens")
-        self.assertRegex(said.call_args_list[0].args[0], "cannot be had: others may write there")
+        self.assertRegex(said.call_args_list[0].args[0], "cannot be had: can be written by others")
         self.assertRegex(said.call_args_list[1].args[0], "holds else: give")
 
 

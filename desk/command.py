@@ -1,0 +1,130 @@
+"""What all commands of the desk share: how they begin, which office they mean, their words, and how they speak.
+
+OFFICE names another file than office.db, TODAY another date than the clock's, EXAMOFFICE another program. The package
+exam_desk reads none of these: a command hands an `Office` on.
+"""
+from __future__ import annotations
+
+import argparse
+import datetime
+import os
+import pathlib
+import shutil
+import signal
+import sqlite3
+import sys
+from types import FrameType, TracebackType
+
+from exam_desk import beside
+from exam_desk.office import Office
+from exam_desk.reading import Reading
+from exam_desk.trouble import Trouble
+from exam_desk.words import plain
+
+DESK = pathlib.Path(__file__).resolve().parent
+BAR = 24  # letters of a bar that is full
+MANY, FEW = 500, 100  # of so many questions, the progress is shown after each few
+CLEAR = "\r\x1b[K"  # a terminal takes away the line on which it writes
+
+
+def begin() -> None:
+    """Call it first: HUP, INT and TERM let a command clean up, a fault becomes a line, and all goes out as UTF-8."""
+    def leave(number: int, _: FrameType | None) -> None:
+        raise SystemExit(128 + number)
+    for number in (signal.SIGHUP, signal.SIGINT, signal.SIGTERM):
+        if signal.getsignal(number) != signal.SIG_IGN:
+            signal.signal(number, leave)
+    os.umask(0o077)
+    for stream in (sys.stdout, sys.stderr):
+        stream.reconfigure(encoding="utf-8", errors="backslashreplace")  # type: ignore[attr-defined]
+    sys.excepthook = tell
+
+
+def tell(kind: type[BaseException], fault: BaseException, place: TracebackType | None) -> None:
+    """Prints what ends a command: a line where a person can mend it, a list of calls where the desk is wrong."""
+    if isinstance(fault, BrokenPipeError):
+        drop_output()
+    elif isinstance(fault, Trouble):
+        warn(fault)
+    elif isinstance(fault, OSError):
+        warn(f"{fault.filename}: {fault.strerror}" if fault.filename else fault)
+    elif isinstance(fault, sqlite3.Error):
+        warn(f"{office_path()}: {fault}")
+    else:
+        sys.__excepthook__(kind, fault, place)
+
+
+def drop_output() -> None:
+    """Nobody reads what is left of the output."""
+    os.dup2(os.open(os.devnull, os.O_WRONLY), sys.stdout.fileno())
+
+
+def warn(message: object) -> None:
+    print(f"office: {plain(message)}", file=sys.stderr)
+
+
+def say(text: str) -> None:
+    """Prints a text and makes sure that it went out whole."""
+    sys.stdout.write(text)
+    sys.stdout.flush()
+
+
+def progress(text: str, part: float | None = None) -> None:
+    """Shows on a terminal how far a command is: a text, behind a bar where the part that is done is known, from 0 to 1.
+    An empty text takes the line away."""
+    if sys.stderr.isatty():
+        full = round(BAR * min(max(part or 0, 0), 1))
+        bar = "" if part is None else f"[{'#' * full}{' ' * (BAR - full)}] "
+        sys.stderr.write(f"{CLEAR}{bar}{plain(text)}" if text else CLEAR)
+        sys.stderr.flush()
+
+
+def arguments(name: str, doc: str | None) -> argparse.ArgumentParser:
+    """What reads the words of a command; `--help` prints the text."""
+    return argparse.ArgumentParser(prog=f"office {name}", description=doc,
+                                   formatter_class=argparse.RawDescriptionHelpFormatter)
+
+
+def office() -> Office:
+    """The office that is meant."""
+    return Office(office_path(), program(), today, user(), warn)
+
+
+def reading(path: str | None = None) -> Reading:
+    """The office, or another file of one, as it is now; a terminal shows how far long questions are."""
+    return Reading(office(), path, show_asked)
+
+
+def show_asked(done: int, of: int) -> None:
+    if of >= MANY and (done % FEW == 0 or done == of):
+        progress("" if done == of else f"{done:,} of {of:,} candidates", done / of)
+
+
+def office_path() -> str:
+    return os.environ.get("OFFICE") or "office.db"
+
+
+def program() -> str:
+    """The program: EXAMOFFICE, else beside the scripts, else the built one of the repository, else one on the PATH.
+    Where none is there, the first name: a command that needs none goes on."""
+    named = os.environ.get("EXAMOFFICE")
+    places = [named] if named else [str(DESK / "examoffice"), str(DESK.parent / "crates/examoffice/out/examoffice"),
+                                    "examoffice"]
+    return next(filter(None, map(shutil.which, places)), places[0])
+
+
+def today() -> datetime.date:
+    """The date. Raises `Trouble` where TODAY is none."""
+    given = os.environ.get("TODAY")
+    if not given:
+        return datetime.date.today()
+    try:
+        return datetime.datetime.strptime(given, "%Y-%m-%d").date()
+    except ValueError:
+        raise Trouble(f"TODAY is {given}; write a date as 2027-05-30") from None
+
+
+def user() -> str:
+    """Who works: the name of the user, and before it that of whoever became this user by sudo."""
+    name = beside.user_name(os.getuid())
+    return f"{os.environ['SUDO_USER']} as {name}" if "SUDO_USER" in os.environ else name

@@ -1,0 +1,72 @@
+"""Runs the program over an office, or over a copy of one."""
+from __future__ import annotations
+
+import contextlib
+import shutil
+import subprocess
+from collections.abc import Iterator
+from typing import NamedTuple
+
+from exam_desk import private
+from exam_desk.office import Office
+from exam_desk.trouble import Trouble
+
+SHEETS = ["door-list", "attendance", "clashes", "shortage", "appeals", "export"]
+
+
+class Ran(NamedTuple):
+    """How a run of the program ended. Split the lines of a sheet with split("\\n"): a name may hold other separators of
+    lines."""
+    status: int  # 128 and the number of a signal where one ended it
+    answer: str  # of a run whose output is not ours
+    complaint: str
+
+
+class NotStarted(Trouble):
+    """The program cannot be started, so it has changed nothing."""
+
+
+def run(office: Office, *words: str) -> Ran:
+    """Runs a command over the office; a sheet is made from a private copy, so nobody waits for it. Raises
+    `NotStarted`."""
+    if words[0] not in SHEETS:
+        return run_over(office, office.path, *words)
+    with readable(office) as path:
+        return run_over(office, path, *words)
+
+
+@contextlib.contextmanager
+def readable(office: Office) -> Iterator[str]:
+    """The path of a private copy, or of the office itself where it cannot be copied: the program says what is wrong."""
+    with contextlib.ExitStack() as stack:
+        path = office.path
+        with contextlib.suppress(OSError):
+            path = stack.enter_context(private.private_copy(office.path, office.path))
+        yield path
+
+
+def run_over(office: Office, path: str, *words: str) -> Ran:
+    """Runs a command over a file. Raises `NotStarted`."""
+    return ran(office, path, words, subprocess.PIPE)
+
+
+def hand_on(office: Office, path: str, *words: str) -> Ran:
+    """Runs a command over a file whose answer goes to our output as it is. Raises `NotStarted`."""
+    return ran(office, path, words, None)
+
+
+def ran(office: Office, path: str, words: tuple[str, ...], output: int | None) -> Ran:
+    try:
+        done = subprocess.run(office.line_over(path, *words), stdout=output, stderr=subprocess.PIPE, check=False)
+    except OSError as fault:
+        raise not_started(office, fault) from fault
+    status = done.returncode if done.returncode >= 0 else 128 - done.returncode
+    return Ran(status, (done.stdout or b"").decode("utf-8", "replace"), done.stderr.decode("utf-8", "replace"))
+
+
+def not_started(office: Office, fault: OSError) -> NotStarted:
+    """What is said of a program that the system does not start."""
+    if shutil.which(office.program) is None:
+        return NotStarted(f"there is no program {office.program}; EXAMOFFICE names another, and ./try-it --prove builds "
+                          "one")
+    return NotStarted(f"the program cannot be started, so nothing is changed: {office.program}: {fault.strerror}")
