@@ -2,15 +2,18 @@
 from __future__ import annotations
 
 import contextlib
+import ctypes
+import os
 import shutil
 import subprocess
-from collections.abc import Iterator
+from collections.abc import Callable, Iterator
 from typing import NamedTuple
 
 from exam_desk import private
 from exam_desk.office import Office
 from exam_desk.trouble import Trouble
 
+PR_SET_PDEATHSIG = 1
 SHEETS = ["door-list", "attendance", "clashes", "shortage", "appeals", "export"]
 
 
@@ -70,3 +73,15 @@ def not_started(office: Office, fault: OSError) -> NotStarted:
         return NotStarted(f"there is no program {office.program}; EXAMOFFICE names another, and ./try-it --prove builds "
                           "one")
     return NotStarted(f"the program cannot be started, so nothing is changed: {office.program}: {fault.strerror}")
+
+
+def end_with(parent: int, number: int) -> Callable[[], None]:
+    """What a child does first, so that a signal ends it where its parent is killed. The thread that begins the child must
+    live as long: the system asks for that thread."""
+    library = ctypes.CDLL(None)
+
+    def arrange() -> None:
+        library.prctl(PR_SET_PDEATHSIG, number)
+        if os.getppid() != parent:
+            os._exit(1)
+    return arrange
