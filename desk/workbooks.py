@@ -5,9 +5,14 @@ import argparse
 import os
 
 import command
+from exam_desk.checking import office_knows
+from exam_desk.office import Office
 from exam_desk.words import plain
-from exam_desk.workbook.reading import Reading
+from exam_desk.workbook.columns import read_columns
+from exam_desk.workbook.headers import KINDS
+from exam_desk.workbook.reading import Reading, read_workbook
 from exam_desk.workbook.report import told_lines
+from exam_desk.workbook.tables import Choices
 from exam_desk.workbook.texts import Way
 from exam_desk.workbook.writing import write_folder
 
@@ -21,8 +26,24 @@ def arguments(name: str, text: str | None) -> argparse.ArgumentParser:
     return parser
 
 
-def with_dates(way: Way, dates: str) -> Way:
-    return Way(dates, way.words) if dates else way
+def add_choices(parser: argparse.ArgumentParser) -> None:
+    """The options of a command that reads a workbook."""
+    parser.add_argument("--columns", metavar="FILE", help="a file .toml which says what the headers and words mean")
+    parser.add_argument("--sheet", action="append", metavar="NAME",
+                        help="read this sheet, and no other that is not named")
+    parser.add_argument("--leave", action="append", metavar="NAME", default=[], help="do not read this sheet")
+    parser.add_argument("--together", action="append", choices=KINDS, default=[],
+                        help="read all sheets of this kind as one list")
+    parser.add_argument("--hidden", choices=["take", "leave"], default="", help="what becomes of hidden rows")
+
+
+def read(office: Office, path: str, given: argparse.Namespace) -> Reading:
+    """Reads a workbook as the options say. Raises `Trouble` where it cannot be read."""
+    columns, way = read_columns(given.columns) if given.columns else ({}, Way())
+    choices = Choices(given.sheet, given.leave, given.together, given.hidden)
+    if given.dates:
+        way = Way(given.dates, way.words)
+    return read_workbook(path, office_knows(office), way, columns, choices, given.encoding, command.progress)
 
 
 def told(reading: Reading, target: str, lines_name: str, everything: bool) -> int:

@@ -67,6 +67,21 @@ def ran(office: Office, path: str, words: tuple[str, ...], output: int | None) -
     return Ran(status, (done.stdout or b"").decode("utf-8", "replace"), done.stderr.decode("utf-8", "replace"))
 
 
+def help_text(office: Office, *words: str) -> str:
+    """The help of the program, or of one of its commands. Raises `NotStarted`."""
+    try:
+        done = subprocess.run([office.program, *words, "--help"], stdout=subprocess.PIPE, check=False)
+    except OSError as fault:
+        raise not_started(office, fault) from fault
+    return done.stdout.decode("utf-8", "replace")
+
+
+def usage(office: Office, name: str) -> list[str]:
+    """The lines on how a command of the program is used, from its help. Raises `NotStarted`."""
+    lines = [f"  {line}" for line in help_text(office, name).split("\n") if line][1:]
+    return lines or ["  `office --help` lists the commands"]
+
+
 def not_started(office: Office, fault: OSError) -> NotStarted:
     """What is said of a program that the system does not start."""
     if shutil.which(office.program) is None:
