@@ -15,7 +15,7 @@ from typing import NamedTuple, TypeVar
 
 from exam_desk import beside, files
 from exam_desk.office import Office
-from exam_desk.trouble import Trouble
+from exam_desk.trouble import NoOffice, Trouble
 
 PLACE = "notebook"
 SCHOOL, NOTES = "school.json", "notes.json"
@@ -158,7 +158,7 @@ def is_desk(value: object) -> bool:
 def alone(office: Office) -> Iterator[None]:
     """The notebook for this process alone: what is read in it and written is not another's in between."""
     if not os.path.isfile(office.path):
-        raise Trouble("there is no office; `office init` makes one", office.path)
+        raise NoOffice(office.path)
     beside.make_folder(office.path, PLACE)
     folder = beside.open_folder(office.path, PLACE)
     try:

@@ -57,14 +57,15 @@ class Notebook(unittest.TestCase):
         return str(path)
 
     def test_nothing_is_there_at_first(self):
-        self.assertEqual((notebook.school_name(self.office), notebook.notes(self.office), notebook.printed(self.office, "S1"),
-                          notebook.absent(self.office, "S1")), ("", {}, {}, set()))
+        self.assertEqual((notebook.school_name(self.office), notebook.notes(self.office)), ("", {}))
+        self.assertEqual((notebook.printed(self.office, "S1"), notebook.absent(self.office, "S1")), ({}, set()))
         self.assertFalse(self.place.exists())
 
     def test_notes(self):
         text = f'\ufeffnumber,text\r\n0000001,"{HOSTILE.replace(chr(34), chr(34) * 2)}"\r\n\r\n0000002,rest breaks\r\n'
         took = notebook.take_notes(self.office, notebook.notes_in(self.file(text), KNOWN))
-        self.assertEqual((took, notebook.notes(self.office)), ((2, 0, 0, 0), {"0000001": HOSTILE, "0000002": "rest breaks"}))
+        self.assertEqual(took, (2, 0, 0, 0))
+        self.assertEqual(notebook.notes(self.office), {"0000001": HOSTILE, "0000002": "rest breaks"})
         took = notebook.take_notes(self.office, {"0000001": "scribe", "0000002": "rest breaks", "0000003": ""})
         self.assertEqual(took, (0, 1, 0, 2))
         self.assertEqual(notebook.take_notes(self.office, {"0000001": ""}), (0, 0, 1, 0))
