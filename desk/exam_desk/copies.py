@@ -44,8 +44,8 @@ def keep_day(office: Office, day: datetime.date, most: int) -> str | None:
 
 
 def make(office: Office, place: str, name: str) -> str:
-    """Copies the office's two files, and the notebook beside it, into a new folder in a place, whole and on the disk, or
-    not at all; its path."""
+    """Copies the office's two files, and the notebook beside it, into a new folder in a place, whole and on the disk,
+    or not at all; its path."""
     target = os.path.join(turns.make_folder(office, place), name)
     with private.private_folder(turns.make_folder(office, private.PLACE)) as folder:
         making = os.path.join(folder, PLACE)

@@ -121,7 +121,8 @@ def moved(before: Mapping[str, Desk], now: Mapping[str, Desk]) -> list[str]:
 
 def out_of_date(before: Mapping[str, Desk], now: Mapping[str, Desk]) -> list[str]:
     """The halls in which somebody has another desk than before, by code."""
-    return sorted({desk.hall for number in moved(before, now) for desks in (before, now) if (desk := desks.get(number))})
+    others = moved(before, now)
+    return sorted({desks[number].hall for desks in (before, now) for number in others if number in desks})
 
 
 def absent(office: Office, session: str) -> set[str]:
@@ -181,7 +182,7 @@ def read(office: Office, name: str, empty: Value, right: Callable[[object], bool
         except ValueError:
             value = None
     if value is None or not right(value):
-        raise Trouble("is damaged: look, and move it away, or take the file of a copy (`office back` lists them)", place)
+        raise Trouble("is damaged: look, and move it away, or take the file of a copy", place)
     return value
 
 

@@ -18,8 +18,8 @@ class NoOffice(Trouble):
     """There is no file of an office."""
 
     def __init__(self, path: str) -> None:
-        super().__init__("there is no office here; go to its folder, as its user (/srv/examoffice, as examoffice, where "
-                         "a package made them), or let OFFICE name its file; `office init` makes a new one", path)
+        super().__init__("there is no office here; go to its folder, as its user (/srv/examoffice, as examoffice, "
+                         "where a package made them), or let OFFICE name its file; `office init` makes a new one", path)
 
 
 class BadRows(Trouble):

@@ -17,8 +17,9 @@ IN_ORDER = [
     "\u200fOrr, Di", "Straße, Al", "STRASSE, BO", "Þór, Jón", "van der Berg, Jan", ", Zed", "𝐙oe", "Ολγα Αλεξίου",
     "Иванов, Пётр", "كريم، منى", "佐藤，愛",
 ]
+# The letter under which a name is looked for.
 UNDER = {"van der Berg, Jan": "v", "Jan van der Berg": "b", "Madonna": "m", "Ilya Łoś": "l", "\u200fOrr, Di": "o",
-         ", Zed": "z", "كريم، منى": "ك", "Berg,": "b", ",": "", "": "", " \u00a0": ""}  # the letter under which a name is looked for
+         ", Zed": "z", "كريم، منى": "ك", "Berg,": "b", ",": "", "": "", " \u00a0": ""}
 
 
 class Names(unittest.TestCase):
