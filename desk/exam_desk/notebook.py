@@ -1,4 +1,5 @@
-"""What the school keeps beside its office: notes on candidates, its name, which desks were printed, who was absent.
+"""What the school keeps beside its office: notes on candidates, its name, how desks stand in halls, which desks were
+printed, who was absent.
 
 Each is a file of JSON in the folder `notebook` beside the office, for the office's user alone. None of it is a fact of
 the office: no seat depends on it, and `office back` leaves it as it is. The copies of the office have it too.
@@ -18,7 +19,8 @@ from exam_desk.office import Office
 from exam_desk.trouble import NoOffice, Trouble
 
 PLACE = "notebook"
-SCHOOL, NOTES = "school.json", "notes.json"
+SCHOOL, NOTES, ROWS = "school.json", "notes.json", "rows.json"
+RUNNING = ["across", "across-and-back", "down", "down-and-up"]  # how the numbers of desks run
 NEW = ".new"  # the end of the name of a file that is being written
 HEADER = ["number", "text"]
 MOST_NOTE_BYTES = 200
@@ -29,6 +31,12 @@ class Desk(NamedTuple):
     """Where somebody sits."""
     hall: str
     desk: int
+
+
+class Rows(NamedTuple):
+    """How the desks of a hall stand."""
+    across: int  # desks in a row
+    running: str  # one of RUNNING
 
 
 class Noted(NamedTuple):
@@ -102,6 +110,18 @@ def bad_note(row: files.Record, known: set[str]) -> str:
     return ""
 
 
+def rows_of_halls(office: Office) -> dict[str, Rows]:
+    """How the desks stand in each hall of which somebody said it."""
+    nothing: dict[str, tuple[int, str]] = {}
+    found = read(office, ROWS, nothing, lambda value: is_map(value, is_rows))
+    return {hall: Rows(*rows) for hall, rows in found.items()}
+
+
+def keep_rows(office: Office, hall: str, rows: Rows) -> None:
+    with alone(office):
+        write(office, ROWS, {**rows_of_halls(office), hall: rows})
+
+
 def printed(office: Office, session: str) -> dict[str, Desk]:
     """The desks that were printed for a session, by number; none where nobody said that they were."""
     nothing: dict[str, tuple[str, int]] = {}
@@ -153,6 +173,11 @@ def is_map(value: object, right: Callable[[object], bool]) -> bool:
 
 def is_desk(value: object) -> bool:
     return isinstance(value, list) and len(value) == 2 and is_text(value[0]) and isinstance(value[1], int)
+
+
+def is_rows(value: object) -> bool:
+    return (isinstance(value, list) and len(value) == 2 and isinstance(value[0], int) and value[0] > 0
+            and value[1] in RUNNING)
 
 
 @contextlib.contextmanager

@@ -154,7 +154,7 @@ class Commands(sample.SampleSchool):
     def test_notes(self):
         self.write("notes.csv", "number,text\n0001051,rest breaks\n0001000,a \u202escribe\n")
         self.assertEqual(self.office("notes", "notes.csv"), "added 2 changed 0 removed 0 same 0\n")
-        self.assertEqual(self.office("notes"), "0001000 Ada Lin: a ?scribe\n0001051 Lu\u00eds Ferrari: rest breaks\n")
+        self.assertEqual(self.office("notes"), "0001000 Ada Lin: a ?scribe\n0001051 Di Berg: rest breaks\n")
         self.write("notes.csv", "number,text\n9999999,x\n")
         self.assertIn("line 2: the office has no candidate '9999999'", self.refused("notes", "notes.csv"))
         self.assertFalse(os.path.exists(os.path.join(self.desk, "log")))
