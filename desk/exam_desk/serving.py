@@ -1,0 +1,113 @@
+"""`serve` over a file that nobody else uses, as a child of this process: it ends with this process, however that ends."""
+from __future__ import annotations
+
+import asyncio
+import contextlib
+import ctypes
+import os
+import signal
+import subprocess
+from collections.abc import Callable, Iterator, Sequence
+
+import asking
+from exam_desk.office import Office
+from exam_desk.trouble import Trouble
+
+AT_ONCE = 4  # connections: while `serve` answers one, the next are made
+SECONDS = 60  # that an answer may take
+TRIES = 5  # of a `serve` that ends before it has answered, or whose port another process takes
+PR_SET_PDEATHSIG = 1
+
+Progress = Callable[[int, int], None]  # how many are done, of how many
+
+
+class Serve:
+    """Asks a `serve` of its own, which begins with the first request.
+
+    The thread that asks first must live as long: the system ends `serve` with that thread.
+    """
+
+    def __init__(self, office: Office, path: str) -> None:
+        self.office, self.path = office, path
+        self.child: subprocess.Popen[bytes] | None = None
+        self.server: asking.Server | None = None
+
+    def bodies(self, requests: Sequence[bytes], progress: Progress) -> list[bytes]:
+        """The bodies of the answers, which must have the status 200. Raises `Trouble` where the program refuses the
+        office, or ends again and again."""
+        found: dict[int, bytes] = {}
+        for _ in range(TRIES):
+            with contextlib.suppress(OSError, asyncio.TimeoutError):
+                asyncio.run(ask_all(self.started(), requests, found, progress))
+                return [found[place] for place in range(len(requests))]
+            self.close()
+        raise Trouble(f"the program ends while it is asked: {TRIES} times; nothing is printed")
+
+    def started(self) -> asking.Server:
+        """Who answers; begins `serve` where none runs. Raises OSError where it does not come to listen."""
+        if self.server is None:
+            port = asking.free_port()
+            self.child = self.begun(port)
+            assert self.child.stdout and self.child.stderr
+            if not self.child.stdout.readline().startswith(b"serving"):
+                refuse(self.child.stderr.readline().decode("utf-8", "replace").strip())
+            self.server = asking.Server(self.child.pid, str(port))
+        return self.server
+
+    def begun(self, port: int) -> subprocess.Popen[bytes]:
+        line = self.office.line_over(self.path, "serve", str(port))
+        try:
+            return subprocess.Popen(line, stdin=subprocess.DEVNULL, stdout=subprocess.PIPE, stderr=subprocess.PIPE,
+                                    preexec_fn=end_with(os.getpid()))
+        except OSError as fault:
+            raise Trouble(f"the program cannot be started: {fault.strerror}", self.office.program) from fault
+
+    def close(self) -> None:
+        """Ends `serve`, which has nothing to save."""
+        if self.child is not None:
+            self.child.kill()
+            self.child.communicate()
+        self.child = self.server = None
+
+
+def refuse(complaint: str) -> None:
+    """Raises `Trouble`, or OSError where another try may do: its port was taken, or a signal ended it."""
+    if complaint in ("", "net fault"):
+        raise OSError("serve does not listen")
+    raise Trouble(f"the program does not read the office: {complaint}; nothing is printed")
+
+
+async def ask_all(server: asking.Server, requests: Sequence[bytes], found: dict[int, bytes],
+                  progress: Progress) -> None:
+    """Puts the body of each answer at its place where there is none yet. Raises OSError where no whole one comes."""
+    waiting = iter([place for place in range(len(requests)) if place not in found])
+    await asyncio.gather(*(ask_some(server, requests, waiting, found, progress) for _ in range(AT_ONCE)))
+
+
+async def ask_some(server: asking.Server, requests: Sequence[bytes], waiting: Iterator[int],
+                   found: dict[int, bytes], progress: Progress) -> None:
+    for place in waiting:
+        found[place] = await ask(server, requests[place])
+        progress(len(found), len(requests))
+
+
+async def ask(server: asking.Server, request: bytes) -> bytes:
+    """The body of an answer. Raises OSError where it is not whole, and `Trouble` where it is no 200."""
+    answer = await asyncio.wait_for(asking.answer(server, request), SECONDS)
+    status = asking.status_of(answer)
+    if status == 0:
+        raise ConnectionError("the answer is not whole")
+    if status != 200:
+        raise Trouble(f"the program answered {status} {asking.body_of(answer).decode('utf-8', 'replace')[:60]}")
+    return asking.body_of(answer)
+
+
+def end_with(parent: int) -> Callable[[], None]:
+    """What a child does first, so that it ends where its parent is killed."""
+    library = ctypes.CDLL(None)
+
+    def arrange() -> None:
+        library.prctl(PR_SET_PDEATHSIG, signal.SIGKILL)
+        if os.getppid() != parent:
+            os._exit(1)
+    return arrange
