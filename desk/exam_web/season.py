@@ -93,11 +93,11 @@ def shortages(coming: list[counting.Sums]) -> list[Attention]:
 def open_appeals() -> list[Attention]:
     kinds: dict[tuple[str, str], Counter[str]] = {}
     for row in view().rows("SELECT kind, session, day FROM appeal JOIN session ON session.code = session "
-                           "WHERE state = ?", [appeals.OPEN]):
+                           "WHERE state = 1"):
         kinds.setdefault((row["day"], row["session"]), Counter())[appeals.KINDS[row["kind"]]] += 1
     found = []
     for (day, code), counts in kinds.items():
-        last = lastdays.last_day_to_decide(day)
+        last = lastdays.to_decide(day)
         left = days_until(last)
         level = "late" if left < 0 else "now" if left <= URGENT else "soon"
         parts = Markup(", ").join(Markup("{} {}").format(count, text(kind)) for kind, count in counts.items())
@@ -110,8 +110,7 @@ def open_appeals() -> list[Attention]:
 def unheard_clashes(found: View) -> dict[str, int]:
     """By session how many have two papers at once and no appeal on it that is open or decided."""
     def make() -> dict[str, int]:
-        heard = set(map(tuple, found.rows("SELECT session, number FROM appeal WHERE kind = ? AND state IN (1, 2, 3)",
-                                          [appeals.CLASH])))
+        heard = set(map(tuple, found.rows("SELECT session, number FROM appeal WHERE kind = 2 AND state IN (1, 2, 3)")))
         counts = {code: sum((code, number) not in heard for number in numbers)
                   for code, numbers in counting.two_papers(found).items()}
         return {code: count for code, count in counts.items() if count}
@@ -126,7 +125,7 @@ def clashes(coming: list[counting.Sums]) -> list[Attention]:
     count = sum(unheard[each.code] for each in late)
     words = many(count, "{count} candidate with two papers at once and no appeal, in sessions: {sessions}",
                  "{count} candidates with two papers at once and no appeal, in sessions: {sessions}", sessions=len(late))
-    return [Attention("note", lastdays.last_day_to_lodge(late[0].day, appeals.CLASH), words,
+    return [Attention("note", lastdays.to_lodge("clash", late[0].day), words,
                       url_for("clashes.page"), text("Look"))]
 
 
@@ -141,8 +140,8 @@ def deadlines(found: list[counting.Sums], days: int = 14) -> list[tuple[str, dic
     """The last days to lodge that come next: by date, and for each kind of appeal the sessions."""
     coming: dict[str, dict[str, list[str]]] = {}
     for session in found:
-        for kind, word in appeals.KINDS.items():
-            last = lastdays.last_day_to_lodge(session.day, kind)
+        for word in appeals.KINDS.values():
+            last = lastdays.to_lodge(word, session.day)
             if 0 <= days_until(last) <= days:
                 coming.setdefault(last, {}).setdefault(word, []).append(session.code)
     return sorted(coming.items())

@@ -47,7 +47,7 @@ def page(code: str) -> str:
         previous=codes[place - 1] if place else None, next=codes[place + 1] if place + 1 < len(codes) else None,
         closed=closed_halls(code), shortage=shortages.of(code, sums), clashes=clashes(code), most=MOST_PEOPLE,
         printed=printing.states(code), sheets=printing.SHEETS, appeals=appeals,
-        last=lastdays.last_day_to_decide(sums.day))
+        last=lastdays.to_decide(sums.day))
 
 
 def taken(code: str) -> dict[str, int]:
