@@ -17,11 +17,13 @@ from types import FrameType, TracebackType
 
 from exam_desk import beside
 from exam_desk.office import Office
+from exam_desk.reading import Reading
 from exam_desk.trouble import Trouble
 from exam_desk.words import plain
 
 DESK = pathlib.Path(__file__).resolve().parent
 BAR = 24  # letters of a bar that is full
+MANY, FEW = 500, 100  # of so many questions, the progress is shown after each few
 CLEAR = "\r\x1b[K"  # a terminal takes away the line on which it writes
 
 
@@ -85,7 +87,17 @@ def arguments(name: str, doc: str | None) -> argparse.ArgumentParser:
 
 def office() -> Office:
     """The office that is meant."""
-    return Office(office_path(), program(), today, user())
+    return Office(office_path(), program(), today, user(), warn)
+
+
+def reading(path: str | None = None) -> Reading:
+    """The office, or another file of one, as it is now; a terminal shows how far long questions are."""
+    return Reading(office(), path, show_asked)
+
+
+def show_asked(done: int, of: int) -> None:
+    if of >= MANY and (done % FEW == 0 or done == of):
+        progress("" if done == of else f"{done:,} of {of:,} candidates", done / of)
 
 
 def office_path() -> str:

@@ -7,7 +7,7 @@ from __future__ import annotations
 import json
 import re
 from collections.abc import Callable
-from typing import NamedTuple
+from typing import Any, NamedTuple
 
 from exam_desk.trouble import Trouble
 
@@ -75,7 +75,7 @@ APPEAL = {"ref": CODE, "session": CODE, "kind": text("hall|clash|arrangement"), 
 
 def sittings(body: bytes) -> dict[str, Sitting]:
     """The answer to `GET seats`, by session."""
-    return {row["session"]: Sitting(**{**row, "needs": needs(row["needs"])}) for row in rows(body, "seats", SITTING)}
+    return {row["session"]: Sitting(**row)._replace(needs=needs(row["needs"])) for row in rows(body, "seats", SITTING)}
 
 
 def needs(words: str) -> tuple[str, ...]:
@@ -92,7 +92,7 @@ def appeals(body: bytes) -> list[Appeal]:
     return [Appeal(**row) for row in rows(body, "appeals", APPEAL)]
 
 
-def rows(body: bytes, name: str, forms: dict[str, Form]) -> list[dict[str, object]]:
+def rows(body: bytes, name: str, forms: dict[str, Form]) -> list[dict[str, Any]]:
     """The objects of an answer. Raises `Trouble` where one has other members, or a value of another form."""
     try:
         found = json.loads(body)[name]

@@ -13,17 +13,19 @@ import os
 import pwd
 import stat
 
+from exam_desk.trouble import Trouble
+
 OTHERS = stat.S_IWGRP | stat.S_IWOTH
 AS_FOLDER = os.O_RDONLY | os.O_DIRECTORY | os.O_NOFOLLOW | os.O_CLOEXEC
 AS_FILE = os.O_NOFOLLOW | os.O_NONBLOCK | os.O_CLOEXEC  # a pipe in the place of a file keeps nobody waiting
 LINKS = {errno.ELOOP: "is a link, which is not followed", errno.ENOTDIR: "is no folder, or a link to one"}
 
 
-class Strange(OSError):
+class Strange(Trouble):
     """What belongs to another, what others may write, or a link: it is not used."""
 
     def __str__(self) -> str:
-        return f"{self.filename} {self.strerror}"
+        return f"{self.place} {self.sentence}"
 
 
 def folder(office: str) -> str:
@@ -47,7 +49,7 @@ def refuse_stranger(office: str) -> None:
         if owner != os.geteuid():
             name = user_name(owner)
             how = f"belongs to {name}: work as that user, as with `sudo -u {name} office ..`"
-            raise Strange(errno.EPERM, how, "the office")
+            raise Strange(how, "the office")
 
 
 def make_folder(office: str, *names: str) -> str:
@@ -88,11 +90,11 @@ def opened(path: str, flags: int, outer: int | None = None) -> int:
         file = os.open(path if outer is None else os.path.basename(path), flags, 0o600, dir_fd=outer)
     except OSError as fault:
         if fault.errno in LINKS:
-            raise Strange(fault.errno, LINKS[fault.errno], path) from None
+            raise Strange(LINKS[fault.errno], path) from None
         raise OSError(fault.errno, fault.strerror, path) from None
     if wrong := strange(os.fstat(file), flags):
         os.close(file)
-        raise Strange(errno.EPERM, wrong, path)
+        raise Strange(wrong, path)
     return file
 
 

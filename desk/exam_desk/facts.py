@@ -22,7 +22,7 @@ def openings(rows: Rows, session: str) -> list[Opening]:
     """The halls that are open in a session, by code."""
     found = rows.execute("SELECT hall, title, features, desks, until, reserved FROM opening "
                          "JOIN hall ON hall.code = hall WHERE session = ? ORDER BY hall", [session])
-    return [Opening(*row[:5], bool(row["reserved"])) for row in found]
+    return [Opening._make([*row[:5], bool(row["reserved"])]) for row in found]
 
 
 def sessions(rows: Rows, asked: Collection[str] = ()) -> list[sqlite3.Row]:
@@ -39,15 +39,15 @@ def papers(rows: Rows, session: str) -> list[str]:
 
 
 def paper_titles(rows: Rows) -> dict[str, str]:
-    return dict(map(tuple, rows.execute("SELECT code, title FROM paper")))
+    return {code: title for code, title in rows.execute("SELECT code, title FROM paper")}
 
 
 def hall_titles(rows: Rows) -> dict[str, str]:
-    return dict(map(tuple, rows.execute("SELECT code, title FROM hall")))
+    return {code: title for code, title in rows.execute("SELECT code, title FROM hall")}
 
 
 def entered(rows: Rows, session: str) -> dict[int, int]:
     """The numbers of all who have an entry in a session, a withdrawn one too, each with the count of these."""
-    return dict(map(tuple, rows.execute(
-        "SELECT entry.number, count(*) FROM paper JOIN entry ON entry.paper = paper.code WHERE paper.session = ? "
-        "GROUP BY entry.number ORDER BY entry.number", [session])))
+    found = rows.execute("SELECT entry.number, count(*) FROM paper JOIN entry ON entry.paper = paper.code "
+                         "WHERE paper.session = ? GROUP BY entry.number ORDER BY entry.number", [session])
+    return {number: count for number, count in found}

@@ -32,8 +32,8 @@ def private_copy(path: str, office: str) -> Iterator[str]:
     with contextlib.ExitStack() as stack:
         try:
             copy = copy_into(stack.enter_context(own_folder(office)), source)
-        except OSError as fault:
-            if fault.errno not in ELSEWHERE and not isinstance(fault, beside.Strange):
+        except (OSError, beside.Strange) as fault:
+            if isinstance(fault, OSError) and fault.errno not in ELSEWHERE:
                 raise
             stack.close()
             copy = copy_into(stack.enter_context(private_folder(tempfile.gettempdir())), source)
@@ -93,7 +93,7 @@ def sweep(place: str) -> None:
                     os.close(lock)
 
 
-def is_private(entry: os.DirEntry) -> bool:
+def is_private(entry: os.DirEntry[str]) -> bool:
     found = entry.stat(follow_symlinks=False)
     return entry.name.startswith(PREFIX) and stat.S_ISDIR(found.st_mode) and found.st_uid == os.geteuid()
 

@@ -8,14 +8,13 @@ from __future__ import annotations
 
 import contextlib
 import os
-import subprocess
 import threading
 import time
-from collections.abc import Iterable, Sequence
+from collections.abc import Collection, Iterable, Sequence
 from types import TracebackType
 from typing import NamedTuple
 
-from exam_desk import answers, facts, private, snapshot
+from exam_desk import answers, facts, private, running, snapshot
 from exam_desk.answers import Appeal, Sitting
 from exam_desk.office import Office
 from exam_desk.serving import Progress, Serve
@@ -102,9 +101,11 @@ class Reading:
         self.ask([self.person(int(number))])
         return self.sittings[int(number)]
 
-    def clashes(self, session: str) -> dict[str, list[str]]:
-        """The papers that each candidate with such papers is entered for and does not sit, by number."""
-        several = [self.person(number) for number, count in facts.entered(self.rows, session).items() if count > 1]
+    def clashes(self, session: str, only: Collection[str] = ()) -> dict[str, list[str]]:
+        """The papers that each candidate with such papers is entered for and does not sit, by number; of all members, or
+        of some."""
+        several = [person for number, count in facts.entered(self.rows, session).items()
+                   if count > 1 and (not only or f"{number:07}" in only) and (person := self.person(number))]
         with self.asking:
             unknown = [person for person in several if int(person.number) not in self.missed]
             for person, body in zip(unknown, self.bodies(unknown, "clashes")):
@@ -164,12 +165,11 @@ class Reading:
         Split the lines by split("\\n"): a name may hold other separators of lines.
         """
         with self.printing:
-            line = self.office.line_over(self.copy, name, "--", *values)
-            done = subprocess.run(line, capture_output=True, check=False)
-        if done.returncode != 0:
-            complaint = done.stderr.decode("utf-8", "replace").split("\n")[0] or f"status {done.returncode}"
+            done = running.run_over(self.office, self.copy, name, "--", *values)
+        if done.status != 0:
+            complaint = done.complaint.split("\n")[0] or f"status {done.status}"
             raise Trouble(f"no {name} {' '.join(values)}: {complaint}; nothing is printed")
-        return done.stdout.decode("utf-8", "replace")
+        return done.answer
 
 
 def request(person: Person, what: str) -> bytes:

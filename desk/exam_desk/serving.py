@@ -10,6 +10,7 @@ import subprocess
 from collections.abc import Callable, Iterator, Sequence
 
 import asking
+from exam_desk import running
 from exam_desk.office import Office
 from exam_desk.trouble import Trouble
 
@@ -60,7 +61,7 @@ class Serve:
             return subprocess.Popen(line, stdin=subprocess.DEVNULL, stdout=subprocess.PIPE, stderr=subprocess.PIPE,
                                     preexec_fn=end_with(os.getpid()))
         except OSError as fault:
-            raise Trouble(f"the program cannot be started: {fault.strerror}", self.office.program) from fault
+            raise running.not_started(self.office, fault) from fault
 
     def close(self) -> None:
         """Ends `serve`, which has nothing to save."""

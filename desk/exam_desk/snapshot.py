@@ -42,7 +42,7 @@ def rows_of(copy: str, path: str) -> Rows:
         with contextlib.closing(sqlite3.connect(copy)) as file:
             file.execute("PRAGMA locking_mode = EXCLUSIVE")  # no third file
             check_tables(file, path)
-            memory = sqlite3.connect(":memory:", factory=Rows, check_same_thread=False)
+            memory = Rows(":memory:", check_same_thread=False)
             file.backup(memory)
         memory.path = path
         memory.text_factory = lambda text: text.decode("utf-8", "replace")

@@ -2,7 +2,7 @@
 import decimal
 import re
 
-from exam_desk.workbook import forms
+from exam_desk import mistakes
 from exam_desk.workbook.cells import Cell
 from exam_desk.workbook.texts import Value, Way, Wrong, letters, reason, refuse_kinds, refuse_other_digits
 
@@ -54,7 +54,7 @@ def time_of_number(text: str) -> Value:
     if 0 < number < 1 and abs(minutes - round(minutes)) < decimal.Decimal("1e-6"):
         raise Wrong(f"a number without the format of a time: if {clock_of(str(round(minutes) * 60))} is meant, give the "
                     "column the format time")
-    raise Wrong(forms.TIME_CURE)
+    raise Wrong(mistakes.TIME_CURE)
 
 
 def time_of_text(column: str, text: str, done: list[str]) -> Value:
@@ -106,7 +106,7 @@ def whole_of_number(column: str, text: str, cell: Cell) -> Value:
     if "." in text:
         if column == "extra" and decimal.Decimal(text) < 1:
             raise Wrong(f"{(decimal.Decimal(text) * 100).normalize():f} percent? Write the percent as a whole number")
-        raise Wrong(forms.CURES[column])
+        raise Wrong(mistakes.CURES[column])
     refuse_other_digits(cell)
     return Value(text, "", "is 1 percent; 100 percent is 100" if column == "extra" and text == "1" else "")
 

@@ -2,7 +2,7 @@
 import re
 from collections.abc import Callable, Iterable, Iterator, Mapping
 
-from exam_desk.workbook import forms
+from exam_desk import files, mistakes
 from exam_desk.workbook.cells import place_name
 from exam_desk.workbook.headers import KINDS
 from exam_desk.workbook.rows import Record
@@ -21,8 +21,8 @@ def check_files(job: Job, records: Records, progress: Callable[[str], None]) -> 
         progress(f"{kind}: check of {len(records[kind]):,} rows")
         first = 0
         for text, count in file_parts(kind, (record.fields for record in records[kind])):
-            wrong, notes = forms.looked_through(kind, text, job.known)
-            at = {record.line: first + place for place, record in enumerate(list(forms.records(text))[1:])} \
+            wrong, notes = mistakes.looked_through(kind, text, job.known)
+            at = {record.line: first + place for place, record in enumerate(list(files.records(text))[1:])} \
                 if wrong or notes else {}
             for sort, found in (("mistake", wrong), ("note", notes)):
                 for mistake in found:
@@ -41,13 +41,13 @@ def keep_codes(job: Job, candidates: list[Record]) -> None:
 
 
 def put_back(job: Job, sort: str, kind: str, records: list[Record], at: Mapping[int, int],
-             mistake: forms.Mistake, said: set[str]) -> None:
+             mistake: mistakes.Mistake, said: set[str]) -> None:
     """A mistake of a file as a line on the cell from which it comes, unless a line on the cell says it."""
     what = mistake.what.split(" ")[0]
     if mistake.line not in at or what == "file":
         job.report.add(sort, None, None, None, f"{kind}: {mistake.text}")
         return
-    record, header = records[at[mistake.line]], forms.HEADERS[kind]
+    record, header = records[at[mistake.line]], files.HEADERS[kind]
     column = record.columns[header.index(what)] if what in header else None
     if sort == "mistake" and what == "code" and not record.fields[2]:
         job.report.note(record.sheet, record.row, column, "code is empty: `office codes` fills it", "no code")
@@ -66,10 +66,10 @@ def put_back(job: Job, sort: str, kind: str, records: list[Record], at: Mapping[
 
 def file_parts(kind: str, rows: Iterable[list[str]]) -> Iterator[tuple[bytes, int]]:
     """The rows in files of a length that an import takes, each with its header and the count of its rows."""
-    header = forms.BOM + file_line(forms.HEADERS[kind])
+    header = files.BOM + file_line(files.HEADERS[kind])
     part, size = [header], len(header)
     for line in map(file_line, rows):
-        if size + len(line) > forms.MOST_BYTES:
+        if size + len(line) > files.MOST_BYTES:
             yield b"".join(part), len(part) - 1
             part, size = [header], len(header)
         part.append(line)

@@ -1,8 +1,8 @@
 """The file of columns (TOML), which says what the headers and the words of an export mean."""
 import tomllib
 
+from exam_desk import files, mistakes
 from exam_desk.trouble import Trouble
-from exam_desk.workbook import forms
 from exam_desk.workbook.headers import Given
 from exam_desk.workbook.texts import Way
 
@@ -29,15 +29,15 @@ def read_columns(path: str) -> tuple[dict[str, Given], Way]:
 
 
 def check_kind(kind: str, said: object) -> None:
-    if kind not in forms.HEADERS or not isinstance(said, dict):
+    if kind not in files.HEADERS or not isinstance(said, dict):
         raise Trouble(f"{kind} is none of the seven kinds, nor `words` nor `dates`")
     for name, value in said.items():
-        if name != "sheet" and name not in forms.HEADERS[kind]:
-            raise Trouble(f"[{kind}] has {name}; its columns are {', '.join(forms.HEADERS[kind])}")
+        if name != "sheet" and name not in files.HEADERS[kind]:
+            raise Trouble(f"[{kind}] has {name}; its columns are {', '.join(files.HEADERS[kind])}")
         if isinstance(value, dict) and name != "sheet":
             text = str(value.get("always", ""))
-            if set(value) != {"always"} or not forms.RIGHT[name](text.encode()):
-                raise Trouble(f'[{kind}] {name}: write {{ always = ".." }}, with {forms.CURES[name]}')
+            if set(value) != {"always"} or not mistakes.RIGHT[name](text.encode()):
+                raise Trouble(f'[{kind}] {name}: write {{ always = ".." }}, with {mistakes.CURES[name]}')
         elif not is_headers(value) or name == "sheet" and not isinstance(value, str):
             raise Trouble(f'[{kind}] {name}: write a header such as "Pupil ID"')
         elif isinstance(value, list) and name not in ("name", "title"):
@@ -54,8 +54,8 @@ def check_words(words: object) -> None:
     if not isinstance(words, dict):
         raise Trouble("words: write a table such as [words.features]")
     for name, meant in words.items():
-        if name not in forms.RIGHT or not isinstance(meant, dict):
+        if name not in mistakes.RIGHT or not isinstance(meant, dict):
             raise Trouble(f"[words.{name}]: {name} is no column of the import files")
         for value in meant.values():
-            if not isinstance(value, str) or not forms.RIGHT[name](value.encode()):
-                raise Trouble(f"[words.{name}] {value!r} is no value of {name} ({forms.CURES[name]})")
+            if not isinstance(value, str) or not mistakes.RIGHT[name](value.encode()):
+                raise Trouble(f"[words.{name}] {value!r} is no value of {name} ({mistakes.CURES[name]})")

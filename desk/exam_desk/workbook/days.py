@@ -2,7 +2,7 @@
 import datetime
 import re
 
-from exam_desk.workbook import forms
+from exam_desk import mistakes
 from exam_desk.workbook.cells import Cell
 from exam_desk.workbook.texts import Value, Way, Wrong, letters, reason, refuse_kinds
 
@@ -49,7 +49,7 @@ def date_of_number(text: str, cell: Cell) -> Value:
     if re.fullmatch("[0-9]{5}", text):
         day = datetime.date(1899, 12, 30) + datetime.timedelta(days=int(text))
         raise Wrong(f"a number without the format of a date: if {day} is meant, give the column the format date")
-    raise Wrong(forms.CURES["date"])
+    raise Wrong(mistakes.CURES["date"])
 
 
 def date_of_text(text: str, done: list[str], way: Way) -> Value:
@@ -61,7 +61,7 @@ def date_of_text(text: str, done: list[str], way: Way) -> Value:
         return day_value(f"{match[1]}-{match[3]:0>2}-{match[4]:0>2}", done)
     if re.fullmatch("2[01][0-9]{6}", text):
         return day_value(f"{text[:4]}-{text[4:6]}-{text[6:]}", done)
-    if better := forms.date_in_order(text):
+    if better := mistakes.date_in_order(text):
         return day_value(better, done, ", the day first as always with points")
     if match := WITH_SLASHES.fullmatch(text):
         return slashed(int(match[1]), int(match[3]), match[4], done, way)
@@ -77,7 +77,7 @@ def date_of_text(text: str, done: list[str], way: Way) -> Value:
 def named_month(weekday: str | None, day: str, month: str, year: str, done: list[str]) -> Value:
     """A date such as Monday 7 June 2027. The weekday, if there is one, must be that of the date."""
     if month.lower() not in MONTHS:
-        raise Wrong(forms.CURES["date"])
+        raise Wrong(mistakes.CURES["date"])
     value = day_value(f"{year}-{MONTHS[month.lower()]:02}-{int(day):02}", done)
     right = f"{datetime.date.fromisoformat(value.text):%A}"
     if weekday and not (len(weekday) > 1 and right.lower().startswith(weekday.lower())):
@@ -95,7 +95,7 @@ def slashed(first: int, second: int, year: str, done: list[str], way: Way) -> Va
     if first > 12 >= second and way.dates != "month-first":
         return day_value(day_first, done, ", there is no such month")
     if first > 12 or second > 12:
-        raise Wrong(f"is no date with the {way.dates.replace('-', ' ')}" if way.dates else forms.CURES["date"])
+        raise Wrong(f"is no date with the {way.dates.replace('-', ' ')}" if way.dates else mistakes.CURES["date"])
     if way.dates:
         return day_value(day_first if way.dates == "day-first" else month_first, done, f", {way.dates}")
     raise Wrong(f"{day_first} or {month_first}? Write it so, or say --dates day-first or --dates month-first")

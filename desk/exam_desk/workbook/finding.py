@@ -1,5 +1,5 @@
 """Which sheet of a workbook is what."""
-from exam_desk.workbook import forms
+from exam_desk import files
 from exam_desk.workbook.cells import Sheet, place_name
 from exam_desk.workbook.headers import (KINDS, WITHIN, Header, find_header, folded, is_exact, match_header, named_kind,
                                         text_cells, words_of)
@@ -55,7 +55,7 @@ def kinds_of(job: Job, sheet: Sheet) -> list[str]:
     if kinds := kinds_by_name(job, sheet):
         return kinds
     told = [kind for kind, said in job.given.items() if "sheet" not in said
-            and any(name in forms.HEADERS[kind] and not isinstance(value, dict) for name, value in said.items())]
+            and any(name in files.HEADERS[kind] and not isinstance(value, dict) for name, value in said.items())]
     if kinds := [kind for kind in told if find_header(kind, sheet, job.given[kind])]:
         return kinds  # the officer has named their headers
     if bare(sheet.name).upper() in job.papers:
@@ -122,7 +122,7 @@ def tell_no_header(job: Job, kind: str, sheet: Sheet) -> None:
         cure = "a table of halls by sessions does not say until when, and who for: write a row for each opening, with "
     else:
         cure = f"no row of the first {WITHIN} is a header of {kind}; it needs "
-    job.report.mistake(sheet, row, None, cure + f"the columns {', '.join(forms.HEADERS[kind])}")
+    job.report.mistake(sheet, row, None, cure + f"the columns {', '.join(files.HEADERS[kind])}")
 
 
 # -- entries in other forms

@@ -5,12 +5,12 @@ import unicodedata
 from collections.abc import Mapping
 from typing import NamedTuple
 
-from exam_desk.workbook import forms
+from exam_desk import files
 from exam_desk.workbook.cells import Cell, Sheet
 from exam_desk.workbook.texts import bare
 
 WITHIN = 20  # rows of a sheet in which its header is looked for
-KINDS = list(forms.HEADERS)
+KINDS = list(files.HEADERS)
 SHEET_NAMES = {
     "sessions": "sessions sittings prüfungstermine termine",
     "papers": "papers exams subjects examinations prüfungen fächer",
@@ -72,7 +72,7 @@ def words_of(kind: str, column: str) -> frozenset[str]:
 
 @functools.cache
 def all_words() -> frozenset[str]:
-    return frozenset(word for kind, header in forms.HEADERS.items() for column in header
+    return frozenset(word for kind, header in files.HEADERS.items() for column in header
                      for word in words_of(kind, column))
 
 
@@ -98,7 +98,7 @@ def match_header(kind: str, row: int, cells: Mapping[int, Cell], given: Given) -
     texts = text_cells(cells)
     heads = {column: folded(text) for column, text in texts.items()}
     header = Header(row, {}, {})
-    for name in forms.HEADERS[kind]:
+    for name in files.HEADERS[kind]:
         asked = given.get(name)
         if isinstance(asked, str | list):
             match_asked(header, name, [asked] if isinstance(asked, str) else asked, heads)
@@ -135,8 +135,8 @@ def find_header(kind: str, sheet: Sheet, given: Given, whole: bool = False) -> H
         header = match_header(kind, row, sheet.rows[row], given)
         have = set(header.columns) | {name for name, value in given.items() if isinstance(value, dict)}
         optional = {"code"} if kind == "candidates" else set()
-        lacking = {name for name in forms.HEADERS[kind] if name not in have} - optional
-        if whole and lacking or forms.needed_columns(kind) - have or len(header.columns) < 2:
+        lacking = {name for name in files.HEADERS[kind] if name not in have} - optional
+        if whole and lacking or files.needed_columns(kind) - have or len(header.columns) < 2:
             continue
         if best is None or len(header.columns) > len(best.columns):
             best = header
@@ -150,4 +150,4 @@ def is_exact(kind: str, sheet: Sheet) -> bool:
         return False
     cells = sheet.rows[header.row]
     names = [cells[columns[0]].text for columns in header.columns.values()]
-    return names == forms.HEADERS[kind] and len(cells) == len(names)
+    return names == files.HEADERS[kind] and len(cells) == len(names)

@@ -7,8 +7,9 @@ import stat
 import subprocess
 import sys
 
+from exam_desk import files
 from exam_desk.trouble import Trouble
-from exam_desk.workbook import carrying, forms
+from exam_desk.workbook import carrying
 from exam_desk.workbook.child import LACKS
 from exam_desk.workbook.cells import MOST_FILE, Book, Budget, Cell, Sheet
 from exam_desk.workbook.looking import OPEN_AND_SAVE
@@ -112,7 +113,7 @@ def read_csv(data: bytes, name: str, encoding: str | None = None) -> Book:
     sheet, budget = Sheet(name), Budget()
     if comma != "\t" and not (comma.isascii() and comma.isprintable() and comma != '"'):
         raise Trouble(f"{comma} cannot part columns, as its first line says: save it with commas or semicolons")
-    for record in forms.records(text.encode(), comma.encode()):
+    for record in files.records(text.encode(), comma.encode()):
         if not record.closed:
             raise Trouble(f"a quote is not closed in line {record.line}")
         cells = {column: text_cell(field.decode()) for column, field in enumerate(record.fields, 1) if field}

@@ -2,9 +2,10 @@
 import json
 from collections.abc import Mapping, Sequence
 
-from exam_desk.workbook import forms
+from exam_desk import files, mistakes
 from exam_desk.workbook.opening import ask_child
 from exam_desk.workbook.rows import EXAMPLE
+from exam_desk.words import FEATURES
 
 EXAMPLES = {
     "sessions": ["MON-AM", "2027-06-07", "09:00"], "papers": ["CS-1", "Computer science", "MON-AM", "120", "computer"],
@@ -31,26 +32,26 @@ Rows = Mapping[str, Sequence[Sequence[str]]]
 
 def workbook_of(rows: Rows, example: bool = False) -> bytes:
     """An .xlsx of the rows of each kind, which are texts; the example is a row that `read` leaves out."""
-    sheets = [sheet_plan(kind, rows.get(kind, []), example) for kind in forms.HEADERS]
+    sheets = [sheet_plan(kind, rows.get(kind, []), example) for kind in files.HEADERS]
     return ask_child("write", json.dumps(sheets).encode())
 
 
 def sheet_plan(kind: str, rows: Sequence[Sequence[str]], example: bool) -> dict[str, object]:
-    header = forms.HEADERS[kind]
+    header = files.HEADERS[kind]
     first, *rest = EXAMPLES[kind]
     return {"name": kind.capitalize(), "header": header, "rows": rows, "last": LAST_ROW.get(kind, 20_001),
-            "comments": [f"{MEANS[name]}: {forms.CURES[name]}" for name in header],
+            "comments": [f"{MEANS[name]}: {mistakes.CURES[name]}" for name in header],
             "widths": [WIDTHS.get(name, 14) for name in header], "example": [EXAMPLE + first, *rest] if example else [],
             "lists": [found for place, name in enumerate(header, 1) if (found := list_of(kind, place, name))]}
 
 
 def list_of(kind: str, place: int, name: str) -> list[object]:
     """Of a column the place, what its list offers, whether it takes nothing else, and what is said then."""
-    error = f"not on the list: {forms.CURES[name]}"[:MOST_ERROR]
+    error = f"not on the list: {mistakes.CURES[name]}"[:MOST_ERROR]
     if source := LISTS.get((kind, name)):
-        return [place, f"{source.capitalize()}!$A$2:$A${forms.LIMITS[source] + 1}", True, error]
+        return [place, f"{source.capitalize()}!$A$2:$A${mistakes.LIMITS[source] + 1}", True, error]
     if name == "reserved":
         return [place, '"yes,no"', True, error]
-    if forms.CURES[name] == forms.FEATURES_CURE:  # several may be joined by +, so the list is a hint
-        return [place, '"-,' + ",".join(forms.FEATURES) + '"', False, error]
+    if mistakes.CURES[name] == mistakes.FEATURES_CURE:  # several may be joined by +, so the list is a hint
+        return [place, '"-,' + ",".join(FEATURES) + '"', False, error]
     return []

@@ -4,8 +4,8 @@ import re
 from collections.abc import Callable, Mapping
 from typing import NamedTuple
 
+from exam_desk import mistakes
 from exam_desk.trouble import Trouble
-from exam_desk.workbook import forms
 from exam_desk.workbook.cells import Book
 from exam_desk.workbook.checking import check_files
 from exam_desk.workbook.finding import find_entries, find_tables, named_papers, usable_sheets
@@ -26,7 +26,7 @@ class Reading(NamedTuple):
     report: Report
 
 
-def read_workbook(path: str, known: forms.Known, way: Way, given: Mapping[str, Given], choices: Choices,
+def read_workbook(path: str, known: mistakes.Known, way: Way, given: Mapping[str, Given], choices: Choices,
                   encoding: str | None = None, progress: Progress = lambda text: None) -> Reading:
     """Reads a workbook or a CSV export beside what the office has; raises `Trouble` where it cannot be read."""
     progress("opening")
@@ -37,7 +37,7 @@ def read_workbook(path: str, known: forms.Known, way: Way, given: Mapping[str, G
     return read_book(book, Job(known, way, given, choices), progress)
 
 
-def mend_folder(folder: str, known: forms.Known, way: Way, encoding: str | None = None,
+def mend_folder(folder: str, known: mistakes.Known, way: Way, encoding: str | None = None,
                 progress: Progress = lambda text: None) -> Reading:
     """Reads the import files of a folder by the rules of a workbook's cells, each as a sheet of its name."""
     book, together = Book("csv", [], []), []

@@ -3,14 +3,15 @@ import functools
 from collections.abc import Callable, Iterator, Mapping
 from typing import NamedTuple
 
+from exam_desk import files, mistakes
 from exam_desk.trouble import Trouble
-from exam_desk.workbook import forms
 from exam_desk.workbook.cells import MOST_MERGED, Cell, Sheet, letters_of, place_name
 from exam_desk.workbook.days import AS_TEXT, NO_DAY
 from exam_desk.workbook.headers import KINDS, MARKED, all_words, folded, match_header, seen, text_cells
 from exam_desk.workbook.tables import Job, Table
 from exam_desk.workbook.texts import Value, Wrong, bare, shown_of
 from exam_desk.workbook.values import is_mark, read_value
+from exam_desk.words import FEATURES
 
 TOTALS = {"total", "totals", "sum", "summe", "gesamt", "count", "anzahl", "grand total", "subtotal"}
 FIRST_WORDS = {word.split(" ")[0] for word in TOTALS}
@@ -180,7 +181,7 @@ def begins_other(job: Job, sheet: Sheet, row: int) -> bool:
         return False
     for kind in KINDS:
         have = set(match_header(kind, row, cells, {}).columns)
-        if len(have) >= 2 and not forms.needed_columns(kind) - have:
+        if len(have) >= 2 and not files.needed_columns(kind) - have:
             job.report.mistake(sheet, row, None, f"a second table begins here ({kind}?): give it a sheet of its own")
             return True
     return False
@@ -206,8 +207,8 @@ def is_total(job: Job, table: Table, row: int, here: Row, last: int) -> bool:
     """Whether a row is a total below the table, which is told and left out."""
     if not any(cell.formula or may_begin_total(cell) for cell in table.sheet.rows[row].values()):
         return False
-    header = forms.HEADERS[table.kind]
-    keys = [here.get(table.header.columns[name][0]) for name in header[:forms.KEYS.get(table.kind, 1)]
+    header = files.HEADERS[table.kind]
+    keys = [here.get(table.header.columns[name][0]) for name in header[:files.KEYS.get(table.kind, 1)]
             if name in table.header.columns]
     word = any(total_word(cell) for cell in table.sheet.rows[row].values())
     computed = any(cell and cell.formula for cell in here.values())
@@ -233,7 +234,7 @@ def tell_struck(job: Job, table: Table, row: int) -> None:
 
 def read_row(job: Job, table: Table, row: int, here: Row) -> list[Record]:
     """The records of a row: one, or in a table of papers one for each cross."""
-    header = forms.HEADERS[table.kind]
+    header = files.HEADERS[table.kind]
     fields, wrong = [], False
     for name in header:
         text, bad = read_field(job, table, row, name, here)
@@ -249,7 +250,7 @@ def read_row(job: Job, table: Table, row: int, here: Row) -> list[Record]:
         return [] if wrong else [Record(table.sheet, row, [places[0], place], [fields[0], table.marks[place]])
                                  for place in crosses]
     named = {table.marks[place] for place in crosses}
-    fields[header.index(MARKED[table.kind])] = "+".join(name for name in forms.FEATURES if name in named) or "-"
+    fields[header.index(MARKED[table.kind])] = "+".join(name for name in FEATURES if name in named) or "-"
     return [Record(table.sheet, row, places, fields)]
 
 
@@ -277,9 +278,9 @@ def read_field(job: Job, table: Table, row: int, name: str, here: Row) -> tuple[
     text = " ".join(text for text, _ in found)
     if any(bad for _, bad in found):
         return text, True
-    if not forms.RIGHT[name](text.encode("utf-8", "surrogatepass")):
+    if not mistakes.RIGHT[name](text.encode("utf-8", "surrogatepass")):
         said = text.encode("utf-8", "replace")
-        cure = f"{name} {forms.shown(said)}: {forms.cure(name, said)}"
+        cure = f"{name} {files.shown(said)}: {mistakes.cure(name, said)}"
         job.report.mistake(table.sheet, row, places[0], cure, name)
         return text, True
     return text, False
@@ -294,7 +295,7 @@ def read_one(job: Job, table: Table, row: int, name: str, here: Row, place: int)
             check_day(job, table, name, here, value)
     except Wrong as fault:
         said = f"{name} is missing{above(table, row, place)}" if cell is None else \
-            f"{name} {forms.shown(shown_of(cell).encode('utf-8', 'replace'))}: {fault}"
+            f"{name} {files.shown(shown_of(cell).encode('utf-8', 'replace'))}: {fault}"
         job.report.mistake(table.sheet, row, place, said, name)
         return (cell.text if cell else ""), True
     if value.why and not (cell is not None and value.text == cell.shown):

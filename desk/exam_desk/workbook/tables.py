@@ -3,12 +3,13 @@ from collections.abc import Mapping
 from dataclasses import dataclass, field
 from typing import NamedTuple
 
-from exam_desk.workbook import forms
+from exam_desk import files, mistakes
 from exam_desk.workbook.cells import Cell, Sheet, letters_of
 from exam_desk.workbook.headers import MARKED, Given, Header, folded, seen, text_cells
 from exam_desk.workbook.report import Report
 from exam_desk.workbook.texts import Value, Way, bare, shown_of
 from exam_desk.workbook.values import read_value
+from exam_desk.words import FEATURES
 
 MOST_VALUES = 50_000  # that are kept, lest they are read again
 CURE_TWICE = "keep one header, or say which in a file of columns"
@@ -28,7 +29,7 @@ class Choices:
 class Job:
     """One reading of a workbook."""
 
-    known: forms.Known
+    known: mistakes.Known
     way: Way = Way()
     given: Mapping[str, Given] = field(default_factory=dict)  # of each kind what the file of columns says
     choices: Choices = Choices()
@@ -102,7 +103,7 @@ def find_features(report: Report, table: Table) -> None:
     feature = MARKED.get(table.kind)
     if not feature or feature in table.header.columns or feature in table.fixed:
         return
-    short = {name.replace("-", ""): name for name in forms.FEATURES}
+    short = {name.replace("-", ""): name for name in FEATURES}
     used = table.places()
     for place, text in text_cells(table.sheet.rows[table.header.row]).items():
         if place not in used and folded(text) in short:
@@ -121,7 +122,7 @@ def tell_hidden_columns(report: Report, table: Table) -> None:
 def tell_lacking(report: Report, table: Table) -> None:
     """The columns of the kind that the sheet does not have."""
     feature = MARKED.get(table.kind)
-    for name in forms.HEADERS[table.kind]:
+    for name in files.HEADERS[table.kind]:
         if name in table.header.columns or name in table.fixed or name == feature and table.marks \
                 or name == "paper" and (table.marks or table.paper):
             continue
@@ -129,7 +130,7 @@ def tell_lacking(report: Report, table: Table) -> None:
             text = "there is no column code: `office codes` fills the empty codes"
             report.note(table.sheet, table.header.row, None, text)
         else:
-            text = f"the column {name} is missing: add it ({forms.CURES[name]})"
+            text = f"the column {name} is missing: add it ({mistakes.CURES[name]})"
             report.mistake(table.sheet, table.header.row, None, text)
 
 

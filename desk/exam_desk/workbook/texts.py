@@ -7,9 +7,9 @@ from collections.abc import Mapping
 from dataclasses import dataclass, field
 from typing import NamedTuple
 
-from exam_desk.workbook import forms
 from exam_desk.workbook.cells import Cell
 from exam_desk.workbook.numberformats import clock_text
+from exam_desk.words import plain
 
 INVISIBLE = dict.fromkeys([0x200b, 0x2060, 0xfeff, 0xad, 0x200e, 0x200f, 0x61c, *range(0x202a, 0x202f),
                            *range(0x2066, 0x206a)])
@@ -47,7 +47,7 @@ def shown_of(cell: Cell | None) -> str:
     if not cell.shown and cell.kind == "time":
         return "a true time " + clock_text(decimal.Decimal(cell.text))
     text = cell.shown or ("a true date" if cell.kind == "date" else cell.text)
-    return forms.plain(text if len(text) <= 200 else f"{text[:197]}..")
+    return plain(text if len(text) <= 200 else f"{text[:197]}..")
 
 
 def cleaned(text: str) -> tuple[str, list[str]]:

@@ -2,12 +2,13 @@
 import re
 from collections.abc import Callable
 
-from exam_desk.workbook import forms
+from exam_desk import files, mistakes
 from exam_desk.workbook.amounts import NONE, read_time, read_whole
 from exam_desk.workbook.cells import Cell
 from exam_desk.workbook.days import MONTHS, read_date
 from exam_desk.workbook.texts import (DASHES, Value, Way, Wrong, bare, letters, reason, refuse_kinds,
                                       refuse_other_digits)
+from exam_desk.words import FEATURES
 
 MOST_LETTERS = 1000  # of a cell: the patterns take long for longer ones
 QUOTES = "'\u2018\u2019`\u00b4"
@@ -28,8 +29,8 @@ def read_value(column: str, cell: Cell | None, way: Way) -> Value:
         return Value(way.words[column][word], "by the file of columns")
     value = READERS[column](column, cell, way)
     may_be_empty = column == "code" and not value.text
-    if not forms.RIGHT[column](value.text.encode("utf-8", "surrogatepass")) and not may_be_empty:
-        raise Wrong("is missing" if cell is None else forms.cure(column, value.text.encode("utf-8", "replace")))
+    if not mistakes.RIGHT[column](value.text.encode("utf-8", "surrogatepass")) and not may_be_empty:
+        raise Wrong("is missing" if cell is None else mistakes.cure(column, value.text.encode("utf-8", "replace")))
     if not value.why and value.text != ((cell.shown or None) if cell is not None else ""):
         value = value._replace(why=" ")
     return value
@@ -85,8 +86,8 @@ def read_code(column: str, cell: Cell | None, way: Way) -> Value:
     text, new = new, new.upper() if new.isascii() else new
     if new != text:
         done.append("small letters made capitals")
-    if re.search(r"\s", new) and forms.is_code(re.sub(r"\s+", "-", new).encode()):
-        raise Wrong(f"a space inside: write {re.sub(r'[ ]+', '-', new)} if that is meant ({forms.CURES[column]})")
+    if re.search(r"\s", new) and files.is_code(re.sub(r"\s+", "-", new).encode()):
+        raise Wrong(f"a space inside: write {re.sub(r'[ ]+', '-', new)} if that is meant ({mistakes.CURES[column]})")
     is_day = column != "code" and LIKE_A_DAY.fullmatch(new)
     return Value(new, reason(done), "looks like what a spreadsheet makes of a code such as MAR-1" if is_day else "")
 
@@ -114,7 +115,7 @@ def read_name(column: str, cell: Cell | None, way: Way) -> Value:
         note = "is a number in the workbook"
         if cell.shown != text:
             refuse_other_digits(cell)
-    if re.search("[\u200c\u200d]", text) and not forms.has_wrong_letters(text):
+    if re.search("[\u200c\u200d]", text) and not mistakes.has_wrong_letters(text):
         note = "holds a joiner that no eye sees; it is kept"
     return Value(text, reason(done), note)
 
@@ -128,7 +129,7 @@ def read_yes(column: str, cell: Cell | None, way: Way) -> Value:
         text = bare(cell.shown)
     word = text.translate(DASHES).lower()
     if word not in YES | NO or cell is not None and cell.kind != "text" and not word:
-        raise Wrong(forms.CURES["reserved"])
+        raise Wrong(mistakes.CURES["reserved"])
     value = "yes" if word in YES else "no"
     return Value(value, reason(done, "empty is no" if not word else "yes or no" if value != text else ""))
 
@@ -145,7 +146,7 @@ def read_features(column: str, cell: Cell | None, way: Way) -> Value:
     for part in re.split(r"\s*(?:[+,;/&|\n]|\band\b|\bund\b)\s*", word):
         if part:
             found |= features_of(part, taught)
-    value = "+".join(name for name in forms.FEATURES if name in found) or "-"
+    value = "+".join(name for name in FEATURES if name in found) or "-"
     return Value(value, reason(done, "" if value == text else "in the office's words and order"))
 
 
@@ -154,11 +155,11 @@ def features_of(part: str, taught: dict[str, str]) -> set[str]:
     if part in taught:
         return set(taught[part].split("+")) - {"-"}
     short = re.sub("[ _-]", "", part)
-    for name in forms.FEATURES:
+    for name in FEATURES:
         if name.replace("-", "") == short:
             return {name}
     near = NEAR.get(short)
-    raise Wrong(f"{part} is none of the features" + (f"; {near}?" if near else "") + f" ({forms.FEATURES_CURE})")
+    raise Wrong(f"{part} is none of the features" + (f"; {near}?" if near else "") + f" ({mistakes.FEATURES_CURE})")
 
 
 def is_mark(cell: Cell | None) -> bool | None:

@@ -4,11 +4,11 @@ import shutil
 import tempfile
 
 from exam_desk.trouble import Trouble
-from exam_desk.workbook import forms
 from exam_desk.workbook.checking import file_parts
 from exam_desk.workbook.headers import KINDS
 from exam_desk.workbook.reading import Reading
 from exam_desk.workbook.report import Report
+from exam_desk.words import plain
 
 
 def refuse_there(target: str) -> None:
@@ -42,7 +42,7 @@ def write_kind(folder: str, kind: str, reading: Reading) -> int:
 
 
 def lines_of(report: Report) -> bytes:
-    return "".join(f"{forms.plain(line.whole())}\n" for line in report.lines).encode("utf-8", "backslashreplace")
+    return "".join(f"{plain(line.whole())}\n" for line in report.lines).encode("utf-8", "backslashreplace")
 
 
 def put(path: str, text: bytes) -> None:

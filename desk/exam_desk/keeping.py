@@ -9,7 +9,6 @@ import asyncio
 import contextlib
 import ctypes
 import datetime
-import io
 import json
 import os
 import signal
@@ -19,13 +18,12 @@ import subprocess
 import sys
 import time
 from collections.abc import Callable, Iterator
+from typing import Any
 
-import asking
-from exam_desk import beside
-import copies
-import hold
-import school
-import turns
+from exam_desk import asking, beside, copies, hold, running, turns
+from exam_desk.office import Office
+from exam_desk.trouble import Trouble
+from exam_desk.words import plain
 
 SOCKET = "keep.socket"  # in the folder that `keep` is given
 MOST_PATH = 107  # bytes of the path of a socket
@@ -39,11 +37,11 @@ PR_SET_PDEATHSIG = 1
 
 
 def say(text: object) -> None:
-    """Writes a line, unless the file that takes it is full: whoever makes faults all day must not fill the disk."""
+    """Writes a line to the journal of `keep`, unless that is full: whoever makes faults all day must not fill the disk."""
     found = os.fstat(sys.stderr.fileno())
     if stat.S_ISREG(found.st_mode) and found.st_size > MOST_LOG:
         return
-    line = f"{datetime.datetime.now().isoformat(' ', 'seconds')} {school.plain(text)}\n"
+    line = f"{datetime.datetime.now().isoformat(' ', 'seconds')} {plain(text)}\n"
     with contextlib.suppress(OSError):  # a full disk is no reason to end
         os.write(sys.stderr.fileno(), line.encode("utf-8", "backslashreplace"))
 
@@ -51,8 +49,8 @@ def say(text: object) -> None:
 class Keep:
     """Serves through a `Hold` until it is told to end."""
 
-    def __init__(self, place: str, days: int, lock: int) -> None:
-        self.place, self.days, self.lock = place, days, lock
+    def __init__(self, office: Office, place: str, days: int, lock: int) -> None:
+        self.office, self.place, self.days, self.lock = office, place, days, lock
         self.hold = hold.Hold()
         self.wanted = asyncio.Event()  # a command wants the office, or it is time to end
         self.ending = False
@@ -65,7 +63,7 @@ class Keep:
 
     def show_fault(self, fault: str) -> None:
         say(fault)
-        self.show(state=school.plain(fault)[:MOST_FAULT])
+        self.show(state=plain(fault)[:MOST_FAULT])
 
     def end(self) -> None:
         self.ending = True
@@ -95,42 +93,48 @@ class Keep:
         """Serves once, and gives whether that failed."""
         try:
             return await self.serve()
-        except (Exception, SystemExit) as fault:  # whatever it is, candidates wait
+        except Exception as fault:  # whatever it is, candidates wait
             self.show_fault(f"serve cannot begin: {fault or type(fault).__name__}")
             return True
 
     async def serve(self) -> bool:
         """Serves until a command wants the office, the day ends, `keep` ends, or `serve` fails: then it gives True."""
+        fault = ""
         with contextlib.ExitStack() as turn, contextlib.ExitStack() as want, contextlib.ExitStack() as office:
-            first = turn.enter_context(turns.opened("turn.lock"))
-            await self.locked(want.enter_context(turns.opened("want.lock")), first)
-            await self.locked(office.enter_context(turns.opened("office.lock")), first)
-            if self.ending:
-                return False
-            self.wanted.clear()  # a command wants the office only while it holds want.lock
-            self.hold.broken.clear()
-            day = school.today()
-            self.keep_day(day)
-            process = await start_serve(port := asking.free_port())
-            faults = asyncio.create_task(self.read_faults(process))
-            fault = "serve cannot be watched"
-            try:
-                want.close()
-                fault = await self.until_over(process, asking.Server(process.pid, str(port)), day, turn)
-            finally:
-                self.hold.close()
-                self.show(state=fault[:MOST_FAULT] or "aside")
-                await stopped(process, at_once=self.hold.broken.is_set())
-                await faults
-            if fault:
-                self.show_fault(": ".join(filter(None, [fault, self.fault])))
-            return fault != ""
+            first = turn.enter_context(turns.opened(self.office, "turn.lock"))
+            await self.locked(want.enter_context(turns.opened(self.office, "want.lock")), first)
+            await self.locked(office.enter_context(turns.opened(self.office, "office.lock")), first)
+            if not self.ending:
+                fault = await self.serve_once(want, turn)
+        return fault != ""
+
+    async def serve_once(self, want: contextlib.ExitStack, turn: contextlib.ExitStack) -> str:
+        """Runs one `serve`, with the office alone; frees want.lock once it has begun. Gives its fault, "" without one."""
+        self.wanted.clear()  # a command wants the office only while it holds want.lock
+        self.hold.broken.clear()
+        day = self.office.today()
+        self.keep_day(day)
+        process = await start_serve(self.office, port := asking.free_port())
+        faults = asyncio.create_task(self.read_faults(process))
+        fault = "serve cannot be watched"
+        try:
+            want.close()
+            fault = await self.until_over(process, asking.Server(process.pid, str(port)), day, turn)
+        finally:
+            self.hold.close()
+            self.show(state=fault[:MOST_FAULT] or "aside")
+            await stopped(process, at_once=self.hold.broken.is_set())
+            await faults
+        if fault:
+            self.show_fault(": ".join(filter(None, [fault, self.fault])))
+        return fault
 
     async def until_over(self, process: asyncio.subprocess.Process, server: asking.Server, day: datetime.date,
                          turn: contextlib.ExitStack) -> str:
         """Waits until `serve` is to end, or has ended; gives its fault, "" without one."""
-        ended, _, _, broken = ends = [asyncio.create_task(task) for task in (
-            process.wait(), self.wanted.wait(), day_has_ended(day), self.hold.broken.wait())]
+        ended, broken = asyncio.create_task(process.wait()), asyncio.create_task(self.hold.broken.wait())
+        ends: list[asyncio.Task[Any]] = [ended, broken, asyncio.create_task(self.wanted.wait()),
+                                         asyncio.create_task(self.day_has_ended(day))]
         opening = asyncio.create_task(self.open(process, server, day))
         following = asyncio.create_task(self.let_commands_follow(opening, turn))
         try:
@@ -147,7 +151,7 @@ class Keep:
 
     async def open(self, process: asyncio.subprocess.Process, server: asking.Server, day: datetime.date) -> str:
         """Hands requests on once `serve` has said that it serves; gives what speaks against it."""
-        if not (await process.stdout.readline()).startswith(b"serving"):
+        if not (await piped(process.stdout).readline()).startswith(b"serving"):
             return ""  # it ends
         if not asking.listens(server):
             return f"/proc does not show that serve has port {server.place}"
@@ -155,7 +159,7 @@ class Keep:
         self.show(state="serving", serve=process.pid, day=day.isoformat())
         return ""
 
-    async def let_commands_follow(self, opening: asyncio.Task, turn: contextlib.ExitStack) -> None:
+    async def let_commands_follow(self, opening: asyncio.Task[str], turn: contextlib.ExitStack) -> None:
         """Frees turn.lock once those candidates have their answers who wait when `serve` begins."""
         await asyncio.wait([opening])
         waited, until = self.hold.asked, time.monotonic() + TURN_SECONDS
@@ -173,7 +177,7 @@ class Keep:
     async def read_faults(self, process: asyncio.subprocess.Process) -> None:
         """Reads what `serve` complains of: it would stop at a full pipe."""
         self.fault = ""
-        while part := await process.stderr.read(1 << 12):
+        while part := await piped(process.stderr).read(1 << 12):
             for line in part.decode("utf-8", "replace").splitlines():
                 self.fault = line.strip()
                 say(self.fault)
@@ -181,15 +185,21 @@ class Keep:
     def keep_day(self, day: datetime.date) -> None:
         """Keeps a copy of the office at each new day, and the last of them."""
         try:
-            if path := copies.keep_day(day, self.days):
+            if path := copies.keep_day(self.office, day, self.days):
                 say(f"copy of the day in {path}")
-        except OSError as fault:
-            say(f"no copy of the day: {fault.strerror or fault}")
+        except (OSError, Trouble) as fault:
+            say(f"no copy of the day: {fault.strerror if isinstance(fault, OSError) and fault.strerror else fault}")
+
+    async def day_has_ended(self, day: datetime.date) -> None:
+        """Waits for another date: no length of a night is reckoned, so a missing midnight or a set clock does no
+        harm."""
+        while self.office.today() == day:
+            await asyncio.sleep(0.5)
 
 
 @contextlib.contextmanager
 def listener(place: str) -> Iterator[socket.socket]:
-    """A socket that listens at a place; ends the script where it cannot be had."""
+    """A socket that listens at a place. Raises `Trouble` where it cannot be had."""
     family, where = asking.address(place)
     with socket.socket(family) as listening, contextlib.ExitStack() as undo:
         try:
@@ -200,7 +210,7 @@ def listener(place: str) -> Iterator[socket.socket]:
                 listening.bind(where)
             listening.listen(BACKLOG)
         except OSError as fault:
-            school.stop(f"{asking.shown(place)} cannot be had: {fault.strerror or fault}")
+            raise Trouble(f"{asking.shown(place)} cannot be had: {fault.strerror or fault}") from fault
         yield listening
 
 
@@ -210,10 +220,10 @@ def bound_in_folder(listening: socket.socket, path: str) -> Iterator[None]:
     folder = os.path.dirname(path)
     beside.refuse_strange(folder)
     if others := sorted(set(os.listdir(folder)) - {SOCKET}):
-        school.stop(f"{folder} holds {others[0]}: give `keep` a folder that holds nothing else")
+        raise Trouble(f"{folder} holds {others[0]}: give `keep` a folder that holds nothing else")
     with socket.socket(socket.AF_UNIX) as other:
         if other.connect_ex(path) == 0:
-            school.stop(f"{path} cannot be had: another process serves there")
+            raise Trouble(f"{path} cannot be had: another process serves there")
     with contextlib.suppress(FileNotFoundError):
         os.remove(path)  # a `keep` that was killed left it
     listening.bind(path)
@@ -227,20 +237,20 @@ def bound_in_folder(listening: socket.socket, path: str) -> Iterator[None]:
             os.remove(path)
 
 
-async def start_serve(port: int) -> asyncio.subprocess.Process:
-    return await asyncio.create_subprocess_exec(
-        *serve_line(port), stdin=subprocess.DEVNULL, stdout=subprocess.PIPE, stderr=subprocess.PIPE,
-        preexec_fn=end_with(os.getpid()))
-
-
-def serve_line(port: int) -> list[str]:
-    """The line that serves. Raises OSError where there is no program, which ends a command and not `keep`."""
-    complaint = io.StringIO()
+async def start_serve(office: Office, port: int) -> asyncio.subprocess.Process:
+    """Begins `serve`. Raises `Trouble` where the program cannot be started."""
     try:
-        with contextlib.redirect_stderr(complaint):
-            return school.line_over(school.office_path(), "serve", str(port))
-    except SystemExit:
-        raise OSError(complaint.getvalue().strip().removeprefix("office: ")) from None
+        return await asyncio.create_subprocess_exec(
+            *office.line("serve", str(port)), stdin=subprocess.DEVNULL, stdout=subprocess.PIPE, stderr=subprocess.PIPE,
+            preexec_fn=end_with(os.getpid()))
+    except OSError as fault:
+        raise running.not_started(office, fault) from fault
+
+
+def piped(stream: asyncio.StreamReader | None) -> asyncio.StreamReader:
+    """An output of a process that has a pipe."""
+    assert stream is not None
+    return stream
 
 
 def end_with(parent: int) -> Callable[[], None]:
@@ -263,9 +273,3 @@ async def stopped(process: asyncio.subprocess.Process, at_once: bool) -> None:
     except asyncio.TimeoutError:
         process.kill()
         await process.wait()
-
-
-async def day_has_ended(day: datetime.date) -> None:
-    """Waits for another date: no length of a night is reckoned, so a missing midnight or a set clock does no harm."""
-    while school.today() == day:
-        await asyncio.sleep(0.5)

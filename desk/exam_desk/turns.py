@@ -20,10 +20,12 @@ import os
 import signal
 import struct
 import time
-from collections.abc import Callable, Iterator
+from collections.abc import Callable, Iterator, Sequence
+from typing import TypedDict, cast
 
 from exam_desk import beside
-import school
+from exam_desk.office import Office
+from exam_desk.trouble import Trouble
 
 PATIENCE = 60  # seconds that a command waits for others
 SILENCE = 5  # seconds after which it says behind whom it waits
@@ -32,26 +34,32 @@ NOTE_BYTES = 1024
 FLOCK = "hhqqi"  # struct flock of fcntl(2): type, whence, start, length, process
 
 
-def folder() -> str:
-    return beside.folder(school.office_path())
+class Said(TypedDict, total=False):
+    """What `keep` says of itself; its process is always there."""
+    pid: int
+    place: str
+    state: str
+    serve: int  # the process of `serve`
+    day: str
 
 
-def inside(*names: str) -> str:
-    return os.path.join(folder(), *names)
+def inside(office: Office, *names: str) -> str:
+    """The path of the folder, or of what lies in it."""
+    return os.path.join(beside.folder(office.path), *names)
 
 
-def make_folder(*names: str) -> str:
-    return beside.make_folder(school.office_path(), *names)
+def make_folder(office: Office, *names: str) -> str:
+    return beside.make_folder(office.path, *names)
 
 
-def open_inside(name: str, flags: int) -> int:
+def open_inside(office: Office, name: str, flags: int) -> int:
     """Opens a file of the folder, or makes it where the flags say so."""
-    make_folder()
-    return beside.open_file(school.office_path(), name, flags=flags)
+    make_folder(office)
+    return beside.open_file(office.path, name, flags=flags)
 
 
-def open_lock(name: str) -> int:
-    return open_inside(name, os.O_RDWR | os.O_CREAT)
+def open_lock(office: Office, name: str) -> int:
+    return open_inside(office, name, os.O_RDWR | os.O_CREAT)
 
 
 def try_lock(file: int, lock: Callable[[int, int], None] = fcntl.flock) -> bool:
@@ -78,35 +86,36 @@ def note(file: int, text: str) -> None:
         os.pwrite(file, text.encode("utf-8", "surrogateescape")[:NOTE_BYTES].ljust(NOTE_BYTES), 0)
 
 
-def text_of(name: str) -> str:
+def text_of(office: Office, name: str) -> str:
     try:
-        lock = beside.open_file(school.office_path(), name, flags=os.O_RDONLY)
+        lock = beside.open_file(office.path, name, flags=os.O_RDONLY)
         with open(lock, encoding="utf-8", errors="replace") as file:
             return file.read(NOTE_BYTES).strip()
-    except OSError:
+    except (OSError, beside.Strange):
         return ""
 
 
 class Wait:
-    """The patience of one command: it says once behind whom it waits, and ends the script where it waits too long."""
+    """The patience of one command: it says once behind whom it waits, and raises `Trouble` where it waits too long."""
 
-    def __init__(self) -> None:
+    def __init__(self, office: Office) -> None:
+        self.office = office
         self.began = time.monotonic()
         self.silent = True
 
     def pause(self, whom: Callable[[], str]) -> None:
         waited = time.monotonic() - self.began
         if waited > PATIENCE:
-            school.stop(f"{whom()} has the office, and {PATIENCE} seconds are over; nothing is changed, try again")
+            raise Trouble(f"{whom()} has the office, and {PATIENCE} seconds are over; nothing is changed, try again")
         if self.silent and waited > SILENCE:
             self.silent = False
-            school.warn(f"waiting for {whom()}")
+            self.office.warn(f"waiting for {whom()}")
         time.sleep(PAUSE)
 
 
 @contextlib.contextmanager
-def opened(name: str) -> Iterator[int]:
-    file = open_lock(name)
+def opened(office: Office, name: str) -> Iterator[int]:
+    file = open_lock(office, name)
     try:
         yield file
     finally:
@@ -114,51 +123,49 @@ def opened(name: str) -> Iterator[int]:
 
 
 @contextlib.contextmanager
-def alone(words: list[str]) -> Iterator[None]:
-    """The office for this process alone: waits up to PATIENCE seconds for others, then ends the script.
+def alone(office: Office, words: Sequence[str]) -> Iterator[None]:
+    """The office for this process alone: waits up to PATIENCE seconds for others, then raises `Trouble`.
 
     Candidates who wait go first: `keep` holds turn.lock for them, and takes it while a command has want.lock, so
     whoever has want.lock looks at turn.lock again.
     """
-    wait = Wait()
-    with opened("turn.lock") as turn, opened("want.lock") as want:
+    wait = Wait(office)
+    with opened(office, "turn.lock") as turn, opened(office, "want.lock") as want:
         while not (is_free(turn) and try_lock(want) and is_free(turn)):
             fcntl.flock(want, fcntl.LOCK_UN)
-            wait.pause(lambda: ahead(turn))
+            wait.pause(lambda: ahead(office, turn))
         note(want, f"process {os.getpid()}, {' '.join(words)}")
-        ask_keep_aside()
-        with opened("office.lock") as office:
-            while not try_lock(office):
-                wait.pause(lambda: f"`keep` (it does not step aside: {keep_state()})")
+        ask_keep_aside(office)
+        with opened(office, "office.lock") as lock:
+            while not try_lock(lock):
+                wait.pause(lambda: f"`keep` (it does not step aside: {keep_state(office)})")
             yield
 
 
-def ahead(turn: int) -> str:
+def ahead(office: Office, turn: int) -> str:
     """Who goes first, by the lock of candidates who wait."""
-    return f"another command ({text_of('want.lock')})" if is_free(turn) else "`keep` (it answers candidates who wait)"
+    if not is_free(turn):
+        return "`keep` (it answers candidates who wait)"
+    return f"another command ({text_of(office, 'want.lock')})"
 
 
 @contextlib.contextmanager
-def alone_if_possible(words: list[str]) -> Iterator[None]:
+def alone_if_possible(office: Office, words: Sequence[str]) -> Iterator[None]:
     """As `alone`; where no lock can be made, such as beside a file that is not there, it goes on without."""
     with contextlib.ExitStack() as stack:
-        try:
-            stack.enter_context(alone(words))
-        except beside.Strange:
-            raise
-        except OSError:
-            pass
+        with contextlib.suppress(OSError):
+            stack.enter_context(alone(office, words))
         yield
 
 
-def keep_state() -> dict | None:
-    """Where `keep` serves: a dict with pid, and place and state if it has said them; None where it does not run.
+def keep_state(office: Office) -> Said | None:
+    """What `keep` has said of itself; None where it does not run.
 
     In a folder that is not ours alone it does not run, whatever lies there.
     """
     try:
-        file = beside.open_file(school.office_path(), "keep.lock", flags=os.O_RDONLY)
-    except OSError:
+        file = beside.open_file(office.path, "keep.lock", flags=os.O_RDONLY)
+    except (OSError, beside.Strange):
         return None
     try:
         asked = fcntl.fcntl(file, fcntl.F_GETLK, struct.pack(FLOCK, fcntl.F_WRLCK, os.SEEK_SET, 0, 0, 0))
@@ -169,23 +176,23 @@ def keep_state() -> dict | None:
     return None if kind == fcntl.F_UNLCK else said_by(process, text)
 
 
-def said_by(process: int, text: bytes) -> dict:
+def said_by(process: int, text: bytes) -> Said:
     """What `keep` has said, where the text is whole and its own; else its process alone."""
     with contextlib.suppress(ValueError, RecursionError):
         said = json.loads(text)
         if isinstance(said, dict) and said.get("pid") == process:
-            return said
+            return cast(Said, said)
     return {"pid": process}
 
 
-def signal_keep(state: dict, number: int) -> None:
-    """Sends a signal to `keep`; ends the script where its process has no number here, which would be a whole group."""
+def signal_keep(state: Said, number: int) -> None:
+    """Sends a signal to `keep`. Raises `Trouble` where its process has no number here, which would be a whole group."""
     if state["pid"] <= 0:
-        school.stop("`keep` serves this office from another container or another machine: give the command there")
+        raise Trouble("`keep` serves this office from another container or another machine: give the command there")
     with contextlib.suppress(ProcessLookupError):
         os.kill(state["pid"], number)
 
 
-def ask_keep_aside() -> None:
-    if state := keep_state():
+def ask_keep_aside(office: Office) -> None:
+    if state := keep_state(office):
         signal_keep(state, signal.SIGUSR1)

@@ -1,15 +1,18 @@
 """The seven kinds of import file: their headers, the form of each value, and the records of a file as the program reads
 them (the reader `csv` of Rust in its default setting, over RFC 4180)."""
+from __future__ import annotations
+
 import csv
 import datetime
 import io
 import itertools
 import operator
+import os
 import re
 from collections.abc import Callable, Iterable, Iterator
 from typing import NamedTuple
 
-import school
+from exam_desk import words
 
 MOST_BYTES = 4_194_304
 HEADERS = {  # in the order in which they are imported
@@ -46,6 +49,17 @@ def read(path: str) -> bytes:
         return file.read(MOST_BYTES + 1)
 
 
+def put(path: str, text: bytes) -> None:
+    """Makes a file for its owner alone, whole or not at all. Raises FileExistsError where it is there."""
+    with open(os.open(path, os.O_WRONLY | os.O_CREAT | os.O_EXCL, 0o600), "wb") as file:
+        try:
+            file.write(text)
+            file.flush()
+        except BaseException:
+            os.remove(path)
+            raise
+
+
 def records(text: bytes, comma: bytes = b",") -> Iterator[Record]:
     """The records of a file, the header among them. Blank lines are none; an open quote runs to the end.
 
@@ -66,11 +80,12 @@ def records(text: bytes, comma: bytes = b",") -> Iterator[Record]:
         line = reader.line_num + 1
 
 
-def as_bytes(fields: list) -> tuple[bytes, ...]:
+def as_bytes(fields: list[str]) -> tuple[bytes, ...]:
     """The fields of a row. Each text goes as its bytes come, since a row can have a million of them."""
+    row: list[str | bytes] = fields  # type: ignore[assignment]
     for place, field in enumerate(fields):
-        fields[place] = field.encode("latin-1")
-    return tuple(fields)
+        row[place] = field.encode("latin-1")
+    return tuple(row)  # type: ignore[arg-type]
 
 
 def guarded(text: str) -> str:
@@ -100,7 +115,7 @@ def whole(low: int, high: int) -> Form:
 
 LIKE_A_DATE = form(rb"[0-9]{4}-[0-9]{2}-[0-9]{2}")
 CONTROL = re.compile(rb"[\x00-\x1f\x7f]")
-FEATURES = [name.encode() for name in school.FEATURES]
+FEATURES = [name.encode() for name in words.FEATURES]
 
 
 def is_number(text: bytes) -> bool:
@@ -159,13 +174,19 @@ def bad_column(kind: str, record: Record) -> int | None:
     return None
 
 
+def needed_columns(kind: str) -> set[str]:
+    """The columns without which no row of a kind can be read: its key, and what refers to other kinds."""
+    header = HEADERS[kind]
+    return {*header[:KEYS.get(kind, 1)], *(header[column] for column, _ in REFERENCES.get(kind, []))}
+
+
 def key_of(kind: str, fields: tuple[bytes, ...]) -> tuple[bytes, ...]:
     return fields[:KEYS.get(kind, 1)]
 
 
 def shown(field: bytes) -> str:
     """A field for a terminal, in quotes, at most some 60 letters of it."""
-    text = school.plain(field[:300].decode("utf-8", "replace"))
+    text = words.plain(field[:300].decode("utf-8", "replace"))
     return f"'{text[:57]}..'" if len(text) > 60 else f"'{text}'"
 
 

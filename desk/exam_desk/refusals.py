@@ -1,4 +1,6 @@
 """What a refusal of the program means, in words; for an import with the line and the value; for 23 with its cause."""
+from __future__ import annotations
+
 import contextlib
 import errno
 import itertools
@@ -7,11 +9,10 @@ import re
 import sqlite3
 import stat
 import tempfile
-from collections.abc import Iterable
+from collections.abc import Iterable, Sequence
 
-import files
-import school
-import turns
+from exam_desk import files, snapshot, turns
+from exam_desk.office import Office
 
 SENTENCES = {
     1: "a value has the wrong form; correct it and import the whole file again",
@@ -59,27 +60,33 @@ def number_of(answer: str) -> int | None:
     return int(found[1]) if found else None
 
 
-def explained(words: list[str], answer: str) -> list[str]:
-    """The lines to print below what the program said."""
+def explained(office: Office, words: Sequence[str], complaint: str, data: bytes | None = None) -> list[str]:
+    """The lines to print below what the program said of a command, or of an import of these bytes."""
+    answer = complaint.split("\n")[0]
     number = number_of(answer)
-    sentence = SENTENCES.get(number) or OTHER.get(answer.split("\n")[0])
+    sentence = SENTENCES.get(number or 0) or OTHER.get(answer)
     lines = [sentence] if sentence else []
     if number == 23:
-        lines = [f"{sentence}: {cause()}", WHOLE_OR_NOT]
+        lines = [f"{sentence}: {cause(office)}", WHOLE_OR_NOT]
     elif number and words[0] == "import":
-        with contextlib.suppress(OSError):  # the file may have changed since
-            lines += places(words, number, answer)
+        lines += places(office, words, number, answer, data)
     return [f"  {line}" for line in lines]
 
 
-def places(words: list[str], number: int, answer: str) -> list[str]:
+def places(office: Office, words: Sequence[str], number: int, answer: str, data: bytes | None) -> list[str]:
     """The line of the import file and the value that a refusal is about; none where the file has changed since."""
     values = [word for word in words[1:] if word != "--"]
-    if len(values) != 2 or values[0] not in files.HEADERS or not os.path.isfile(values[1]):
+    if len(values) != 2 or values[0] not in files.HEADERS:
         return []
     kind, path = values
-    found = files.records(files.read(path))
-    name = os.path.basename(path)
+    with contextlib.suppress(OSError):
+        if data is not None or os.path.isfile(path):
+            return places_in(office, kind, os.path.basename(path), data or files.read(path), number, answer)
+    return []
+
+
+def places_in(office: Office, kind: str, name: str, text: bytes, number: int, answer: str) -> list[str]:
+    found = files.records(text)
     if number == 2:
         first = next(found, None)
         return [f"line 1 of {name}: {files.row_shown(first.fields) if first else ''}",
@@ -90,7 +97,7 @@ def places(words: list[str], number: int, answer: str) -> list[str]:
     next(found, None)  # the header
     for column, table in files.REFERENCES.get(kind, []):
         if number == files.UNKNOWN[table]:
-            return unknown_lines(name, found, column, table)
+            return unknown_lines(office, name, found, column, table)
     return []
 
 
@@ -105,9 +112,9 @@ def record_lines(kind: str, name: str, record: files.Record, column: int, number
     return lines
 
 
-def unknown_lines(name: str, found: Iterable[files.Record], column: int, table: str) -> list[str]:
+def unknown_lines(office: Office, name: str, found: Iterable[files.Record], column: int, table: str) -> list[str]:
     """The first lines whose reference the office does not have."""
-    with contextlib.closing(school.rows()) as connection:
+    with contextlib.closing(snapshot.rows(office)) as connection:
         known = known_keys(connection, table)
     wrong = ((record.line, record.fields[column]) for record in found
              if len(record.fields) > column and record.fields[column] not in known)
@@ -123,9 +130,9 @@ def known_keys(connection: sqlite3.Connection, table: str) -> set[bytes]:
     return {str(code).encode() for code, in connection.execute(f"SELECT {key} FROM {table[:-1]}")}
 
 
-def lasting_cause() -> str | None:
+def lasting_cause(office: Office) -> str | None:
     """Why the file cannot be used, where waiting does not help; None where nothing of that kind is found."""
-    path = school.office_path()
+    path = office.path
     place = os.path.dirname(os.path.realpath(path))
     try:
         found = os.stat(path)
@@ -173,10 +180,10 @@ def damage(path: str) -> str | None:
     return None
 
 
-def holder() -> tuple[int, list[str]] | None:
+def holder(office: Office) -> tuple[int, list[str]] | None:
     """A process that has the file open, as a pair of its number and its words; None where none is to be seen."""
     with contextlib.suppress(OSError):
-        wanted = os.stat(school.office_path())
+        wanted = os.stat(office.path)
         for process in filter(str.isdigit, os.listdir("/proc")):
             if int(process) != os.getpid() and has_open(process, wanted):
                 with contextlib.suppress(OSError), open(f"/proc/{process}/cmdline", "rb") as line:
@@ -195,19 +202,19 @@ def has_open(process: str, wanted: os.stat_result) -> bool:
     return False
 
 
-def may_pass() -> bool:
+def may_pass(office: Office) -> bool:
     """Whether waiting may help: another command has the file, and no `serve`, or nothing is to be seen."""
-    found = holder()
-    return "serve" not in found[1] if found else lasting_cause() is None
+    found = holder(office)
+    return "serve" not in found[1] if found else lasting_cause(office) is None
 
 
-def cause() -> str:
+def cause(office: Office) -> str:
     """Why the database cannot be used, as far as it can be found out."""
-    found = holder()
+    found = holder(office)
     if found is None:
-        return lasting_cause() or "no cause is to be seen now"
+        return lasting_cause(office) or "no cause is to be seen now"
     process, words = found
-    state = turns.keep_state()
+    state = turns.keep_state(office)
     if state and state.get("serve") == process:
         return f"`keep` serves it (process {process})"
     if "serve" in words:

@@ -1,4 +1,6 @@
 """The mistakes of import files: what the program refuses, in words, and what only a human eye can judge."""
+from __future__ import annotations
+
 import heapq
 import itertools
 import re
@@ -7,24 +9,23 @@ from collections import Counter, defaultdict
 from collections.abc import Callable, Iterable, Iterator, Sequence
 from typing import NamedTuple
 
-import files
-import school
+from exam_desk import files, states, words
 
 MOST_COUNTED = 100_000  # mistakes of a file; what is behind the last of them is not looked at
 MOST_TO_MEND = 200  # bytes of a value for which a better one is sought
 LIMITS = {"sessions": 400, "papers": 2000, "halls": 500, "candidates": 20000}
 MOST_MEMBERS, MOST_OPENINGS = 4096, 256  # of a session
 CODE = "1 to 12 of A-Z, 0-9 and -"
-TIME = "a time as 09:00; format the column as text"
-FEATURES = f"features are {', '.join(school.FEATURES)}, in this order, joined by +; - for none"
+TIME_CURE = "a time as 09:00; format the column as text"
+FEATURES_CURE = f"features are {', '.join(words.FEATURES)}, in this order, joined by +; - for none"
 CURES = {
     "number": "seven digits; format the column as text", "session": CODE, "paper": CODE,
     "hall": "1 to 8 of A-Z and 0-9", "code": "8 to 16 of A-Z and 0-9",
     "date": "a date as 2027-06-07, from 2000-01-11; format the column as text",
     "name": "1 to 80 bytes", "title": "1 to 80 bytes",
-    "start": TIME, "until": TIME, "reserved": "yes or no", "minutes": "a whole number from 1 to 600",
+    "start": TIME_CURE, "until": TIME_CURE, "reserved": "yes or no", "minutes": "a whole number from 1 to 600",
     "desks": "a whole number from 1 to 2000", "extra": "a whole number from 0 to 100, without %",
-    "requires": FEATURES, "features": FEATURES, "needs": FEATURES,
+    "requires": FEATURES_CURE, "features": FEATURES_CURE, "needs": FEATURES_CURE,
 }
 COMMAS = [(b",", ""), (b";", "semicolons part the columns: save it with commas"),
           (b"\t", "tabs part the columns: save it with commas")]
@@ -98,9 +99,9 @@ class Known:
         self.entries.update(rows(f"SELECT {number}, paper FROM entry WHERE live = 1"))
         self.withdrawn.update(rows(f"SELECT {number}, paper FROM entry WHERE live = 0"))
         self.standing = {key for key, in rows(f"SELECT {number} FROM standing JOIN appeal USING (number, ref) "
-                                              f"WHERE state = {school.GRANTED}")}
-        for number, code in rows(f"SELECT {number}, code FROM candidate"):
-            self.codes[code].add(number)
+                                              f"WHERE state = {states.GRANTED}")}
+        for candidate, code in rows(f"SELECT {number}, code FROM candidate"):
+            self.codes[code].add(candidate)
         self.keys["candidates"] = set().union(*self.codes.values())
 
     def take(self, kind: str, rows: Sequence[tuple[bytes, ...]]) -> None:
@@ -149,8 +150,8 @@ def cure(column: str, field: bytes) -> str:
         if better and RIGHT[column](better.encode()):
             return f"write {better} ({CURES[column]})"
     parts = text.split("+")
-    if CURES[column] == FEATURES and set(parts) <= set(school.FEATURES):
-        return "write " + "+".join(name for name in school.FEATURES if name in parts) + " (this order, each once)"
+    if CURES[column] == FEATURES_CURE and set(parts) <= set(words.FEATURES):
+        return "write " + "+".join(name for name in words.FEATURES if name in parts) + " (this order, each once)"
     return CURES[column]
 
 
@@ -349,8 +350,7 @@ def missing_columns(kind: str, fields: tuple[bytes, ...]) -> list[str] | None:
     head = [field.decode("utf-8", "replace").strip().lower() for field in fields]
     there = [name for name in wanted if name in head]
     missing = [name for name in wanted if name not in head]
-    needed = {*wanted[:files.KEYS.get(kind, 1)], *(wanted[column] for column, _ in files.REFERENCES.get(kind, []))}
-    is_one = needed.isdisjoint(missing) and len(there) > 1 and head[:len(there)] == there and not any(head[len(there):])
+    is_one = files.needed_columns(kind).isdisjoint(missing) and len(there) > 1 and head[:len(there)] == there and not any(head[len(there):])
     return missing if is_one else None
 
 
@@ -367,6 +367,11 @@ def count_cure(record: files.Record, wanted: int) -> str:
     return "put a value with a comma in double quotes" if len(record.fields) > wanted else "values are missing"
 
 
+def has_wrong_letters(text: str) -> bool:
+    """Whether a text looks as if it was read in a wrong encoding."""
+    return bool(WRONG_LETTERS.search(text))
+
+
 def no_notes(_: bytes) -> Iterable[str]:
     return ()
 
@@ -376,11 +381,11 @@ def name_notes(field: bytes) -> Iterator[str]:
     text = field.decode("utf-8", "replace")
     if text.isascii() and text.isprintable() and text == text.strip():
         return
-    if WRONG_LETTERS.search(text):
+    if has_wrong_letters(text):
         yield "looks like letters that were read in a wrong encoding"
     if text != text.strip() or "\u00a0" in text:
         yield "has a space at an end, or a hard space"
-    if school.plain(text) != text:
+    if words.plain(text) != text:
         yield "holds marks that no screen shows"
 
 
@@ -390,4 +395,4 @@ def code_notes(field: bytes) -> Iterable[str]:
     return [spoiled] if LIKE_A_NUMBER(field) else ()
 
 
-NOTES = {"name": name_notes, "title": name_notes, **dict.fromkeys(["session", "paper", "hall", "code"], code_notes)}
+NOTES: dict[str, Callable[[bytes], Iterable[str]]] = {"name": name_notes, "title": name_notes, **dict.fromkeys(["session", "paper", "hall", "code"], code_notes)}

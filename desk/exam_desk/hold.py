@@ -11,7 +11,7 @@ import re
 import resource
 import time
 
-import asking
+from exam_desk import asking
 
 MOST_CLIENTS, CROWD = 4000, 100
 FILES = 2 * MOST_CLIENTS  # that the process may have open, if the system lets it
@@ -93,15 +93,15 @@ class Hold:
         while True:
             await self.opened.wait()
             async with self.turn:
-                answer = await self.ask(request) if self.opened.is_set() else b""
+                answer = await self.ask(self.server, request) if self.server and self.opened.is_set() else b""
             if answer:
                 return answer
             await asyncio.sleep(PAUSE)
 
-    async def ask(self, request: bytes) -> bytes:
+    async def ask(self, server: asking.Server, request: bytes) -> bytes:
         """What `serve` answers; nothing where no whole answer comes. Call it with the turn, while it is open."""
         try:
-            answer = await asyncio.wait_for(asking.answer(self.server, request), ANSWER_SECONDS)
+            answer = await asyncio.wait_for(asking.answer(server, request), ANSWER_SECONDS)
         except asyncio.TimeoutError:
             self.give_up(f"no answer within {ANSWER_SECONDS} seconds")
             return b""

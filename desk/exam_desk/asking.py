@@ -33,7 +33,9 @@ class Stranger(OSError):
 
 
 def address(place: str) -> tuple[socket.AddressFamily, tuple[str, int] | str]:
-    return (socket.AF_INET, (HOST, int(place))) if place.isdigit() else (socket.AF_UNIX, place)
+    if place.isdigit():
+        return socket.AF_INET, (HOST, int(place))
+    return socket.AF_UNIX, place
 
 
 def shown(place: str) -> str:
@@ -104,7 +106,7 @@ def read_link(path: str) -> str:
 def free_port() -> int:
     with socket.socket() as free:
         free.bind((HOST, 0))
-        return free.getsockname()[1]
+        return int(free.getsockname()[1])
 
 
 def status_of(text: bytes) -> int:

@@ -1,0 +1,87 @@
+"""The rows of appeals in words: their kinds and states, what they ask, which are open, and what `back` takes away."""
+from __future__ import annotations
+
+import contextlib
+import sqlite3
+from collections.abc import Collection
+from typing import NamedTuple
+
+from exam_desk import facts, lastdays, private
+from exam_desk.office import Office
+from exam_desk.snapshot import Rows
+from exam_desk.words import feature_text
+
+KINDS = {1: "hall", 2: "clash", 3: "arrangement"}
+STATES = {1: "open", 2: "granted", 3: "refused", 4: "retracted", 5: "superseded"}
+OPEN = ("SELECT appeal.*, day, name FROM appeal JOIN session ON session.code = session "
+        "JOIN candidate ON candidate.number = appeal.number WHERE state = 1 "
+        "ORDER BY day, session.start, session, appeal.number, ref")
+
+
+class Lodged(NamedTuple):
+    """An appeal as `back` compares it."""
+    session: str
+    asked: tuple[object, ...]  # what the candidate lodged, and when
+    state: int
+    answer: str | None  # of the office
+    standing: bool
+
+    def fate(self) -> str:
+        return STATES.get(self.state, "?") + (", standing" if self.standing else "")
+
+
+def subject(row: sqlite3.Row) -> str:
+    """What an appeal is about, as the register has it: a hall, a paper, or needs and extra time."""
+    kind, target = KINDS[row["kind"]], str(row["target"])
+    return f"{feature_text(row['needs'])} {row['extra']}" if kind == "arrangement" else target
+
+
+def open_count(rows: Rows, session: str) -> int:
+    [count] = rows.execute("SELECT count(*) FROM appeal WHERE session = ? AND state = 1", [session]).fetchone()
+    return int(count)
+
+
+def open_lines(rows: Rows, today: str, sessions: Collection[str] = ()) -> list[str]:
+    """Two lines on each open appeal of these sessions, or of all, the most urgent first."""
+    asked = {head["code"] for head in facts.sessions(rows, sessions)}
+    return [line for row in rows.execute(OPEN).fetchall() if row["session"] in asked for line in said(row, today)]
+
+
+def said(row: sqlite3.Row, today: str) -> list[str]:
+    last = lastdays.to_decide(row["day"])
+    urgency = f"too late since {row['day']}" if today > last else f"decide by {last}"
+    return [f"{urgency}: {row['session']} {row['number']:07} {row['name']}: {row['ref']} of {row['lodged']}: "
+            f"{KINDS[row['kind']]} {subject(row)}", f"    {row['reason'] or 'no reason given'}"]
+
+
+def read(office: Office, path: str) -> dict[tuple[str, str], Lodged] | None:
+    """The appeals of an office of any version, by number and reference; None where they cannot be read."""
+    try:
+        with (private.private_copy(path, office.path) as copy,
+              contextlib.closing(sqlite3.connect(copy)) as file):
+            file.execute("PRAGMA locking_mode = EXCLUSIVE")  # no third file
+            file.text_factory = lambda text: text.decode("utf-8", "replace")
+            marked = file.execute("SELECT name FROM sqlite_schema WHERE name = 'standing'").fetchone()
+            standing = set(file.execute("SELECT number, ref FROM standing")) if marked else set()
+            rows = file.execute("SELECT number, ref, session, state, answer, "
+                                "kind, target, needs, extra, reason, lodged FROM appeal")
+            return {(str(number).zfill(7), str(ref)):
+                    Lodged(session, tuple(asked), state, answer, (number, ref) in standing)
+                    for number, ref, session, state, answer, *asked in rows}
+    except (OSError, sqlite3.Error):
+        return None
+
+
+def lost(now: dict[tuple[str, str], Lodged], then: dict[tuple[str, str], Lodged]) -> list[str]:
+    """A line for each appeal, decision and retraction of one state of the office that another has not."""
+    return [f"appeal {number} {ref} for {appeal.session}: {loss}" for (number, ref), appeal in sorted(now.items())
+            if (loss := difference(appeal, then.get((number, ref))))]
+
+
+def difference(now: Lodged, then: Lodged | None) -> str:
+    """What becomes of an appeal; nothing where it stays as it is."""
+    if then is None or then.asked != now.asked or then.session != now.session:
+        return f"{now.fate()} -> gone"
+    if now == then:
+        return ""
+    return f"{now.fate()} -> {then.fate()}" + (", with another answer" if now.fate() == then.fate() else "")

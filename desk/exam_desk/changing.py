@@ -1,0 +1,319 @@
+"""Changes of an office, of one step or of several: rehearsed on a private copy, or carried out.
+
+A list of steps is carried out whole or not at all, in one turn: where a step is refused or cannot be saved, the copy
+from before is put back before anybody else has the office. Where the process is killed or the machine stops in the
+middle, the next change says from the log what was broken off, and how to put it back.
+"""
+from __future__ import annotations
+
+import contextlib
+import errno
+import functools
+import os
+import time
+from collections.abc import Callable, Iterator, Sequence
+from dataclasses import dataclass
+from typing import NamedTuple
+
+from exam_desk import copies, logbook, private, refusals, running, states, turns, undo
+from exam_desk.office import Office
+from exam_desk.trouble import Stale, Trouble
+
+CHANGES = ["import", "withdraw", "reinstate", "close-hall", "decide", "migrate"]
+PAUSE = 0.2  # seconds from one try to the next
+Tell = Callable[[str], None]  # hears which step begins
+
+
+@dataclass(frozen=True)
+class Step:
+    """A command of the program. Where it imports bytes, its last word is the name of their file, as people know it."""
+    words: tuple[str, ...]
+    data: bytes | None = None
+
+    def title(self) -> str:
+        """The command without what is private, and without the file of an import."""
+        return " ".join(self.words[:2] if self.words[0] == "import" else logbook.shown(self.words))
+
+
+class Answered(NamedTuple):
+    """What the program said of a step."""
+    step: Step
+    ran: running.Ran
+
+    def first_line(self) -> str:
+        return (self.ran.answer + self.ran.complaint).split("\n")[0]
+
+    def is_refused(self) -> bool:
+        """Whether the program says that it did nothing; after refusal 23 the step may be there all the same."""
+        return self.ran.status == 2 or self.ran.complaint.startswith(("refused", "file fault"))
+
+
+class NotBegun(Trouble):
+    """There is no room for the copy or the log, so nothing is changed."""
+
+
+class Carried(NamedTuple):
+    """What became of a list of steps."""
+    answers: list[Answered]  # of the steps up to the first that is refused
+    copy: str | None  # the path of the copy from before; None where nothing has changed
+    as_promised: bool | None  # whether the office is now as the rehearsal said; None where nothing was promised
+
+    @property
+    def refused(self) -> Answered | None:
+        return refused_of(self.answers)
+
+
+@dataclass
+class Rehearsal:
+    """A list of steps carried out on a private copy. Close it, or use it as a context: then the copies go."""
+    office: Office
+    before: str  # the paths of private copies from before and after
+    after: str
+    answers: list[Answered]  # of the steps up to the first that is refused
+    copies: contextlib.ExitStack
+
+    def __enter__(self) -> Rehearsal:
+        return self
+
+    def __exit__(self, *_: object) -> None:
+        self.close()
+
+    def close(self) -> None:
+        self.copies.close()
+
+    @property
+    def refused(self) -> Answered | None:
+        return refused_of(self.answers)
+
+    @functools.cached_property
+    def made_from(self) -> str:
+        """The name of the state from before."""
+        return states.name_now(self.office, self.before)
+
+    @functools.cached_property
+    def promised(self) -> str:
+        """The name of the state after it."""
+        return states.name_now(self.office, self.after)
+
+
+def refused_of(answers: list[Answered]) -> Answered | None:
+    return answers[-1] if answers and answers[-1].ran.status else None
+
+
+def ignore(_: str) -> None:
+    pass
+
+
+def rehearse(office: Office, steps: Sequence[Step], tell: Tell = ignore) -> Rehearsal:
+    """Carries steps out on a private copy, up to the first that is refused. Raises `Trouble` where there is no
+    office."""
+    with contextlib.ExitStack() as stack:
+        try:
+            before = stack.enter_context(private.private_copy(office.path, office.path))
+            after = stack.enter_context(private.private_copy(before, office.path))
+        except OSError as fault:
+            raise Trouble(fault.strerror or str(fault), fault.filename or office.path) from fault
+        answers = answered_over(office, after, steps, tell)
+        kept = stack.pop_all()
+    return Rehearsal(office, before, after, answers, kept)
+
+
+def answered_over(office: Office, path: str, steps: Sequence[Step], tell: Tell) -> list[Answered]:
+    answers: list[Answered] = []
+    with placed(office, steps) as lines:
+        for step, line in zip(steps, lines):
+            tell(step.title())
+            answers.append(Answered(step, running.run_over(office, path, *line)))
+            if answers[-1].ran.status:
+                break
+    return answers
+
+
+@contextlib.contextmanager
+def placed(office: Office, steps: Sequence[Step]) -> Iterator[list[tuple[str, ...]]]:
+    """The words of the steps as the program gets them: the bytes of imports are in private files meanwhile."""
+    with contextlib.ExitStack() as stack:
+        lines = [step.words for step in steps]
+        try:
+            if any(step.data is not None for step in steps):
+                folder = stack.enter_context(private.own_folder(office.path))
+                lines = [put(folder, place, step) for place, step in enumerate(steps)]
+        except OSError as fault:
+            raise Trouble(f"the files cannot be put down, so nothing is changed: {fault.strerror}",
+                          fault.filename or "") from fault
+        yield lines
+
+
+def put(folder: str, place: int, step: Step) -> tuple[str, ...]:
+    """Puts the bytes of an import into a private file, and gives its words with the path of that."""
+    if step.data is None:
+        return step.words
+    path = os.path.join(folder, f"step-{place}.csv")
+    with open(os.open(path, os.O_WRONLY | os.O_CREAT | os.O_EXCL, 0o600), "wb") as file:
+        file.write(step.data)
+    return *step.words[:-1], path
+
+
+def carry_out(office: Office, steps: Sequence[Step], made_from: str | None = None, promised: str | None = None,
+              title: str = "", tell: Tell = ignore) -> Carried:
+    """Carries steps out in one turn, whole or not at all, with one copy from before.
+
+    Where names of states are given, the office must be of the first one, else `Stale` is raised; and it is said whether
+    it is of the second one then. Raises `Trouble` where nothing could begin, and nothing is changed.
+    """
+    if not os.path.isfile(office.path):  # the program says what is wrong
+        return Carried([Answered(steps[0], run_patiently(office, steps[0].words))], None, None)
+    title = title or ", ".join(step.title() for step in steps)
+    with placed(office, steps) as lines, turn(office, title, made_from):
+        copy = kept_copy(office, title)
+        try:
+            if len(steps) == 1:
+                answers = carried_one(office, steps[0], lines[0], tell)
+                is_undone = has_done_nothing(office, answers[0], copy)
+            else:
+                answers = carried_all(office, title, list(zip(steps, lines)), copy, tell)
+                is_undone = refused_of(answers) is not None
+        except (NotBegun, running.NotStarted):
+            copies.drop(copy)
+            raise
+        if is_undone:
+            copies.drop(copy)
+        as_promised = None if promised is None or is_undone else is_in_state(office, promised)
+    return Carried(answers, None if is_undone else copy, as_promised)
+
+
+def has_done_nothing(office: Office, answered: Answered, copy: str) -> bool:
+    number = refusals.number_of(answered.ran.complaint)
+    return answered.is_refused() and (number != 23 or copies.is_as_now(office, copy))
+
+
+@contextlib.contextmanager
+def turn(office: Office, title: str, made_from: str | None) -> Iterator[None]:
+    """The office for this process alone, in the state that was looked at. Says of a change without an end what is known
+    of it."""
+    with contextlib.ExitStack() as stack:
+        try:
+            stack.enter_context(turns.alone(office, [title]))
+        except OSError as fault:
+            raise no_copy(office, fault) from fault
+        if made_from is not None and not is_in_state(office, made_from):
+            raise Stale("the office has changed since you looked at it, so nothing is changed: look again")
+        if found := logbook.unfinished(office):
+            office.warn(broken_off(office, found))
+        yield
+
+
+def is_in_state(office: Office, name: str) -> bool:
+    try:
+        return states.name_now(office) == name
+    except Trouble:  # it cannot be read
+        return False
+
+
+def kept_copy(office: Office, title: str) -> str:
+    try:
+        return copies.keep_copy(office, title)
+    except OSError as fault:
+        raise no_copy(office, fault) from fault
+
+
+def no_copy(office: Office, fault: OSError) -> NotBegun:
+    place = fault.filename or turns.inside(office)
+    room = f"; make room, for example in {turns.inside(office, copies.DAYS)}" if fault.errno == errno.ENOSPC else ""
+    return NotBegun(f"no copy of the office can be kept, so nothing is changed: {place}: {fault.strerror}{room}")
+
+
+@contextlib.contextmanager
+def logged(office: Office, words: Sequence[str], copy: str = "",
+           status: str = logbook.BEGINS) -> Iterator[logbook.Outcome]:
+    """As `logbook.logged`; raises `NotBegun` where no line can be written before the change."""
+    with contextlib.ExitStack() as stack:
+        try:
+            outcome = stack.enter_context(logbook.logged(office, words, status, copy))
+        except OSError as fault:
+            raise no_copy(office, fault) from fault
+        yield outcome
+
+
+def carried_one(office: Office, step: Step, line: tuple[str, ...], tell: Tell,
+                status: str = logbook.BEGINS) -> list[Answered]:
+    """Carries out one step, which the program does whole or not at all."""
+    tell(step.title())
+    with logged(office, step.words, status=status) as outcome:
+        answered = Answered(step, run_patiently(office, line))
+        outcome.status, outcome.answer = answered.ran.status, answered.first_line()
+    return [answered]
+
+
+def run_patiently(office: Office, words: Sequence[str]) -> running.Ran:
+    """Runs the program over the office, and tries again for some time while another command has the file."""
+    until = time.monotonic() + turns.PATIENCE
+    while True:
+        ran = running.run_over(office, office.path, *words)
+        if refusals.number_of(ran.complaint) != 23 or time.monotonic() > until or not refusals.may_pass(office):
+            return ran
+        time.sleep(PAUSE)
+
+
+def carried_all(office: Office, title: str, steps: list[tuple[Step, tuple[str, ...]]], copy: str,
+                tell: Tell) -> list[Answered]:
+    """Carries out steps up to the first that is refused; then, or where one cannot be saved, the copy is put back."""
+    answers: list[Answered] = []
+    with prepared(office, copy) as ready, logged(office, [title], os.path.basename(copy)) as outcome:
+        try:
+            for step, line in steps:
+                answers += carried_one(office, step, line, tell, logbook.STEP)
+                if refused_of(answers):
+                    break
+        except BaseException:
+            outcome.answer = "stopped"
+            restore(office, ready, copy)
+            outcome.answer = "stopped: all is as before"
+            copies.drop(copy)
+            raise
+        outcome.status, outcome.answer = 0, f"{len(answers)} steps"
+        if refused := refused_of(answers):
+            outcome.status, outcome.answer = refused.ran.status, f"{refused.step.title()}: {refused.first_line()}"
+            restore(office, ready, copy)
+            outcome.answer = f"all is as before: {outcome.answer}"
+    return answers
+
+
+@contextlib.contextmanager
+def prepared(office: Office, copy: str) -> Iterator[str]:
+    """The path of a file that can be moved into the place of the office when the disk is full."""
+    with contextlib.ExitStack() as stack:
+        try:
+            ready = stack.enter_context(undo.ready(office, copy))
+        except OSError as fault:
+            raise no_copy(office, fault) from fault
+        yield ready
+
+
+def restore(office: Office, ready: str, copy: str) -> None:
+    """Puts the copy back in the turn in which it was made."""
+    try:
+        undo.move_in(office, ready)
+    except OSError as fault:
+        raise Trouble(f"a step failed, and the office could not be put back as it was ({fault.strerror}): "
+                      f"{way_back(copy)}") from fault
+
+
+def way_back(copy: str) -> str:
+    when, what = copies.when_and_what(copy)
+    return f"`office back` lists the copy of {when}, before {what}, and puts it back"
+
+
+def broken_off(office: Office, found: logbook.Unfinished) -> str:
+    """What is known of a change without an end."""
+    what = f"`{found.command}` of {found.when}"
+    if not found.copy:
+        return f"{what} has no end in the log: it is there whole or not at all; look"
+    copy = turns.inside(office, copies.PLACE, found.copy)
+    behind = f" behind `{found.done[-1]}`" if found.done else " in its first step"
+    if copy not in copies.listed(office):
+        return f"{what} was broken off{behind}; its copy is gone"
+    with contextlib.suppress(Trouble):
+        if is_in_state(office, states.name_now(office, copies.file_in(office, copy))):
+            return f"{what} was broken off; nothing of it is left"
+    return f"{what} was broken off{behind}: {way_back(copy)}"

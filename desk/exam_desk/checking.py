@@ -1,0 +1,89 @@
+"""The mistakes of the import files of a folder, before any import: what `office check-files` says, as values."""
+from __future__ import annotations
+
+import contextlib
+import os
+from collections import Counter
+from collections.abc import Iterator
+from dataclasses import dataclass, field
+
+from exam_desk import files, mistakes, snapshot
+from exam_desk.office import Office
+from exam_desk.trouble import Trouble
+
+MOST_SHOWN = 5  # mistakes or notes on one column of a file
+WORKBOOKS = (".xlsx", ".xlsm", ".ods")
+
+
+@dataclass
+class Checked:
+    """What a folder holds: of each file the mistakes and the notes, and a sentence on each other name."""
+    files: dict[str, tuple[mistakes.Found, mistakes.Found]] = field(default_factory=dict)
+    others: list[str] = field(default_factory=list)
+
+    def counts(self) -> Counter[str]:
+        """How many files, mistakes and notes there are."""
+        return Counter(files=len(self.files), mistakes=sum(wrong.counts.total() for wrong, _ in self.files.values()),
+                       notes=sum(notes.counts.total() for _, notes in self.files.values()))
+
+    def lines(self) -> Iterator[str]:
+        for name, (wrong, notes) in self.files.items():
+            yield from lines_on(name, wrong, "")
+            yield from lines_on(name, notes, "NOTE: ")
+        yield from (f"NOTE: {other}" for other in self.others)
+
+
+def lines_on(name: str, found: mistakes.Found, word: str) -> Iterator[str]:
+    """The lines on a file, of those on one column the first alone."""
+    for mistake in found:
+        yield f"{name} line {mistake.line}: {word}{mistake.what}: {mistake.text}"
+    for column, count in found.counts.items():
+        if count > found.most:
+            yield f"{name}: .. and {count - found.most} more lines on {column}"
+
+
+def office_knows(office: Office) -> mistakes.Known:
+    """What the office has, if there is one."""
+    if not os.path.exists(office.path):
+        return mistakes.Known()
+    with contextlib.closing(snapshot.rows(office)) as connection:
+        return mistakes.Known(connection)
+
+
+def texts_in(folder: str) -> dict[str, bytes]:
+    """The import files of a folder by kind, in the order in which they are imported, as far as an import reads them.
+    Raises `Trouble` where none is there, or where one is no file."""
+    found = {}
+    names = os.listdir(folder)
+    for kind in files.HEADERS:
+        if f"{kind}.csv" in names:
+            path = os.path.join(folder, f"{kind}.csv")
+            if not os.path.isfile(path):
+                raise Trouble(f"{path} is no file")
+            found[kind] = files.read(path)
+    return found
+
+
+def check(texts: dict[str, bytes], known: mistakes.Known, most: int = MOST_SHOWN) -> Checked:
+    """Looks through files one after the other; each knows what those before it bring."""
+    found = Checked()
+    for kind, text in texts.items():
+        found.files[f"{kind}.csv"] = mistakes.looked_through(kind, text, known, most)
+    return found
+
+
+def check_folder(office: Office, folder: str) -> Checked:
+    """Looks through the import files of a folder, beside what the office has. Raises `Trouble` as `texts_in`, and where
+    none of the seven files is there."""
+    found = check(texts_in(folder), office_knows(office))
+    found.others = [sentence for name in sorted(os.listdir(folder)) if (sentence := other(name))]
+    return found
+
+
+def other(name: str) -> str:
+    """What is said of a name in the folder that is none of the seven; "" where nothing is to be said."""
+    if name.lower().endswith(WORKBOOKS):
+        return f"{name} is a workbook: `office read` makes the files of it"
+    if name.lower().endswith(".csv") and name not in [f"{kind}.csv" for kind in files.HEADERS]:
+        return f"{name} is none of the seven names, so it is not looked at"
+    return ""

@@ -1,0 +1,99 @@
+"""The log of an office, in the folder beside it: a line before each change and a line after it.
+
+A line has the time, who worked, the command, its status and the first line of its answer, parted by tabs. A change that
+begins has the status `begins`, a step of a list `step`, and their answers are empty but for a list, which names its copy.
+"""
+from __future__ import annotations
+
+import contextlib
+import datetime
+import os
+from collections.abc import Iterator, Sequence
+from dataclasses import dataclass, field
+
+from exam_desk import beside, turns
+from exam_desk.office import Office
+from exam_desk.words import plain
+
+NAME = "log"
+WITH_REASON = ["decide", "lodge"]  # their last value is a reason, which is private
+BESIDE_OTHERS = ["lodge"]  # it goes the candidates' way, without the office for itself
+BEGINS, STEP = "begins", "step"
+LAST_BYTES = 1 << 16  # of the log, in which the last change is looked for
+
+
+@dataclass
+class Outcome:
+    """What the log says after a change: as long as the change says nothing else, that it was stopped."""
+    status: int = 1
+    answer: str = "stopped: look whether it is done"
+
+
+@dataclass
+class Unfinished:
+    """A change without an end in the log: the process was killed, or the machine stopped."""
+    when: str
+    command: str
+    copy: str  # the name of the copy from before a list of steps; "" of a single command
+    done: list[str] = field(default_factory=list)  # the steps that have an end
+    begun: str = ""  # the last step
+
+
+def shown(words: Sequence[str]) -> list[str]:
+    """The words of a command as the log and the copies have them: without the values that are private."""
+    return list(words[:-1] if words[0] in WITH_REASON and len(words) > 1 else words)
+
+
+def write(office: Office, words: Sequence[str], status: int | str, answer: str) -> None:
+    """Adds a line to the log."""
+    columns = [datetime.datetime.now().isoformat(" ", "seconds"), office.user, " ".join(shown(words)), str(status), answer]
+    line = "\t".join(map(plain, columns)) + "\n"
+    turns.make_folder(office)
+    file = beside.open_file(office.path, NAME, flags=os.O_WRONLY | os.O_CREAT | os.O_APPEND)
+    with open(file, "wb") as log_file:
+        log_file.write(line.encode("utf-8", "backslashreplace"))
+
+
+def write_after(office: Office, words: Sequence[str], status: int | str, answer: str) -> None:
+    """As `write`, after a change: where no line can be written, a warning has to do."""
+    try:
+        write(office, words, status, answer)
+    except (OSError, beside.Strange) as fault:
+        office.warn(f"no line in the log: {fault.strerror if isinstance(fault, OSError) else fault}")
+
+
+@contextlib.contextmanager
+def logged(office: Office, words: Sequence[str], status: str = BEGINS, answer: str = "") -> Iterator[Outcome]:
+    """A line in the log before a change, which waits until that is on the disk; and one with the outcome after it."""
+    write(office, words, status, answer)
+    beside.sync(turns.inside(office, NAME))
+    outcome = Outcome()
+    try:
+        yield outcome
+    finally:
+        write_after(office, words, outcome.status, outcome.answer)
+
+
+def unfinished(office: Office) -> Unfinished | None:
+    """The last change of the log where it has no end. Call it with the office alone: else it may be under way."""
+    found: Unfinished | None = None
+    for when, _, command, status, answer in last_lines(office):
+        if status == BEGINS and command.split(" ")[0] not in BESIDE_OTHERS:
+            found = Unfinished(when, command, answer)
+        elif found and status == STEP:
+            found.begun = command
+        elif found and command == found.command:
+            found = None
+        elif found and command == found.begun:
+            found.done.append(command)
+    return found
+
+
+def last_lines(office: Office) -> Iterator[list[str]]:
+    """The columns of the last lines of the log; none where it cannot be read."""
+    with contextlib.suppress(OSError, beside.Strange):
+        with open(beside.open_file(office.path, NAME, flags=os.O_RDONLY), "rb") as file:
+            file.seek(max(os.fstat(file.fileno()).st_size - LAST_BYTES, 0))
+            for line in file.read().decode("utf-8", "replace").split("\n"):
+                if len(columns := line.split("\t")) == 5:
+                    yield columns

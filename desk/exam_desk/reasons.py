@@ -1,0 +1,103 @@
+"""Which open hall suits whom, and so why a member of a session has no desk, hall by hall.
+
+The program prints what is short, and not why a hall does not suit. So its rule stands here again, and each answer is
+compared with the printed shortage: `Reasons.differences`.
+"""
+from __future__ import annotations
+
+import collections
+from collections.abc import Iterator
+
+from exam_desk import facts
+from exam_desk.facts import Opening
+from exam_desk.reading import Member, Reading
+from exam_desk.shortage import Shortage
+from exam_desk.trouble import Trouble
+from exam_desk.words import FEATURES, clock, features, plain
+
+MOST_NAMED = 3  # occupants of a full hall
+GRANTED_HALLS = "SELECT number, target FROM appeal WHERE session = ? AND kind = 1 AND state = 2"
+
+
+class Reasons:
+    """The members of a session and its open halls."""
+
+    def __init__(self, reading: Reading, session: str) -> None:
+        """Raises `Trouble` where there is no such session."""
+        self.session = session
+        self.members = reading.members(session)
+        self.openings = facts.openings(reading.rows, session)
+        self.required = {code: features(mask) for code, mask in reading.rows.execute(
+            "SELECT code, requires FROM paper WHERE session = ?", [session])}
+        self.barred = {(f"{number:07}", hall) for number, hall in reading.rows.execute(GRANTED_HALLS, [session])}
+        self.taken: dict[str, list[str]] = collections.defaultdict(list)  # the numbers in each hall, by desk
+        for member in sorted(self.members, key=lambda member: member.sitting.desk or 0):
+            if member.sitting.hall:
+                self.taken[member.sitting.hall].append(member.number)
+
+    def unseated(self) -> list[Member]:
+        return [member for member in self.members if member.sitting.hall is None]
+
+    def needs(self, member: Member) -> list[str]:
+        """The features of the arrangement in force, and those that the paper requires."""
+        wanted = {*member.sitting.needs, *self.required.get(member.sitting.paper, [])}
+        return [name for name in FEATURES if name in wanted]
+
+    def obstacles(self, member: Member, opening: Opening) -> list[str]:
+        """Why a hall does not suit a member; nothing where it does."""
+        there, sitting = features(opening.features), member.sitting
+        found = [f"no {name}" for name in self.needs(member) if name not in there]
+        if sitting.finish > clock(opening.until):
+            found.append(f"closes {clock(opening.until)}")
+        if opening.reserved and not sitting.needs and not sitting.extra:
+            found.append("reserved")
+        if (member.number, opening.hall) in self.barred:
+            found.append("barred by a granted appeal")
+        return found
+
+    def of(self, member: Member) -> list[tuple[str, str]]:
+        """The open halls by code, each with why the member does not sit there, or with the desk."""
+        return [(opening.hall, self.reason(member, opening)) for opening in self.openings]
+
+    def reason(self, member: Member, opening: Opening) -> str:
+        if member.sitting.hall == opening.hall:
+            return f"sits here, at desk {member.sitting.desk}"
+        obstacles = self.obstacles(member, opening)
+        if obstacles:
+            return ", ".join(obstacles)
+        taken = self.taken[opening.hall]
+        if len(taken) < opening.desks:
+            return f"suits, {opening.desks - len(taken)} of {opening.desks} desks are free"
+        others = len(taken) - MOST_NAMED
+        return (f"suits, but {len(taken)} of {opening.desks} desks are taken: {', '.join(taken[:MOST_NAMED])}"
+                + (f" and {others} more" if others > 0 else ""))
+
+    def text(self, number: str | None = None) -> str:
+        """Lines on everybody without a desk, or on one candidate. Raises `Trouble` where that one sits nothing here."""
+        asked = self.unseated() if number is None else [each for each in self.members if each.number == number]
+        if number is not None and not asked:
+            raise Trouble(f"{number} sits nothing in {self.session}; a number has seven digits")
+        return "".join(map(self.lines, asked)) or "everybody has a desk\n"
+
+    def lines(self, member: Member) -> str:
+        sitting, halls = member.sitting, self.of(member)
+        return (f"{member.number} {plain(member.name)} sits {sitting.paper} until {sitting.finish}, extra {sitting.extra}, "
+                f"needs {'+'.join(self.needs(member)) or '-'}\n"
+                + ("".join(f"  {hall:8} {reason}\n" for hall, reason in halls) or "  no hall is open\n"))
+
+    def differences(self, shortage: Shortage) -> Iterator[str]:
+        """A line for each thing that the reasons say and a printed shortage does not, or the other way round."""
+        halls, candidates = dict(shortage.halls), set(shortage.candidates)
+        unseated, listed = self.unseated(), [each for each in self.members if each.number in candidates]
+        yield from (f"{member.number} has no desk and is not listed"
+                    for member in unseated if member.number not in candidates)
+        if len(unseated) != shortage.unseated:
+            yield f"{len(unseated)} have no desk, and the sheet counts {shortage.unseated}"
+        for opening in self.openings:
+            suited = [member.number for member in unseated if not self.obstacles(member, opening)]
+            if suited and opening.hall not in halls:
+                yield f"{opening.hall} suits {suited[0]}, who has no desk, and is not listed"
+            if suited and len(self.taken[opening.hall]) < opening.desks:
+                yield f"{opening.hall} suits {suited[0]}, who has no desk, and is not full"
+            if opening.hall in halls and all(self.obstacles(member, opening) for member in listed):
+                yield f"{opening.hall} is listed, and suits nobody who is listed"

@@ -1,0 +1,1 @@
+"""What people read: of a reading a text. Who sits what, where and until when is what the program said."""

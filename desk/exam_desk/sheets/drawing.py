@@ -1,0 +1,167 @@
+"""Parts of the page of a session: its style, bars, and the picture of a shortage."""
+from __future__ import annotations
+
+from collections.abc import Iterable, Sequence
+
+from markupsafe import Markup
+
+from exam_desk import lists
+from exam_desk.facts import Opening
+from exam_desk.reading import Member
+from exam_desk.reasons import Reasons
+from exam_desk.sheets import pages
+from exam_desk.shortage import Shortage
+
+MOST_DRAWN = 100  # a shortage of more candidates is listed, not drawn
+MOST_EXPLAINED = 30  # of those without a desk
+BAR = ("<svg class=bar viewBox='0 0 100 10' preserveAspectRatio=none role=img aria-label='{}'>{}</svg>")
+
+Part = tuple[str, int]  # of a bar: its kind and its length
+
+
+def table(heads: Sequence[str], rows: Iterable[Sequence[object]], name: str = "") -> Markup:
+    """A table that a narrow page scrolls."""
+    return pages.html("<div class=wide>{}</div>", pages.table(heads, rows, name=name))
+
+
+def bar(parts: Sequence[Part], whole: int, label: str) -> Markup:
+    """A bar of parts, drawn to the scale of the whole; SVG, since printers leave out backgrounds."""
+    shapes, left = "", 0.0
+    for kind, length in parts:
+        width = 100 * length / whole
+        shapes += f"<rect class={kind} x={left:.3f} y=0 width={width:.3f} height=10 />" if length else ""
+        left += width
+    return pages.html(BAR, label, Markup(shapes))
+
+
+def balance(shortage: Shortage) -> Markup:
+    """Candidates, desks and unseated as three bars of one scale."""
+    people = len(shortage.candidates)
+    labels = [lists.count(people, "candidate"), lists.count(shortage.desks, "desk"), f"{shortage.unseated:,} unseated"]
+    parts: list[list[Part]] = [[("listed", people)], [("taken", shortage.desks)],
+                               [("none", shortage.desks), ("lacking", shortage.unseated)]]
+    bars = pages.joined(pages.html("<dt>{}</dt><dd>{}</dd>", label, bar(each, people, label))
+                        for label, each in zip(labels, parts))
+    return pages.html("<p class=sum>{} = {} + {}</p>\n<dl class=balance>{}</dl>", *labels, bars)
+
+
+def explanation(shortage: Shortage) -> Markup:
+    people, halls, desks = len(shortage.candidates), shortage.halls, lists.count(shortage.desks, "desk")
+    reason = f"No hall suits {'this candidate' if people == 1 else f'any of these {people:,} candidates'}."
+    if halls:
+        which = f"{halls[0][0]}, which has {desks}"
+        if len(halls) > 1:
+            which = f"the {len(halls)} halls below, which have {desks} together"
+        reason = f"Each of these {people:,} candidates can sit only in {which}."
+    more = "more desks there, or " if halls else ""
+    return pages.html("<p>{} So every plan leaves at least {} of them without a desk, and no other plan seats more "
+                      "candidates than this one.</p><p>What would help: {}another hall that suits some of them.</p>",
+                      reason, f"{shortage.unseated:,}", more)
+
+
+def chips(title: str, kind: str, members: Iterable[Member]) -> Markup:
+    return pages.html("<div class='card {}'><h3>{}</h3><ol>{}</ol></div>", kind, title, pages.joined(map(chip, members)))
+
+
+def chip(member: Member) -> Markup:
+    desk = "" if member.sitting.desk is None else pages.html("<small>{}</small> ", member.sitting.desk)
+    return pages.html("<li>{}{}<br><small>{}</small></li>", desk, member.number, pages.text(member.name))
+
+
+def drawing(shortage: Shortage, unseated: Sequence[Member], openings: Sequence[Opening],
+            seated: dict[str, list[Member]]) -> Markup:
+    """Each listed candidate at a desk of a listed hall, or without a desk; then the halls that suit none of them."""
+    halls = [hall for hall, _ in shortage.halls]
+    cards = [chips(f"{hall}: {lists.count(len(seated[hall]), 'desk')}, all taken", "in", seated[hall]) for hall in halls]
+    cards.append(chips(f"No desk: {shortage.unseated}", "lacking", unseated))
+    others = pages.joined(
+        pages.html("<li>{}: {} of {} free</li>", each.hall, each.desks - len(seated[each.hall]),
+                   lists.count(each.desks, "desk"))
+        for each in openings if each.hall not in halls)
+    if others:
+        cards.append(pages.html("<div class='card out'><h3>Suit none of these candidates</h3><ul>{}</ul></div>", others))
+    return pages.html("<div class=cards>{}</div>", pages.joined(cards))
+
+
+def listing(shortage: Shortage, unseated: Sequence[Member]) -> Markup:
+    """For many candidates what `drawing` shows: the halls, then all numbers in columns, marked where without a desk."""
+    lacking = {member.number for member in unseated}
+    numbers = pages.joined(pages.html("<li><b>{} ×</b></li>" if each in lacking else "<li>{}</li>", each)
+                           for each in shortage.candidates)
+    people = table(["Number", "name:Name", "Paper"],
+                   [[each.number, pages.text(each.name), each.sitting.paper] for each in unseated])
+    return pages.html("<h3>The halls that suit any of them: {}</h3><p>{}</p><h3>The candidates: {} (× has no desk)</h3>"
+                      "<ol class=numbers>{}</ol><h3>Without a desk: {}</h3><div class=columns>{}</div>",
+                      len(shortage.halls), ", ".join(hall for hall, _ in shortage.halls) or "none",
+                      f"{len(shortage.candidates):,}", numbers, f"{len(lacking):,}", people)
+
+
+def why(reasons: Reasons) -> Markup:
+    """Why each of those without a desk has none, hall by hall; halls with the same reason in one line."""
+    unseated = reasons.unseated()
+    parts = [explained(reasons, member) for member in unseated[:MOST_EXPLAINED]]
+    more = len(unseated) - MOST_EXPLAINED
+    if more > 0:
+        parts.append(pages.html("<p>{} more: <code>office why</code> says it of all.</p>", f"{more:,}"))
+    return pages.html("<div class=why><h3>Why they have no desk</h3>{}</div>", pages.joined(parts))
+
+
+def explained(reasons: Reasons, member: Member) -> Markup:
+    sitting = member.sitting
+    extra = f", with {sitting.extra} % extra time" if sitting.extra else ""
+    return pages.html("<p><b>{} {}</b> sits {} until {}{}, needs {}</p><ul>{}</ul>", member.number,
+                      pages.text(member.name), sitting.paper, sitting.finish, extra,
+                      "+".join(reasons.needs(member)) or "-", by_reason(reasons.of(member)))
+
+
+def by_reason(halls: Iterable[tuple[str, str]]) -> Markup:
+    found: dict[str, list[str]] = {}
+    for hall, reason in halls:
+        found.setdefault(reason, []).append(hall)
+    lines = [pages.html("<li>{}: {}</li>", ", ".join(codes), pages.text(reason)) for reason, codes in found.items()]
+    return pages.joined(lines) or Markup("<li>no hall is open</li>")
+
+
+STYLE = """
+:root { --ink: #1c2733; --soft: #55616d; --line: #c5ccd3; --blue: #2f5d82; --pale: #fdf1dc; --amber: #8a5a00; }
+body { margin: 0 auto; padding: 1.5rem 1.25rem 4rem; max-width: 72rem; background: #fff; color: var(--ink);
+  font: 16px/1.5 system-ui, "Segoe UI", "Helvetica Neue", "DejaVu Sans", sans-serif;
+  font-variant-numeric: tabular-nums; }
+h1 { font-size: 1.9rem; margin: 0; } h2 { font-size: 1.3rem; margin: 0 0 .6rem; }
+h3 { font-size: 1rem; margin: 0 0 .4rem; }
+small { color: var(--soft); font-size: .85em; font-weight: 400; } p { max-width: 46rem; margin: 0 0 .8rem; }
+header p { margin: .2rem 0; } nav a { margin-right: 1rem; } a { color: var(--blue); }
+body > section { margin-top: 2rem; padding-top: 1rem; border-top: 2px solid var(--ink); }
+.wide { overflow-x: auto; } table { border-collapse: collapse; width: 100%; } td { border-top: 1px solid var(--line); }
+th { text-align: left; font-size: .85rem; vertical-align: bottom; } td { vertical-align: top; }
+.n { text-align: right; }
+th, td { padding: .2rem .6rem .2rem 0; } .halls td:nth-child(2) { width: 45%; padding-top: .4rem; }
+.bar { display: block; width: 100%; height: 1rem; overflow: visible; }
+.hall { break-inside: avoid; margin-bottom: 1.4rem; }
+rect { stroke: var(--ink); vector-effect: non-scaling-stroke; } rect.lacking { stroke-width: 2; stroke-dasharray: 4 3; }
+.taken { fill: var(--blue); } .listed { fill: #e9b44c; } .free, .none, rect.lacking { fill: #fff; }
+.none { stroke: none; }
+.tag { border: 1px solid var(--ink); border-radius: .6rem; padding: 0 .45rem; font-size: .8rem; white-space: nowrap; }
+.tag.open { border-width: 2px; font-weight: 600; } .halls .tag { background: var(--pale); border-color: var(--amber); }
+.sum { font-size: 1.25rem; font-weight: 600; margin-bottom: .6rem; } .balance { display: grid; gap: .3rem 1rem;
+  grid-template-columns: max-content 1fr; align-items: center; max-width: 46rem; margin: 0 0 1rem; } dd { margin: 0; }
+.cards { display: flex; flex-wrap: wrap; gap: 1rem; align-items: flex-start; }
+td, h3, li, .why p { overflow-wrap: anywhere; } .n { overflow-wrap: normal; }
+.card { max-width: 100%; box-sizing: border-box; }
+.card { border: 2px solid var(--amber); background: var(--pale); border-radius: .4rem; padding: .6rem .8rem; }
+.card ol { list-style: none; display: flex; flex-wrap: wrap; gap: .35rem; margin: 0; padding: 0; }
+.card ol li { background: #fff; border: 1px solid var(--amber); border-radius: .25rem; padding: .2rem .45rem;
+  min-width: 8.5rem; line-height: 1.25; } .card.lacking, .card.lacking ol li { border-style: dashed; }
+.card.out { border: 1px solid var(--line); background: #fff; }
+.card ul { columns: 13rem; margin: 0; padding-left: 1.1rem; }
+.numbers { columns: 6.5rem; white-space: nowrap; list-style: none; padding: 0; margin: 0 0 1rem; }
+.why { margin-top: 1rem; } .why ul { margin: 0 0 .6rem; padding-left: 1.1rem; } .why b { font-weight: 600; }
+.columns { columns: 26rem; column-gap: 2.5rem; } .columns table { font-size: .92rem; }
+.columns th, .columns td { width: 1%; white-space: nowrap; }
+.columns .name { width: auto; white-space: normal; overflow-wrap: anywhere; }
+@media (max-width: 40rem) { .halls td:nth-child(2) { width: 22%; } }
+@media print { body { max-width: none; padding: 0; font-size: 10pt; } nav { display: none; }
+  a { color: inherit; text-decoration: none; } body > section { margin-top: 1rem; padding-top: .6rem; }
+  h2, h3 { break-after: avoid; } tr, li, .card { break-inside: avoid; } .wide { overflow: visible; }
+  th, td { padding-top: .08rem; padding-bottom: .08rem; } .columns { columns: 2; } .columns table { font-size: 9pt; } }
+"""

@@ -1,0 +1,27 @@
+"""A line for each session: members, seated, short, desks, free desks and open appeals."""
+from __future__ import annotations
+
+import sqlite3
+from collections.abc import Collection
+
+from exam_desk import appeals, facts
+from exam_desk.reading import Reading
+from exam_desk.words import clock
+
+LINE = "{:12} {:10} {:5} {:>7} {:>6} {:>5} {:>6} {:>6} {:>12}\n"
+HEADS = ["session", "date", "start", "members", "seated", "short", "desks", "free", "open appeals"]
+
+
+def text(reading: Reading, sessions: Collection[str] = ()) -> str:
+    """A table of the sessions asked for, otherwise of all."""
+    heads = facts.sessions(reading.rows, sessions)
+    reading.ask_sessions(head["code"] for head in heads)
+    return LINE.format(*HEADS) + "".join(line(reading, head) for head in heads)
+
+
+def line(reading: Reading, head: sqlite3.Row) -> str:
+    members = reading.members(head["code"])
+    seated = sum(member.sitting.hall is not None for member in members)
+    desks = sum(opening.desks for opening in facts.openings(reading.rows, head["code"]))
+    return LINE.format(head["code"], head["day"], clock(head["start"]), len(members), seated, len(members) - seated,
+                       desks, desks - seated, appeals.open_count(reading.rows, head["code"]))

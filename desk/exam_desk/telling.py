@@ -1,0 +1,156 @@
+"""Who must be told: what members of a session sit, when and where, at two moments of an office."""
+from __future__ import annotations
+
+import contextlib
+import sqlite3
+from collections.abc import Collection, Iterable
+from typing import NamedTuple
+
+import files
+from exam_desk import facts, lists
+from exam_desk.answers import Sitting
+from exam_desk.reading import Reading
+from exam_desk.trouble import Trouble
+from exam_desk.words import plain
+
+HEADER = ["tell", "session", "number", "name",
+          "old date", "old start", "old finish", "old paper", "old hall", "old desk",
+          "date", "start", "finish", "paper", "hall", "desk", "paper title", "hall title"]
+SESSIONS_OF = ("SELECT DISTINCT session FROM {moment}.paper JOIN {moment}.entry ON entry.paper = paper.code "
+               "WHERE entry.number IN ({numbers})")
+# By table: which sessions a row that is another can change, as a query over the rows in `different`.
+TOUCHED = {
+    "session": "SELECT code FROM different UNION " + SESSIONS_OF.replace(
+        "{numbers}", "SELECT number FROM {moment}.appeal WHERE session IN (SELECT code FROM different)"),
+    "paper": "SELECT session FROM different",
+    "hall": "SELECT session FROM {moment}.opening WHERE hall IN (SELECT code FROM different)",
+    "opening": "SELECT session FROM different",
+    "seat": "SELECT session FROM different",
+    "entry": "SELECT session FROM {moment}.paper WHERE code IN (SELECT paper FROM different)",
+    "arrangement": SESSIONS_OF.replace("{numbers}", "SELECT number FROM different"),
+    "appeal": SESSIONS_OF.replace("{numbers}", "SELECT number FROM different"),
+    "standing": SESSIONS_OF.replace("{numbers}", "SELECT number FROM different"),
+}
+
+
+class Change(NamedTuple):
+    """What a member of a session sat and sits; None where they sat or sit nothing."""
+    session: str
+    number: str
+    name: str
+    old: Sitting | None
+    new: Sitting | None
+
+    def is_to_tell(self) -> bool:
+        """Whether more is another than the desk."""
+        return self.old is None or self.new is None or shown(self.old)[:-1] != shown(self.new)[:-1]
+
+    def what(self) -> str:
+        """The change in words."""
+        if self.old is None or self.new is None:
+            word, sitting = ("joined", self.new) if self.old is None else ("left", self.old)
+            return f"{word}: {sitting.paper}, {time(sitting)}, {place(sitting)}" if sitting else ""
+        pairs = [(part(self.old), part(self.new)) for part in (place, paper, time)]
+        return ", ".join(f"{old} -> {new}" for old, new in pairs if old != new)
+
+
+def shown(sitting: Sitting) -> list[str]:
+    """The columns of the CSV."""
+    return [sitting.date, sitting.start, sitting.finish, sitting.paper, sitting.hall or "", str(sitting.desk or "")]
+
+
+def time(sitting: Sitting) -> str:
+    return f"{sitting.date} {sitting.start} to {sitting.finish}"
+
+
+def place(sitting: Sitting) -> str:
+    return f"{sitting.hall} desk {sitting.desk}" if sitting.hall else "no desk"
+
+
+def paper(sitting: Sitting) -> str:
+    return sitting.paper
+
+
+def differences(before: Reading, after: Reading, asked: Collection[str] = ()) -> list[Change]:
+    """The changes by session, in each by name; of these sessions, or of all. The program is asked only of sessions in
+    which a row is another. Raises `Trouble` where neither office has a session that is asked for."""
+    sessions = all_sessions(before, after)
+    for code in asked:
+        if code not in sessions:
+            raise Trouble(f"there is no session {code}; the office has {', '.join(sessions[:20])}")
+    touched = touched_sessions(before, after)
+    chosen = [code for code in sessions if code in touched and (not asked or code in asked)]
+    for reading in (before, after):
+        reading.ask_sessions(chosen)
+    return [change for code in chosen for change in of_session(before, after, code)]
+
+
+def all_sessions(before: Reading, after: Reading) -> list[str]:
+    """The codes of the sessions after, by day and start; then of those that are gone."""
+    return list(dict.fromkeys(head["code"] for reading in (after, before) for head in facts.sessions(reading.rows)))
+
+
+def touched_sessions(before: Reading, after: Reading) -> set[str]:
+    """The sessions that some row which is in one of the readings alone may have changed."""
+    with contextlib.closing(sqlite3.connect(":memory:")) as both:
+        both.execute("PRAGMA temp_store = MEMORY")  # reasons of appeals are in no file of others
+        both.execute("ATTACH ? AS before", [before.copy])
+        both.execute("ATTACH ? AS after", [after.copy])
+        return {code for table, query in TOUCHED.items() for code in touched_by(both, table, query)}
+
+
+def touched_by(both: sqlite3.Connection, table: str, query: str) -> set[str]:
+    found: set[str] = set()
+    for one, other in (("before", "after"), ("after", "before")):
+        both.execute("DROP TABLE IF EXISTS temp.different")
+        both.execute(f"CREATE TEMP TABLE different AS SELECT * FROM {one}.{table} EXCEPT SELECT * FROM {other}.{table}")
+        found.update(code for code, in both.execute(query.format(moment=one)))
+    return found
+
+
+def of_session(before: Reading, after: Reading, session: str) -> list[Change]:
+    old, new = sittings(before, session), sittings(after, session)
+    names = {**old, **new}
+    found = [Change(session, number, names[number][0], *(side.get(number, (None, None))[1] for side in (old, new)))
+             for number in names]
+    return sorted(filter(is_change, found), key=lambda change: lists.name_order(change.name, change.number))
+
+
+def is_change(change: Change) -> bool:
+    return change.old is None or change.new is None or shown(change.old) != shown(change.new)
+
+
+def sittings(reading: Reading, session: str) -> dict[str, tuple[str, Sitting]]:
+    """By number the name and what they sit; nothing where there is no such session."""
+    if all(head["code"] != session for head in facts.sessions(reading.rows)):
+        return {}
+    return {member.number: (member.name, member.sitting) for member in reading.members(session)}
+
+
+def text(changes: Collection[Change]) -> str:
+    """A line for each change, `!` before those to tell; then how many there are."""
+    lines = [f"{'!' if change.is_to_tell() else ' '} {change.session} {change.number} {plain(change.name)}: {change.what()}"
+             for change in changes]
+    telling = sum(change.is_to_tell() for change in changes)
+    lines.append(f"{telling} to tell, {len(changes) - telling} with another desk only" if changes else "nothing changed")
+    return "".join(f"{line}\n" for line in lines)
+
+
+def csv_text(changes: Iterable[Change], titles: dict[str, str]) -> str:
+    """For a spreadsheet: each value in quotes, and no formula. A mark at the beginning says that it is UTF-8."""
+    return files.BOM.decode() + files.written([HEADER, *(csv_row(change, titles) for change in changes)])
+
+
+def csv_row(change: Change, titles: dict[str, str]) -> list[str]:
+    old, new = (shown(each) if each else [""] * 6 for each in (change.old, change.new))
+    last = change.new or change.old
+    codes = [last.paper, last.hall or ""] if last else ["", ""]
+    return ["yes" if change.is_to_tell() else "no", change.session, change.number, files.guarded(change.name), *old, *new,
+            *(files.guarded(titles.get(code, "")) for code in codes)]
+
+
+def titles_of(*readings: Reading) -> dict[str, str]:
+    """The titles of papers and halls by code; a later reading counts."""
+    return {code: title for reading in readings
+            for found in (facts.paper_titles(reading.rows), facts.hall_titles(reading.rows))
+            for code, title in found.items()}
