@@ -1,0 +1,78 @@
+"""Appeals: the open ones by their last day, one with what its grant would come to, and two papers at once."""
+from __future__ import annotations
+
+import sqlite3
+from typing import NoReturn
+
+from flask import Blueprint, abort, render_template, request
+
+from exam_desk import appeals, changing, facts, lastdays
+from exam_web import counting, effects, plans, proposals
+from exam_web.desk import desk, view
+from exam_web.wording import days_until
+
+pages = Blueprint("appeals", __name__)
+MOST_SHOWN = 300
+ALL = ("SELECT appeal.*, day, session.start AS start, name FROM appeal JOIN session ON session.code = session "
+       "JOIN candidate ON candidate.number = appeal.number ")
+
+
+def missing() -> NoReturn:
+    abort(404)
+
+
+@pages.get("/appeals")
+def page() -> str:
+    waiting = view().rows(ALL + "WHERE state = 1 ORDER BY day, session.start, lodged, appeal.number")
+    rest = view().rows(ALL + "WHERE state <> 1 ORDER BY day, session.start, lodged, appeal.number LIMIT ?", [MOST_SHOWN])
+    decided = view().count("SELECT count(*) FROM appeal WHERE state <> 1")
+    return render_template("appeals.html", waiting=waiting, rest=rest, decided=decided, appeals=appeals,
+                           last_day=lastdays.to_decide)
+
+
+def appeal_row(number: int, ref: str) -> sqlite3.Row:
+    return view().row(ALL + "WHERE appeal.number = ? AND ref = ?", [number, ref]) or missing()
+
+
+@pages.get("/appeals/<int:number>/<ref>")
+def one(number: int, ref: str) -> str:
+    row = appeal_row(number, ref)
+    member = view().reading.member(row["session"], f"{number:07}")
+    others = view().count("SELECT count(*) FROM appeal WHERE number = ?", [number]) - 1
+    return render_template("appeal.html", row=row, member=member, appeals=appeals, others=others,
+                           last=lastdays.to_decide(row["day"]), titles=facts.paper_titles(view().reading.rows),
+                           late=days_until(row["day"]) <= 0)
+
+
+@pages.get("/appeals/<int:number>/<ref>/if-granted")
+def if_granted(number: int, ref: str) -> str:
+    """What a grant would come to: it is tried on a private copy, so the office stays as it is."""
+    row = appeal_row(number, ref)
+    if row["state"] != 1:
+        missing()
+    outcome = "standing" if "standing" in request.args and row["kind"] == 3 else "granted"
+    step = plans.command("decide", f"{number:07}", ref, outcome, "")
+    with desk().rehearsing, changing.rehearse(desk().office, [step]) as rehearsal:
+        refusal = rehearsal.refused.first_line() if rehearsal.refused else ""
+        found = None if refusal else proposals.compared(desk(), rehearsal)[0]
+    return render_template("if_granted.html" if "piece" in request.args else "if_granted_page.html", row=row, e=found,
+                           refusal=proposals.worded(refusal), most=12, kind_of=effects.kind_of)
+
+
+clash_pages = Blueprint("clashes", __name__)
+
+
+@clash_pages.get("/clashes")
+def clashes() -> str:
+    """Everybody with two papers at the same time, and whether they have asked to sit the other."""
+    asked = {(row["session"], row["number"]): row for row in view().rows(
+        "SELECT * FROM appeal WHERE kind = 2 ORDER BY lodged")}
+    numbers = counting.two_papers(view())
+    sessions = [each for each in counting.sums(view()).values() if each.clashes]
+    chosen = request.args.get("session", "")
+    shown = [each for each in sessions if each.code == chosen] or sessions[:1]
+    from exam_web.session import members_of
+    members = {each.code: members_of(each.code, numbers[each.code][:MOST_SHOWN]) for each in shown}
+    missed = {each.code: view().reading.clashes(each.code) for each in shown}
+    return render_template("clashes.html", sessions=sessions, shown=shown, members=members, missed=missed, asked=asked,
+                           appeals=appeals, titles=facts.paper_titles(view().reading.rows))

@@ -1,0 +1,81 @@
+"""Candidates: the search, and the page of one with timetable, arrangement, appeals and access code."""
+from __future__ import annotations
+
+import sqlite3
+from typing import NoReturn
+
+from flask import Blueprint, abort, g, redirect, render_template, request, url_for
+from werkzeug.wrappers import Response
+
+from exam_desk import appeals, facts, lists
+from exam_web import printing
+from exam_web.desk import View, view
+
+pages = Blueprint("candidates", __name__)
+MOST_FOUND, MOST_ASKED = 100, 80
+
+
+def missing() -> NoReturn:
+    abort(404)
+
+
+@pages.get("/candidates")
+def find() -> str | Response:
+    asked = request.args.get("q", "").strip()[:MOST_ASKED]
+    found = search(asked) if asked else []
+    if len(found) == 1:
+        return redirect(url_for("candidates.page", number=found[0][0]))
+    everybody = view().once("candidates", lambda: view().count("SELECT count(*) FROM candidate"))
+    return render_template("candidates.html", asked=asked, found=found[:MOST_FOUND], total=len(found), everybody=everybody)
+
+
+def search(asked: str) -> list[tuple[int, str]]:
+    """Whose number ends so, or whose name has all these words: accents and capitals do not matter."""
+    people = view().once("people", lambda: folded(view()))
+    if asked.isascii() and asked.isdigit():
+        end = asked.lstrip("0") or "0"
+        return [(number, name) for number, name, _ in people if str(number).endswith(end)]
+    words = lists.fold(asked).split()
+    return [(number, name) for number, name, letters in people if all(word in letters for word in words)]
+
+
+def folded(found: View) -> list[tuple[int, str, str]]:
+    """All candidates in the order of their names, each with the letters that the search compares."""
+    people = [(number, name, lists.fold(name)) for number, name in found.rows("SELECT number, name FROM candidate")]
+    return sorted(people, key=lambda each: lists.name_order(each[1], f"{each[0]:07}"))
+
+
+def candidate_row(number: int) -> sqlite3.Row:
+    return view().row("SELECT number, name FROM candidate WHERE number = ?", [number]) or missing()
+
+
+@pages.get("/candidates/<int:number>")
+def page(number: int, code: str = "") -> str:
+    who = candidate_row(number)
+    entries = view().rows("SELECT session.code AS session, day, start, paper.code AS paper, title, live FROM entry "
+                          "JOIN paper ON paper.code = paper JOIN session ON session.code = session WHERE number = ? "
+                          "ORDER BY day, start, session.code, paper.code", [number])
+    lodged = view().rows("SELECT appeal.*, day FROM appeal JOIN session ON session.code = session WHERE number = ? "
+                         "ORDER BY state, lodged, ref", [number])
+    standing = {ref for ref, in view().rows("SELECT ref FROM standing WHERE number = ?", [number])}
+    others = view().rows("SELECT paper.code AS code, title, session FROM paper JOIN session ON session.code = session "
+                         "WHERE paper.code NOT IN (SELECT paper FROM entry WHERE number = ?) "
+                         "ORDER BY day, start, paper.code", [number])
+    return render_template("candidate.html", who=who, entries=entries, sittings=view().reading.all_of(f"{number:07}"),
+                           lodged=lodged, standing=standing, others=others, code=code, appeals=appeals,
+                           hall_titles=facts.hall_titles(view().reading.rows),
+                           arrangement=view().row("SELECT needs, extra FROM arrangement WHERE number = ?", [number]))
+
+
+@pages.post("/candidates/<int:number>/code")
+def code(number: int) -> str:
+    """The access code, because somebody asked for it: a POST, so that it is in no history and is never fetched ahead."""
+    row = view().row("SELECT code FROM candidate WHERE number = ?", [number]) or missing()
+    return page(number, row["code"])
+
+
+@pages.post("/candidates/<int:number>/slip")
+def slip(number: int) -> str:
+    candidate_row(number)
+    made, g.style = printing.slip(view().reading, f"{number:07}", "codes" in request.form)
+    return made

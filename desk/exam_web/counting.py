@@ -1,0 +1,67 @@
+"""What is counted of sessions, by rows: members, seats, desks, two papers at once, open appeals."""
+from __future__ import annotations
+
+from dataclasses import dataclass
+
+from exam_web.desk import View
+
+LIVE = "FROM entry JOIN paper ON paper.code = entry.paper WHERE live = 1"
+COUNTS = {
+    "members": f"SELECT session, count(DISTINCT number) {LIVE} GROUP BY session",
+    "seated": "SELECT session, count(*) FROM seat GROUP BY session",
+    "desks": "SELECT session, sum(desks) FROM opening GROUP BY session",
+    "halls": "SELECT session, count(*) FROM opening GROUP BY session",
+    "clashes": f"SELECT session, count(*) FROM (SELECT session, number {LIVE} GROUP BY session, number "
+               "HAVING count(*) > 1) GROUP BY session",
+    "waiting": "SELECT session, count(*) FROM appeal WHERE state = 1 GROUP BY session",
+}
+
+
+@dataclass(frozen=True)
+class Sums:
+    """A session in numbers."""
+    code: str
+    day: str
+    start: int  # minutes of the day
+    members: int
+    seated: int
+    desks: int
+    halls: int
+    clashes: int  # members with more than one live entry
+    waiting: int  # open appeals
+
+    @property
+    def short(self) -> int:
+        return self.members - self.seated
+
+    @property
+    def free(self) -> int:
+        return self.desks - self.seated
+
+
+def sums(view: View) -> dict[str, Sums]:
+    """All sessions by code, in the order of their days."""
+    return view.once("sums", lambda: make_sums(view))
+
+
+def make_sums(view: View) -> dict[str, Sums]:
+    counts = {name: dict(map(tuple, view.rows(query))) for name, query in COUNTS.items()}
+    return {code: Sums(code, day, start, **{name: found.get(code, 0) for name, found in counts.items()})
+            for code, day, start in view.rows("SELECT code, day, start FROM session ORDER BY day, start, code")}
+
+
+def two_papers(view: View, session: str | None = None) -> dict[str, list[int]]:
+    """By session the numbers of those who have two live entries in it."""
+    found: dict[str, list[int]] = {}
+    which, values = ("AND session = ?", [session]) if session else ("", [])
+    for code, number in view.rows(f"SELECT session, number {LIVE} {which} GROUP BY session, number HAVING count(*) > 1 "
+                                  "ORDER BY session, number", values):
+        found.setdefault(code, []).append(number)
+    return found
+
+
+def without_desk(view: View, session: str) -> list[int]:
+    """The numbers of the members of a session who have no seat in it."""
+    return [number for number, in view.rows(
+        f"SELECT DISTINCT number {LIVE} AND session = ? EXCEPT SELECT number FROM seat WHERE session = ?",
+        [session, session])]

@@ -1,0 +1,205 @@
+"""What the pages of one desk share: the office that they show, read once for each of its states."""
+from __future__ import annotations
+
+import contextlib
+import dataclasses
+import os
+import sqlite3
+import threading
+import time
+from collections.abc import Callable, Iterator, Sequence
+from typing import Any, TypeVar
+
+from flask import current_app, g
+
+from exam_desk import changing, states
+from exam_desk.office import Office
+from exam_desk.reading import Reading
+
+PATIENCE = 4  # seconds that a page waits for the office to be read, or for a rehearsal
+COPYING, COUNTING = "Its files are copied and read", "Candidates and desks are counted"
+Found = TypeVar("Found")
+
+
+class StillReading(Exception):
+    """The office is being read: how far that is, in words."""
+
+
+class View:
+    """An office at one moment, with all that pages worked out of it. Close it."""
+
+    def __init__(self, office: Office, path: str | None = None) -> None:
+        self.began = time.monotonic()
+        self.lock = threading.RLock()
+        self.found: dict[Any, Any] = {}
+        self.readers, self.is_old = 0, False  # of Desk
+        self.stack = contextlib.ExitStack()
+        self.reading = self.stack.enter_context(Reading(office, path))
+        self.name = states.name_of(self.reading.rows)
+
+    def rows(self, query: str, values: Sequence[object] = ()) -> list[sqlite3.Row]:
+        return self.reading.rows.execute(query, values).fetchall()
+
+    def row(self, query: str, values: Sequence[object] = ()) -> sqlite3.Row | None:
+        found: sqlite3.Row | None = self.reading.rows.execute(query, values).fetchone()
+        return found
+
+    def count(self, query: str, values: Sequence[object] = ()) -> int:
+        return int(self.reading.rows.execute(query, values).fetchone()[0])
+
+    def once(self, key: object, make: Callable[[], Found]) -> Found:
+        """What is worked out of this state is worked out once."""
+        with self.lock:
+            if key not in self.found:
+                self.found[key] = make()
+            result: Found = self.found[key]
+            return result
+
+    def close(self) -> None:
+        self.stack.close()
+
+
+class Desk:
+    """One office, the address of its pages, and the view that they show.
+
+    One thread reads the office as long as the desk lives: the program that answers for a view ends with that thread.
+    """
+
+    def __init__(self, office: Office, address: str, prefix: str, pretended: bool) -> None:
+        self.office, self.address, self.prefix = office, address, prefix
+        self.pretended = pretended  # whether the day is not the clock's
+        self.warm: Callable[[View], None] = lambda view: None  # works out what pages want first
+        self.rehearsing = threading.Lock()  # one rehearsal at a time: each takes a core
+        self.changed = threading.Condition()  # of all below
+        self.held: View | None = None
+        self.wanted = self.read_until = 0.0  # when a view was asked for; when the reading began that ended last
+        self.fault: Exception | None = None  # of the last reading
+        self.stage = ""
+        self.is_closed = False
+        self.reader = threading.Thread(target=self.read_on_demand, daemon=True)
+        self.reader.start()
+
+    def is_there(self) -> bool:
+        return os.path.isfile(self.office.path)
+
+    def read_on_demand(self) -> None:
+        while True:
+            with self.changed:
+                self.changed.wait_for(lambda: self.is_closed or self.wanted > self.read_until)
+                if self.is_closed:
+                    return
+            self.read()
+
+    def read(self) -> None:
+        """Reads the office, and puts it in the place of the view that is held."""
+        began = time.monotonic()
+        view, fault = None, None
+        try:
+            self.stage = COPYING
+            view = View(self.office)
+            self.stage = COUNTING
+            self.warm(view)
+        except Exception as error:  # whoever waits for the view says it
+            fault = error
+        with self.changed:
+            self.read_until, self.fault = began, fault
+            if view and not fault:
+                old, self.held = self.held, view
+                if old:
+                    self.drop(old)
+            elif view:
+                view.close()
+            self.changed.notify_all()
+        if view and not fault and (first := view.row("SELECT number FROM candidate LIMIT 1")):
+            with contextlib.suppress(Exception):  # a page that asks says it
+                view.reading.all_of(f"{first['number']:07}")
+
+    def drop(self, view: View) -> None:
+        view.is_old = True
+        if not view.readers:
+            view.close()
+
+    def start_reading(self) -> None:
+        with self.changed:
+            self.wanted = time.monotonic()
+            self.changed.notify_all()
+
+    def view(self) -> View:
+        """The office as it is now, for one reader, who releases it. Raises `StillReading` where that takes long."""
+        asked = time.monotonic()
+        with self.changed:
+            if not self.has_current(asked):
+                self.wanted = asked
+                self.changed.notify_all()
+                self.changed.wait_for(lambda: self.read_until >= asked, PATIENCE)
+                if self.read_until >= asked and self.fault:
+                    raise self.fault
+            if not self.has_current(asked):
+                raise StillReading(self.stage)
+            assert self.held
+            self.held.readers += 1
+            return self.held
+
+    def has_current(self, asked: float) -> bool:
+        return self.held is not None and (self.held.began >= asked or self.held.reading.is_current())
+
+    def release(self, view: View) -> None:
+        with self.changed:
+            view.readers -= 1
+            if view.is_old:
+                self.drop(view)
+
+    @contextlib.contextmanager
+    def before(self, rehearsal: changing.Rehearsal) -> Iterator[View]:
+        """The office as a rehearsal found it: the view at hand, where the office is still of that state."""
+        with self.changed:
+            held = self.held if self.held and self.held.reading.is_current() else None
+            if held:
+                held.readers += 1
+        if held:
+            try:
+                yield held
+            finally:
+                self.release(held)
+        else:
+            with contextlib.closing(View(self.office, rehearsal.before)) as view:
+                yield view
+
+    def close(self) -> None:
+        with self.changed:
+            self.is_closed = True
+            self.changed.notify_all()
+        self.reader.join()
+        if self.held:
+            self.held.close()
+
+
+def desk() -> Desk:
+    """The desk that answers this request."""
+    found: Desk = current_app.extensions["desk"]
+    return found
+
+
+def office() -> Office:
+    """The office, with the initials of who works in this browser."""
+    here = desk().office
+    return dataclasses.replace(here, user=f"{here.user} ({g.visit.initials}, desk)")
+
+
+def view() -> View:
+    """The office as this request shows it: one moment for all of a page."""
+    if "view" not in g:
+        g.view = desk().view()
+    found: View = g.view
+    return found
+
+
+def fresh() -> View:
+    """The office after this request has changed it."""
+    release()
+    return view()
+
+
+def release(_: BaseException | None = None) -> None:
+    if found := g.pop("view", None):
+        desk().release(found)

@@ -1,0 +1,71 @@
+"""What a change does to people and to sessions: the difference of two states of an office."""
+from __future__ import annotations
+
+from collections import Counter
+from dataclasses import dataclass
+
+from exam_desk import telling
+from exam_desk.telling import Change
+from exam_web import counting
+from exam_web.desk import View
+
+KINDS = {  # the gravest first: in words before the change, and after it
+    "loses": ("would lose the desk", "lost the desk"),
+    "moves": ("would move to another hall", "moved to another hall"),
+    "gains": ("would get a desk", "got a desk"),
+    "time": ("would have another paper or time", "have another paper or time"),
+    "leaves": ("would leave a session", "left a session"),
+    "joins": ("would join a session", "joined a session"),
+    "desk": ("would have another desk number only", "have another desk number only"),
+}
+ORDER = list(KINDS)
+NUMBERS = ("members", "desks", "short", "clashes")
+
+
+def kind_of(change: Change) -> str:
+    """One of KINDS."""
+    old, new = change.old, change.new
+    if old is None or new is None:
+        return "joins" if old is None else "leaves"
+    if old.hall == new.hall:
+        return "time" if change.is_to_tell() else "desk"
+    return "moves" if old.hall and new.hall else "loses" if old.hall else "gains"
+
+
+@dataclass(frozen=True)
+class SessionChange:
+    """A session whose numbers are others: of each the number before and after, None where there was no session."""
+    code: str
+    day: str
+    numbers: dict[str, tuple[int | None, int]]
+
+
+class Effects:
+    """The changes of people, the gravest first, and of sessions."""
+
+    def __init__(self, changes: list[Change], sessions: list[SessionChange], titles: dict[str, str]) -> None:
+        self.changes = sorted(changes, key=lambda each: ORDER.index(kind_of(each)))
+        self.sessions, self.titles = sessions, titles
+        self.to_tell = [each for each in self.changes if each.is_to_tell()]
+        self.people = len({each.number for each in self.to_tell})
+        self.counts = Counter(map(kind_of, self.changes))
+        self.desk_only = Counter(each.session for each in self.changes if kind_of(each) == "desk")  # by session
+
+    def csv(self) -> str:
+        return telling.csv_text(self.changes, self.titles)
+
+
+def effects(before: View, after: View) -> Effects:
+    return Effects(telling.differences(before.reading, after.reading), session_changes(before, after),
+                   telling.titles_of(before.reading, after.reading))
+
+
+def session_changes(before: View, after: View) -> list[SessionChange]:
+    old = counting.sums(before)
+    found = []
+    for session in counting.sums(after).values():
+        was = old.get(session.code)
+        numbers = {name: (getattr(was, name) if was else None, getattr(session, name)) for name in NUMBERS}
+        if any(before != after for before, after in numbers.values()):
+            found.append(SessionChange(session.code, session.day, numbers))
+    return found

@@ -1,0 +1,86 @@
+"""Files: what the office has, what is uploaded, its mistakes, and the import that is rehearsed."""
+from __future__ import annotations
+
+import os
+import secrets
+
+from flask import Blueprint, Response, abort, g, redirect, render_template, request, url_for
+from werkzeug.wrappers import Response as Answer
+
+from exam_desk import dumping, files, private
+from exam_web import downloads, uploads
+from exam_web.desk import desk, view
+from exam_web.wording import many, text
+
+pages = Blueprint("files", __name__)
+MOST_LINES = 300  # of a workbook, on the page
+DATES = ("", "day-first", "month-first")
+COUNTS = {"sessions": "session", "papers": "paper", "halls": "hall", "openings": "opening", "candidates": "candidate",
+          "arrangements": "arrangement", "entries": "entry WHERE live = 1"}
+
+
+@pages.get("/files")
+def page() -> str | Answer:
+    if not desk().is_there():
+        return redirect(url_for("season.page"))
+    counts = view().once("rows", lambda: {kind: view().count(f"SELECT count(*) FROM {table}") for kind, table in COUNTS.items()})
+    return render_template("files.html", headers=files.HEADERS, counts=counts, uploaded=g.visit.uploads)
+
+
+@pages.post("/files")
+def upload() -> Answer:
+    dates = request.form.get("dates", "")
+    if dates not in DATES or not desk().is_there():
+        abort(400)
+    found = uploads.taken(request.files.getlist("files"), dates, view())
+    if not (found.texts or found.notes or found.workbooks):
+        g.visit.said.append(("bad", text("Choose the files first.")))
+        return redirect(url_for("files.page"), 303)
+    while len(g.visit.uploads) >= uploads.MOST_UPLOADS:
+        g.visit.uploads.pop(next(iter(g.visit.uploads)))
+    key = secrets.token_urlsafe(9)
+    g.visit.uploads[key] = found
+    return redirect(url_for("files.look", key=key), 303)
+
+
+@pages.get("/files/uploaded/<key>")
+def look(key: str) -> str:
+    upload = uploads.of_visit(key)
+    looked = uploads.looked_through(upload.texts, view())
+    return render_template("look.html", key=key, upload=upload, looked=looked, headers=files.HEADERS,
+                           total=sum(each.count for each in looked.values()), most=uploads.MOST_SHOWN, most_lines=MOST_LINES,
+                           cures=sum(bool(fault.write) for each in looked.values() for fault in each.faults))
+
+
+@pages.post("/files/uploaded/<key>/correct")
+def correct(key: str) -> Answer:
+    """Values typed beside mistakes, or all cures that are clear; the officer's own files stay as they are."""
+    upload = uploads.of_visit(key)
+    taken = {code for code, in view().rows("SELECT code FROM candidate")}
+    rows = 0
+    for kind, looked in uploads.looked_through(upload.texts, view()).items():
+        wanted = uploads.corrections(kind, looked, request.form, taken)
+        if wanted:
+            upload.texts[kind] = uploads.corrected(upload.texts[kind], wanted)
+            rows += len(wanted)
+    upload.edits += rows
+    g.visit.said.append(("good", many(rows, "{count} row is corrected in what was uploaded; your own files are as they were.",
+                                      "{count} rows are corrected in what was uploaded; your own files are as they were.")))
+    return redirect(url_for("files.look", key=key), 303)
+
+
+@pages.get("/files/uploaded/<key>/<kind>.csv")
+def download(key: str, kind: str) -> Response:
+    found = uploads.of_visit(key).texts.get(kind) if kind in files.HEADERS else None
+    if found is None:
+        abort(404)
+    return downloads.attached(found, f"{kind}.csv", "text/csv")
+
+
+@pages.post("/files/dump")
+def dump() -> Response:
+    """All facts as the seven files."""
+    with private.own_folder(desk().office.path) as folder:
+        place = os.path.join(folder, "facts")
+        dumping.write(view().reading.rows, place)
+        return downloads.archive(place, f"facts-{desk().office.today().isoformat()}")

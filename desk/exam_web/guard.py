@@ -1,0 +1,188 @@
+"""Who may come in: one address, one link, one visit; and what a page of the desk may load.
+
+Every request passes `Door` and `Guard.check` before a route sees it. A route is open without a visit only where its
+endpoint stands in OPEN.
+"""
+from __future__ import annotations
+
+import base64
+import contextlib
+import hashlib
+import hmac
+import os
+import secrets
+import threading
+import time
+from collections.abc import Callable, Iterable
+from dataclasses import dataclass, field
+from typing import Any
+
+from flask import Flask, Response, abort, g, request
+
+from exam_desk import beside
+
+LINK_SECONDS = 600  # of a link that nobody opened
+IDLE_SECONDS = 8 * 3600
+MOST_UPLOAD = 32 << 20  # bytes of a request
+MOST_VISITS = 40
+LINKS, COOKIE, MARK = "links", "desk", "mark"
+OPEN = {"entering.page", "entering.enter", "static"}
+HEADERS = {
+    "X-Content-Type-Options": "nosniff",
+    "Referrer-Policy": "same-origin",
+    "Cross-Origin-Opener-Policy": "same-origin",
+    "Cross-Origin-Resource-Policy": "same-origin",
+    "X-Frame-Options": "DENY",
+    "Cache-Control": "no-store",
+    "Permissions-Policy": "camera=(), microphone=(), geolocation=()",
+}
+POLICY = ("default-src 'none'; script-src 'self'; style-src 'self'{}; img-src 'self'; connect-src 'self'; "
+          "form-action 'self'; frame-ancestors 'none'; base-uri 'none'")
+STRANGE_HOST = "The desk answers to its own address alone: http://{}. Open it by that address, not by a name.\n"
+Start = Callable[..., Any]
+
+
+@dataclass
+class Visit:
+    """A browser that came in by a link. All of it goes when the desk ends or the screen is locked."""
+    initials: str  # of who works, as the log has them
+    mark: str = field(default_factory=lambda: secrets.token_urlsafe(24))  # stands in each form
+    seen: float = field(default_factory=time.monotonic)
+    said: list[tuple[str, Any]] = field(default_factory=list)  # what the next page says once
+    proposals: dict[str, Any] = field(default_factory=dict)
+    uploads: dict[str, Any] = field(default_factory=dict)
+
+
+class Door:
+    """Lets through to the pages what asks for the desk's own address, below its secret prefix."""
+
+    def __init__(self, pages: Callable[[dict[str, Any], Start], Iterable[bytes]], address: str, prefix: str) -> None:
+        self.pages, self.address, self.prefix = pages, address, prefix
+
+    def __call__(self, environ: dict[str, Any], start: Start) -> Iterable[bytes]:
+        if environ.get("HTTP_HOST") != self.address:  # a stranger's name that points here (DNS rebinding)
+            return refusal(start, "421 Misdirected Request", STRANGE_HOST.format(self.address))
+        path = environ.get("PATH_INFO", "")
+        if not path.startswith(self.prefix + "/"):
+            return refusal(start, "404 Not Found", "Nothing is here. `office desk --link` prints a link to the desk.\n")
+        return self.pages({**environ, "SCRIPT_NAME": self.prefix, "PATH_INFO": path[len(self.prefix):]}, start)
+
+
+def refusal(start: Start, status: str, text: str) -> list[bytes]:
+    body = text.encode()
+    start(status, [("Content-Type", "text/plain; charset=utf-8"), ("Content-Length", str(len(body))),
+                   ("X-Content-Type-Options", "nosniff"), ("Cache-Control", "no-store")])
+    return [body]
+
+
+def digest(secret: str) -> str:
+    return hashlib.sha256(secret.encode("utf-8", "surrogateescape")).hexdigest()
+
+
+def new_link(office: str, address: str, prefix: str) -> str:
+    """A link that opens the desk once. Its hash alone is kept, as the name of a file that only the owner sees."""
+    token = secrets.token_urlsafe(24)
+    beside.make_folder(office, LINKS)
+    os.close(beside.open_file(office, LINKS, digest(token), flags=os.O_WRONLY | os.O_CREAT | os.O_EXCL))
+    return f"http://{address}{prefix}/enter#{token}"
+
+
+def use_link(office: str, token: str) -> bool:
+    """Whether a token opens the desk. It does so once, since its file goes; links that nobody used go too."""
+    with contextlib.suppress(FileNotFoundError):
+        folder = beside.open_folder(office, LINKS)
+        try:
+            for name in os.listdir(folder):
+                if name != digest(token) and age(name, folder) > LINK_SECONDS:
+                    os.unlink(name, dir_fd=folder)
+            made = age(digest(token), folder)
+            os.unlink(digest(token), dir_fd=folder)
+            return made < LINK_SECONDS
+        finally:
+            os.close(folder)
+    return False
+
+
+def age(name: str, folder: int) -> float:
+    """The seconds since a file was made."""
+    return abs(time.time() - os.stat(name, dir_fd=folder, follow_symlinks=False).st_mtime)
+
+
+def drop_links(office: str) -> None:
+    """Removes all links: none of them opens the next desk."""
+    with contextlib.suppress(OSError):
+        folder = beside.open_folder(office, LINKS)
+        try:
+            for name in os.listdir(folder):
+                os.unlink(name, dir_fd=folder)
+        finally:
+            os.close(folder)
+        os.rmdir(os.path.join(beside.folder(office), LINKS))
+
+
+class Guard:
+    """Checks every request before a route sees it, and dresses every answer."""
+
+    def __init__(self, app: Flask, address: str, prefix: str) -> None:
+        self.address, self.prefix = address, prefix
+        self.visits: dict[str, Visit] = {}  # by the hash of their cookie
+        self.lock = threading.Lock()
+        app.config["MAX_CONTENT_LENGTH"] = MOST_UPLOAD
+        app.before_request(self.check)
+        app.after_request(self.dress)
+
+    def check(self) -> None:
+        """Refuses what another page, another server or a stranger asks: 401, 403."""
+        if request.headers.get("Sec-Fetch-Site", "same-origin") not in ("same-origin", "none"):
+            abort(403)
+        reads = request.method in ("GET", "HEAD")
+        if not reads and (request.method != "POST" or request.headers.get("Origin") != f"http://{self.address}"):
+            abort(403)
+        g.visit = self.found()
+        if request.endpoint in OPEN:
+            return
+        if g.visit is None:
+            abort(401)
+        if not reads and not hmac.compare_digest(request.form.get(MARK, "").encode(), g.visit.mark.encode()):
+            abort(403)
+
+    def found(self) -> Visit | None:
+        """The visit of the cookie; one that was idle too long is over."""
+        key = digest(request.cookies.get(COOKIE, ""))
+        with self.lock:
+            visit = self.visits.get(key)
+            if visit and time.monotonic() - visit.seen > IDLE_SECONDS:
+                del self.visits[key]
+                return None
+        if visit:
+            visit.seen = time.monotonic()
+        return visit
+
+    def begin(self, response: Response, initials: str) -> None:
+        """Starts a visit. Cookies know no ports, so this one is for the secret path of this desk: no other server of
+        the machine is sent it."""
+        secret = secrets.token_urlsafe(32)
+        with self.lock:
+            while len(self.visits) >= MOST_VISITS:
+                del self.visits[min(self.visits, key=lambda key: self.visits[key].seen)]
+            self.visits[digest(secret)] = Visit(initials)
+        response.set_cookie(COOKIE, secret, path=self.prefix + "/", httponly=True, samesite="Strict")
+
+    def end(self, response: Response) -> None:
+        with self.lock:
+            self.visits.pop(digest(request.cookies.get(COOKIE, "")), None)
+        response.delete_cookie(COOKIE, path=self.prefix + "/")
+
+    def dress(self, response: Response) -> Response:
+        for name, value in HEADERS.items():
+            response.headers.setdefault(name, value)
+        style = g.get("style")
+        response.headers["Content-Security-Policy"] = POLICY.format(f" '{source_of(style)}'" if style else "")
+        if request.endpoint == "static":
+            response.headers["Cache-Control"] = "private, max-age=3600"
+        return response
+
+
+def source_of(style: str) -> str:
+    """The hash by which the policy lets the style of a printed sheet through, and no other."""
+    return "sha256-" + base64.b64encode(hashlib.sha256(style.encode()).digest()).decode()

@@ -1,0 +1,194 @@
+"""What forms ask, as steps of the program. The forms of values are those of the import files; all else the program says."""
+from __future__ import annotations
+
+import re
+import sqlite3
+from collections.abc import Callable
+from typing import NoReturn
+
+from flask import Blueprint, abort, g, request
+from markupsafe import Markup
+from werkzeug.datastructures import MultiDict
+from werkzeug.wrappers import Response
+
+from exam_desk import codes, files, mistakes
+from exam_desk.changing import Step
+from exam_desk.words import FEATURES, clock
+from exam_web import proposals, session, uploads
+from exam_web.desk import view
+from exam_web.proposals import Page, Plan, Wrong
+from exam_web.wording import text
+
+pages = Blueprint("plans", __name__)
+Form = MultiDict[str, str]
+MOST_REASON = 200  # bytes
+REF = re.compile("[A-Z0-9]{1,16}")
+OUTCOMES = {"granted": ("Grant appeal {ref} of {name}", "Grant"),
+            "standing": ("Grant appeal {ref} of {name}, for later sessions too", "Grant, standing"),
+            "refused": ("Refuse appeal {ref} of {name}", "Refuse")}
+
+
+def missing() -> NoReturn:
+    abort(404)
+
+
+def command(word: str, *values: str) -> Step:
+    """A command of the program; `--` keeps values that begin with - from being options."""
+    return Step((word, *(["--"] if any(value.startswith("-") for value in values) else []), *values))
+
+
+def import_step(kind: str, *values: str) -> Step:
+    """An import of one row that was typed in."""
+    return Step(("import", kind, f"{kind}.csv"), files.written([files.HEADERS[kind], values]).encode("utf-8", "surrogateescape"))
+
+
+def checked(page: Page, form: Form, **columns: str) -> dict[str, str]:
+    """The values of fields, by the forms of the columns that are named; what is wrong is said beside its field."""
+    values = {name: form.get(name, "").strip() for name in columns}
+    wrong = {name: text(mistakes.CURES[column]) for name, column in columns.items()
+             if not mistakes.RIGHT[column](values[name].encode("utf-8", "surrogateescape"))}
+    if wrong:
+        raise Wrong(page, **wrong)
+    return values
+
+
+def candidate(form: Form) -> tuple[str, sqlite3.Row, Page]:
+    number = form.get("number", "")
+    if not files.is_number(number.encode("utf-8", "surrogateescape")):
+        missing()
+    row = view().row("SELECT number, name, code FROM candidate WHERE number = ?", [int(number)]) or missing()
+    return number, row, ("candidates.page", {"number": int(number)})
+
+
+def reason(form: Form, page: Page) -> str:
+    """A reason, which is private: it is posted, and reaches the program as the value of a step alone."""
+    found = form.get("reason", "").strip()
+    if len(found.encode("utf-8", "surrogateescape")) > MOST_REASON or re.search(r"[\x00-\x1f\x7f]", found):
+        raise Wrong(page, reason=text("at most 200 bytes in one line"))
+    return found
+
+
+def needs(form: Form) -> str:
+    chosen = form.getlist("needs")
+    return "+".join(name for name in FEATURES if name in chosen) or "-"
+
+
+def withdraw(form: Form) -> Plan:
+    number, row, page = candidate(form)
+    paper = checked(page, form, paper="paper")["paper"]
+    return Plan(text("Withdraw {name} from {paper}", name=row["name"], paper=paper), [command("withdraw", number, paper)],
+                page, text("Withdraw"), dict.fromkeys((5, 6, 8, 9), "paper"))
+
+
+def reinstate(form: Form) -> Plan:
+    number, row, page = candidate(form)
+    paper = checked(page, form, paper="paper")["paper"]
+    return Plan(text("Reinstate {name} for {paper}", name=row["name"], paper=paper), [command("reinstate", number, paper)],
+                page, text("Reinstate"), dict.fromkeys((5, 6, 8, 10, 20), "paper"))
+
+
+def enter(form: Form) -> Plan:
+    number, row, page = candidate(form)
+    paper = checked(page, form, paper="paper")["paper"]
+    return Plan(text("Enter {name} for {paper}", name=row["name"], paper=paper), [import_step("entries", number, paper)],
+                page, text("Enter"), {5: "paper", 20: "paper"})
+
+
+def arrangement(form: Form) -> Plan:
+    number, row, page = candidate(form)
+    extra = checked(page, form, extra="extra")["extra"]
+    return Plan(text("Arrangement of {name}: {needs}, {extra} % extra time", name=row["name"], needs=needs(form), extra=extra),
+                [import_step("arrangements", number, needs(form), extra)], page, text("Set the arrangement"), {20: "extra"},
+                text("It holds in every session in which no grant is in force for the candidate."))
+
+
+def new_code(form: Form) -> Plan:
+    number, row, page = candidate(form)
+    taken = {code for code, in view().rows("SELECT code FROM candidate")}
+    return Plan(text("New access code for {name}", name=row["name"]),
+                [import_step("candidates", number, row["name"], codes.new_code(taken))], page, text("Give the new code"),
+                note=text("The old code ends at once."),
+                done_note=text("The candidate's page shows the new code when you ask for it, and prints a slip."))
+
+
+def decide(form: Form) -> Plan:
+    number, row, _ = candidate(form)
+    ref, outcome = form.get("ref", ""), form.get("outcome", "")
+    if not REF.fullmatch(ref):
+        missing()
+    page: Page = ("appeals.one", {"number": int(number), "ref": ref})
+    if outcome not in OUTCOMES:
+        raise Wrong(page, outcome=text("choose one"))
+    title, verb = OUTCOMES[outcome]
+    return Plan(text(title, ref=ref, name=row["name"]), [command("decide", number, ref, outcome, reason(form, page))], page,
+                text(verb), dict.fromkeys((8, 12, 15, 16, 17, 26), "outcome"), text("A decision is final."))
+
+
+def session_page(form: Form) -> tuple[str, Page]:
+    code = session.sums_of(form.get("session", "")).code
+    return code, ("session.page", {"code": code})
+
+
+def opening(form: Form, page: Page, prefix: str = "") -> list[str]:
+    """The values of a hall that is to be open, after its session."""
+    names = {prefix + name: name for name in ("hall", "desks", "until")}
+    values = checked(page, form, **names)
+    return [*(values[name] for name in names), "yes" if form.get(prefix + "reserved") else "no"]
+
+
+def open_hall(form: Form) -> Plan:
+    code, page = session_page(form)
+    hall, desks, until, reserved = opening(form, page)
+    return Plan(text("Open {hall} in {session}: {desks} desks until {until}", hall=hall, session=code, desks=desks, until=until),
+                [import_step("openings", code, hall, desks, until, reserved)], page, text("Open it"),
+                {4: "hall", 7: "hall", 20: "desks"})
+
+
+def close_hall(form: Form) -> Plan:
+    """A hall that cannot be used; with another in its place where the form on the first rehearsal's page asks it."""
+    code, page = session_page(form)
+    lost = checked(page, form, lost="hall")["lost"]
+    title, steps = text("Close {hall} for {session}", hall=lost, session=code), [command("close-hall", code, lost)]
+    first = form.get("proposal", "")
+    if first in g.visit.proposals:
+        shown: Page = ("proposals.page", {"key": first})
+        hall, desks, until, reserved = opening(form, shown, "other_")
+        if hall == lost:
+            raise Wrong(shown, other_hall=text("this is the hall that is lost"))
+        steps.insert(0, import_step("openings", code, hall, desks, until, reserved))
+        title = text("Close {hall} for {session}, and have {other} with {desks} desks until {until}", hall=lost, session=code,
+                     other=hall, desks=desks, until=until)
+    return Plan(title, steps, page, text("Close the hall"), {25: "lost", 7: "lost"}, others=others(code, lost))
+
+
+def others(code: str, lost: str) -> dict[str, object]:
+    """What the form for another hall begins with: those that are closed first, with the desks and the end of the lost one."""
+    opened = {each.hall: each for each in session.openings(code)}
+    halls = [(row["code"], row["title"], opened[row["code"]].desks if row["code"] in opened else None)
+             for row in view().rows("SELECT code, title FROM hall WHERE code <> ? ORDER BY code", [lost])]
+    was = opened.get(lost)
+    return {"session": code, "lost": lost, "halls": sorted(halls, key=lambda each: each[2] is not None),
+            "desks": was.desks if was else "", "until": clock(was.until) if was else ""}
+
+
+def import_files(form: Form) -> Plan:
+    key = form.get("upload", "")
+    upload = uploads.of_visit(key)
+    steps = [Step(("import", kind, f"{kind}.csv"), upload.texts[kind]) for kind in files.HEADERS if kind in upload.texts]
+    return Plan(text("Import {kinds}", kinds=Markup(", ").join(step.words[1] for step in steps)), steps,
+                ("files.look", {"key": key}), text("Import"))
+
+
+PLANS: dict[str, Callable[[Form], Plan]] = {
+    "withdraw": withdraw, "reinstate": reinstate, "enter": enter, "arrangement": arrangement, "code": new_code,
+    "decide": decide, "open": open_hall, "close": close_hall, "files": import_files,
+}
+
+
+@pages.post("/propose/<what>")
+def propose(what: str) -> Response | tuple[str, int]:
+    make = PLANS.get(what) or missing()
+    try:
+        return proposals.propose(make(request.form), what)
+    except Wrong as wrong:
+        return proposals.wrong_page(wrong, what)

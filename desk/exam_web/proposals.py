@@ -1,0 +1,231 @@
+"""The one way for all changes: a form becomes a plan, the plan is rehearsed and shown, then one button does it."""
+from __future__ import annotations
+
+import datetime
+import secrets
+import sqlite3
+import threading
+import time
+from collections.abc import Callable
+from contextlib import closing
+from dataclasses import dataclass, field
+from typing import Any
+
+from flask import Blueprint, abort, current_app, g, redirect, render_template, request, url_for
+from markupsafe import Markup
+from werkzeug.wrappers import Response
+
+from exam_desk import changing, logbook, refusals
+from exam_desk.changing import Step
+from exam_desk.office import Office
+from exam_desk.trouble import Stale, Trouble
+from exam_web import downloads, effects
+from exam_web.desk import PATIENCE, Desk, View, desk, office, view
+from exam_web.effects import Effects
+from exam_web.wording import text
+
+pages = Blueprint("proposals", __name__)
+MOST_PROPOSALS = 20  # of a visit
+MOST_ROWS = 250  # of those who must be told, on the page; all are in the CSV file
+MOST_LINES = 20  # of the log, where the office was another
+COMPARING = "Both states are compared"
+NEXT_APPEAL = ("SELECT appeal.*, name FROM appeal JOIN candidate USING (number) JOIN session ON session.code = session "
+               "WHERE state = 1 AND day > ? ORDER BY day, session.start, lodged, appeal.number")
+Page = tuple[str, dict[str, Any]]  # an endpoint and its values
+
+
+class Wrong(Exception):
+    """Values of a form that cannot be: what is said beside each field, and the page that has the form."""
+
+    def __init__(self, page: Page, **fields: object) -> None:
+        super().__init__()
+        self.page, self.fields = page, fields
+
+
+@dataclass(frozen=True)
+class Plan:
+    """What a form asks, in words and as steps of the program."""
+    title: Markup
+    steps: list[Step]
+    page: Page  # to come back to
+    verb: Markup
+    fields: dict[int, str] = field(default_factory=dict)  # the field beside which a refusal stands, by its number
+    note: Markup = Markup()
+    done_note: Markup = Markup()
+    others: dict[str, Any] = field(default_factory=dict)  # what the form for another hall than a lost one begins with
+
+
+@dataclass
+class Proposal:
+    """A plan, and how far it is. Its thread alone changes it while it works."""
+    plan: Plan
+    came_from: str  # the state of the page whose form it was
+    key: str = field(default_factory=lambda: secrets.token_urlsafe(9))
+    lock: threading.Lock = field(default_factory=threading.Lock)  # of who does it
+    working: threading.Thread | None = None
+    began: float = 0
+    seconds: float = 0
+    stage: str = ""
+    since: str = ""  # when the state was read
+    made_from: str = ""
+    promised: str = ""
+    answers: list[changing.Answered] = field(default_factory=list)
+    effects: Effects | None = None
+    refusal: str = ""  # the program's line
+    trouble: str = ""
+    moved_on: list[list[str]] | None = None  # what the log has since, where the office was another
+    is_done: bool = False
+    as_promised: bool = True
+    copy: str = ""  # the path of that of before
+
+    @property
+    def is_working(self) -> bool:
+        return self.working is not None and self.working.is_alive()
+
+    @property
+    def can_be_done(self) -> bool:
+        return not (self.is_done or self.is_working or self.refusal or self.trouble or self.effects is None)
+
+    def tell(self, stage: str) -> None:
+        self.stage = stage
+
+
+def now() -> str:
+    return datetime.datetime.now().isoformat(" ", "seconds")
+
+
+def worded(line: str) -> str:
+    """What the program said of a refusal, in words."""
+    number = refusals.number_of(line) or 0
+    sentence = refusals.SENTENCES.get(number) or refusals.OTHER.get(line)
+    return f"{sentence} ({line})" if sentence else line
+
+
+def propose(plan: Plan, form: str) -> Response | tuple[str, int]:
+    """Rehearses a plan; a refusal that belongs to a field is shown there."""
+    proposal = Proposal(plan, request.form.get("state", ""))
+    found = g.visit.proposals
+    while len(found) >= MOST_PROPOSALS:
+        found.pop(next(iter(found)))
+    found[proposal.key] = proposal
+    work(proposal, rehearse)
+    name = plan.fields.get(refusals.number_of(proposal.refusal) or 0)
+    if name and not proposal.is_working:
+        del found[proposal.key]
+        return wrong_page(Wrong(plan.page, **{name: worded(proposal.refusal)}), form)
+    return redirect(url_for("proposals.page", key=proposal.key), 303)
+
+
+def wrong_page(wrong: Wrong, form: str) -> tuple[str, int]:
+    """The page of a form, with what is wrong at its fields and all that was given."""
+    g.wrong, g.given, g.asked_form = wrong.fields, request.form, form
+    endpoint, values = wrong.page
+    answer: str = current_app.view_functions[endpoint](**values)
+    return answer, 422
+
+
+def work(proposal: Proposal, task: Callable[[Proposal, Desk, Office], None]) -> None:
+    """Runs a task beside the request, which waits a little: a long one shows a page that says how far it is."""
+    here, who = desk(), office()
+
+    def run() -> None:
+        try:
+            with here.rehearsing:
+                task(proposal, here, who)
+        except (Trouble, OSError, sqlite3.Error) as fault:
+            proposal.trouble = str(fault)
+        except Exception:
+            proposal.trouble = "the desk is wrong here; the office is as the log says"
+            raise
+    proposal.trouble, proposal.began = "", time.monotonic()
+    proposal.working = threading.Thread(target=run, daemon=True)
+    proposal.working.start()
+    proposal.working.join(PATIENCE)
+
+
+def rehearse(proposal: Proposal, here: Desk, who: Office) -> None:
+    """Carries the plan out on a private copy, and keeps what that would come to."""
+    proposal.since = now()
+    with changing.rehearse(who, proposal.plan.steps, proposal.tell) as rehearsal:
+        proposal.answers = rehearsal.answers
+        proposal.refusal = rehearsal.refused.first_line() if rehearsal.refused else ""
+        if not proposal.refusal:
+            proposal.tell(COMPARING)
+            proposal.effects, proposal.made_from, proposal.promised = compared(here, rehearsal)
+    proposal.seconds = time.monotonic() - proposal.began
+
+
+def compared(here: Desk, rehearsal: changing.Rehearsal) -> tuple[Effects, str, str]:
+    """What a rehearsal would come to, and the names of the states before and after it."""
+    with here.before(rehearsal) as before, closing(View(here.office, rehearsal.after)) as after:
+        return effects.effects(before, after), before.name, after.name
+
+
+def carry_out(proposal: Proposal, here: Desk, who: Office) -> None:
+    """Does what was rehearsed, if the office is still the same; else rehearses anew, for another look."""
+    proposal.moved_on = None
+    try:
+        carried = changing.carry_out(who, proposal.plan.steps, proposal.made_from, proposal.promised, tell=proposal.tell)
+    except Stale:
+        since = proposal.since
+        rehearse(proposal, here, who)
+        proposal.moved_on = [line for line in logbook.last_lines(who) if line[0] >= since][-MOST_LINES:]
+        return
+    proposal.answers, proposal.as_promised, proposal.copy = carried.answers, carried.as_promised is not False, carried.copy or ""
+    proposal.refusal = carried.refused.first_line() if carried.refused else ""
+    proposal.is_done = not proposal.refusal
+
+
+def proposal_of(key: str) -> Proposal:
+    found: Proposal | None = g.visit.proposals.get(key)
+    return found or abort(404)
+
+
+@pages.get("/proposals/<key>")
+def page(key: str) -> str:
+    proposal = proposal_of(key)
+    plan = proposal.plan
+    if proposal.is_working:
+        return render_template("working.html", p=proposal, seconds=int(time.monotonic() - proposal.began))
+    elsewhere = proposal.came_from and proposal.made_from and proposal.came_from != proposal.made_from
+    return render_template("proposal.html", p=proposal, plan=plan, e=proposal.effects, kinds=effects.KINDS,
+                           kind_of=effects.kind_of, most=MOST_ROWS, back=url_for(plan.page[0], **plan.page[1]),
+                           refusal=worded(proposal.refusal), elsewhere=elsewhere and not proposal.is_done,
+                           next_appeal=next_appeal(proposal), rows=imported(proposal), copy_page=copy_page(proposal))
+
+
+def next_appeal(proposal: Proposal) -> sqlite3.Row | None:
+    """After a decision the open appeal that is the most urgent now."""
+    decided = proposal.is_done and proposal.plan.page[0] == "appeals.one"
+    return view().row(NEXT_APPEAL, [desk().office.today().isoformat()]) if decided else None
+
+
+def imported(proposal: Proposal) -> list[tuple[str, int, int, int]]:
+    """For each file of an import the rows that are added, changed and the same."""
+    found = []
+    for each in proposal.answers:
+        parts = each.first_line().split()
+        if len(proposal.plan.steps) > 1 and each.step.words[0] == "import" and parts[::2] == ["added", "changed", "same"]:
+            found.append((each.step.words[1], *map(int, parts[1::2])))
+    return found
+
+
+def copy_page(proposal: Proposal) -> str:
+    """The address of the page of the copy from before; "" where there is none."""
+    from exam_web.office import copy_key
+    return url_for("office.copy", key=copy_key(proposal.copy)) if proposal.copy else ""
+
+
+@pages.post("/proposals/<key>/do")
+def do(key: str) -> Response:
+    proposal = proposal_of(key)
+    with proposal.lock:  # a second click does nothing
+        if proposal.can_be_done:
+            work(proposal, carry_out)
+    return redirect(url_for("proposals.page", key=key), 303)
+
+
+@pages.get("/proposals/<key>/told.csv")
+def told(key: str) -> Response:
+    found = proposal_of(key).effects or abort(404)
+    return downloads.attached(found.csv().encode("utf-8", "surrogateescape"), "who-must-be-told.csv", "text/csv")

@@ -1,0 +1,147 @@
+"""The season: what needs a person, the last days to lodge, the calendar; and the first page, where no office is there."""
+from __future__ import annotations
+
+import datetime
+from collections import Counter
+from typing import NamedTuple
+
+from flask import Blueprint, g, redirect, render_template, url_for
+from markupsafe import Markup
+from werkzeug.wrappers import Response
+
+from exam_desk import appeals, lastdays, running, turns
+from exam_desk.trouble import Trouble
+from exam_web import counting
+from exam_web.desk import View, desk, view
+from exam_web.wording import days_until, many, text
+
+pages = Blueprint("season", __name__)
+MOST_SHOWN = 12  # lines of what needs attention
+SOON, URGENT = 14, 3  # days before a session, before the last day to decide
+LEVELS = ["late", "now", "soon", "note"]
+
+
+class Attention(NamedTuple):
+    level: str  # one of LEVELS
+    day: str | None  # by which it must be done
+    text: Markup
+    link: str
+    verb: Markup
+
+
+@pages.get("/")
+def page() -> str:
+    if not desk().is_there():
+        return render_template("begin.html")
+    found = list(counting.sums(view()).values())
+    return render_template("season.html", sessions=found, weeks=weeks_of(found), attention=attention(found),
+                           deadlines=deadlines(found), totals=totals(found), most=MOST_SHOWN,
+                           widest=max((max(each.members, each.desks) for each in found), default=1))
+
+
+@pages.post("/init")
+def init() -> Response:
+    """Makes an empty office."""
+    if not desk().is_there():
+        done = running.run(desk().office, "init")
+        if done.status:
+            raise Trouble(done.complaint.strip())
+        g.visit.said.append(("good", text("The office is there, and empty. Bring a workbook or the seven files.")))
+    return redirect(url_for("season.page"), 303)
+
+
+def warm(found: View) -> None:
+    """Works out what the first page shows."""
+    counting.sums(found)
+    unheard_clashes(found)
+
+
+def totals(found: list[counting.Sums]) -> dict[str, int]:
+    return {"members": sum(each.members for each in found), "short": sum(each.short for each in found),
+            "waiting": sum(each.waiting for each in found),
+            "candidates": view().once("candidates", lambda: view().count("SELECT count(*) FROM candidate"))}
+
+
+def weeks_of(found: list[counting.Sums]) -> list[list[tuple[str, list[counting.Sums]]]]:
+    """For each week with a session its days, Monday first, each with its sessions."""
+    weeks: dict[datetime.date, dict[str, list[counting.Sums]]] = {}
+    for session in found:
+        date = datetime.date.fromisoformat(session.day)
+        weeks.setdefault(date - datetime.timedelta(days=date.weekday()), {}).setdefault(session.day, []).append(session)
+    at_weekends = any(datetime.date.fromisoformat(each.day).weekday() > 4 for each in found)
+    days = range(7 if at_weekends else 5)
+    return [[((monday + datetime.timedelta(days=place)).isoformat(),
+              sessions.get((monday + datetime.timedelta(days=place)).isoformat(), [])) for place in days]
+            for monday, sessions in sorted(weeks.items())]
+
+
+def attention(found: list[counting.Sums]) -> list[Attention]:
+    """What to do, the most urgent first."""
+    coming = [each for each in found if days_until(each.day) >= 0]
+    todo = [*shortages(coming), *open_appeals(), *clashes(coming), *unserved(coming)]
+    return sorted(todo, key=lambda each: (LEVELS.index(each.level), each.day or "9"))
+
+
+def shortages(coming: list[counting.Sums]) -> list[Attention]:
+    return [Attention("now" if days_until(each.day) <= SOON else "soon", each.day,
+                      many(each.short, "{count} candidate without a desk in {session}",
+                           "{count} candidates without a desk in {session}", session=each.code),
+                      url_for("session.page", code=each.code) + "#short", text("See why"))
+            for each in coming if each.short]
+
+
+def open_appeals() -> list[Attention]:
+    kinds: dict[tuple[str, str], Counter[str]] = {}
+    for row in view().rows("SELECT kind, session, day FROM appeal JOIN session ON session.code = session "
+                           "WHERE state = 1"):
+        kinds.setdefault((row["day"], row["session"]), Counter())[appeals.KINDS[row["kind"]]] += 1
+    found = []
+    for (day, code), counts in kinds.items():
+        last = lastdays.to_decide(day)
+        left = days_until(last)
+        level = "late" if left < 0 else "now" if left <= URGENT else "soon"
+        parts = Markup(", ").join(Markup("{} {}").format(count, text(kind)) for kind, count in counts.items())
+        found.append(Attention(level, last, many(sum(counts.values()), "{count} open appeal for {session}: {kinds}",
+                                                 "{count} open appeals for {session}: {kinds}", session=code, kinds=parts),
+                               url_for("appeals.page") + f"#{code}", text("Decide")))
+    return found
+
+
+def unheard_clashes(found: View) -> dict[str, int]:
+    """By session how many have two papers at once and no appeal on it that is open or decided."""
+    def make() -> dict[str, int]:
+        heard = set(map(tuple, found.rows("SELECT session, number FROM appeal WHERE kind = 2 AND state IN (1, 2, 3)")))
+        counts = {code: sum((code, number) not in heard for number in numbers)
+                  for code, numbers in counting.two_papers(found).items()}
+        return {code: count for code, count in counts.items() if count}
+    return found.once("unheard", make)
+
+
+def clashes(coming: list[counting.Sums]) -> list[Attention]:
+    unheard = unheard_clashes(view())
+    late = [each for each in coming if each.code in unheard and days_until(each.day) > 0]
+    if not late:
+        return []
+    count = sum(unheard[each.code] for each in late)
+    words = many(count, "{count} candidate with two papers at once and no appeal, in sessions: {sessions}",
+                 "{count} candidates with two papers at once and no appeal, in sessions: {sessions}", sessions=len(late))
+    return [Attention("note", lastdays.to_lodge("clash", late[0].day), words,
+                      url_for("clashes.page"), text("Look"))]
+
+
+def unserved(coming: list[counting.Sums]) -> list[Attention]:
+    if not coming or turns.keep_state(desk().office) is not None:
+        return []
+    return [Attention("note", None, text("Candidates cannot ask for their seats: the office is not served"),
+                      url_for("office.page") + "#serve", text("Serve"))]
+
+
+def deadlines(found: list[counting.Sums], days: int = 14) -> list[tuple[str, dict[str, list[str]]]]:
+    """The last days to lodge that come next: by date, and for each kind of appeal the sessions."""
+    coming: dict[str, dict[str, list[str]]] = {}
+    for session in found:
+        for word in appeals.KINDS.values():
+            last = lastdays.to_lodge(word, session.day)
+            if 0 <= days_until(last) <= days:
+                coming.setdefault(last, {}).setdefault(word, []).append(session.code)
+    return sorted(coming.items())

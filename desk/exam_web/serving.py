@@ -1,0 +1,116 @@
+"""One desk an office: its port, its lock and its links; and the end of all of them."""
+from __future__ import annotations
+
+import contextlib
+import fcntl
+import os
+import secrets
+import socket
+import threading
+from collections.abc import Callable, Iterator
+
+from exam_desk import beside
+from exam_desk.office import Office
+from exam_desk.trouble import Trouble
+
+HOST = "127.0.0.1"  # no option names another
+PORT, PORTS = 8717, 20  # the first that is tried where none is given, and how many after it
+LOCK = "desk.lock"
+NOTE_BYTES = 256
+THREADS = 6
+SILENCE = 120  # seconds after which a connection without a request is closed
+MISSING = ("the desk in a browser needs {}: `apt install python3-flask python3-waitress`, as root; every other command works "
+           "without them")
+
+
+def import_waitress() -> None:
+    """Raises `Trouble` where a library is not there."""
+    for name in ("flask", "waitress"):
+        try:
+            __import__(name)
+        except ImportError:
+            raise Trouble(MISSING.format(f"python3-{name}")) from None
+
+
+@contextlib.contextmanager
+def lock_of(office: Office) -> Iterator[int | None]:
+    """The lock of the office's desk; None where another desk has it."""
+    beside.make_folder(office.path)
+    file = beside.open_file(office.path, LOCK, flags=os.O_RDWR | os.O_CREAT)
+    try:
+        fcntl.flock(file, fcntl.LOCK_EX | fcntl.LOCK_NB)
+        yield file
+    except BlockingIOError:
+        yield None
+    finally:
+        os.close(file)
+
+
+def running_at(office: Office) -> tuple[str, str]:
+    """The address and the prefix of the desk that has the lock."""
+    file = beside.open_file(office.path, LOCK, flags=os.O_RDONLY)
+    try:
+        said = os.pread(file, NOTE_BYTES, 0).decode("ascii", "replace").split()
+    finally:
+        os.close(file)
+    if len(said) != 2:
+        raise Trouble("a desk of this office begins or ends just now; try again")
+    return said[0], said[1]
+
+
+def listener(port: int | None) -> socket.socket:
+    """A socket that listens before a link is printed, since a browser may be quick."""
+    for each in [port] if port is not None else range(PORT, PORT + PORTS):
+        listening = socket.socket()
+        listening.setsockopt(socket.SOL_SOCKET, socket.SO_REUSEADDR, 1)
+        try:
+            listening.bind((HOST, each))
+        except OSError as fault:
+            listening.close()
+            why = fault.strerror
+            continue
+        listening.listen(64)
+        return listening
+    raise Trouble(f"port {port or PORT} of {HOST} cannot be had: {why}; name another with --port")
+
+
+def another_link(office: Office) -> str:
+    """A new link to the desk that runs. Raises `Trouble` where none does."""
+    from exam_web import guard
+    with lock_of(office) as lock:
+        if lock is not None:
+            raise Trouble("no desk of this office runs: `office desk` opens one")
+    return guard.new_link(office.path, *running_at(office))
+
+
+def serve(office: Office, port: int | None, pretended: bool, ready: Callable[[str], None]) -> None:
+    """Serves until a signal ends it; `ready` is given the first link. Where a desk of the office runs already it is
+    given a link to that one."""
+    import_waitress()
+    with lock_of(office) as lock:
+        if lock is not None:
+            with contextlib.closing(listener(port)) as listening:
+                serve_at(office, listening, lock, pretended, ready)
+            return
+    ready(another_link(office))
+
+
+def serve_at(office: Office, listening: socket.socket, lock: int, pretended: bool, ready: Callable[[str], None]) -> None:
+    import waitress
+    from exam_web import application, guard
+    from exam_web.desk import Desk
+    address, prefix = f"{HOST}:{listening.getsockname()[1]}", f"/{secrets.token_urlsafe(12)}"
+    desk = Desk(office, address, prefix, pretended)
+    app, _ = application.make(desk)
+    os.pwrite(lock, f"{address} {prefix}".ljust(NOTE_BYTES).encode(), 0)
+    guard.drop_links(office.path)
+    try:
+        if desk.is_there():
+            threading.Thread(target=app.extensions["desk"].read, daemon=True).start()
+        ready(guard.new_link(office.path, address, prefix))
+        waitress.serve(guard.Door(app, address, prefix), sockets=[listening], threads=THREADS, ident="desk",
+                       max_request_body_size=guard.MOST_UPLOAD + (1 << 20), channel_timeout=SILENCE, _quiet=True)
+    finally:
+        os.ftruncate(lock, 0)
+        guard.drop_links(office.path)
+        desk.close()

@@ -1,0 +1,132 @@
+"""A session: its numbers, its shortage and what could help, its halls as pictures, its appeals and what is printed."""
+from __future__ import annotations
+
+import sqlite3
+from collections import Counter
+from typing import NoReturn
+
+from flask import Blueprint, abort, g, redirect, render_template, request, url_for
+from werkzeug.wrappers import Response
+
+from exam_desk import appeals, facts, lastdays
+from exam_desk.facts import Opening
+from exam_desk.reading import Member
+from exam_web import counting, downloads, pictures, printing, shortages
+from exam_web.desk import desk, view
+from exam_web.wording import text
+
+pages = Blueprint("session", __name__)
+MOST_PEOPLE = 100  # with two papers at once, or appeals, that the page lists
+
+
+def sums_of(code: str) -> counting.Sums:
+    return counting.sums(view()).get(code) or missing()
+
+
+def missing() -> NoReturn:
+    abort(404)
+
+
+def openings(code: str) -> list[Opening]:
+    return view().once(("openings", code), lambda: facts.openings(view().reading.rows, code))
+
+
+def opening(code: str, hall: str) -> Opening:
+    return next((each for each in openings(code) if each.hall == hall), None) or missing()
+
+
+@pages.get("/sessions/<code>")
+def page(code: str) -> str:
+    sums = sums_of(code)
+    codes = list(counting.sums(view()))
+    place = codes.index(code)
+    lodged = view().rows("SELECT appeal.*, name FROM appeal JOIN candidate ON candidate.number = appeal.number "
+                         "WHERE session = ? ORDER BY state, appeal.number, ref LIMIT ?", [code, MOST_PEOPLE + 1])
+    return render_template(
+        "session.html", s=sums, halls=openings(code), taken=taken(code), papers=papers(code), lodged=lodged,
+        previous=codes[place - 1] if place else None, next=codes[place + 1] if place + 1 < len(codes) else None,
+        closed=closed_halls(code), shortage=shortages.of(code, sums), clashes=clashes(code), most=MOST_PEOPLE,
+        printed=printing.states(code), sheets=printing.SHEETS, appeals=appeals,
+        last=lastdays.to_decide(sums.day))
+
+
+def taken(code: str) -> dict[str, int]:
+    """How many sit in each hall."""
+    return dict(map(tuple, view().rows("SELECT hall, count(*) FROM seat WHERE session = ? GROUP BY hall", [code])))
+
+
+def papers(code: str) -> list[sqlite3.Row]:
+    """The papers of a session, each with how many are entered."""
+    return view().rows("SELECT paper.code AS code, title, minutes, requires, "
+                       "(SELECT count(*) FROM entry WHERE paper = paper.code AND live = 1) AS entered "
+                       "FROM paper WHERE session = ? ORDER BY paper.code", [code])
+
+
+def closed_halls(code: str) -> list[sqlite3.Row]:
+    return view().rows("SELECT code, title FROM hall WHERE code NOT IN (SELECT hall FROM opening WHERE session = ?) "
+                       "ORDER BY code", [code])
+
+
+def clashes(code: str) -> list[Member]:
+    """Who has two papers at once, as far as the page shows them: the program says which paper they sit."""
+    return members_of(code, counting.two_papers(view(), code).get(code, [])[:MOST_PEOPLE])
+
+
+def members_of(code: str, numbers: list[int]) -> list[Member]:
+    """What the program says of some members of a session."""
+    reading = view().reading
+    people = [reading.person(number) for number in numbers]
+    reading.ask(people)
+    return [member for person in people if (member := reading.member_of(person, code))]
+
+
+def sitting_in(code: str, hall: str) -> list[Member]:
+    """Who sits in a hall, by desk."""
+    numbers = [number for number, in view().rows("SELECT number FROM seat WHERE session = ? AND hall = ?", [code, hall])]
+    return sorted(members_of(code, numbers), key=lambda member: member.sitting.desk or 0)
+
+
+@pages.get("/sessions/<code>/halls/<hall>")
+def hall(code: str, hall: str) -> str:
+    """A hall as a picture: a piece of the session's page, or a page of its own where no script runs."""
+    sums, found = sums_of(code), opening(code, hall)
+    members = sitting_in(code, hall)
+    drawn = pictures.picture(found, members, [row["code"] for row in papers(code)])
+    return render_template("hall_piece.html" if "piece" in request.args else "hall.html", s=sums, opening=found,
+                           members=members, picture=drawn, orders=pictures.ORDERS, papers=papers(code),
+                           sitting=Counter(member.sitting.paper for member in members), desk_width=pictures.WIDTH,
+                           desk_height=pictures.HEIGHT)
+
+
+@pages.post("/sessions/<code>/halls/<hall>/draw")
+def draw(code: str, hall: str) -> Response | tuple[str, int]:
+    """How a hall is drawn; nobody moves."""
+    opening(code, hall)
+    columns, order = request.form.get("columns", ""), request.form.get("order", "")
+    if order not in pictures.ORDERS or not columns.isdecimal() or not 1 <= int(columns[:4]) <= pictures.MOST_COLUMNS:
+        g.wrong, g.given, g.asked_form = {"columns": text("a whole number from 1 to 40")}, request.form, "draw"
+        return globals()["hall"](code, hall), 422
+    pictures.set_room(hall, int(columns), order)
+    return redirect(url_for("session.page", code=code) + f"#hall-{hall}", 303)
+
+
+@pages.get("/sessions/<code>/seats.csv")
+def seats_csv(code: str) -> Response:
+    sums = sums_of(code)
+    titles = facts.paper_titles(view().reading.rows)
+    rows = [[code, sums.day, each.sitting.start, each.sitting.finish, each.number, each.name, each.sitting.paper,
+             titles[each.sitting.paper], each.sitting.hall or "", each.sitting.desk or "", each.sitting.extra,
+             "+".join(each.sitting.needs) or "-"] for each in view().reading.members(code)]
+    return downloads.csv(["session", "date", "start", "finish", "number", "name", "paper", "paper title", "hall", "desk",
+                          "extra", "needs"], rows, f"{code}-seats.csv")
+
+
+@pages.get("/sessions/<code>/print/<sheet>")
+def sheet(code: str, sheet: str) -> str:
+    """A sheet to print, made by the function that the command line uses."""
+    sums_of(code)
+    if sheet not in printing.SHEETS:
+        missing()
+    made = printing.made(view().reading, code, sheet)
+    printing.note(code, sheet)
+    return made

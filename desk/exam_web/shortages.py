@@ -1,0 +1,101 @@
+"""Why a session is short: the program's own account, why each hall does not do, and what could help.
+
+What could help is a guess that a button rehearses: only the program says what it comes to. Whom a hall would suit,
+`reasons.Reasons` says.
+"""
+from __future__ import annotations
+
+from collections import Counter
+from collections.abc import Iterator
+from typing import NamedTuple
+
+from markupsafe import Markup
+
+from exam_desk import reasons, shortage
+from exam_desk.facts import Opening
+from exam_desk.reading import Member
+from exam_desk.words import clock
+from exam_web.counting import Sums
+from exam_web.desk import view
+from exam_web.wording import text
+
+MOST_EXPLAINED, MOST_REMEDIES = 30, 4
+MIDNIGHT = 24 * 60
+USUAL = "SELECT desks, until FROM opening WHERE hall = ? GROUP BY desks, until ORDER BY count(*) DESC LIMIT 1"
+
+
+class Remedy(NamedTuple):
+    """An opening that would suit some of those without a desk."""
+    suits: int
+    text: Markup
+    hall: str
+    desks: int
+    until: int
+    reserved: bool
+
+
+class Shortage(NamedTuple):
+    sheet: shortage.Shortage
+    reasons: list[tuple[Member, dict[str, list[str]]]]  # for each without a desk the halls by reason
+    remedies: list[Remedy]
+
+
+def of(code: str, sums: Sums) -> Shortage | None:
+    """The shortage of a session; None where everybody has a desk."""
+    return view().once(("shortage", code), lambda: make(code)) if sums.short else None
+
+
+def make(code: str) -> Shortage:
+    reading = view().reading
+    why = reasons.Reasons(reading, code)
+    return Shortage(shortage.read(reading.sheet("shortage", code)),
+                    [(member, by_reason(why.of(member))) for member in why.unseated()[:MOST_EXPLAINED]],
+                    sorted(remedies(why), key=lambda each: -each.suits)[:MOST_REMEDIES])
+
+
+def by_reason(halls: list[tuple[str, str]]) -> dict[str, list[str]]:
+    found: dict[str, list[str]] = {}
+    for hall, reason in halls:
+        found.setdefault(reason, []).append(hall)
+    return found
+
+
+def remedies(why: reasons.Reasons) -> Iterator[Remedy]:
+    opened = {each.hall: each for each in why.openings}
+    for code, title, features in view().rows("SELECT code, title, features FROM hall ORDER BY code"):
+        widest = Opening(code, title, features, 1, MIDNIGHT, False)  # open as long as can be, for everybody
+        suited = [member for member in why.unseated() if not why.obstacles(member, widest)]
+        if suited:
+            last = max(minutes(member.sitting.finish) for member in suited)
+            remedy = change(why, opened[code], suited, last) if code in opened else begin(widest, suited, last)
+            if remedy:
+                yield remedy
+
+
+def minutes(finish: str) -> int:
+    hours, rest = finish.split(":")
+    return int(hours) * 60 + int(rest)
+
+
+def begin(opening: Opening, suited: list[Member], last: int) -> Remedy:
+    """A hall that is closed, open as it is in most sessions, and long enough."""
+    usual = view().row(USUAL, [opening.hall])
+    desks, until = (usual["desks"], max(usual["until"], last)) if usual else (len(suited), last)
+    return Remedy(len(suited), text("Open {hall}, {title}, with {desks} desks until {until}", hall=opening.hall,
+                                    title=opening.title, desks=desks, until=clock(until)), opening.hall, desks, until, False)
+
+
+def change(why: reasons.Reasons, now: Opening, suited: list[Member], last: int) -> Remedy | None:
+    """A hall that is open, with a later end, for everybody or with more desks; None where none of these is missing."""
+    until = max(now.until, last)
+    longer = now._replace(until=until)
+    reserved = now.reserved and all(not why.obstacles(member, longer) for member in suited)
+    free = now.desks - len(why.taken[now.hall])
+    desks = now.desks + max(0, len(suited) - free)
+    if (desks, until, reserved) == (now.desks, now.until, now.reserved):
+        return None
+    parts = [text("until {until}", until=clock(until))] * (until != now.until)
+    parts += [text("no longer reserved")] * (reserved != now.reserved)
+    parts += [text("with {desks} desks, {more} more", desks=desks, more=desks - now.desks)] * (desks != now.desks)
+    return Remedy(len(suited), text("Have {hall} {how}", hall=now.hall, how=Markup(", ").join(parts)), now.hall, desks,
+                  until, reserved)

@@ -1,0 +1,214 @@
+"""Files from a browser: which of the seven they are, their mistakes with cures, and corrections on the spot.
+
+No name that a browser sends becomes a path: it is compared and shown. A zip is read in memory and never unpacked.
+"""
+from __future__ import annotations
+
+import csv
+import datetime
+import io
+import os
+import re
+import zipfile
+from collections.abc import Iterable, Mapping
+from dataclasses import dataclass, field
+from typing import IO, NamedTuple
+
+from flask import abort, g
+from werkzeug.datastructures import FileStorage
+
+from exam_desk import codes, files, mistakes, private
+from exam_desk.trouble import Trouble
+from exam_desk.words import plain
+from exam_desk.workbook.checking import file_parts
+from exam_desk.workbook.reading import read_workbook
+from exam_desk.workbook.report import Line
+from exam_desk.workbook.tables import Choices
+from exam_desk.workbook.texts import Way
+from exam_web.desk import View, desk
+
+MOST_MEMBERS = 64  # of a zip
+MOST_UPLOADS = 4  # of a visit
+MOST_NAME = 80  # letters that are shown
+MOST_SHOWN = 40  # mistakes of a file on the page
+MOST_VALUE = 400  # letters of a value that is typed
+BOOKS = (".xlsx", ".xlsm", ".ods")
+CURE = re.compile(r"(?:write |leading zeros lost\? )(\S+) \(")  # what a cure says is to be written
+NEW_CODE = "a new code"
+
+
+class Fault(NamedTuple):
+    """A mistake, or what may be one, at its place."""
+    line: int
+    column: str  # or `file` or `row`
+    value: str
+    cure: str
+    write: str  # what to write instead, where the cure is clear
+    fields: list[str]  # of the row
+    place: int | None  # of the column in it
+
+
+class Looked(NamedTuple):
+    """A file that was looked through."""
+    faults: list[Fault]
+    notes: list[Fault]
+    count: int  # of all mistakes
+    rows: int
+
+
+@dataclass
+class Book:
+    """What was said of a workbook."""
+    name: str
+    lines: list[Line]  # mistakes first
+    mistakes: int
+    changes: int
+
+
+@dataclass
+class Upload:
+    """Files that are not imported yet; corrections are made in these bytes."""
+    texts: dict[str, bytes] = field(default_factory=dict)  # by kind
+    notes: list[str] = field(default_factory=list)
+    workbooks: list[Book] = field(default_factory=list)
+    when: str = field(default_factory=lambda: datetime.datetime.now().isoformat(" ", "minutes"))
+    edits: int = 0
+
+    @property
+    def kinds(self) -> list[str]:
+        return [kind for kind in files.HEADERS if kind in self.texts]
+
+    def note(self, name: str, text: str) -> None:
+        self.notes.append(f"{plain(name)[:MOST_NAME]}: {text}")
+
+
+def of_visit(key: str) -> Upload:
+    found: Upload | None = g.visit.uploads.get(key)
+    return found or abort(404)
+
+
+def taken(storages: Iterable[FileStorage], dates: str, view: View | None) -> Upload:
+    """The files of an upload by kind."""
+    upload = Upload()
+    for storage in storages:
+        name = (storage.filename or "").replace("\\", "/").rsplit("/", 1)[-1]
+        if name.lower().endswith(".zip"):
+            take_zip(upload, storage.stream)
+        elif name.lower().endswith(BOOKS):
+            take_book(upload, name, storage.stream.read(), dates, view)
+        elif name:
+            take(upload, name, storage.stream.read(files.MOST_BYTES + 1))
+    return upload
+
+
+def take_zip(upload: Upload, stream: IO[bytes]) -> None:
+    try:
+        with zipfile.ZipFile(stream) as archive:
+            members = [each for each in archive.infolist() if not each.is_dir() and "__MACOSX" not in each.filename]
+            if len(members) > MOST_MEMBERS:
+                raise Trouble(f"the zip holds {len(members)} files; give the seven alone")
+            for member in members:
+                with archive.open(member) as file:
+                    take(upload, member.filename.replace("\\", "/").rsplit("/", 1)[-1], file.read(files.MOST_BYTES + 1))
+    except (zipfile.BadZipFile, zipfile.LargeZipFile, RuntimeError, NotImplementedError, EOFError, OSError, ValueError) as fault:
+        raise Trouble(f"the zip cannot be read: {fault}") from None
+
+
+def take(upload: Upload, name: str, text: bytes) -> None:
+    """Puts a text under its kind: by its header, otherwise by its name."""
+    kind = kind_of(name, text)
+    if kind is None:
+        upload.note(name, "is none of the seven files, so it is not looked at")
+    elif kind in upload.texts:
+        upload.note(name, f"there are two files of {kind}; the first is taken")
+    else:
+        upload.texts[kind] = text
+
+
+def kind_of(name: str, text: bytes) -> str | None:
+    first = next(files.records(text[:1 << 12]), None)
+    found = next((kind for kind in files.HEADERS if files.is_header(kind, first)), None)
+    stem = re.sub(r"(-[0-9]+)?\.csv$", "", name.lower())
+    return found or (stem if stem in files.HEADERS else None)
+
+
+def take_book(upload: Upload, name: str, content: bytes, dates: str, view: View | None) -> None:
+    """Reads a workbook by the rules of `office read`: its sheets are taken where no line is a mistake."""
+    known = mistakes.Known(view.reading.rows) if view else mistakes.Known()
+    with private.own_folder(desk().office.path) as folder:
+        path = os.path.join(folder, "workbook" + os.path.splitext(name.lower())[1])
+        with open(os.open(path, os.O_WRONLY | os.O_CREAT | os.O_EXCL, 0o600), "wb") as file:
+            file.write(content)
+        try:
+            reading = read_workbook(path, known, Way(dates), {}, Choices())
+        except Trouble as trouble:
+            upload.note(name, trouble.sentence)
+            return
+    lines = sorted(reading.report.lines, key=lambda line: line.sort != "mistake")
+    wrong = reading.report.count("mistake")
+    upload.workbooks.append(Book(name[:MOST_NAME], lines, wrong, reading.report.count("change")))
+    for kind, records in reading.records.items() if not wrong else ():
+        for text, _ in file_parts(kind, [record.fields for record in records]):
+            take(upload, f"{kind}.csv", text)
+
+
+def looked_through(texts: Mapping[str, bytes], view: View) -> dict[str, Looked]:
+    """The files with their mistakes, each beside the office and the files before it."""
+    known, found = mistakes.Known(view.reading.rows), {}
+    for kind in files.HEADERS:
+        if kind in texts:
+            wrong, notes = mistakes.looked_through(kind, texts[kind], known)
+            wanted = {each.line for each in (*list(wrong)[:MOST_CURED], *list(notes)[:MOST_SHOWN])}
+            records = {record.line: record for record in files.records(texts[kind]) if record.line in wanted}
+            rows = sum(1 for _ in files.records(texts[kind])) - 1
+            found[kind] = Looked([fault(kind, each, records) for each in list(wrong)[:MOST_CURED]],
+                                 [fault(kind, each, records) for each in list(notes)[:MOST_SHOWN]], wrong.count, max(0, rows))
+    return found
+
+
+MOST_CURED = 20_000  # mistakes of a file that one press of the button can mend
+
+
+def fault(kind: str, mistake: mistakes.Mistake, records: Mapping[int, files.Record]) -> Fault:
+    column, _, value = mistake.what.partition(" ")
+    record = records.get(mistake.line)
+    fields = [part.decode("utf-8", "replace") for part in record.fields] if record else []
+    place = files.HEADERS[kind].index(column) if column in files.HEADERS[kind] else None
+    if place is None or place >= len(fields):
+        return Fault(mistake.line, column, value, mistake.text, "", fields, None)
+    if column == "code" and not fields[place]:
+        return Fault(mistake.line, column, value, "empty: a new code can be made", NEW_CODE, fields, place)
+    clear = CURE.search(mistake.text)
+    return Fault(mistake.line, column, value, mistake.text, clear[1] if clear else "", fields, place)
+
+
+Corrections = dict[int, dict[int, str]]  # by line and place; an empty dict takes the row out
+
+
+def corrections(kind: str, looked: Looked, form: Mapping[str, str], taken: set[str]) -> Corrections:
+    """What a form corrects in a file: all cures that are clear, or what was typed. `taken` are codes, which it adds to."""
+    wanted: Corrections = {}
+    for each in looked.faults:
+        name = f"{kind}:{each.line}:{'row' if each.place is None else each.place}"
+        if each.place is None:
+            if each.column == "row" and form.get(name) == "drop":
+                wanted[each.line] = {}
+        elif "all" in form and each.write:
+            write = codes.new_code(taken) if each.write == NEW_CODE else each.write
+            wanted.setdefault(each.line, {})[each.place] = write
+        elif "all" not in form and name in form and form[name] != each.fields[each.place]:
+            wanted.setdefault(each.line, {})[each.place] = form[name][:MOST_VALUE]
+    return wanted
+
+
+def corrected(text: bytes, wanted: Corrections) -> bytes:
+    """The bytes of a file with other values."""
+    out = io.StringIO()
+    lines = csv.writer(out, lineterminator="\n")
+    for record in files.records(text):
+        fields = [part.decode("utf-8", "surrogateescape") for part in record.fields]
+        for place, value in wanted.get(record.line, {}).items():
+            fields[place] = value
+        if wanted.get(record.line) != {}:
+            lines.writerow(fields)
+    return out.getvalue().encode("utf-8", "surrogateescape")

@@ -1,0 +1,76 @@
+"""What pages say: texts in the reader's language, values without hidden characters, numbers and days."""
+from __future__ import annotations
+
+import datetime
+from typing import Any
+
+from flask import Flask, current_app, request
+from markupsafe import Markup, escape
+
+from exam_desk.words import clock, feature_text, plain
+from exam_web import texts
+
+
+def language() -> str:
+    """The first language of the browser that the desk has."""
+    return request.accept_languages.best_match(["en", *texts.LANGUAGES]) or "en"
+
+
+def text(english: str, **values: object) -> Markup:
+    """A text of the table in the reader's language; a word in braces stands for a value."""
+    found = texts.LANGUAGES.get(language(), {}).get(english, english)
+    return Markup(found).format(**{name: shown(value) for name, value in values.items()}) if values else Markup(found)
+
+
+def many(count: int, one: str, more: str, **values: object) -> Markup:
+    """The text for one, or for another number; {count} stands for the number."""
+    return text(one if count == 1 else more, count=number(count), **values)
+
+
+def shown(value: object) -> Markup:
+    """A value of the office: what hides in it is shown as `?`, and its direction stays its own."""
+    if isinstance(value, Markup) or not isinstance(value, str):
+        return escape(value)
+    return Markup("<bdi>{}</bdi>").format(plain(value))
+
+
+def number(value: int) -> str:
+    return f"{value:,}".replace(",", text(",")) if value is not None else "–"
+
+
+def day(iso: str) -> Markup:
+    """2027-06-07 as Mon 7 Jun, in the reader's language."""
+    date = datetime.date.fromisoformat(iso)
+    return Markup("{} {} {}").format(text(f"{date:%a}"), date.day, text(f"{date:%b}"))
+
+
+def year_day(iso: str) -> Markup:
+    return Markup("{} {}").format(day(iso), iso[:4])
+
+
+def days_until(iso: str) -> int:
+    today: datetime.date = current_app.extensions["desk"].office.today()
+    return (datetime.date.fromisoformat(iso) - today).days
+
+
+def away(iso: str) -> Markup:
+    """How far a day is from today."""
+    left = days_until(iso)
+    near = {0: "today", 1: "tomorrow", -1: "yesterday"}
+    if left in near:
+        return text(near[left])
+    return text("in {count} days", count=left) if left > 0 else text("{count} days ago", count=-left)
+
+
+def finalize(value: Any) -> Any:
+    """The last look at every value that a page writes: no hidden character of a text goes out."""
+    return plain(value) if type(value) is str else value
+
+
+def prepare(app: Flask) -> None:
+    """Gives the pages of an application their words."""
+    app.jinja_env.trim_blocks = app.jinja_env.lstrip_blocks = True
+    app.jinja_env.finalize = finalize
+    app.jinja_env.globals.update(_=text, many=many, language=language)
+    app.jinja_env.filters.update(shown=shown, num=number, day=day, year_day=year_day, away=away, clock=clock,
+                                 features=feature_text, until=days_until, seven=lambda value: f"{int(value):07}")
