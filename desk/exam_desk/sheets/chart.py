@@ -32,8 +32,8 @@ def page(reading: Reading, session: str, asked: Collection[str] = ()) -> str:
     for code in set(asked) - {opening.hall for opening, _ in halls}:
         raise Trouble(f"nobody sits in {code} in {session}")
     if unknown := [opening.hall for opening, _ in halls if opening.hall not in rows]:
-        raise Trouble(f"say once how the desks stand in {', '.join(unknown)}: `office rows {unknown[0]} 8` for rows of 8 "
-                      "desks")
+        raise Trouble(f"say once how the desks stand in {', '.join(unknown)}: `office rows {unknown[0]} 8` for rows of "
+                      "8 desks")
     charts = [chart(head, school, opening, there, rows[opening.hall]) for opening, there in halls]
     body = pages.joined(charts) or Markup("<p>Nobody has a desk.</p>\n")
     return pages.document(f"Seating charts {session}", body, STYLE)
