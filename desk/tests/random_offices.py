@@ -297,7 +297,7 @@ class RandomOffice:
     def slip_row(self, number, session, head, clashes):
         seat, day = self.now[session][number], datetime.date.fromisoformat(head[0])
         notes = [f"with {self.arrangements[number, session]}"] * bool(self.arrangements[number, session])
-        notes += [f"not {self.titled(code)}, at the same time" for code in clashes]
+        notes += [f"not {self.titled(code)}, at the same time: ask the exams office" for code in clashes]
         place = "no desk yet: ask the office" if seat.hall == "-" else f"{self.titled(seat.hall)}, desk\u00a0{seat.desk}"
         return [f"{day:%a} {day.day} {day:%B} {day.year}", f"{head[1] // 60:02}:{head[1] % 60:02}–{seat.finish}",
                 "|".join([self.titled(seat.paper), *notes]), place]

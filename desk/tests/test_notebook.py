@@ -174,10 +174,10 @@ class Commands(sample.SampleSchool):
         self.assertEqual(sorted((line.split(",")[1], line.split(",")[2]) for line in members),
                          sorted((line[0], line[1]) for line in lines[1:]))
         self.assertEqual(self.office("absent", "MON-AM", "0001051"), f"1 candidate absent of {len(members)}\n")
-        self.assertEqual(self.office("absent", "MON-AM", "-", stdin="0001000\n0001002, 0001051\n"),
+        self.assertEqual(self.office("absent", "MON-AM", "-", stdin="0001000\n0001017, 0001051\n"),
                          f"3 candidates absent of {len(members)}\n")
         self.office("absent", "MON-AM", "--there", "0001000")
-        self.assertEqual([line[0] for line in self.board() if line[2] == "absent"], ["0001002", "0001051"])
+        self.assertEqual([line[0] for line in self.board() if line[2] == "absent"], ["0001017", "0001051"])
         self.assertIn("nothing is noted: 1051 sit nothing in MON-AM", self.refused("absent", "MON-AM", "0001000", "1051"))
         self.assertEqual(len([line for line in self.board() if line[2] == "absent"]), 2)
         self.assertIn("there is no session MON", self.refused("absent", "MON"))
@@ -194,6 +194,25 @@ class Commands(sample.SampleSchool):
         self.assertIn(hall, lines[-1].removeprefix("to print again: ").split(", "))
         self.assertRegex(self.office("printed", "MON-AM"), r"^\d+ desks noted, [1-9]\d* other than before\n$")
         self.assertEqual(self.office("printed", "MON-AM", "--look"), "the papers are up to date\n")
+
+    def test_on_papers(self):
+        """Notes stand on the invigilators' sheet and the slip alone; whose desk is another sees which it was."""
+        self.office("school", "Hill & Co")
+        self.write("notes.csv", "number,text\n0001051,<b>rest</b> breaks\n")
+        self.office("notes", "notes.csv")
+        for words, shown in ((["doors", "MON-AM", "PC1"], True), (["slips", "--only", "0001051"], True),
+                             (["board", "MON-AM"], False), (["poster", "MON-AM"], False), (["cards", "MON-AM"], False)):
+            text = self.office(*words)
+            self.assertEqual("&lt;b&gt;rest&lt;/b&gt; breaks" in text, shown, words)
+            self.assertNotIn("<b>rest", text)
+            self.assertEqual("Hill &amp; Co" in text, words[0] != "cards", words)
+        self.office("printed", "MON-AM")
+        self.assertNotIn("<small>was", self.office("doors", "MON-AM"))
+        seats = [line.split(",") for line in self.office("export", "MON-AM").splitlines()[1:]]
+        number, paper = next((seat[1], seat[2]) for seat in seats if seat[3:] == ["GYM", "1"])
+        self.office("withdraw", number, paper)
+        self.assertIn("<td class=n>1 <small>was 2</small></td>", self.office("doors", "MON-AM", "GYM"))
+        self.assertIn("<td class=n>1 <small>was 2</small></td>", self.office("board", "MON-AM"))
 
 
 if __name__ == "__main__":

@@ -9,7 +9,7 @@ from markupsafe import Markup
 from exam_desk import facts, lists, notebook
 from exam_desk.notebook import Rows
 from exam_desk.reading import Member, Reading
-from exam_desk.sheets import pages
+from exam_desk.sheets import beside, pages
 from exam_desk.snapshot import session_row
 from exam_desk.trouble import Trouble
 
@@ -26,22 +26,18 @@ def page(reading: Reading, session: str, asked: Collection[str] = ()) -> str:
     """The charts of the halls that are asked for, or of all in which somebody sits. Raises `Trouble` where nobody sits
     in one that is asked for, or nobody has said how its desks stand."""
     head = session_row(reading.rows, session)
-    members, rows, school = reading.members(session), notebook.rows_of_halls(reading.office), school_of(reading)
+    members, rows = reading.members(session), notebook.rows_of_halls(reading.office)
+    school = beside.school(reading.office, ". ")
     halls = [(opening, there) for opening in facts.openings(reading.rows, session)
              if (there := lists.by_desk(members, opening.hall)) and (not asked or opening.hall in asked)]
     for code in set(asked) - {opening.hall for opening, _ in halls}:
         raise Trouble(f"nobody sits in {code} in {session}")
     if unknown := [opening.hall for opening, _ in halls if opening.hall not in rows]:
-        raise Trouble(f"say once how the desks stand in {', '.join(unknown)}: `office rows {unknown[0]} 8` for rows of 8 "
-                      "desks")
+        raise Trouble(f"say once how the desks stand in {', '.join(unknown)}: `office rows {unknown[0]} 8` for rows of "
+                      "8 desks")
     charts = [chart(head, school, opening, there, rows[opening.hall]) for opening, there in halls]
     body = pages.joined(charts) or Markup("<p>Nobody has a desk.</p>\n")
     return pages.document(f"Seating charts {session}", body, STYLE)
-
-
-def school_of(reading: Reading) -> Markup:
-    name = notebook.school_name(reading.office)
-    return pages.html("{}. ", pages.text(name)) if name else Markup()
 
 
 def chart(head: sqlite3.Row, school: Markup, opening: facts.Opening, members: list[Member], rows: Rows) -> Markup:

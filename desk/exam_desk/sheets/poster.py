@@ -5,9 +5,9 @@ import sqlite3
 
 from markupsafe import Markup
 
-from exam_desk import facts, lists, notebook
+from exam_desk import facts, lists
 from exam_desk.reading import Member, Reading
-from exam_desk.sheets import pages
+from exam_desk.sheets import beside, pages
 from exam_desk.snapshot import session_row
 
 STYLE = """
@@ -22,15 +22,14 @@ HALL = "<div class=sheet><h1>{}</h1>\n<h2>{}</h2>\n<p>{}</p>\n<div class=columns
 def page(reading: Reading, session: str) -> str:
     """The posters of the halls in which somebody sits."""
     head = session_row(reading.rows, session)
-    members, school = reading.members(session), notebook.school_name(reading.office)
+    members, school = reading.members(session), beside.school(reading.office, " &middot; ")
     halls = [(opening, lists.by_name(lists.by_desk(members, opening.hall)))
              for opening in facts.openings(reading.rows, session)]
     posters = [poster(head, school, opening, there) for opening, there in halls if there]
     return pages.document(f"Posters {session}", pages.joined(posters) or Markup("<p>Nobody has a desk.</p>\n"), STYLE)
 
 
-def poster(head: sqlite3.Row, school: str, opening: facts.Opening, members: list[Member]) -> Markup:
+def poster(head: sqlite3.Row, school: Markup, opening: facts.Opening, members: list[Member]) -> Markup:
     rows = [[pages.text(member.name), member.sitting.desk] for member in members]
-    below = pages.joined([*([pages.text(school)] if school else []), opening.hall, lists.count(len(rows), "candidate")],
-                         " &middot; ")
+    below = pages.html("{}{} &middot; {}", school, opening.hall, lists.count(len(rows), "candidate"))
     return pages.html(HALL, pages.text(opening.title), pages.when(head), below, pages.table(HEADS, rows))
