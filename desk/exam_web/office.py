@@ -9,9 +9,9 @@ from typing import NoReturn
 from flask import Blueprint, Response, abort, g, redirect, render_template, request, url_for
 from werkzeug.wrappers import Response as Answer
 
-from exam_desk import changing, copies, keeping, logbook, private, turns, undo
+from exam_desk import changing, copies, logbook, private, turns, undo
 from exam_desk.trouble import Stale
-from exam_web import downloads, effects, proposals
+from exam_web import downloads, effects, proposals, scripts
 from exam_web.desk import View, desk, office, view
 from exam_web.wording import shown, text
 
@@ -99,8 +99,8 @@ def keep() -> Answer | tuple[str, int]:
     if what == "start" and not (port.isdecimal() and LOWEST_PORT <= int(port[:6]) <= HIGHEST_PORT):
         wrong = text("a whole number from {low} to {high}", low=LOWEST_PORT, high=HIGHEST_PORT)
         return proposals.wrong_page(proposals.Wrong(("office.page", {}), port=wrong), "keep")
-    said = keeping.start(office(), port) if what == "start" else keeping.stop(office())
-    g.visit.said.append(("good", shown(str(said))))
+    said = scripts.run(desk().office, "keep", what, *([port] if what == "start" else []))
+    g.visit.said.append(("good", shown(said)))
     return redirect(url_for("office.page") + "#serve", 303)
 
 

@@ -11,7 +11,7 @@ from markupsafe import Markup
 from werkzeug.datastructures import MultiDict
 from werkzeug.wrappers import Response
 
-from exam_desk import codes, files, mistakes
+from exam_desk import coding, files, mistakes
 from exam_desk.changing import Step
 from exam_desk.words import FEATURES, clock
 from exam_web import proposals, session, uploads
@@ -106,7 +106,7 @@ def new_code(form: Form) -> Plan:
     number, row, page = candidate(form)
     taken = {code for code, in view().rows("SELECT code FROM candidate")}
     return Plan(text("New access code for {name}", name=row["name"]),
-                [import_step("candidates", number, row["name"], codes.new_code(taken))], page, text("Give the new code"),
+                [import_step("candidates", number, row["name"], coding.new_code(taken))], page, text("Give the new code"),
                 note=text("The old code ends at once."),
                 done_note=text("The candidate's page shows the new code when you ask for it, and prints a slip."))
 
