@@ -1,6 +1,8 @@
 """A day at the sample school of ../examples, and the office's files, for the scripts that harm them."""
 import contextlib
+import hashlib
 import os
+import pathlib
 import shutil
 import socket
 import sqlite3
@@ -90,6 +92,11 @@ def copied(one, other):
     emptied(other)
     for name in office_files(one):
         shutil.copy2(os.path.join(one, name), other)
+
+
+def contents(folder):
+    """The names of an office's files, and the sums of their bytes."""
+    return tuple((name, hashlib.sha256(pathlib.Path(folder, name).read_bytes()).digest()) for name in sorted(office_files(folder)))
 
 
 def tables(folder):

@@ -7,8 +7,8 @@ from __future__ import annotations
 
 import asyncio
 import contextlib
-import ctypes
 import datetime
+import fcntl
 import json
 import os
 import signal
@@ -17,7 +17,7 @@ import stat
 import subprocess
 import sys
 import time
-from collections.abc import Callable, Iterator
+from collections.abc import Iterator
 from typing import Any
 
 from exam_desk import asking, beside, copies, hold, running, turns
@@ -25,6 +25,7 @@ from exam_desk.office import Office
 from exam_desk.trouble import Trouble
 from exam_desk.words import plain
 
+JOURNAL = "keep.log"  # beside the office
 SOCKET = "keep.socket"  # in the folder that `keep` is given
 MOST_PATH = 107  # bytes of the path of a socket
 BACKLOG = 4096  # a socket without room refuses at once; the system may allow less
@@ -33,11 +34,11 @@ MOST_FAULT = 60  # letters of a fault that others are shown
 LONGEST_PAUSE = 5  # seconds from a `serve` that failed to the next
 TURN_SECONDS = 3  # that commands wait at most until candidates who waited have their answers
 ENDING_SECONDS = 5  # in which `serve` ends by itself
-PR_SET_PDEATHSIG = 1
+RUNS = "`keep` serves this office already; `office keep status` says where"
 
 
 def say(text: object) -> None:
-    """Writes a line to the journal of `keep`, unless that is full: whoever makes faults all day must not fill the disk."""
+    """Writes a line, unless the file that takes it is full: whoever makes faults all day must not fill the disk."""
     found = os.fstat(sys.stderr.fileno())
     if stat.S_ISREG(found.st_mode) and found.st_size > MOST_LOG:
         return
@@ -242,7 +243,7 @@ async def start_serve(office: Office, port: int) -> asyncio.subprocess.Process:
     try:
         return await asyncio.create_subprocess_exec(
             *office.line("serve", str(port)), stdin=subprocess.DEVNULL, stdout=subprocess.PIPE, stderr=subprocess.PIPE,
-            preexec_fn=end_with(os.getpid()))
+            preexec_fn=running.end_with(os.getpid(), signal.SIGTERM))
     except OSError as fault:
         raise running.not_started(office, fault) from fault
 
@@ -251,17 +252,6 @@ def piped(stream: asyncio.StreamReader | None) -> asyncio.StreamReader:
     """An output of a process that has a pipe."""
     assert stream is not None
     return stream
-
-
-def end_with(parent: int) -> Callable[[], None]:
-    """What a child does first, so that it ends where `keep` is killed."""
-    library = ctypes.CDLL(None)
-
-    def arrange() -> None:
-        library.prctl(PR_SET_PDEATHSIG, signal.SIGTERM)
-        if os.getppid() != parent:
-            os._exit(1)
-    return arrange
 
 
 async def stopped(process: asyncio.subprocess.Process, at_once: bool) -> None:
@@ -273,3 +263,12 @@ async def stopped(process: asyncio.subprocess.Process, at_once: bool) -> None:
     except asyncio.TimeoutError:
         process.kill()
         await process.wait()
+
+
+def run(office: Office, place: str, days: int) -> None:
+    """Serves until a signal ends it. Raises `Trouble` where another `keep` serves the office."""
+    signal.signal(signal.SIGUSR1, signal.SIG_IGN)  # a command that comes before the handler need not step it aside
+    lock = turns.open_lock(office, "keep.lock")
+    if not turns.try_lock(lock, fcntl.lockf):
+        raise Trouble(RUNS)
+    asyncio.run(Keep(office, place, days, lock).run())

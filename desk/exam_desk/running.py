@@ -2,15 +2,18 @@
 from __future__ import annotations
 
 import contextlib
+import ctypes
+import os
 import shutil
 import subprocess
-from collections.abc import Iterator
+from collections.abc import Callable, Iterator
 from typing import NamedTuple
 
 from exam_desk import private
 from exam_desk.office import Office
 from exam_desk.trouble import Trouble
 
+PR_SET_PDEATHSIG = 1
 SHEETS = ["door-list", "attendance", "clashes", "shortage", "appeals", "export"]
 
 
@@ -64,9 +67,36 @@ def ran(office: Office, path: str, words: tuple[str, ...], output: int | None) -
     return Ran(status, (done.stdout or b"").decode("utf-8", "replace"), done.stderr.decode("utf-8", "replace"))
 
 
+def help_text(office: Office, *words: str) -> str:
+    """The help of the program, or of one of its commands. Raises `NotStarted`."""
+    try:
+        done = subprocess.run([office.program, *words, "--help"], stdout=subprocess.PIPE, check=False)
+    except OSError as fault:
+        raise not_started(office, fault) from fault
+    return done.stdout.decode("utf-8", "replace")
+
+
+def usage(office: Office, name: str) -> list[str]:
+    """The lines on how a command of the program is used, from its help. Raises `NotStarted`."""
+    lines = [f"  {line}" for line in help_text(office, name).split("\n") if line][1:]
+    return lines or ["  `office --help` lists the commands"]
+
+
 def not_started(office: Office, fault: OSError) -> NotStarted:
     """What is said of a program that the system does not start."""
     if shutil.which(office.program) is None:
         return NotStarted(f"there is no program {office.program}; EXAMOFFICE names another, and ./try-it --prove builds "
                           "one")
     return NotStarted(f"the program cannot be started, so nothing is changed: {office.program}: {fault.strerror}")
+
+
+def end_with(parent: int, number: int) -> Callable[[], None]:
+    """What a child does first, so that a signal ends it where its parent is killed. The thread that begins the child must
+    live as long: the system asks for that thread."""
+    library = ctypes.CDLL(None)
+
+    def arrange() -> None:
+        library.prctl(PR_SET_PDEATHSIG, number)
+        if os.getppid() != parent:
+            os._exit(1)
+    return arrange

@@ -3,21 +3,18 @@ from __future__ import annotations
 
 import asyncio
 import contextlib
-import ctypes
 import os
 import signal
 import subprocess
 from collections.abc import Callable, Iterator, Sequence
 
-import asking
-from exam_desk import running
+from exam_desk import asking, running
 from exam_desk.office import Office
 from exam_desk.trouble import Trouble
 
 AT_ONCE = 4  # connections: while `serve` answers one, the next are made
 SECONDS = 60  # that an answer may take
 TRIES = 5  # of a `serve` that ends before it has answered, or whose port another process takes
-PR_SET_PDEATHSIG = 1
 
 Progress = Callable[[int, int], None]  # how many are done, of how many
 
@@ -59,7 +56,7 @@ class Serve:
         line = self.office.line_over(self.path, "serve", str(port))
         try:
             return subprocess.Popen(line, stdin=subprocess.DEVNULL, stdout=subprocess.PIPE, stderr=subprocess.PIPE,
-                                    preexec_fn=end_with(os.getpid()))
+                                    preexec_fn=running.end_with(os.getpid(), signal.SIGKILL))
         except OSError as fault:
             raise running.not_started(self.office, fault) from fault
 
@@ -101,14 +98,3 @@ async def ask(server: asking.Server, request: bytes) -> bytes:
     if status != 200:
         raise Trouble(f"the program answered {status} {asking.body_of(answer).decode('utf-8', 'replace')[:60]}")
     return asking.body_of(answer)
-
-
-def end_with(parent: int) -> Callable[[], None]:
-    """What a child does first, so that it ends where its parent is killed."""
-    library = ctypes.CDLL(None)
-
-    def arrange() -> None:
-        library.prctl(PR_SET_PDEATHSIG, signal.SIGKILL)
-        if os.getppid() != parent:
-            os._exit(1)
-    return arrange

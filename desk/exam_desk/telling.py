@@ -6,8 +6,7 @@ import sqlite3
 from collections.abc import Collection, Iterable
 from typing import NamedTuple
 
-import files
-from exam_desk import facts, lists
+from exam_desk import facts, files, lists
 from exam_desk.answers import Sitting
 from exam_desk.reading import Reading
 from exam_desk.trouble import Trouble

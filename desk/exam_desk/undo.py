@@ -6,8 +6,7 @@ import os
 import sqlite3
 from collections.abc import Iterator
 
-import appeals
-from exam_desk import beside, copies, private, running, turns
+from exam_desk import appeals, beside, copies, private, running, turns
 from exam_desk.office import Office
 from exam_desk.trouble import Trouble
 
@@ -26,7 +25,7 @@ def check(office: Office, path: str) -> None:
 
 def taken_away(office: Office, copy: str) -> list[str]:
     """A line for each appeal and decision that the office has and a copy has not."""
-    now, then = appeals.read(os.path.realpath(office.path)), appeals.read(copies.file_in(office, copy))
+    now, then = appeals.read(office, os.path.realpath(office.path)), appeals.read(office, copies.file_in(office, copy))
     return [UNKNOWN] if now is None else appeals.lost(now, then or {})
 
 

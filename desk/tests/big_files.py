@@ -8,7 +8,7 @@ from collections.abc import Callable
 from typing import NamedTuple
 
 import sample
-import files  # beside the tests' folder
+from exam_desk import files  # beside the tests' folder
 
 MOST_SECONDS, MOST_MEGABYTES = 10, 300
 

@@ -4,15 +4,15 @@
 """
 import collections
 import contextlib
+import datetime
 import pathlib
 import random
 import shutil
 import subprocess
 
 import sample
-import files  # beside the tests' folder
-import mistakes
-import school
+from exam_desk import files, mistakes, snapshot
+from exam_desk.office import Office
 
 VALUES = [
     b"", b" ", b"-", b"0", b"00", b"01", b"1", b"2001", b"2000", b"600", b"601", b"100", b"101", b"+1", b"1.0", b"0001000",
@@ -145,7 +145,7 @@ class Schools:
         self.said(path, "init")
         for kind in list(files.HEADERS)[:count]:
             self.said(path, "import", kind, str(sample.TOP / "examples" / f"{kind}.csv"))
-        return school.rows(str(path))
+        return snapshot.rows(Office(str(path), "", datetime.date.today, ""))
 
     def close(self) -> None:
         for connection in self.known.values():

@@ -1,5 +1,6 @@
 """The sample school for tests: an office of its own for each, in a folder of its own."""
 import contextlib
+import datetime
 import http.client
 import json
 import os
@@ -15,6 +16,8 @@ import unittest
 DESK = pathlib.Path(__file__).resolve().parent.parent
 TOP = DESK.parent
 sys.path.insert(0, str(DESK))
+from exam_desk.office import Office  # noqa: E402
+
 KINDS = ["sessions", "papers", "halls", "openings", "candidates", "arrangements", "entries"]
 TODAY = "2027-05-01"
 NUMBER, CODE = "0001051", "VMGNZGEDP9"
@@ -63,6 +66,8 @@ class SampleSchool(unittest.TestCase):
             shutil.copy2(os.path.join(self.made, name), self.folder)
         self.path = os.path.join(self.folder, "office.db")
         self.desk = os.path.join(self.folder, "desk-office.db")
+        self.said = []  # what a person must know at once
+        self.value = Office(self.path, built_program(), lambda: datetime.date.fromisoformat(TODAY), "tester", self.said.append)
         self.environment = {**os.environ, "OFFICE": self.path, "TODAY": TODAY, "EXAMOFFICE": built_program()}
 
     def run_office(self, *words, stdin="", **environment):

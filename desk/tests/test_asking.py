@@ -12,8 +12,7 @@ import unittest
 from unittest import mock
 
 import sample
-import asking
-import hold
+from exam_desk import asking, hold
 
 ANSWER = b"HTTP/1.1 200 OK\r\nContent-Length: 2\r\n\r\nok"
 REQUEST = b"GET /candidates/0001051/seats HTTP/1.1\r\nexam-code: VMGNZGEDP9\r\n\r\n"
@@ -81,7 +80,7 @@ class Asking(unittest.TestCase):
 
     def test_it_looks_after_the_connection(self):
         with listening() as (process, place):
-            with mock.patch("asking.refuse_stranger", side_effect=lambda connection, _: connection.getpeername()) as look:
+            with mock.patch("exam_desk.asking.refuse_stranger", side_effect=lambda connection, _: connection.getpeername()) as look:
                 self.assertEqual(self.asks(asking.Server(process.pid, place)), ANSWER)
             look.assert_called_once()
 
@@ -158,7 +157,7 @@ class Held(unittest.IsolatedAsyncioTestCase):
         self.assertEqual((self.hold.broken.is_set(), self.hold.opened.is_set()), (False, True))
 
     async def test_no_answer_in_time_begins_anew(self):
-        with mock.patch("hold.ANSWER_SECONDS", 0.2), mock.patch("hold.GAP_SECONDS", 1):
+        with mock.patch("exam_desk.hold.ANSWER_SECONDS", 0.2), mock.patch("exam_desk.hold.GAP_SECONDS", 1):
             self.open()
             self.assertEqual(await self.hold.answer(REQUEST), hold.LATE)
         self.assertTrue(self.hold.broken.is_set())

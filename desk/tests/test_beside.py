@@ -11,10 +11,7 @@ import unittest
 from unittest import mock
 
 import sample
-import copies
-from exam_desk import private
-import school
-import undo
+from exam_desk import copies, logbook, private, undo
 
 NOBODY = 65534
 APPEAL = "INSERT INTO appeal VALUES (1051, ?, 'MON-AM', 1, 'PC1', 0, 0, 'a draught', 1, NULL, '2027-05-01')"
@@ -25,8 +22,8 @@ SPOILED = {  # a change that spoils each table
     "candidate": "UPDATE candidate SET code = 'A' || char(0)", "seat": "UPDATE seat SET hall = 'NONE'",
 }
 READER = """import sys; sys.path.insert(0, sys.argv[1])
-import school
-with school.private_copy(school.office_path()) as copy:
+from exam_desk import private
+with private.private_copy(sys.argv[2], sys.argv[2]) as copy:
     print(copy, flush=True)
     sys.stdin.read()
 """
@@ -46,9 +43,6 @@ class Beside(sample.SampleSchool):
         """The command, the status and the answer of each line of the log."""
         with open(os.path.join(self.desk, "log"), encoding="utf-8") as log:
             return [line.rstrip("\n").split("\t")[2:] for line in log]
-
-    def here(self):
-        return mock.patch.dict(os.environ, self.environment)
 
 
 class Strangers(Beside):
@@ -122,17 +116,16 @@ class Copies(Beside):
         self.numbered(*old)
         self.office("withdraw", "0001000", "MA-1")
         self.assertRegex(self.office("back"), r"^  1  20[2-8].* before withdraw 0001000 MA-1\n  2  2099-01-01 00:00:49")
-        with self.here():
-            os.rename(copies.listed()[0], os.path.join(self.desk, "copies", "000009 2098-01-01 00.00.00 withdraw"))
-            made = [os.path.basename(copies.keep_copy("reinstate")) for _ in range(2)]
-            self.assertEqual([name[:7] for name in made], ["000010 ", "000011 "])
-            self.assertEqual(list(map(os.path.basename, copies.listed()[:3])),
-                             [*made[::-1], "000009 2098-01-01 00.00.00 withdraw"])
+        os.rename(copies.listed(self.value)[0], os.path.join(self.desk, "copies", "000009 2098-01-01 00.00.00 withdraw"))
+        made = [os.path.basename(copies.keep_copy(self.value, "reinstate")) for _ in range(2)]
+        self.assertEqual([name[:7] for name in made], ["000010 ", "000011 "])
+        self.assertEqual(list(map(os.path.basename, copies.listed(self.value)[:3])),
+                         [*made[::-1], "000009 2098-01-01 00.00.00 withdraw"])
 
     def test_the_one_just_made_stays(self):
-        with self.here(), mock.patch("copies.MOST_BYTES", 1), mock.patch("copies.MOST_COPIES", 0):
-            made = [copies.keep_copy("withdraw") for _ in range(2)]
-            self.assertEqual(copies.listed(), made[1:])
+        with mock.patch("exam_desk.copies.MOST_BYTES", 1), mock.patch("exam_desk.copies.MOST_COPIES", 0):
+            made = [copies.keep_copy(self.value, "withdraw") for _ in range(2)]
+            self.assertEqual(copies.listed(self.value), made[1:])
 
     def test_a_copy_of_1_0_0_is_put_back(self):
         before = self.office("export", "MON-AM")
@@ -148,17 +141,16 @@ class Copies(Beside):
         self.numbered("foo", "000003 yesterday", "2027-05-01")
         os.symlink(self.folder, os.path.join(self.desk, "copies", "000007 2027-05-01 00.00.00 link"))
         self.assertEqual(self.office("back"), "no copies\n")
-        with self.here(), mock.patch("copies.MOST_BYTES", 1):
-            copies.keep_copy("withdraw")
+        with mock.patch("exam_desk.copies.MOST_BYTES", 1):
+            copies.keep_copy(self.value, "withdraw")
         self.assertEqual(len(os.listdir(os.path.join(self.desk, "copies"))), 5)
 
     def test_days_alone_are_removed(self):
         others = ["2027-04-01.new", "letters", "2027-04-01 by hand"]
         for name in (*others, "2027-04-01", "2027-04-02", "2099-01-01"):
             os.makedirs(os.path.join(self.desk, "days", name), 0o700)
-        with self.here():
-            self.assertTrue(copies.keep_day(datetime.date(2027, 5, 1), 2))
-            self.assertIsNone(copies.keep_day(datetime.date(2027, 5, 1), 2))
+        self.assertTrue(copies.keep_day(self.value, datetime.date(2027, 5, 1), 2))
+        self.assertIsNone(copies.keep_day(self.value, datetime.date(2027, 5, 1), 2))
         self.assertEqual(sorted(os.listdir(os.path.join(self.desk, "days"))),
                          sorted([*others, "2027-05-01", "2099-01-01"]))
 
@@ -172,9 +164,9 @@ class Copies(Beside):
         def renamed(source, target):
             events.append(("renamed", target))
             os.rename(source, target)
-        with self.here(), mock.patch("os.fsync", synced), mock.patch("os.replace", renamed):
-            undo.put_back(copies.listed()[0])
-            kept = copies.listed()[0]
+        with mock.patch("os.fsync", synced), mock.patch("os.replace", renamed):
+            undo.put_back(self.value, copies.listed(self.value)[0])
+            kept = copies.listed(self.value)[0]
         place = events.index(("renamed", self.path))
         self.assertRegex(events[0], "/tmp/office-copy-[^/]*/office.db$")
         self.assertIn(os.path.join(self.desk, "copies"), events[:place])
@@ -186,14 +178,14 @@ class Copies(Beside):
 class Private(Beside):
     def reader(self):
         """A process that has a private copy, and the path of that."""
-        process = subprocess.Popen([sys.executable, "-B", "-c", READER, sample.DESK], env=self.environment,
+        process = subprocess.Popen([sys.executable, "-B", "-c", READER, sample.DESK, self.path], env=self.environment,
                                    stdin=subprocess.PIPE, stdout=subprocess.PIPE, text=True)
         self.addCleanup(process.stdout.close)
         self.addCleanup(process.communicate)
         return process, process.stdout.readline().rstrip("\n")
 
     def test_it_lies_beside_the_office_and_goes_again(self):
-        with self.here(), school.private_copy(self.path) as copy:
+        with private.private_copy(self.path, self.path) as copy:
             self.assertEqual(os.path.dirname(os.path.dirname(copy)), os.path.join(self.desk, "tmp"))
             for path, mode in ((copy, 0o600), (os.path.dirname(copy), 0o700), (os.path.join(self.desk, "tmp"), 0o700)):
                 self.assertEqual(stat.S_IMODE(os.stat(path).st_mode), mode)
@@ -227,17 +219,18 @@ class Private(Beside):
             if target.startswith(self.desk):
                 raise OSError(28, "No space left on device", target)
             real(source, target)
-        with self.here(), mock.patch("private.copy_files", full), mock.patch("tempfile.tempdir", None):
-            with school.private_copy(self.path) as copy:
+        with (mock.patch("exam_desk.private.copy_files", full), mock.patch("tempfile.tempdir", None),
+              mock.patch.dict(os.environ, self.environment)):
+            with private.private_copy(self.path, self.path) as copy:
                 self.assertTrue(copy.startswith(self.environment["TMPDIR"]))
         self.assertEqual(os.listdir(self.environment["TMPDIR"]) + os.listdir(os.path.join(self.desk, "tmp")), [])
 
     def test_a_folder_swept_before_its_lock_is_held(self):
         place = os.path.join(self.folder, "place")
         os.mkdir(place)
-        for name, first in (("private.claim", lambda folder: folder),
+        for name, first in (("exam_desk.private.claim", lambda folder: folder),
                             ("fcntl.flock", lambda file: os.path.dirname(os.readlink(f"/proc/self/fd/{file}")))):
-            module, function = name.split(".")
+            module, _, function = name.rpartition(".")
             real, calls = getattr(sys.modules[module], function), []
 
             def late(value, *more):
@@ -266,10 +259,10 @@ class Log(Beside):
                                           [" ".join(words), "1", "stopped: look whether it is done"]])
 
     def test_the_line_before_is_on_the_disk(self):
-        with self.here(), mock.patch("os.fsync") as synced:
-            copies.keep_copy("withdraw")
+        with mock.patch("os.fsync") as synced:
+            copies.keep_copy(self.value, "withdraw")
             before = synced.call_count
-            with copies.logged(["withdraw"]):
+            with logbook.logged(self.value, ["withdraw"]):
                 self.assertEqual((synced.call_count - before, len(self.log())), (1, 1))
             self.assertEqual(self.log()[1:], [["withdraw", "1", "stopped: look whether it is done"]])
 
@@ -346,7 +339,8 @@ class Faults(Beside):
     def test_a_fault_of_ours_stays_a_list_of_calls(self):
         for fault in ("{}[1]", "int('x')", "1 / 0"):
             line = [sys.executable, "-B", "-c", f"import sys; sys.path.insert(0, {str(sample.DESK)!r})\n"
-                    f"import school\nschool.begin()\nwith school.rows() as rows:\n    {fault}"]
+                    f"import command\nfrom exam_desk import snapshot\ncommand.begin()\n"
+                    f"with snapshot.rows(command.office()) as rows:\n    {fault}"]
             done = subprocess.run(line, env=self.environment, capture_output=True, text=True, check=False)
             self.assertIn("Traceback", done.stderr)
 

@@ -8,9 +8,7 @@ import unittest
 import sample
 import big_files
 import random_files
-import files
-import mistakes
-import school
+from exam_desk import files, mistakes, snapshot
 
 TRIES, SEED = 150, 20261128
 
@@ -129,7 +127,7 @@ class Verdicts(sample.SampleSchool):
         return done.stderr.strip() or None
 
     def test_verdicts_are_those_of_the_program(self):
-        with school.rows(self.path) as connection, tempfile.TemporaryDirectory() as folder:
+        with snapshot.rows(self.value) as connection, tempfile.TemporaryDirectory() as folder:
             for kind, text in spoiled():
                 with self.subTest(kind=kind, text=text[:300]):
                     said = self.verdict_of_program(folder, kind, text)

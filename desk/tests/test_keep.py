@@ -1,6 +1,7 @@
 """`keep` with commands beside it: nothing is lost or done twice, no lock is left, no client notices a gap."""
 import asyncio
 import contextlib
+import dataclasses
 import datetime
 import os
 import signal
@@ -12,8 +13,7 @@ import unittest
 from unittest import mock
 
 import sample
-import keeping
-import turns
+from exam_desk import keeping, turns
 
 NUMBER = sample.NUMBER
 
@@ -149,18 +149,17 @@ class Kept(sample.KeptSchool):
 
 class NewDay(sample.SampleSchool):
     def test_a_new_day_is_served_with_its_date_and_a_copy(self):
-        with (mock.patch.dict(os.environ, self.environment), mock.patch("school.today") as today,
-              mock.patch("keeping.say")):
-            today.return_value = datetime.date(2027, 5, 1)
-            asyncio.run(self.two_days(today))
+        today = mock.Mock(return_value=datetime.date(2027, 5, 1))
+        with mock.patch("exam_desk.keeping.say"):
+            asyncio.run(self.two_days(dataclasses.replace(self.value, today=today), today))
         self.assertEqual(sorted(os.listdir(os.path.join(self.desk, "days"))), ["2027-05-02", "2027-05-03"])
 
-    async def two_days(self, today):
-        keep = keeping.Keep(str(sample.free_port()), 2, turns.open_lock("keep.lock"))
+    async def two_days(self, office, today):
+        keep = keeping.Keep(office, str(sample.free_port()), 2, turns.open_lock(office, "keep.lock"))
         served = asyncio.create_task(keep.run())
         for day in (1, 2, 3):
             today.return_value = datetime.date(2027, 5, day)
-            while f"2027-05-0{day}" not in turns.text_of("keep.lock"):
+            while f"2027-05-0{day}" not in turns.text_of(office, "keep.lock"):
                 await asyncio.sleep(0.02)
         keep.end()
         await served

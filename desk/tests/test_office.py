@@ -10,7 +10,7 @@ from contextlib import closing, suppress
 from unittest import mock
 
 import sample
-import copies
+from exam_desk import copies
 
 
 class Words(sample.SampleSchool):
@@ -189,12 +189,12 @@ class Back(sample.SampleSchool):
         self.assertEqual(self.facts(), before)
 
     def test_the_last_fifty_stay(self):
-        with mock.patch.dict(os.environ, self.environment):
-            made = [copies.keep_copy(f"withdraw {place}") for place in range(copies.MOST_COPIES + 2)]
-            self.assertEqual(copies.listed(), made[:1:-1])
-            with mock.patch("copies.MOST_BYTES", 3 * sum(entry.stat().st_size for entry in os.scandir(made[-1]))):
-                copies.prune()
-            self.assertEqual(copies.listed(), made[:-4:-1])
+        made = [copies.keep_copy(self.value, f"withdraw {place}") for place in range(copies.MOST_COPIES + 2)]
+        self.assertEqual(copies.listed(self.value), made[:1:-1])
+        size = sum(entry.stat().st_size for entry in os.scandir(made[-1]))
+        with mock.patch("exam_desk.copies.MOST_BYTES", 3 * size):
+            copies.prune(self.value)
+        self.assertEqual(copies.listed(self.value), made[:-4:-1])
 
     def test_two_officers_at_once(self):
         numbers = ["0001000", "0001017", "0001034", "0001051", "0001068", "0001085"]
@@ -213,7 +213,11 @@ class Back(sample.SampleSchool):
             time.sleep(0.02)
         process.kill()
         process.communicate()
-        self.assertEqual(self.office("withdraw", "0001000", "MA-1"), "withdrawn\n")
+        done = self.run_office("withdraw", "0001000", "MA-1")
+        self.assertEqual((done.stdout, done.returncode), ("withdrawn\n", 0))
+        self.assertRegex(done.stderr, "^office: `import entries /dev/stdin` of .* has no end in the log: it is there whole or "
+                                      "not at all; look\n$")
+        self.assertEqual(self.office("reinstate", "0001000", "MA-1"), "reinstated\n")
 
 
 if __name__ == "__main__":

@@ -14,9 +14,8 @@ import unittest
 from unittest import mock
 
 import sample
-import asking
-import keeping
-import turns
+from exam_desk import asking, keeping, turns
+from exam_desk.trouble import Trouble
 
 NOBODY = 65534
 STARTS = 4
@@ -68,8 +67,8 @@ class Ending(sample.KeptSchool):
 
 class Hanging(sample.SampleSchool):
     def test_a_serve_that_hangs_is_replaced_and_its_client_is_answered(self):
-        with (mock.patch.dict(os.environ, self.environment), mock.patch("hold.ANSWER_SECONDS", 1),
-              mock.patch("keeping.say"), mock.patch("asking.answer", self.hanging_once)):
+        with (mock.patch("exam_desk.hold.ANSWER_SECONDS", 1), mock.patch("exam_desk.keeping.say"),
+              mock.patch("exam_desk.asking.answer", self.hanging_once)):
             self.assertTrue(asyncio.run(self.hangs()).endswith(b'{"error":37}'))
 
     async def hanging_once(self, server, request, really=asking.answer):
@@ -80,7 +79,7 @@ class Hanging(sample.SampleSchool):
 
     async def hangs(self):
         self.asked = []
-        keep = keeping.Keep(str(sample.free_port()), 2, turns.open_lock("keep.lock"))
+        keep = keeping.Keep(self.value, str(sample.free_port()), 2, turns.open_lock(self.value, "keep.lock"))
         served = asyncio.create_task(keep.run())
         answer = await keep.hold.answer(b"GET / HTTP/1.0\r\n\r\n")
         keep.end()
@@ -96,9 +95,8 @@ class Starting(sample.SampleSchool):
         for _ in range(STARTS):
             line = [sample.DESK / "office", "keep", "run", str(sample.free_port())]
             with subprocess.Popen(line, env=self.environment, stderr=subprocess.DEVNULL) as process:
-                with mock.patch.dict(os.environ, self.environment):
-                    sample.until(lambda: turns.keep_state() or process.poll() is not None)
-                    turns.ask_keep_aside()
+                sample.until(lambda: turns.keep_state(self.value) or process.poll() is not None)
+                turns.ask_keep_aside(self.value)
                 sample.until(lambda: process.poll() is not None or "serving" in self.text("keep.lock"))
                 process.terminate()
                 self.assertEqual(process.wait(), 0)
@@ -108,10 +106,10 @@ class Starting(sample.SampleSchool):
             return file.read()
 
     def test_a_long_fault_is_cut_and_a_cut_text_is_none(self):
-        with mock.patch.dict(os.environ, self.environment), mock.patch("keeping.say"):
-            lock = turns.open_lock("keep.lock")
-            keeping.Keep("8080", 2, lock).show_fault("\u6f22\"\n" * 1000)
-            self.assertEqual(json.loads(turns.text_of("keep.lock"))["place"], "8080")
+        with mock.patch("exam_desk.keeping.say"):
+            lock = turns.open_lock(self.value, "keep.lock")
+            keeping.Keep(self.value, "8080", 2, lock).show_fault("\u6f22\"\n" * 1000)
+            self.assertEqual(json.loads(turns.text_of(self.value, "keep.lock"))["place"], "8080")
             os.close(lock)
         for said in (b'{"pid": 7, "place": "8080", "state": "serve ended: \xc3', b"[1, 2]", b"[" * 1000, b"\xff\x00", b"7"):
             self.assertEqual(turns.said_by(7, said), {"pid": 7})
@@ -166,9 +164,9 @@ class Elsewhere(sample.SampleSchool):
 
     def test_no_signal_goes_to_a_group(self):
         for process in (0, -1, -42):
-            with mock.patch("turns.keep_state", return_value={"pid": process}), mock.patch("os.kill") as sent:
-                with self.assertRaises(SystemExit), mock.patch("school.warn"):
-                    turns.ask_keep_aside()
+            with mock.patch("exam_desk.turns.keep_state", return_value={"pid": process}), mock.patch("os.kill") as sent:
+                with self.assertRaises(Trouble):
+                    turns.ask_keep_aside(self.value)
                 sent.assert_not_called()
 
     @unittest.skipUnless(shutil.which("unshare") and os.geteuid() == 0, "a namespace needs root")
@@ -188,32 +186,30 @@ class Elsewhere(sample.SampleSchool):
 class Turns(sample.SampleSchool):
     def test_a_command_lets_candidates_go_first(self):
         """No command begins while `keep` holds the lock for candidates who wait; it says behind whom it waits."""
-        with (mock.patch.dict(os.environ, self.environment), mock.patch("turns.SILENCE", 0.1),
-              mock.patch("school.warn") as said):
-            turn = turns.open_lock("turn.lock")
+        with mock.patch("exam_desk.turns.SILENCE", 0.1):
+            turn = turns.open_lock(self.value, "turn.lock")
             turns.try_lock(turn)
             timer = threading.Timer(0.5, os.close, [turn])
             timer.start()
             began = time.monotonic()
-            with turns.alone(["withdraw"]):
+            with turns.alone(self.value, ["withdraw"]):
                 self.assertGreater(time.monotonic() - began, 0.4)
             timer.join()
-        said.assert_called_once_with("waiting for `keep` (it answers candidates who wait)")
+        self.assertEqual(self.said, ["waiting for `keep` (it answers candidates who wait)"])
 
     def test_no_command_is_refused_before_a_minute(self):
         self.assertGreaterEqual(turns.PATIENCE, 60)
-        with (mock.patch.dict(os.environ, self.environment), mock.patch("turns.PATIENCE", 0.5),
-              mock.patch("turns.SILENCE", 0.2), mock.patch("school.warn") as said):
-            want = turns.open_lock("want.lock")
+        with mock.patch("exam_desk.turns.PATIENCE", 0.5), mock.patch("exam_desk.turns.SILENCE", 0.2):
+            want = turns.open_lock(self.value, "want.lock")
             turns.try_lock(want)
             turns.note(want, "process 7, import entries")
             began = time.monotonic()
-            with self.assertRaises(SystemExit), turns.alone(["withdraw"]):
+            with self.assertRaises(Trouble) as raised, turns.alone(self.value, ["withdraw"]):
                 self.fail("it began")
             self.assertGreater(time.monotonic() - began, 0.5)
             os.close(want)
         whom = "another command (process 7, import entries)"
-        self.assertEqual([call.args[0] for call in said.call_args_list],
+        self.assertEqual([*self.said, str(raised.exception)],
                          [f"waiting for {whom}", f"{whom} has the office, and 0.5 seconds are over; nothing is changed, "
                                                  "try again"])
 
@@ -222,8 +218,8 @@ class Waiting(sample.KeptSchool):
     def test_keep_takes_the_turn_for_a_candidate_who_waits_and_gives_it_back(self):
         said = []
         client = threading.Thread(target=lambda: said.append(self.ask()[0]))
-        with mock.patch.dict(os.environ, self.environment), turns.opened("turn.lock") as turn:
-            with turns.alone(["check"]):
+        with turns.opened(self.value, "turn.lock") as turn:
+            with turns.alone(self.value, ["check"]):
                 self.assertTrue(turns.is_free(turn))
                 client.start()
                 sample.until(lambda: not turns.is_free(turn))
@@ -241,8 +237,8 @@ class Days(sample.SampleSchool):
         os.chmod(self.desk, 0o700)
         for name in names:
             os.mkdir(os.path.join(days, name), 0o700)
-        with mock.patch.dict(os.environ, self.environment), mock.patch("keeping.say"):
-            keeping.Keep.keep_day(mock.Mock(days=2), keeping.school.today())
+        with mock.patch("exam_desk.keeping.say"):
+            keeping.Keep.keep_day(mock.Mock(days=2, office=self.value), self.value.today())
         self.assertEqual(sorted(os.listdir(days)), sorted([*names[2:], sample.TODAY]))
 
 
@@ -278,14 +274,11 @@ class Sockets(sample.SampleSchool):
     def test_folders_that_are_not_safe(self):
         folder = self.place()
         self.assertEqual(self.run_office("keep", "start", folder + "/none").returncode, 2)
-        with mock.patch("school.warn") as said:
-            for mode, name in ((0o770, "keep.socket"), (0o750, "else")):
-                os.chmod(folder, mode)
-                with open(os.path.join(folder, name), "w", encoding="utf-8"):
-                    with self.assertRaises(SystemExit), keeping.listener(os.path.join(folder, "keep.socket")):
-                        self.fail("it listens")
-        self.assertRegex(said.call_args_list[0].args[0], "cannot be had: others may write there")
-        self.assertRegex(said.call_args_list[1].args[0], "holds else: give")
+        for mode, name, words in ((0o770, "keep.socket", "can be written by others"), (0o750, "else", "holds else: give")):
+            os.chmod(folder, mode)
+            with open(os.path.join(folder, name), "w", encoding="utf-8"):
+                with self.assertRaisesRegex(Trouble, words), keeping.listener(os.path.join(folder, "keep.socket")):
+                    self.fail("it listens")
 
 
 if __name__ == "__main__":

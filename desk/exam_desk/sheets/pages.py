@@ -4,6 +4,7 @@ What is Markup is HTML already; every other value is escaped where it is put in,
 """
 from __future__ import annotations
 
+import re
 import sqlite3
 from collections.abc import Iterable, Sequence
 
@@ -27,6 +28,7 @@ td.below { border: 0; padding-top: 6mm } .w { white-space: nowrap; overflow-wrap
 .sheet { break-after: page } .sheet:last-child { break-after: auto }
 @media screen { body { max-width: 186mm; margin: 8mm auto } .sheet { margin-bottom: 15mm } }
 """
+HEAD = re.compile("(?:([a-z]+):)?(.*)")  # of a column: its kind, if it has one, and its words
 
 
 def html(form: str, *values: object) -> Markup:
@@ -63,7 +65,7 @@ def table(heads: Sequence[str], rows: Iterable[Sequence[object]], above: Markup 
           name: str = "") -> Markup:
     """A table. A head says the kind of its column before a colon, as in `n:Desk`. What stands above comes on each page
     again, as the heads do; what stands below is the last row. The name is one of the style."""
-    kinds, words = zip(*(head.rsplit(":", 1) if ":" in head else ("", head) for head in heads))
+    kinds, words = zip(*(HEAD.findall(head)[0] for head in heads))
     over = f"<tr><th class=top colspan={len(heads)}>{above}</th></tr>" if above else ""
     body = "\n".join(f"<tr>{cells('td', row, kinds)}</tr>" for row in rows)
     under = f"<tr><td class=below colspan={len(heads)}>{below}</td></tr>\n" if below else ""

@@ -33,7 +33,7 @@ def read_workbook(path: str, known: mistakes.Known, way: Way, given: Mapping[str
     try:
         book = open_book(path, encoding)
     except Trouble as trouble:
-        raise Trouble(f"cannot be read: {trouble.sentence}", path) from trouble
+        raise Trouble(f"{path} cannot be read: {trouble.sentence}") from trouble
     return read_book(book, Job(known, way, given, choices), progress)
 
 
@@ -47,7 +47,7 @@ def mend_folder(folder: str, known: mistakes.Known, way: Way, encoding: str | No
             try:
                 found = open_book(os.path.join(folder, name), encoding)
             except Trouble as trouble:
-                raise Trouble(f"cannot be read: {trouble.sentence}", os.path.join(folder, name)) from trouble
+                raise Trouble(f"{os.path.join(folder, name)} cannot be read: {trouble.sentence}") from trouble
             book.sheets.extend(found.sheets)
             book.notes.extend(f"{name}: {note}" for note in found.notes)
             together.append(match[1])

@@ -3,9 +3,11 @@ import os
 import shutil
 import tempfile
 
+from exam_desk import files
 from exam_desk.trouble import Trouble
 from exam_desk.workbook.checking import file_parts
 from exam_desk.workbook.headers import KINDS
+from exam_desk.workbook.plans import Rows, workbook_of
 from exam_desk.workbook.reading import Reading
 from exam_desk.workbook.report import Report
 from exam_desk.words import plain
@@ -14,7 +16,7 @@ from exam_desk.words import plain
 def refuse_there(target: str) -> None:
     """Raises `Trouble` where something has the name of the folder."""
     if os.path.lexists(target):
-        raise Trouble("is there already; name a new folder", target)
+        raise Trouble(f"{target} is there already; name a new folder")
 
 
 def write_folder(target: str, reading: Reading, lines_name: str) -> dict[str, int]:
@@ -26,7 +28,7 @@ def write_folder(target: str, reading: Reading, lines_name: str) -> dict[str, in
     making = tempfile.mkdtemp(prefix=".read-", dir=os.path.dirname(os.path.abspath(target)))
     try:
         counts = {kind: write_kind(making, kind, reading) for kind in KINDS if reading.records.get(kind)}
-        put(os.path.join(making, lines_name), lines_of(reading.report))
+        files.put(os.path.join(making, lines_name), lines_of(reading.report))
         os.rename(making, target)
     except BaseException:
         shutil.rmtree(making, ignore_errors=True)
@@ -37,7 +39,7 @@ def write_folder(target: str, reading: Reading, lines_name: str) -> dict[str, in
 def write_kind(folder: str, kind: str, reading: Reading) -> int:
     rows = [record.fields for record in reading.records[kind]]
     for place, (text, _) in enumerate(file_parts(kind, rows), 1):
-        put(os.path.join(folder, f"{kind}.csv" if place == 1 else f"{kind}-{place}.csv"), text)
+        files.put(os.path.join(folder, f"{kind}.csv" if place == 1 else f"{kind}-{place}.csv"), text)
     return len(rows)
 
 
@@ -45,7 +47,10 @@ def lines_of(report: Report) -> bytes:
     return "".join(f"{plain(line.whole())}\n" for line in report.lines).encode("utf-8", "backslashreplace")
 
 
-def put(path: str, text: bytes) -> None:
-    """Makes a file for its owner alone."""
-    with open(os.open(path, os.O_WRONLY | os.O_CREAT | os.O_EXCL, 0o600), "wb") as file:
-        file.write(text)
+def put_workbook(path: str, rows: Rows, example: bool = False) -> None:
+    """Makes a workbook for its owner alone. Raises `Trouble` where something has its name, or where it cannot be made."""
+    if not path.endswith(".xlsx"):
+        raise Trouble("the name of the workbook must end in .xlsx")
+    if os.path.lexists(path):
+        raise Trouble(f"{path} is there already; name another")
+    files.put(path, workbook_of(rows, example))

@@ -1,0 +1,130 @@
+"""Lodges an appeal for a candidate who is there, the candidates' way: over HTTP, with the candidate's access code."""
+from __future__ import annotations
+
+import asyncio
+import contextlib
+import json
+import re
+import subprocess
+from collections.abc import Iterator, Sequence
+from typing import NamedTuple
+
+from exam_desk import asking, beside, files, logbook, refusals, running, snapshot, turns
+from exam_desk.office import Office
+from exam_desk.trouble import Trouble
+
+TRIES, SECONDS = 3, 60
+KINDS = {"hall": ["hall"], "clash": ["paper"], "arrangement": ["needs", "extra"]}  # the values of each
+
+
+def is_reason(text: bytes) -> bool:
+    return len(text) <= 200 and not re.search(rb"[\x00-\x1f\x7f]", text) and files.is_utf_8(text)
+
+
+FORMS: dict[str, files.Form] = {
+    "number": files.is_number, "session": files.is_code, "hall": files.is_hall, "paper": files.is_code,
+    "needs": files.is_features, "extra": files.whole(0, 100), "reason": is_reason}
+
+
+class Lodging(NamedTuple):
+    """What is asked for a candidate: the number, and the body of the request without the reference."""
+    number: str
+    values: dict[str, str | int]
+
+
+class Lodged(NamedTuple):
+    """What the program answered: a status, the line on it, and what it means where it is a refusal."""
+    status: int
+    line: str
+    explained: list[str]
+
+
+def asked(words: Sequence[str]) -> Lodging | None:
+    """What the words ask: NUMBER SESSION KIND VALUE .. REASON; None where their count does not fit. Raises `Trouble`
+    where one has a wrong form."""
+    if len(words) < 3 or words[2] not in KINDS or len(words) != 4 + len(KINDS[words[2]]):
+        return None
+    names = ["number", "session", "kind", *KINDS[words[2]], "reason"]
+    values: dict[str, str | int] = dict(zip(names, words))
+    for name, word in zip(names, words):
+        if name in FORMS and not FORMS[name](word.encode("utf-8", "surrogateescape")):
+            raise Trouble(f"{name} is {word}: that has the wrong form; nothing is changed")
+    if "extra" in values:
+        values["extra"] = int(values["extra"])
+    return Lodging(str(values.pop("number")), values)
+
+
+def candidate(office: Office, number: str) -> tuple[str, str]:
+    """The access code of a candidate, and the next free reference. Raises `Trouble` where there is no such candidate."""
+    with contextlib.closing(snapshot.rows(office)) as connection:
+        found = connection.execute("SELECT code FROM candidate WHERE number = ?", [int(number)]).fetchone()
+        refs = {ref for ref, in connection.execute("SELECT ref FROM appeal WHERE number = ?", [int(number)])}
+    if found is None:
+        raise Trouble(f"refused 6: {refusals.SENTENCES[6]}")
+    place = 1
+    while f"D{place}" in refs:
+        place += 1
+    return found["code"], f"D{place}"
+
+
+@contextlib.contextmanager
+def served(office: Office) -> Iterator[asking.Server]:
+    """Where the office answers: `keep`, or a `serve` for the moment."""
+    state = turns.keep_state(office)
+    if state and "place" in state:
+        yield asking.Server(state["pid"], state["place"])
+        return
+    with turns.alone(office, ["lodge"]):
+        port = asking.free_port()
+        with begun(office, port) as process:
+            try:
+                assert process.stdout is not None
+                if not process.stdout.readline().startswith(b"serving"):
+                    complaint = process.communicate()[1].decode("utf-8", "replace").split("\n")[0]
+                    lines = refusals.explained(office, ["serve"], complaint)
+                    raise Trouble("; ".join([complaint, *map(str.strip, lines)]))
+                yield asking.Server(process.pid, str(port))
+            finally:
+                process.terminate()
+
+
+def begun(office: Office, port: int) -> subprocess.Popen[bytes]:
+    try:
+        return subprocess.Popen(office.line("serve", str(port)), stdout=subprocess.PIPE, stderr=subprocess.PIPE)
+    except OSError as fault:
+        raise running.not_started(office, fault) from fault
+
+
+def post(server: asking.Server, number: str, code: str, body: bytes) -> dict[str, object]:
+    """The answer; asks again where none comes, which lodges nothing twice. Raises `Trouble` where none comes at all."""
+    head = (f"POST /candidates/{number}/appeals HTTP/1.1\r\nHost: {asking.HOST}\r\nexam-code: {code}\r\n"
+            f"Content-Length: {len(body)}\r\n\r\n")
+    for _ in range(TRIES):
+        with contextlib.suppress(OSError, asyncio.TimeoutError):
+            answer = asyncio.run(asyncio.wait_for(asking.answer(server, head.encode() + body), SECONDS))
+            if asking.status_of(answer) not in (0, 502, 503, 504):
+                said: dict[str, object] = json.loads(asking.body_of(answer))
+                return said
+    raise Trouble("no answer: look with `office appeals SESSION` whether it is lodged, or try again")
+
+
+def lodge(office: Office, words: Sequence[str], lodging: Lodging) -> Lodged:
+    """Lodges what the words ask, with a line in the log before and after it. Raises `Trouble` where nothing was
+    answered."""
+    beside.refuse_stranger(office.path)
+    code, ref = candidate(office, lodging.number)
+    body = json.dumps({**lodging.values, "ref": ref}, ensure_ascii=False).encode()
+    with logbook.logged(office, ["lodge", *words]) as outcome:
+        with served(office) as server:
+            answer = post(server, lodging.number, code, body)
+        outcome.status, outcome.answer = outcome_of(answer, ref)
+    if outcome.status:
+        return Lodged(outcome.status, outcome.answer, refusals.explained(office, ["lodge"], outcome.answer))
+    return Lodged(0, f"{lodging.number} {outcome.answer}", [])
+
+
+def outcome_of(answer: dict[str, object], ref: str) -> tuple[int, str]:
+    """The status and what is said of an answer of `serve`."""
+    if "error" in answer:
+        return 1, f"refused {answer['error']}" + (f" last day {answer['day']}" if "day" in answer else "")
+    return 0, f"{ref} {answer['state']}"

@@ -1,0 +1,359 @@
+"""Offices at random, made by lines of the program, and their pages, read back, beside the program's own sheets.
+
+What a page must show comes from the sheets that the program prints over the office's file, and, for needs and extra
+time, which no sheet has, from a `serve` that is asked here by python's own client.
+"""
+import collections
+import contextlib
+import csv
+import datetime
+import http.client
+import io
+import json
+import os
+import random
+import shutil
+import subprocess
+import sys
+from typing import NamedTuple
+
+import sample
+from cells import Cells
+
+from exam_desk import checking_shortage, lists, reasons, shortage, telling  # beside the tests' folder
+from exam_desk.office import Office
+from exam_desk.reading import Reading
+from exam_desk.sheets import board, counts, doors, person, printing, slips, summary
+from exam_desk.sheets.session_page import Page
+from exam_desk.words import FEATURES, plain
+
+TODAY = datetime.date(2027, 5, 1)
+NAMES = ["Ada Lin", "=1+1", "<script>alert(1)</script>", "\"quotes\" & 'more'", "C1 \u009b2J \u0085 end", "left \u202eright",
+         "line\u2028end", "</bdi></td></table>", "W" * 80, "é" * 40, " ", "Zoë Ømer"]
+DAYS = ["2027-06-07", "2027-06-07", "2027-06-08", "2027-06-10"]
+
+
+class Seat(NamedTuple):
+    """What the sheets of a session say of one member."""
+    paper: str
+    hall: str  # - without one
+    desk: str
+    finish: str
+    name: str
+
+
+class RandomOffice:
+    """An office in a folder. Its own folder goes with that."""
+
+    def __init__(self, folder, seed):
+        self.chance = random.Random(seed)
+        self.folder, self.path = folder, os.path.join(folder, "office.db")
+        self.office = Office(self.path, sample.built_program(), lambda: TODAY, "tester", lambda text: None)
+        self.refused = 0
+
+    def run(self, *words):
+        """What a command prints; None where it is refused, which a random one may be."""
+        done = subprocess.run(self.office.line(*words), capture_output=True, check=False)
+        if done.returncode:
+            assert done.stderr.startswith(b"refused"), (words, done.stderr)
+            self.refused += 1
+            return None
+        return done.stdout.decode()
+
+    # How it is made.
+
+    def make(self):
+        self.run("init")
+        self.codes = {f"{number:07}": f"CODE{number:07}" for number in self.chance.sample(range(1, 9_999_999), self.chance.randint(8, 30))}
+        self.sessions = [f"S{place}" for place in range(self.chance.randint(1, 3))]
+        self.papers = {f"P{place}": self.chance.choice(self.sessions) for place in range(self.chance.randint(2, 7))}
+        self.halls = [f"H{place}" for place in range(self.chance.randint(1, 5))]
+        for kind, rows in self.files().items():
+            path = os.path.join(self.folder, f"{kind}.csv")
+            with open(path, "w", encoding="utf-8", newline="") as file:
+                csv.writer(file, lineterminator="\n").writerows(rows)
+            self.run("import", kind, path)
+        self.change()
+        self.before = os.path.join(self.folder, "before")
+        os.mkdir(self.before)
+        for name in os.listdir(self.folder):
+            if name.startswith("office.db"):
+                shutil.copy2(os.path.join(self.folder, name), self.before)
+        self.change()
+
+    def files(self):
+        chance = self.chance
+        openings = [[session, hall, chance.randint(1, 9), chance.choice(["10:30", "12:00", "24:00"]), chance.choice(["no", "no", "yes"])]
+                    for session in self.sessions for hall in self.halls if chance.random() < 0.8]
+        entries = sorted({(number, paper) for number in self.codes for paper in chance.sample(sorted(self.papers), min(
+            len(self.papers), chance.choice([0, 1, 2, 3])))})
+        return {
+            "sessions": [["session", "date", "start"], *([code, chance.choice(DAYS), chance.choice(["09:00", "23:30"])]
+                                                         for code in self.sessions)],
+            "papers": [["paper", "title", "session", "minutes", "requires"],
+                       *([code, chance.choice(NAMES), session, chance.choice([45, 61, 90, 600]), self.features(0.2)]
+                         for code, session in self.papers.items())],
+            "halls": [["hall", "title", "features"], *([code, chance.choice(NAMES), self.features(0.6)] for code in self.halls)],
+            "openings": [["session", "hall", "desks", "until", "reserved"], *openings],
+            "candidates": [["number", "name", "code"], *([number, chance.choice(NAMES), code] for number, code in self.codes.items())],
+            "arrangements": [["number", "needs", "extra"], *([number, self.features(0.2), chance.choice([0, 10, 25, 33, 100])]
+                                                             for number in self.codes if chance.random() < 0.3)],
+            "entries": [["number", "paper"], *entries],
+        }
+
+    def features(self, share):
+        return "+".join(name for name in FEATURES if self.chance.random() < share) or "-"
+
+    def change(self):
+        """Withdraws, lodges, decides."""
+        numbers, chance = sorted(self.codes), self.chance
+        for _ in range(3):
+            self.run("withdraw", chance.choice(numbers), chance.choice(sorted(self.papers)))
+        lodged = []
+        with self.served() as ask:
+            for place in range(8):
+                number = chance.choice(numbers)
+                if answer := ask("POST", number, "appeals", self.appeal(f"A{chance.randrange(1000)}X{place}", number, ask)):
+                    lodged.append((number, answer))
+        for number, ref in lodged:
+            state = chance.choice(["granted", "granted", "refused", "standing", ""])
+            if state:
+                self.run("decide", number, ref, state, chance.choice(NAMES))
+        if chance.random() < 0.3:
+            self.run("close-hall", chance.choice(self.sessions), chance.choice(self.halls))
+
+    def appeal(self, ref, number, ask):
+        """A lodging that may well be taken: of what the candidate sits, or misses."""
+        seats, clashes = ask("GET", number, "seats")["seats"], ask("GET", number, "clashes")["clashes"]
+        chance = self.chance
+        asked = {"ref": ref, "reason": chance.choice(NAMES), "session": chance.choice([*(seat["session"] for seat in seats), "S0"])}
+        kind = chance.choice(["hall", "clash", "arrangement", "arrangement"])
+        if clashes and kind == "clash":
+            return asked | {"kind": kind, "paper": clashes[0]["paper"], "session": clashes[0]["session"]}
+        hall = next((seat["hall"] for seat in seats if seat["session"] == asked["session"]), None)
+        if hall and kind == "hall":
+            return asked | {"kind": kind, "hall": hall}
+        return asked | {"kind": "arrangement", "needs": self.features(0.2), "extra": chance.choice([0, 10, 50])}
+
+    @contextlib.contextmanager
+    def served(self, path=None):
+        """A function that asks a `serve` over the office by python's own client; of a lodging it gives the reference."""
+        port = sample.free_port()
+        with subprocess.Popen(self.office.line_over(path or self.path, "serve", str(port)), stdout=subprocess.PIPE) as server:
+            try:
+                assert server.stdout.readline().startswith(b"serving")
+
+                def ask(method, number, what, body=None):
+                    with contextlib.closing(http.client.HTTPConnection("127.0.0.1", port, timeout=60)) as connection:
+                        connection.request(method, f"/candidates/{number}/{what}", body and json.dumps(body).encode(),
+                                           {"exam-code": self.codes[number]})
+                        answer = connection.getresponse()
+                        said = json.loads(answer.read())
+                    if method == "GET":
+                        assert answer.status == 200, said
+                        return said
+                    return body["ref"] if answer.status == 200 else None
+                yield ask
+            finally:
+                server.kill()
+
+    # What the program's sheets say.
+
+    def sheet(self, path, *words):
+        done = subprocess.run(self.office.line_over(path, *words), capture_output=True, check=True)
+        return done.stdout.decode().split("\n")[:-1]
+
+    def seats(self, path, session):
+        """The members of a session by number, of the attendance sheets; the export must say as much."""
+        found = {}
+        for paper, of in self.papers.items():
+            for line in self.sheet(path, "attendance", session, paper)[2:] if of == session else ():
+                number, hall, desk, finish, name = line[:7], line[8:16].strip(), line[17:21].strip(), line[22:27], line[28:]
+                found[number] = Seat(paper, hall, desk, finish, name)
+        exported = [f"{session},{number},{seat.paper},{seat.hall},{seat.desk}" for number, seat in sorted(found.items())]
+        assert self.sheet(path, "export", session)[1:] == exported, session
+        return found
+
+    def clashes(self, session):
+        return [(line[:7], line.split()[2], line.split()[4]) for line in self.sheet(self.path, "clashes", session)[2:]]
+
+    # What the pages show.
+
+    def look(self):
+        """Raises AssertionError where a page shows something else than the sheets."""
+        self.arrangements = {}
+        with self.served() as ask:
+            for number in self.codes:
+                for seat in ask("GET", number, "seats")["seats"]:
+                    parts = [f"{seat['extra']} % extra time"] * (seat["extra"] > 0) + seat["needs"].replace("-", "", seat["needs"] == "-").split("+")
+                    self.arrangements[number, seat["session"]] = ", ".join(filter(None, parts))
+        self.now = {session: self.seats(self.path, session) for session in self.sessions}
+        with Reading(self.office) as reading, Reading(self.office, os.path.join(self.before, "office.db")) as before:
+            assert reading.is_current() in (True, False)
+            self.titles = telling.titles_of(reading)
+            for session in self.sessions:
+                for look in (self.doors, self.board, self.counts, self.session_page, self.printed, self.reasons):
+                    look(reading, session)
+            self.slips(reading)
+            self.summary(reading)
+            self.persons(reading)
+            self.changes(before, reading)
+
+    def doors(self, reading, session):
+        tables = Cells(page := doors.page(reading, session)).tables
+        halls = sorted({seat.hall for seat in self.now[session].values()} - {"-"})
+        equal([table[0][0].rsplit("|", 1)[1] for table in tables], halls, "halls", page)
+        for hall, table in zip(halls, tables):
+            lines = self.sheet(self.path, "door-list", session, hall)
+            rows = [[*line[:25].split(), line[26:]] for line in lines[2:]]
+            wanted = [[desk, number, plain(name), paper, self.now[session][number].finish, self.arrangements[number, session], ""]
+                      for desk, number, paper, name in rows]
+            equal(table[2:-1], wanted, "doors", page)
+            last = max(self.now[session][number].finish for _, number, *_ in rows)
+            assert f"last finish {last}" in table[0][0] and f"{len(rows)} seated" in table[0][0], table[0]
+
+    def board(self, reading, session):
+        names = collections.Counter(lists.fold(seat.name) for seat in self.now[session].values())
+        wanted = [[plain(seat.name) + (f" {number}" if names[lists.fold(seat.name)] > 1 else ""),
+                   *(["ask the office", ""] if seat.hall == "-" else [seat.hall, seat.desk])]
+                  for number, seat in sorted(self.now[session].items(), key=lambda each: lists.name_order(each[1].name, each[0]))]
+        equal(Cells(page := board.page(reading, session)).rows[2:], wanted, "board", page)
+
+    def counts(self, reading, session):
+        copies, total = collections.Counter(), collections.Counter()
+        last, last_of_all = collections.defaultdict(str), collections.defaultdict(str)
+        for seat in self.now[session].values():
+            key = (seat.hall == "-", seat.hall, seat.paper)
+            copies[key], total[seat.paper] = copies[key] + 1, total[seat.paper] + 1
+            last[key], last_of_all[seat.paper] = max(last[key], seat.finish), max(last_of_all[seat.paper], seat.finish)
+        wanted = [[self.titled(hall) if hall != "-" else "no desk", self.titled(paper), str(copies[key]), last[key]]
+                  for key in sorted(copies) for _, hall, paper in [key]]
+        wanted_sums = [[self.titled(paper), str(total[paper]), last_of_all[paper]] for paper in sorted(total)]
+        tables = Cells(page := counts.page(reading, session)).tables
+        equal((tables[0][2:], tables[1][1:]), (wanted, wanted_sums), "counts", page)
+
+    def titled(self, code):
+        return f"{plain(self.titles[code])} ({code})"
+
+    def session_page(self, reading, session):
+        found = Page(reading, session)
+        page = found.document()
+        assert not found.differences, found.differences
+        assert not Cells(page).strange, Cells(page).strange
+        seats = self.now[session]
+        seated = [[table for table in Cells(f"<table>{part}").rows if len(table) == 5][1:]
+                  for part in page[page.index("<section id=seats>"):page.index("<section id=clashes>")].split("<section class=hall")[1:]]
+        wanted = [[[seat.desk, number, plain(seat.name), seat.paper, seat.finish] for number, seat in
+                   sorted(seats.items(), key=lambda each: int(each[1].desk.replace("-", "0"))) if seat.hall == opening.hall]
+                  for opening in found.openings]
+        equal(seated, wanted, "session page", page)
+        part = page[page.index("<section id=clashes>"):page.index("<section id=appeals>")]
+        equal(Cells(part).rows[1:], [[number, plain(seats[number].name), sits, clash] for number, sits, clash in self.clashes(session)],
+              "clashes", page)
+        rows = Cells(page[page.index("<section id=appeals>"):]).rows[1:]
+        register = [[line[:7], line[8:24].strip(), line[25:36].strip(), line[64:], line[48:58].strip() if False else line[48:58], line[37:47].strip()]
+                    for line in self.sheet(self.path, "appeals", session)[2:]]
+        equal([[row[0], row[2], row[3], row[6]] for row in rows], [[row[0], row[1], row[2], row[5]] for row in register], "appeals", page)
+        equal([row[4] for row in rows], [line.split(None, 5)[5] for line in self.sheet(self.path, "appeals", session)[2:]], "subjects", page)
+        sheet = shortage.read("\n".join([*self.sheet(self.path, "shortage", session), ""]))
+        assert (f"{len(seats):,} candidate" in page and sheet.unseated == sum(seat.hall == "-" for seat in seats.values())
+                and (f"+ {sheet.unseated} unseated</p>" in page) == (sheet.unseated > 0)), "shortage"
+
+    def printed(self, reading, session):
+        text = printing.text(reading, session, 999, 200)
+        halls = [opening for opening, in reading.rows.execute("SELECT hall FROM opening WHERE session = ? ORDER BY hall", [session])]
+        sheets = [["door-list", session, hall] for hall in halls]
+        sheets += [["attendance", session, paper] for paper, of in sorted(self.papers.items()) if of == session]
+        wanted = [lines for words in sheets if len(lines := self.sheet(self.path, *words)) > 2] + [self.sheet(self.path, "clashes", session)]
+        equal(text.split("\f"), ["".join(f"{plain(line)}\n" for line in lines) for lines in wanted], "print-session", text)
+
+    def reasons(self, reading, session):
+        """Nobody who has no desk suits a hall with a free one; the program's sheet adds up."""
+        found, sheet = reasons.Reasons(reading, session), shortage.read(reading.sheet("shortage", session))
+        text = found.text()
+        equal([line[:7] for line in text.split("\n") if line[:1].isdigit()],
+              [number for number, seat in sorted(self.now[session].items()) if seat.hall == "-"], "why", text)
+        assert "are free" not in text, text
+        equal((list(found.differences(sheet)), list(checking_shortage.faults(reading, sheet))), ([], []), "shortage", text)
+
+    def slips(self, reading):
+        found = {}
+        for table in Cells(page := slips.page(reading, slips.Choice(codes=True, desks=True))).tables:
+            found[table[0][0][len("access code ") + 11:][:7]] = table
+        clashes = collections.defaultdict(list)
+        for session in self.sessions:
+            for number, _, clash in self.clashes(session):
+                clashes[number, session].append(clash)
+        heads = {code: (day, start) for code, day, start in reading.rows.execute("SELECT code, day, start FROM session")}
+        order = sorted(self.sessions, key=lambda code: (*heads[code], code))
+        equal(sorted(found), sorted({number for seats in self.now.values() for number in seats}), "slips", page)
+        for number, table in found.items():
+            wanted = [self.slip_row(number, session, heads[session], clashes[number, session])
+                      for session in order if number in self.now[session]]
+            equal(table[2:], wanted, "slip", page)
+            name = next(seats[number].name for seats in self.now.values() if number in seats)
+            equal(table[0], [f"access code {self.codes[number]}{number}{plain(name)}"], "slip", page)
+
+    def slip_row(self, number, session, head, clashes):
+        seat, day = self.now[session][number], datetime.date.fromisoformat(head[0])
+        notes = [f"with {self.arrangements[number, session]}"] * bool(self.arrangements[number, session])
+        notes += [f"not {self.titled(code)}, at the same time" for code in clashes]
+        place = "no desk yet: ask the office" if seat.hall == "-" else f"{self.titled(seat.hall)}, desk\u00a0{seat.desk}"
+        return [f"{day:%a} {day.day} {day:%B} {day.year}", f"{head[1] // 60:02}:{head[1] % 60:02}–{seat.finish}",
+                "|".join([self.titled(seat.paper), *notes]), place]
+
+    def summary(self, reading):
+        for line in summary.text(reading).split("\n")[1:-1]:
+            session, _, _, members, seated, short, desks, free, waiting = line.split()
+            seats = self.now[session]
+            there = sum(seat.hall != "-" for seat in seats.values())
+            appeals = [line[37:47].strip() for line in self.sheet(self.path, "appeals", session)[2:]]
+            [all_desks] = reading.rows.execute("SELECT coalesce(sum(desks), 0) FROM opening WHERE session = ?", [session]).fetchone()
+            equal([members, seated, short, desks, free, waiting], [*map(str, (
+                len(seats), there, len(seats) - there, all_desks, all_desks - there, appeals.count("open")))], "summary", line)
+
+    def persons(self, reading):
+        for number in self.chance.sample(sorted(self.codes), 3):
+            text = "\n".join(person.lines(reading, person.find(reading.rows, number), True))
+            for session in self.sessions:
+                if seat := self.now[session].get(number):
+                    place = "no desk" if seat.hall == "-" else f"{seat.hall} {self.titles[seat.hall]}, desk {seat.desk}"
+                    allowance = self.arrangements[number, session]
+                    line = (f" {session}: {seat.paper} {self.titles[seat.paper]}: {place}, until {seat.finish}"
+                            + (f", with {allowance}" if allowance else ""))
+                    assert f"{line}\n" in f"{text}\n", (line, text)
+
+    def changes(self, before, reading):
+        old = {session: self.seats(before.copy, session) for session in self.sessions}
+        found = telling.differences(before, reading)
+        rows = list(csv.reader(io.StringIO(telling.csv_text(found, self.titles).removeprefix("\ufeff"))))[1:]
+        shown = {(row[1], row[2]): (row[6:10], row[12:16]) for row in rows}
+
+        def columns(seat):
+            return [seat.finish, seat.paper, *(["", ""] if seat.hall == "-" else [seat.hall, seat.desk])] if seat else [""] * 4
+        wanted = {(session, number): (columns(then.get(number)), columns(now.get(number)))
+                  for session in self.sessions for then, now in [(old[session], self.now[session])]
+                  for number in then.keys() | now.keys() if then.get(number) != now.get(number)}
+        equal(shown, wanted, "changes", telling.text(found))
+        for row in rows:
+            equal(row[0], "yes" if row[6:9] != row[12:15] or not row[7] or not row[13] else "no", "tell", row)
+
+
+def equal(found, wanted, what, page):
+    if found != wanted:
+        raise AssertionError(f"{what}:\n  shown  {found}\n  sheets {wanted}\n{page if os.environ.get('SHOW') else ''}")
+
+
+def look_at(folder, seed):
+    """Makes the office of a seed and looks at its pages."""
+    office = RandomOffice(folder, seed)
+    try:
+        office.make()
+        office.look()
+    except AssertionError as fault:
+        raise AssertionError(f"seed {seed}: {fault}") from fault
+    return sum(len(seats) for seats in office.now.values())
+
+
+if __name__ == "__main__":
+    sys.exit(__doc__)
