@@ -11,12 +11,12 @@ from werkzeug.wrappers import Response
 
 from exam_desk.trouble import Trouble
 from exam_desk.words import FEATURES
-from exam_web import (appeals, candidates, entering, files, guard, office, plans, proposals, season, session, texts,
+from exam_web import (appeals, candidates, clashes, entering, files, guard, office, plans, proposals, season, session, texts,
                       wording)
 from exam_web.desk import Desk, StillReading, release
 from exam_web.wording import text
 
-SCREENS = [entering.pages, season.pages, session.pages, candidates.pages, appeals.pages, appeals.clash_pages, files.pages,
+SCREENS = [entering.pages, season.pages, session.pages, candidates.pages, appeals.pages, clashes.pages, files.pages,
            plans.pages, proposals.pages, office.pages]
 PLACES = [("season.page", "Season"), ("files.page", "Files"), ("candidates.find", "Candidates"),
           ("appeals.page", "Appeals"), ("office.page", "Office")]

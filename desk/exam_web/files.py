@@ -7,8 +7,8 @@ import secrets
 from flask import Blueprint, Response, abort, g, redirect, render_template, request, url_for
 from werkzeug.wrappers import Response as Answer
 
-from exam_desk import files, private
-from exam_web import downloads, scripts, uploads
+from exam_desk import dumping, files, private
+from exam_web import downloads, uploads
 from exam_web.desk import desk, view
 from exam_web.wording import many, text
 
@@ -82,5 +82,6 @@ def dump() -> Response:
     """All facts as the seven files."""
     with private.own_folder(desk().office.path) as folder:
         place = os.path.join(folder, "facts")
-        scripts.run(desk().office, "dump", place)
+        os.mkdir(place, 0o700)
+        dumping.write_all(view().reading.rows, place)
         return downloads.archive(place, f"facts-{desk().office.today().isoformat()}")
