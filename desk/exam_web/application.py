@@ -6,6 +6,7 @@ import sqlite3
 from typing import Any
 
 from flask import Flask, g, redirect, render_template, request, url_for
+from werkzeug.datastructures import MultiDict
 from werkzeug.exceptions import HTTPException
 from werkzeug.wrappers import Response
 
@@ -58,7 +59,7 @@ def everywhere() -> dict[str, Any]:
     shown = [(name, word) for name, word in PLACES if name in current_app.view_functions]
     return {"mark": visit and visit.mark, "initials": visit and visit.initials, "said": said, "places": shown,
             "today": desk.office.today().isoformat(), "pretended": desk.pretended, "office_name": desk.office.base_name(),
-            "state": g.view.name if "view" in g else "", "wrong": g.get("wrong", {}), "given": g.get("given", {}),
+            "state": g.view.name if "view" in g else "", "wrong": g.get("wrong", {}), "given": g.get("given", MultiDict()),
             "asked_form": g.get("asked_form"), "FEATURES": FEATURES, "direction": texts.DIRECTIONS.get(wording.language())}
 
 
