@@ -7,7 +7,7 @@ from typing import NoReturn
 from flask import Blueprint, abort, render_template, request
 
 from exam_desk import appeals, changing, facts, lastdays
-from exam_web import counting, effects, plans, proposals
+from exam_web import effects, plans, proposals
 from exam_web.desk import desk, view
 from exam_web.wording import days_until
 
@@ -57,22 +57,3 @@ def if_granted(number: int, ref: str) -> str:
         found = None if refusal else proposals.compared(desk(), rehearsal)[0]
     return render_template("if_granted.html" if "piece" in request.args else "if_granted_page.html", row=row, e=found,
                            refusal=proposals.worded(refusal), most=12, kind_of=effects.kind_of)
-
-
-clash_pages = Blueprint("clashes", __name__)
-
-
-@clash_pages.get("/clashes")
-def clashes() -> str:
-    """Everybody with two papers at the same time, and whether they have asked to sit the other."""
-    asked = {(row["session"], row["number"]): row for row in view().rows(
-        "SELECT * FROM appeal WHERE kind = 2 ORDER BY lodged")}
-    numbers = counting.two_papers(view())
-    sessions = [each for each in counting.sums(view()).values() if each.clashes]
-    chosen = request.args.get("session", "")
-    shown = [each for each in sessions if each.code == chosen] or sessions[:1]
-    from exam_web.session import members_of
-    members = {each.code: members_of(each.code, numbers[each.code][:MOST_SHOWN]) for each in shown}
-    missed = {each.code: view().reading.clashes(each.code) for each in shown}
-    return render_template("clashes.html", sessions=sessions, shown=shown, members=members, missed=missed, asked=asked,
-                           appeals=appeals, titles=facts.paper_titles(view().reading.rows))

@@ -6,16 +6,19 @@ import sqlite3
 from typing import Any
 
 from flask import Flask, g, redirect, render_template, request, url_for
+from werkzeug.datastructures import MultiDict
 from werkzeug.exceptions import HTTPException
 from werkzeug.wrappers import Response
 
 from exam_desk.trouble import Trouble
 from exam_desk.words import FEATURES
-from exam_web import entering, guard, season, texts, wording
+from exam_web import (appeals, candidates, clashes, entering, files, guard, office, plans, proposals, season, session, texts,
+                      wording)
 from exam_web.desk import Desk, StillReading, release
 from exam_web.wording import text
 
-SCREENS = [entering.pages, season.pages]
+SCREENS = [entering.pages, season.pages, session.pages, candidates.pages, appeals.pages, clashes.pages, files.pages,
+           plans.pages, proposals.pages, office.pages]
 PLACES = [("season.page", "Season"), ("files.page", "Files"), ("candidates.find", "Candidates"),
           ("appeals.page", "Appeals"), ("office.page", "Office")]
 PROBLEMS = {
@@ -56,7 +59,7 @@ def everywhere() -> dict[str, Any]:
     shown = [(name, word) for name, word in PLACES if name in current_app.view_functions]
     return {"mark": visit and visit.mark, "initials": visit and visit.initials, "said": said, "places": shown,
             "today": desk.office.today().isoformat(), "pretended": desk.pretended, "office_name": desk.office.base_name(),
-            "state": g.view.name if "view" in g else "", "wrong": g.get("wrong", {}), "given": g.get("given", {}),
+            "state": g.view.name if "view" in g else "", "wrong": g.get("wrong", {}), "given": g.get("given", MultiDict()),
             "asked_form": g.get("asked_form"), "FEATURES": FEATURES, "direction": texts.DIRECTIONS.get(wording.language())}
 
 

@@ -5,6 +5,7 @@ from collections import Counter
 from dataclasses import dataclass
 
 from exam_desk import telling
+from exam_desk.consequences import kind_of
 from exam_desk.telling import Change
 from exam_web import counting
 from exam_web.desk import View
@@ -12,24 +13,14 @@ from exam_web.desk import View
 KINDS = {  # the gravest first: in words before the change, and after it
     "loses": ("would lose the desk", "lost the desk"),
     "moves": ("would move to another hall", "moved to another hall"),
-    "gains": ("would get a desk", "got a desk"),
-    "time": ("would have another paper or time", "have another paper or time"),
+    "gets": ("would get a desk", "got a desk"),
+    "other": ("would have another paper or time", "have another paper or time"),
     "leaves": ("would leave a session", "left a session"),
     "joins": ("would join a session", "joined a session"),
     "desk": ("would have another desk number only", "have another desk number only"),
 }
 ORDER = list(KINDS)
 NUMBERS = ("members", "desks", "short", "clashes")
-
-
-def kind_of(change: Change) -> str:
-    """One of KINDS."""
-    old, new = change.old, change.new
-    if old is None or new is None:
-        return "joins" if old is None else "leaves"
-    if old.hall == new.hall:
-        return "time" if change.is_to_tell() else "desk"
-    return "moves" if old.hall and new.hall else "loses" if old.hall else "gains"
 
 
 @dataclass(frozen=True)

@@ -82,5 +82,6 @@ def dump() -> Response:
     """All facts as the seven files."""
     with private.own_folder(desk().office.path) as folder:
         place = os.path.join(folder, "facts")
-        dumping.write(view().reading.rows, place)
+        os.mkdir(place, 0o700)
+        dumping.write_all(view().reading.rows, place)
         return downloads.archive(place, f"facts-{desk().office.today().isoformat()}")

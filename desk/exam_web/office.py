@@ -3,13 +3,15 @@ from __future__ import annotations
 
 import hashlib
 import os
+import pathlib
+import sys
 from contextlib import closing
 from typing import NoReturn
 
 from flask import Blueprint, Response, abort, g, redirect, render_template, request, url_for
 from werkzeug.wrappers import Response as Answer
 
-from exam_desk import changing, copies, keeping, logbook, private, turns, undo
+from exam_desk import changing, copies, kept, logbook, private, turns, undo
 from exam_desk.trouble import Stale
 from exam_web import downloads, effects, proposals
 from exam_web.desk import View, desk, office, view
@@ -17,6 +19,7 @@ from exam_web.wording import shown, text
 
 pages = Blueprint("office", __name__)
 MOST_LINES = 200  # of the log
+KEEP = str(pathlib.Path(__file__).resolve().parent.parent / "keep")  # the command
 LOWEST_PORT, HIGHEST_PORT = 1024, 65535
 
 
@@ -99,8 +102,11 @@ def keep() -> Answer | tuple[str, int]:
     if what == "start" and not (port.isdecimal() and LOWEST_PORT <= int(port[:6]) <= HIGHEST_PORT):
         wrong = text("a whole number from {low} to {high}", low=LOWEST_PORT, high=HIGHEST_PORT)
         return proposals.wrong_page(proposals.Wrong(("office.page", {}), port=wrong), "keep")
-    said = keeping.start(office(), port) if what == "start" else keeping.stop(office())
-    g.visit.said.append(("good", shown(str(said))))
+    if what == "start":
+        status = kept.start(office(), [sys.executable, KEEP, "run", port])
+        g.visit.said.append(("good" if status.serves else "bad", shown(status.sentence)))
+    else:
+        kept.stop(office())
     return redirect(url_for("office.page") + "#serve", 303)
 
 

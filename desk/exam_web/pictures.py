@@ -8,7 +8,7 @@ from typing import NamedTuple
 from exam_desk.facts import Opening
 from exam_desk.reading import Member
 from exam_desk.words import plain
-from exam_web import kept
+from exam_web import remembered
 from exam_web.desk import desk
 
 WIDTH, HEIGHT, GAP = 78, 38, 5  # of a desk, and from one to the next
@@ -39,12 +39,12 @@ class Picture(NamedTuple):
 
 def set_room(hall: str, columns: int, order: str) -> None:
     path = desk().office.path
-    kept.write(path, ROOMS, {**kept.read(path, ROOMS), hall: {"columns": columns, "order": order}})
+    remembered.write(path, ROOMS, {**remembered.read(path, ROOMS), hall: {"columns": columns, "order": order}})
 
 
 def room(hall: str, desks: int) -> tuple[int, str]:
     """The columns of a hall and the order of its desks, as the officer drew it or as most halls are."""
-    drawn = kept.read(desk().office.path, ROOMS).get(hall)
+    drawn = remembered.read(desk().office.path, ROOMS).get(hall)
     drawn = drawn if isinstance(drawn, dict) else {}
     columns, order = drawn.get("columns"), drawn.get("order")
     if not isinstance(columns, int) or not 1 <= columns <= MOST_COLUMNS:

@@ -11,7 +11,7 @@ from markupsafe import Markup
 from werkzeug.datastructures import MultiDict
 from werkzeug.wrappers import Response
 
-from exam_desk import codes, files, mistakes
+from exam_desk import coding, files, lodging, mistakes
 from exam_desk.changing import Step
 from exam_desk.words import FEATURES, clock
 from exam_web import proposals, session, uploads
@@ -22,6 +22,7 @@ from exam_web.wording import text
 pages = Blueprint("plans", __name__)
 Form = MultiDict[str, str]
 MOST_REASON = 200  # bytes
+SHEET_HINT = "; format the column as text"  # of cures, for who has a spreadsheet
 REF = re.compile("[A-Z0-9]{1,16}")
 OUTCOMES = {"granted": ("Grant appeal {ref} of {name}", "Grant"),
             "standing": ("Grant appeal {ref} of {name}, for later sessions too", "Grant, standing"),
@@ -45,7 +46,7 @@ def import_step(kind: str, *values: str) -> Step:
 def checked(page: Page, form: Form, **columns: str) -> dict[str, str]:
     """The values of fields, by the forms of the columns that are named; what is wrong is said beside its field."""
     values = {name: form.get(name, "").strip() for name in columns}
-    wrong = {name: text(mistakes.CURES[column]) for name, column in columns.items()
+    wrong = {name: text(mistakes.CURES[column].removesuffix(SHEET_HINT)) for name, column in columns.items()
              if not mistakes.RIGHT[column](values[name].encode("utf-8", "surrogateescape"))}
     if wrong:
         raise Wrong(page, **wrong)
@@ -106,9 +107,27 @@ def new_code(form: Form) -> Plan:
     number, row, page = candidate(form)
     taken = {code for code, in view().rows("SELECT code FROM candidate")}
     return Plan(text("New access code for {name}", name=row["name"]),
-                [import_step("candidates", number, row["name"], codes.new_code(taken))], page, text("Give the new code"),
+                [import_step("candidates", number, row["name"], coding.new_code(taken))], page, text("Give the new code"),
                 note=text("The old code ends at once."),
                 done_note=text("The candidate's page shows the new code when you ask for it, and prints a slip."))
+
+
+def lodge(form: Form) -> Plan:
+    """An appeal for a candidate who is there: it is lodged over HTTP, as candidates do, so its reason is no argument."""
+    number, row, page = candidate(form)
+    kind = form.get("kind", "")
+    code = checked(page, form, session="session")["session"]
+    if kind == "arrangement":
+        values = [needs(form), checked(page, form, wanted_extra="extra")["wanted_extra"]]
+    elif kind in lodging.KINDS:
+        values = [checked(page, form, **{f"wanted_{kind}": "paper" if kind == "clash" else kind})[f"wanted_{kind}"]]
+    else:
+        raise Wrong(page, kind=text("choose one"))
+    field = "wanted_extra" if kind == "arrangement" else f"wanted_{kind}"
+    fields = {4: "session", 12: "session", 13: "session", 20: "session", 21: "session", **dict.fromkeys((5, 7, 8, 11, 18, 19), field)}
+    return Plan(text("Lodge for {name}: {kind} {values}, {session}", name=row["name"], kind=text(kind), values=" ".join(values),
+                     session=code), [], page, text("Lodge it"), fields, text("Lodging moves nobody. It is decided afterwards."),
+                lodge=(number, code, kind, *values, reason(form, page)))
 
 
 def decide(form: Form) -> Plan:
@@ -181,7 +200,7 @@ def import_files(form: Form) -> Plan:
 
 PLANS: dict[str, Callable[[Form], Plan]] = {
     "withdraw": withdraw, "reinstate": reinstate, "enter": enter, "arrangement": arrangement, "code": new_code,
-    "decide": decide, "open": open_hall, "close": close_hall, "files": import_files,
+    "lodge": lodge, "decide": decide, "open": open_hall, "close": close_hall, "files": import_files,
 }
 
 

@@ -10,7 +10,7 @@ from flask import g
 
 from exam_desk.reading import Reading
 from exam_desk.sheets import board, counts, doors, slips
-from exam_web import kept
+from exam_web import remembered
 from exam_web.desk import desk, view
 
 SHEETS = {"doors": "Door sheets to sign", "slips": "Slips for candidates", "board": "Notice board by name",
@@ -61,15 +61,15 @@ def marks(code: str) -> dict[str, str]:
 def note(code: str, sheet: str) -> None:
     """Keeps that a sheet was opened."""
     path = desk().office.path
-    found = kept.read(path, PRINTED)
+    found = remembered.read(path, PRINTED)
     session = found.setdefault(code, {})
     session[sheet] = {"when": datetime.datetime.now().isoformat(" ", "minutes"), "halls": marks(code)}
-    kept.write(path, PRINTED, found)
+    remembered.write(path, PRINTED, found)
 
 
 def states(code: str) -> dict[str, State]:
     found = {}
-    for sheet, about in kept.read(desk().office.path, PRINTED).get(code, {}).items():
+    for sheet, about in remembered.read(desk().office.path, PRINTED).get(code, {}).items():
         old, new = about.get("halls", {}), marks(code)
         found[sheet] = State(about.get("when", ""), sorted(hall for hall in {**old, **new} if old.get(hall) != new.get(hall)))
     return found

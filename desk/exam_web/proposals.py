@@ -1,6 +1,7 @@
 """The one way for all changes: a form becomes a plan, the plan is rehearsed and shown, then one button does it."""
 from __future__ import annotations
 
+import dataclasses
 import datetime
 import secrets
 import sqlite3
@@ -15,7 +16,7 @@ from flask import Blueprint, abort, current_app, g, redirect, render_template, r
 from markupsafe import Markup
 from werkzeug.wrappers import Response
 
-from exam_desk import changing, logbook, refusals
+from exam_desk import changing, lodging, logbook, private, refusals
 from exam_desk.changing import Step
 from exam_desk.office import Office
 from exam_desk.trouble import Stale, Trouble
@@ -53,6 +54,7 @@ class Plan:
     note: Markup = Markup()
     done_note: Markup = Markup()
     others: dict[str, Any] = field(default_factory=dict)  # what the form for another hall than a lost one begins with
+    lodge: tuple[str, ...] = ()  # in the place of steps: the words of an appeal that is lodged the candidate's way
 
 
 @dataclass
@@ -77,6 +79,7 @@ class Proposal:
     is_done: bool = False
     as_promised: bool = True
     copy: str = ""  # the path of that of before
+    lodged: str = ""  # the reference of an appeal
 
     @property
     def is_working(self) -> bool:
@@ -108,7 +111,7 @@ def propose(plan: Plan, form: str) -> Response | tuple[str, int]:
     while len(found) >= MOST_PROPOSALS:
         found.pop(next(iter(found)))
     found[proposal.key] = proposal
-    work(proposal, rehearse)
+    work(proposal, rehearse_lodging if plan.lodge else rehearse)
     name = plan.fields.get(refusals.number_of(proposal.refusal) or 0)
     if name and not proposal.is_working:
         del found[proposal.key]
@@ -153,6 +156,37 @@ def rehearse(proposal: Proposal, here: Desk, who: Office) -> None:
             proposal.tell(COMPARING)
             proposal.effects, proposal.made_from, proposal.promised = compared(here, rehearsal)
     proposal.seconds = time.monotonic() - proposal.began
+
+
+def rehearse_lodging(proposal: Proposal, here: Desk, who: Office) -> None:
+    """Lodges on a private copy, and grants it there: what either would come to."""
+    with private.private_copy(who.path, who.path) as copy:
+        there = dataclasses.replace(who, path=copy)
+        proposal.tell("lodge")
+        lodged = lodging.lodge(there, proposal.plan.lodge, asked(proposal.plan))
+        if lodged.status:
+            proposal.refusal = lodged.line
+            return
+        number, ref, _ = lodged.line.split()
+        with changing.rehearse(there, [Step(("decide", number, ref, "granted", ""))], proposal.tell) as rehearsal:
+            proposal.answers = rehearsal.answers  # a grant may be refused where a lodging is not
+            proposal.tell(COMPARING)
+            proposal.effects, proposal.made_from, _ = compared(here, rehearsal)
+    proposal.seconds = time.monotonic() - proposal.began
+
+
+def asked(plan: Plan) -> lodging.Lodging:
+    found = lodging.asked(plan.lodge)
+    assert found, "the form has all values"
+    return found
+
+
+def lodge(proposal: Proposal, here: Desk, who: Office) -> None:
+    """Lodges an appeal: it moves nobody, so no state has to be the same."""
+    lodged = lodging.lodge(who, proposal.plan.lodge, asked(proposal.plan))
+    proposal.refusal = lodged.line if lodged.status else ""
+    proposal.is_done = not lodged.status
+    proposal.lodged = lodged.line.split()[1] if proposal.is_done else ""
 
 
 def compared(here: Desk, rehearsal: changing.Rehearsal) -> tuple[Effects, str, str]:
@@ -221,7 +255,7 @@ def do(key: str) -> Response:
     proposal = proposal_of(key)
     with proposal.lock:  # a second click does nothing
         if proposal.can_be_done:
-            work(proposal, carry_out)
+            work(proposal, lodge if proposal.plan.lodge else carry_out)
     return redirect(url_for("proposals.page", key=key), 303)
 
 

@@ -17,7 +17,7 @@ from typing import IO, NamedTuple
 from flask import abort, g
 from werkzeug.datastructures import FileStorage
 
-from exam_desk import codes, files, mistakes, private
+from exam_desk import coding, files, mistakes, private
 from exam_desk.trouble import Trouble
 from exam_desk.words import plain
 from exam_desk.workbook.checking import file_parts
@@ -194,7 +194,7 @@ def corrections(kind: str, looked: Looked, form: Mapping[str, str], taken: set[s
             if each.column == "row" and form.get(name) == "drop":
                 wanted[each.line] = {}
         elif "all" in form and each.write:
-            write = codes.new_code(taken) if each.write == NEW_CODE else each.write
+            write = coding.new_code(taken) if each.write == NEW_CODE else each.write
             wanted.setdefault(each.line, {})[each.place] = write
         elif "all" not in form and name in form and form[name] != each.fields[each.place]:
             wanted.setdefault(each.line, {})[each.place] = form[name][:MOST_VALUE]

@@ -1,0 +1,109 @@
+"use strict";
+document.documentElement.classList.add("js");
+
+// "/" goes to the search, as in many programs; Escape leaves a field
+addEventListener("keydown", (event) => {
+  const writes = event.target.closest("input, select, textarea");
+  if (event.key === "/" && !writes && !event.ctrlKey && !event.metaKey && !event.altKey) {
+    event.preventDefault();
+    document.getElementById("find")?.focus();
+  } else if (event.key === "Escape" && writes) {
+    writes.blur();
+  }
+});
+
+// a form is sent once, and says that it works
+addEventListener("submit", (event) => {
+  const form = event.target, button = event.submitter;
+  if (form.target === "_blank" || form.method !== "post") return;
+  setTimeout(() => {
+    for (const each of form.querySelectorAll("button")) each.disabled = true;
+    if (button && form.dataset.busy) {
+      button.dataset.was = button.textContent;
+      button.textContent = form.dataset.busy;
+    }
+  });
+});
+function ready() {
+  for (const each of document.querySelectorAll("button")) {
+    each.disabled = false;
+    if (each.dataset.was) each.textContent = each.dataset.was;
+  }
+}
+addEventListener("pageshow", ready);
+
+// after a refusal: to the field that caused it
+document.querySelector("[aria-invalid]")?.focus();
+
+// a piece of a page that is made when it is asked for: a hall, what a grant would come to
+async function load(place) {
+  if (place.dataset.loaded) return;
+  place.dataset.loaded = "1";
+  const piece = place.querySelector(".piece");
+  piece.setAttribute("aria-busy", "true");
+  try {
+    const answer = await fetch(`${place.dataset.load}?piece`, {credentials: "same-origin"});
+    if (answer.redirected || !answer.ok) throw new Error(answer.status);
+    piece.replaceChildren(document.createRange().createContextualFragment(await answer.text()));
+  } catch {
+    delete place.dataset.loaded; // its link stays, and says why
+  }
+  piece.removeAttribute("aria-busy");
+}
+const halls = document.querySelectorAll("details[data-load]");
+for (const each of halls) each.addEventListener("toggle", () => { if (each.open) load(each); });
+for (const each of document.querySelectorAll("[data-load]:not(details)")) load(each);
+
+// a link to a hall opens it; where there are few, the first is open
+function open() {
+  const place = location.hash.length > 1 && document.getElementById(location.hash.slice(1));
+  if (place && place.tagName === "DETAILS") {
+    place.open = true;
+    place.scrollIntoView();
+  }
+}
+addEventListener("hashchange", open);
+open();
+if (halls.length && halls.length <= 12 && ![...halls].some((each) => each.open)) halls[0].open = true;
+
+// files: chosen or dropped, a folder too
+const drop = document.getElementById("drop");
+if (drop) {
+  const wanted = /\.(csv|zip|xlsx|xlsm|ods)$/i;
+  const send = async (found) => {
+    const form = new FormData(drop);
+    form.delete("files");
+    for (const file of found) if (wanted.test(file.name)) form.append("files", file, file.name);
+    const line = drop.querySelector(".big");
+    line.textContent = drop.dataset.working;
+    line.setAttribute("role", "status");
+    try {
+      const answer = await fetch(drop.action, {method: "POST", body: form, credentials: "same-origin"});
+      if (answer.redirected) location.href = answer.url;
+      else document.querySelector("main").replaceChildren(
+        ...new DOMParser().parseFromString(await answer.text(), "text/html").querySelector("main").children);
+    } catch {
+      line.textContent = drop.dataset.nothing;
+    }
+  };
+  for (const input of drop.querySelectorAll("[type=file]")) {
+    input.addEventListener("change", () => { if (input.files.length) send([...input.files]); });
+  }
+  drop.addEventListener("dragover", (event) => { event.preventDefault(); drop.classList.add("over"); });
+  drop.addEventListener("dragleave", () => drop.classList.remove("over"));
+  const read = async (entry) => {
+    if (entry.isFile) return [await new Promise((done, fail) => entry.file(done, fail))];
+    const reader = entry.createReader(), found = [];
+    for (;;) {
+      const some = await new Promise((done, fail) => reader.readEntries(done, fail));
+      if (!some.length) return (await Promise.all(found.map(read))).flat();
+      found.push(...some.filter((each) => each.isFile));
+    }
+  };
+  drop.addEventListener("drop", async (event) => {
+    event.preventDefault();
+    drop.classList.remove("over");
+    const entries = [...event.dataTransfer.items].map((item) => item.webkitGetAsEntry()).filter(Boolean);
+    send((await Promise.all(entries.map(read))).flat());
+  });
+}

@@ -1,0 +1,110 @@
+"""A desk in a browser, asked over HTTP as a browser asks."""
+import html
+import http.client
+import os
+import re
+import signal
+import subprocess
+import time
+import urllib.parse
+
+import sample
+from sample import DESK, SampleSchool
+
+MARK, STATE = 'name="mark" value="([^"]+)"', 'name="state" value="([^"]*)"'
+LINK = r"http://127\.0\.0\.1:(\d+)(/[^/\s]+)/enter#(\S+)"
+PYTHON = "/usr/bin/python3"
+HAS_FLASK = subprocess.run([PYTHON, "-c", "import flask, waitress"], capture_output=True, check=False).returncode == 0
+
+
+class Browser:
+    """One browser at a desk."""
+
+    def __init__(self, link):
+        port, self.prefix, self.token = re.match(LINK, link).groups()
+        self.port, self.cookie = int(port), ""
+
+    def ask(self, method, path, body=None, headers=None, prefix=None):
+        """The answer and its text. A header that is None is not sent."""
+        connection = http.client.HTTPConnection("127.0.0.1", self.port, timeout=sample.PATIENCE)
+        head = {"Host": f"127.0.0.1:{self.port}", "Cookie": self.cookie}
+        if method == "POST":
+            head |= {"Origin": f"http://127.0.0.1:{self.port}", "Content-Type": "application/x-www-form-urlencoded"}
+        head |= headers or {}
+        connection.request(method, (self.prefix if prefix is None else prefix) + path, body,
+                           {name: value for name, value in head.items() if value is not None})
+        answer = connection.getresponse()
+        text = answer.read().decode("utf-8", "replace")
+        connection.close()
+        return answer, text
+
+    def enter(self, initials="ab"):
+        answer, _ = self.ask("POST", "/enter", urllib.parse.urlencode({"token": self.token, "initials": initials}))
+        self.cookie = (answer.headers["Set-Cookie"] or "").split(";")[0]
+        return answer
+
+    def get(self, path, status=200):
+        answer, text = self.ask("GET", path)
+        while '"refresh"' in text:
+            time.sleep(0.2)
+            answer, text = self.ask("GET", path)
+        assert answer.status == status, (path, answer.status, text[-800:])
+        return text
+
+    def post(self, path, page, status=303, **values):
+        """Posts as the form of a page does, with its mark and its state; gives where it leads, and the text."""
+        text = self.get(page)
+        state = re.search(STATE, text)
+        values = {"mark": re.search(MARK, text)[1], "state": state[1] if state else "", **values}
+        answer, text = self.ask("POST", path, urllib.parse.urlencode(values, doseq=True))
+        assert answer.status == status, (path, answer.status, text[-800:])
+        return (answer.headers["Location"] or "").removeprefix(self.prefix), text
+
+    def words(self, path):
+        """A page without its tags."""
+        return html.unescape(re.sub(r"\s+", " ", re.sub(r"<[^>]+>", " ", self.get(path))))
+
+
+class DeskSchool(SampleSchool):
+    """A desk over an office of examples/, and a browser that has come in."""
+
+    def setUp(self):
+        super().setUp()
+        if not HAS_FLASK:
+            self.skipTest("Flask or waitress is missing")
+        self.start()
+
+    def start(self):
+        self.process = subprocess.Popen([PYTHON, DESK / "desk", "--port", "0"], env=self.environment, stdout=subprocess.PIPE,
+                                        stderr=subprocess.PIPE, text=True, cwd=self.folder)
+        self.addCleanup(self.end)
+        said = ""
+        while "#" not in said:
+            said = self.process.stdout.readline()
+            assert said or self.process.poll() is None, self.process.stderr.read()
+        self.browser = Browser(said.strip())
+        self.browser.enter()
+
+    def end(self, number=signal.SIGTERM):
+        if self.process.poll() is None:
+            self.process.send_signal(number)
+        self.process.communicate(timeout=sample.PATIENCE)
+
+    def another(self):
+        """Another browser at the same desk, not yet in."""
+        return Browser(self.office("desk", "--link").strip())
+
+    def rows(self, query):
+        with self.reading() as reading:
+            return [tuple(row) for row in reading.rows.execute(query)]
+
+    def reading(self):
+        from exam_desk.reading import Reading
+        return Reading(self.value)
+
+    def seats(self):
+        return self.rows("SELECT * FROM seat ORDER BY 1, 2")
+
+    def log(self):
+        with open(os.path.join(self.desk, "log"), encoding="utf-8") as file:
+            return file.read()

@@ -1,0 +1,255 @@
+"""Changes at the desk in a browser: what is rehearsed is what is done, once, and from the state that was shown."""
+import concurrent.futures
+import os
+import pathlib
+import random
+import re
+import unittest
+import urllib.parse
+
+from desk_client import MARK, Browser, DeskSchool
+
+EFFECT = r'effect (\w+)"><b>([\d,]+)'
+REASON = "asthma, since 2019"
+
+
+class TestRehearsal(DeskSchool):
+    def test_it_changes_nothing_and_is_what_is_done(self):
+        before = self.seats()
+        page, _ = self.browser.post("/propose/close", "/sessions/MON-AM", session="MON-AM", lost="GYM")
+        text = self.browser.get(page)
+        promised = re.findall(EFFECT, text)
+        self.assertEqual(self.seats(), before)
+        self.assertIn("loses", dict(promised))
+        self.browser.post(page + "/do", page)
+        text = self.browser.get(page)
+        self.assertIn("What changed", text)
+        self.assertNotIn("should never be", text)
+        self.assertEqual(re.findall(EFFECT, text), promised)
+        lost = len(before) - len(self.seats())
+        self.assertEqual(dict(promised)["loses"], str(lost))
+        _, told = self.browser.ask("GET", page + "/told.csv")
+        self.assertEqual(told.count("\n") - 1, sum(int(count) for _, count in promised))
+        self.assertIn("(ab, desk)\tclose-hall MON-AM GYM\t0\tclosed", self.log())
+
+    def test_a_lost_hall_with_another_in_its_place(self):
+        page, _ = self.browser.post("/propose/close", "/sessions/MON-AM", session="MON-AM", lost="GYM")
+        both, _ = self.browser.post("/propose/close", page, session="MON-AM", lost="GYM", proposal=page.rsplit("/", 1)[1],
+                                    other_hall="R14", other_desks="30", other_until="14:00")
+        alone, together = (dict(re.findall(EFFECT, self.browser.get(each))) for each in (page, both))
+        self.assertLess(int(together.get("loses", "0")), int(alone["loses"]))
+        self.browser.post(both + "/do", both)
+        self.assertEqual(self.rows("SELECT desks FROM opening WHERE session = 'MON-AM' AND hall IN ('GYM', 'R14')"), [(30,)])
+        for values in ({"other_hall": "GYM"}, {"other_desks": "0"}, {"other_until": "25:00"}):
+            self.browser.post("/propose/close", page, 422, session="MON-AM", lost="GYM", proposal=page.rsplit("/", 1)[1],
+                              **{"other_hall": "R14", "other_desks": "9", "other_until": "14:00", **values})
+
+    def test_done_once(self):
+        page, _ = self.browser.post("/propose/withdraw", "/candidates/1051", number="0001051", paper="PH-1")
+        mark = re.search(MARK, self.browser.get(page))[1]
+        with concurrent.futures.ThreadPoolExecutor(6) as threads:
+            list(threads.map(lambda _: self.browser.ask("POST", page + "/do", urllib.parse.urlencode({"mark": mark})), range(6)))
+        self.assertEqual(self.log().count("withdraw 0001051 PH-1\t0"), 1)
+        self.assertEqual(self.log().count("withdraw 0001051 PH-1\tbegins"), 1)
+
+    def test_another_officer_meanwhile(self):
+        page, _ = self.browser.post("/propose/withdraw", "/candidates/1051", number="0001051", paper="PH-1")
+        self.browser.get(page)
+        other = self.rows("SELECT number FROM entry WHERE paper = 'PH-1' AND number <> 1051")[0][0]
+        self.office("withdraw", f"{other:07}", "PH-1")
+        before = self.seats()
+        self.browser.post(page + "/do", page)
+        self.assertIn("nothing was done", self.browser.words(page))
+        self.assertIn(f"withdraw {other:07} PH-1", self.browser.words(page))
+        self.assertEqual(self.seats(), before)
+        self.browser.post(page + "/do", page)  # from what is shown now
+        self.assertIn("What changed", self.browser.words(page))
+        self.assertNotEqual(self.seats(), before)
+
+    def test_two_tabs(self):
+        pages = [self.browser.post("/propose/withdraw", "/candidates/1051", number="0001051", paper=paper)[0]
+                 for paper in ("PH-1", "EN-1")]
+        self.browser.post(pages[0] + "/do", pages[0])
+        self.browser.post(pages[1] + "/do", pages[1])
+        self.assertIn("nothing was done", self.browser.words(pages[1]))
+        self.assertEqual(self.rows("SELECT paper FROM entry WHERE live = 0"), [("PH-1",)])
+
+    def test_a_lodging_meanwhile_disturbs_nothing(self):
+        page, _ = self.browser.post("/propose/withdraw", "/candidates/1051", number="0001051", paper="PH-1")
+        self.office("lodge", "0001119", "MON-AM", "arrangement", "quiet", "0", "")
+        self.browser.post(page + "/do", page)
+        self.assertIn("What changed", self.browser.words(page))
+
+    def test_refusals_stand_at_their_fields(self):
+        for what, values, names in (
+                ("withdraw", {"paper": "NO-1", "key": "CS-1"}, []), ("enter", {"paper": "no"}, ["paper"]),
+                ("arrangement", {"extra": "101"}, ["extra"]), ("arrangement", {"extra": "1.5"}, ["extra"]),
+                ("lodge", {"session": "MON-AM", "kind": "hall", "wanted_hall": "GYM"}, ["wanted_hall"]),
+                ("lodge", {"session": "MON-AM", "kind": "clash", "wanted_clash": "CS-1"}, ["wanted_clash"]),
+                ("lodge", {"session": "MON-AM", "kind": "hall", "wanted_hall": "PC1", "reason": "é" * 101}, ["reason"])):
+            _, text = self.browser.post(f"/propose/{what}", "/candidates/1051", 422, number="0001051", **values)
+            self.assertIn("Nothing was done", text)
+            for name in names:
+                self.assertRegex(text, rf'name="{name}"[^>]*aria-invalid="true"', what)
+        _, text = self.browser.post("/propose/open", "/sessions/MON-AM", 422, session="MON-AM", hall="AULA", desks="0", until="25:00")
+        for name in ("desks", "until"):
+            self.assertRegex(text, rf'name="{name}"[^>]*aria-invalid="true"')
+
+    def test_values_are_no_options(self):
+        before = self.seats()
+        for paper in ("--db=x", "-h", "../../x", "a b", "MA-1\n"):
+            self.browser.post("/propose/withdraw", "/candidates/1051", 422, number="0001051", paper=paper)
+        self.office("import", "sessions", self.write("sessions.csv", "session,date,start\n-H,2027-06-09,09:00\n"))
+        page, _ = self.browser.post("/propose/open", "/sessions/-H", session="-H", hall="GYM", desks="3", until="12:00")
+        self.browser.post(page + "/do", page)
+        page, _ = self.browser.post("/propose/close", "/sessions/-H", session="-H", lost="GYM")
+        self.browser.post(page + "/do", page)
+        self.assertEqual(self.rows("SELECT * FROM opening WHERE session = '-H'"), [])
+        self.assertEqual(self.seats(), before)
+
+
+class TestAppeals(DeskSchool):
+    def lodged(self):
+        page, _ = self.browser.post("/propose/lodge", "/candidates/1051", number="0001051", session="MON-AM", kind="hall",
+                                    wanted_hall="PC1", reason=REASON)
+        self.assertEqual(self.rows("SELECT * FROM appeal"), [])
+        self.browser.post(page + "/do", page)
+        self.assertIn("Lodged as D1", self.browser.words(page))
+
+    def test_lodged_and_decided(self):
+        self.lodged()
+        before = self.seats()
+        self.assertIn(REASON, self.browser.words("/appeals/1051/D1"))
+        tried = self.browser.words("/appeals/1051/D1/if-granted")
+        self.assertIn("PC1 desk 1 →", tried)
+        self.assertEqual(self.seats(), before)
+        page, _ = self.browser.post("/propose/decide", "/appeals/1051/D1", number="0001051", ref="D1", outcome="granted",
+                                    reason="is so")
+        self.browser.post(page + "/do", page)
+        self.assertEqual(self.rows("SELECT state, answer FROM appeal"), [(2, "is so")])
+        self.assertNotEqual(self.seats(), before)
+        page, _ = self.browser.post("/propose/decide", "/office", 422, number="0001051", ref="D1", outcome="refused", reason="x")
+        self.browser.post("/propose/decide", "/office", 422, number="0001051", ref="D1", outcome="other")
+
+    def test_a_reason_stands_in_no_log_and_no_argument(self):
+        seen = set()
+        stop = concurrent.futures.Future()
+
+        def watch():
+            while not stop.done():
+                for process in filter(str.isdigit, os.listdir("/proc")):
+                    try:
+                        line = pathlib.Path("/proc", process, "cmdline").read_bytes()
+                    except OSError:
+                        continue
+                    if REASON.encode() in line:
+                        seen.add(line)
+        with concurrent.futures.ThreadPoolExecutor(1) as threads:
+            threads.submit(watch)
+            self.lodged()
+            stop.set_result(None)
+        self.assertEqual(seen, set())
+        self.assertIn("lodge 0001051 MON-AM hall PC1", self.log())
+        self.end()
+        for place, _, names in os.walk(self.desk):
+            for name in names:
+                if "copies" not in place:
+                    self.assertNotIn(REASON.encode(), pathlib.Path(place, name).read_bytes(), name)
+
+
+class TestBack(DeskSchool):
+    def copy(self):
+        return re.search(r'/office/copies/([0-9a-f]{16})"', self.browser.get("/office"))[1]
+
+    def test_put_back(self):
+        before = self.seats()
+        self.office("withdraw", "0001051", "PH-1")
+        key = self.copy()
+        self.assertIn("left a session", self.browser.words(f"/office/copies/{key}"))
+        self.browser.post(f"/office/copies/{key}/back", f"/office/copies/{key}")
+        self.assertEqual(self.seats(), before)
+        self.assertIn("(ab, desk)\tback\t0\tas it was", self.log())
+
+    def test_from_an_old_page(self):
+        self.office("withdraw", "0001051", "PH-1")
+        before = self.seats()
+        key = self.copy()
+        self.browser.post(f"/office/copies/{key}/back", f"/office/copies/{key}", state="0" * 64)
+        self.assertEqual(self.seats(), before)
+        self.assertIn("Nothing is changed", self.browser.words(f"/office/copies/{key}"))
+
+    def test_each_appeal_that_would_be_lost_wants_its_tick(self):
+        self.office("withdraw", "0001051", "PH-1")
+        key = self.copy()
+        for number in ("0001119", "0001306"):
+            self.office("lodge", number, "MON-AM", "arrangement", "quiet", "0", "")
+        page = f"/office/copies/{key}"
+        lines = re.findall('name="lost" value="([^"]+)"', self.browser.get(page))
+        self.assertEqual(len(lines), 2)
+        for some in ([], lines[:1]):
+            self.browser.post(page + "/back", page, 422, lost=some)
+        self.assertEqual(len(self.rows("SELECT * FROM appeal")), 2)
+        self.browser.post(page + "/back", page, lost=[line.replace("&gt;", ">") for line in lines])
+        self.assertEqual(self.rows("SELECT * FROM appeal"), [])
+
+
+class TestWalk(DeskSchool):
+    """At random: what a rehearsal promises is what comes."""
+
+    STEPS = int(os.environ.get("WALK", "12"))
+
+    def test_rehearsal_is_result(self):
+        chance = random.Random(2027)
+        done = 0
+        for _ in range(self.STEPS):
+            number, paper = chance.choice(self.rows("SELECT number, paper FROM entry ORDER BY 1, 2"))
+            session, hall, desks = chance.choice(self.rows("SELECT session, hall, desks FROM opening ORDER BY 1, 2"))
+            what, where, values = chance.choice([
+                ("withdraw", f"/candidates/{number}", {"number": f"{number:07}", "paper": paper}),
+                ("reinstate", f"/candidates/{number}", {"number": f"{number:07}", "paper": paper}),
+                ("arrangement", f"/candidates/{number}", {"number": f"{number:07}", "extra": chance.choice([0, 25, 50]),
+                                                          "needs": chance.sample(["screen", "reader", "quiet"], 1)}),
+                ("close", f"/sessions/{session}", {"session": session, "lost": hall}),
+                ("open", f"/sessions/{session}", {"session": session, "hall": hall, "desks": max(1, desks + chance.randint(-3, 3)),
+                                                  "until": "13:30"})])
+            text = self.browser.get(where)
+            answer, text = self.browser.ask("POST", f"/propose/{what}", urllib.parse.urlencode(
+                {"mark": re.search(MARK, text)[1], **values}, doseq=True))
+            if answer.status == 422:
+                continue
+            page = answer.headers["Location"].removeprefix(self.browser.prefix)
+            promised = re.findall(EFFECT, self.browser.get(page))
+            before = {row[:2]: row[2] for row in self.seats()}
+            self.browser.post(page + "/do", page)
+            after = {row[:2]: row[2] for row in self.seats()}
+            text = self.browser.get(page)
+            self.assertIn("What changed", text)
+            self.assertNotIn("should never be", text)
+            self.assertEqual(re.findall(EFFECT, text), promised)
+            moved = sum(key in after and after[key] != hall for key, hall in before.items())
+            self.assertEqual(int(dict(promised).get("moves", "0")), moved)
+            done += 1
+        self.assertGreater(done, self.STEPS // 3)
+
+
+class TestManyOfficers(DeskSchool):
+    def test_at_once(self):
+        browsers = [Browser(self.office("desk", "--link").strip()) for _ in range(4)]
+        numbers = [number for number, in self.rows("SELECT DISTINCT number FROM entry WHERE paper = 'PH-1' AND live = 1 LIMIT 4")]
+
+        def work(pair):
+            browser, number = pair
+            browser.enter(f"o{number}")
+            page, _ = browser.post("/propose/withdraw", f"/candidates/{number}", number=f"{number:07}", paper="PH-1")
+            for _ in range(8):
+                browser.post(page + "/do", page)
+                if "What changed" in browser.words(page):
+                    return True
+            return False
+        with concurrent.futures.ThreadPoolExecutor(4) as threads:
+            self.assertEqual(list(threads.map(work, zip(browsers, numbers))), [True] * 4)
+        self.assertEqual(len(self.rows("SELECT * FROM entry WHERE live = 0")), 4)
+
+
+if __name__ == "__main__":
+    unittest.main()

@@ -1,0 +1,240 @@
+"""Who comes in at the desk in a browser, and what a page may do: each threat with a test."""
+import json
+import os
+import pathlib
+import re
+import signal
+import socket
+import stat
+import subprocess
+import time
+import unittest
+import urllib.parse
+
+import sample
+from desk_client import HAS_FLASK, MARK, PYTHON, DeskSchool
+from sample import DESK
+
+VALUES = {"number": "1051", "code": "MON-AM", "hall": "PC1", "ref": "D1", "key": "nothing", "what": "withdraw", "sheet": "doors",
+          "kind": "entries", "filename": "desk.css"}
+SCREENS = ["/", "/sessions/MON-AM", "/sessions/MON-AM/halls/PC1", "/candidates", "/candidates/1051", "/appeals", "/clashes", "/files",
+           "/office"]
+TABLE = """
+import json, sys
+sys.path.insert(0, sys.argv[1])
+from exam_desk.office import Office
+from exam_web import application, desk, guard
+import datetime
+app, _ = application.make(desk.Desk(Office('none.db', 'none', datetime.date.today, 'x'), '127.0.0.1:1', '/x', False))
+print(json.dumps([[rule.rule, sorted(rule.methods - {'HEAD', 'OPTIONS'}), rule.endpoint in guard.OPEN] for rule in app.url_map.iter_rules()]))
+"""
+
+
+def routes():
+    """Each address of the desk, filled in, with its methods and whether it is open to all."""
+    done = subprocess.run([PYTHON, "-c", TABLE, DESK], capture_output=True, text=True, check=True)
+    for rule, methods, is_open in json.loads(done.stdout):
+        yield re.sub(r"<(?:[^:>]+:)?([^>]+)>", lambda found: VALUES[found[1]], rule), methods, is_open
+
+
+class TestRoutes(DeskSchool):
+    def test_every_route_needs_a_visit_a_mark_and_its_origin(self):
+        found = list(routes())
+        self.assertGreater(len(found), 25)
+        mark = re.search(MARK, self.browser.get("/"))[1]
+        body = urllib.parse.urlencode({"mark": mark})
+        before = self.seats()
+        for path, methods, is_open in found:
+            for method in methods:
+                with self.subTest(path=path, method=method):
+                    if not is_open:
+                        answer, text = self.browser.ask(method, path, body, {"Cookie": None})
+                        self.assertEqual((answer.status, answer.headers["Location"]), (302, self.browser.prefix + "/enter"))
+                        self.assertNotIn("Di Berg", text)
+                    self.assertEqual(self.browser.ask(method, path, body, {"Sec-Fetch-Site": "cross-site"})[0].status, 403)
+                    self.assertEqual(self.browser.ask(method, path, body, {"Sec-Fetch-Site": "same-site"})[0].status, 403)
+                    self.assertEqual(self.browser.ask(method, path, body, {"Host": "evil.example"})[0].status, 421)
+                    if method == "POST":
+                        for origin in (None, "null", "http://evil.example", f"http://127.0.0.1:{self.browser.port + 1}"):
+                            self.assertEqual(self.browser.ask(method, path, body, {"Origin": origin})[0].status, 403, origin)
+                        for wrong in ("", "mark=", "mark=" + "x" * 32) if not is_open else ():
+                            self.assertEqual(self.browser.ask(method, path, wrong)[0].status, 403)
+            for method in ("PUT", "DELETE", "PATCH", "OPTIONS", "TRACE"):
+                self.assertIn(self.browser.ask(method, path, body)[0].status, (403, 405, 501), (path, method))
+        self.assertEqual(self.seats(), before)
+
+
+class TestEntering(DeskSchool):
+    def test_a_link_works_once(self):
+        cookie, self.browser.cookie = self.browser.cookie, ""
+        self.assertEqual(self.browser.enter().status, 422)
+        self.assertEqual(self.browser.cookie, "")
+        self.browser.cookie = cookie
+        self.browser.get("/")
+
+    def test_a_link_grows_old(self):
+        other = self.another()
+        [link] = os.listdir(os.path.join(self.desk, "links"))
+        old = time.time() - 700
+        os.utime(os.path.join(self.desk, "links", link), (old, old))
+        self.assertEqual(other.enter().status, 422)
+
+    def test_a_link_is_kept_as_its_hash_for_the_owner_alone(self):
+        other = self.another()
+        folder = os.path.join(self.desk, "links")
+        self.assertNotIn(other.token, os.listdir(folder))
+        self.assertEqual(stat.S_IMODE(os.stat(folder).st_mode), 0o700)
+        for name in os.listdir(folder):
+            self.assertEqual(stat.S_IMODE(os.stat(os.path.join(folder, name)).st_mode), 0o600)
+        for process in filter(str.isdigit, os.listdir("/proc")):
+            try:
+                self.assertNotIn(other.token.encode(), pathlib.Path("/proc", process, "cmdline").read_bytes())
+            except OSError:
+                continue
+
+    def test_wrong_initials_leave_the_link(self):
+        other = self.another()
+        for initials in ("", "a\tb", "<b>", "x" * 13):
+            self.assertEqual(other.enter(initials).status, 422, initials)
+        self.assertEqual(other.enter("Øre").status, 303)
+
+    def test_the_cookie(self):
+        said = self.another().enter().headers["Set-Cookie"]
+        for part in ("HttpOnly", "SameSite=Strict", f"Path={self.browser.prefix}/"):
+            self.assertIn(part, said)
+        self.assertNotIn("Domain", said)
+
+    def test_locking_ends_the_visit(self):
+        self.browser.post("/leave", "/office")
+        answer, _ = self.browser.ask("GET", "/office")
+        self.assertEqual(answer.headers["Location"], self.browser.prefix + "/enter")
+
+
+class TestPages(DeskSchool):
+    def test_other_hosts_and_paths(self):
+        for host in ("localhost:1", "evil.example", f"evil.example:{self.browser.port}", "127.0.0.1",
+                     f"127.0.0.1.evil.example:{self.browser.port}", ""):
+            for path in ("/", "/static/desk.css"):
+                self.assertIn(self.browser.ask("GET", path, headers={"Host": host})[0].status, (400, 421), host)
+        self.assertEqual(self.browser.ask("GET", "/", headers={"Host": "evil.example"}, prefix="")[0].status, 421)
+        for path in ("/", "/enter", "/static/desk.css"):
+            self.assertEqual(self.browser.ask("GET", path, prefix="")[0].status, 404)
+        for path in ("/static/../guard.py", "/static/%2e%2e/guard.py", "/sessions/..%2f..", "/office/copies/..%2f..",
+                     "/files/uploaded/x/../../etc.csv", "/nothing"):
+            self.assertIn(self.browser.ask("GET", path)[0].status, (404, 308), path)
+
+    def test_headers(self):
+        for path in (*SCREENS, "/static/desk.js", "/nothing"):
+            answer, _ = self.browser.ask("GET", path)
+            policy = answer.headers["Content-Security-Policy"]
+            for part in ("default-src 'none'", "script-src 'self'", "frame-ancestors 'none'", "form-action 'self'"):
+                self.assertIn(part, policy, path)
+            self.assertNotIn("unsafe", policy)
+            self.assertEqual(answer.headers["Cross-Origin-Resource-Policy"], "same-origin")
+            self.assertEqual(answer.headers["X-Content-Type-Options"], "nosniff")
+            if "static" not in path:
+                self.assertEqual(answer.headers["Cache-Control"], "no-store")
+
+    def test_nothing_inline(self):
+        for path in SCREENS:
+            self.assertNotRegex(self.browser.get(path), r"<script(?! src=)|<style|\sstyle=|\son[a-z]+=\"|javascript:", path)
+
+    def test_a_sheet_brings_its_own_style_alone(self):
+        answer, text = self.browser.ask("GET", "/sessions/MON-AM/print/doors")
+        self.assertRegex(answer.headers["Content-Security-Policy"], "style-src 'self' 'sha256-[A-Za-z0-9+/=]+'")
+        self.assertEqual(text.count("<style"), 1)
+
+    def test_hostile_texts(self):
+        names = ['<script>alert("x")</script>', '"><img src=x onerror=alert(1)>', "Ana \u202egnorts\u202c Silva", "{{ 7 * 7 }}",
+                 "=HYPERLINK(\"http://x\",\"y\")", "a'b\"c", "\u2066x"]
+        self.office("import", "candidates", self.write("candidates.csv", 'number,name,code\n' + "".join(
+            f'000105{place},"{name.replace(chr(34), chr(34) * 2)}",HOSTILE{place}X9\n' for place, name in enumerate(names))))
+        self.office("import", "halls", self.write("halls.csv", 'hall,title,features\nPC1,<script>1</script>,step-free+screen+computer\n'))
+        self.office("import", "entries", self.write("entries.csv", "number,paper\n" + "".join(
+            f"000105{place},CS-1\n" for place in range(len(names)))))
+        self.office("lodge", "0001050", "MON-AM", "arrangement", "quiet", "0", "<b onclick=1>\u202e</b>")
+        for path in (*SCREENS, *(f"/candidates/105{place}" for place in range(len(names))), "/candidates?q=%3Cscript%3E+nobody",
+                     "/appeals/1050/D1", "/appeals/1050/D1/if-granted", "/sessions/MON-AM/print/board"):
+            text = self.browser.get(path)
+            self.assertNotRegex(text, r"<script(?! src=)|<img|<b on|\u202e|\u2066", path)
+            self.assertNotIn("{49", text)
+        _, text = self.browser.ask("GET", "/sessions/MON-AM/seats.csv")
+        self.assertNotIn('"=HYPER', text)
+
+    def test_codes_are_shown_to_who_asks_alone(self):
+        for path in SCREENS:
+            self.assertNotIn(sample.CODE, self.browser.get(path), path)
+        _, text = self.browser.post("/candidates/1051/code", "/candidates/1051", 200)
+        self.assertIn(sample.CODE, text)
+
+
+class TestProcess(DeskSchool):
+    def test_it_listens_on_this_machine_alone(self):
+        for line in pathlib.Path("/proc/net/tcp").read_text("ascii").splitlines()[1:]:
+            place, state = line.split()[1], line.split()[3]
+            if state == "0A" and place.endswith(f":{self.browser.port:04X}"):
+                self.assertTrue(place.startswith("0100007F"), place)
+
+    def test_one_desk_an_office(self):
+        self.assertIn(f":{self.browser.port}/", self.office("desk"))
+        self.assertEqual(self.another().enter().status, 303)
+
+    def test_a_link_of_no_desk(self):
+        self.end()
+        self.assertIn("no desk of this office runs", self.refused("desk", "--link"))
+
+    def test_it_leaves_nothing_behind(self):
+        self.browser.get("/candidates/1051")  # `serve` runs now
+        children = self.children()
+        self.assertTrue(children)
+        for number in (signal.SIGTERM, signal.SIGINT):
+            self.end(number)
+            self.assertEqual(os.listdir(os.path.join(self.desk, "tmp")), [])
+            self.assertFalse(os.path.exists(os.path.join(self.desk, "links")))
+            sample.until(lambda: not any(os.path.exists(f"/proc/{child}") for child in children))
+            self.start()
+
+    def test_after_a_kill_serve_ends_and_the_next_command_clears(self):
+        self.browser.get("/candidates/1051")
+        children = self.children()
+        self.end(signal.SIGKILL)
+        sample.until(lambda: not any(self.runs(child) for child in children))
+        self.office("summary")
+        self.assertEqual(os.listdir(os.path.join(self.desk, "tmp")), [])
+
+    def children(self):
+        with open(f"/proc/{self.process.pid}/task/{self.process.pid}/children", encoding="ascii") as file:
+            found = file.read().split()
+        for task in os.listdir(f"/proc/{self.process.pid}/task"):
+            with open(f"/proc/{self.process.pid}/task/{task}/children", encoding="ascii") as file:
+                found += file.read().split()
+        return set(found)
+
+    @staticmethod
+    def runs(process):
+        try:
+            return "Z" not in pathlib.Path("/proc", process, "stat").read_text("utf-8").rpartition(")")[2].split()[0]
+        except OSError:
+            return False
+
+    def test_too_large_an_upload(self):
+        with socket.create_connection(("127.0.0.1", self.browser.port)) as connection:
+            connection.sendall((f"POST {self.browser.prefix}/files HTTP/1.1\r\nHost: 127.0.0.1:{self.browser.port}\r\n"
+                                f"Cookie: {self.browser.cookie}\r\nOrigin: http://127.0.0.1:{self.browser.port}\r\n"
+                                "Content-Length: 99999999999\r\n\r\n").encode())
+            self.assertIn(b" 413 ", connection.recv(200))
+
+
+@unittest.skipUnless(HAS_FLASK, "Flask or waitress is missing")
+class TestWithoutFlask(sample.SampleSchool):
+    def test_it_says_what_to_install(self):
+        for name in ("flask", "waitress"):
+            self.write(f"{name}.py", "raise ImportError")
+            done = self.run_office("desk", PYTHONPATH=self.folder)
+            self.assertEqual(done.returncode, 1)
+            self.assertIn(f"python3-{name}", done.stderr)
+            os.remove(os.path.join(self.folder, f"{name}.py"))
+
+
+if __name__ == "__main__":
+    unittest.main()
