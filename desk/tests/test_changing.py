@@ -22,7 +22,7 @@ MORE = {  # rows behind those of the sample school
     "halls": "NEW1,New hall,-\n", "openings": "MON-AM,NEW1,3,13:00,no\n", "candidates": "0009001,Zed,ZZZZZZZZ\n",
     "arrangements": "0009001,-,25\n", "entries": "0009001,MA-1\n0009001,EN-1\n"}
 STEPS = [Step(("withdraw", "0001000", "MA-1")), Step(("close-hall", "MON-AM", "GYM")),
-         Step(("import", "entries", "more.csv"), b"number,paper\n0001000,FR-1\n")]
+         Step(("import", "entries", "more.csv"), b"number,paper\n0001000,FR\n")]
 
 
 class Changing(sample.SampleSchool):
@@ -298,7 +298,7 @@ class Taking(Changing):
         done = self.run_office("take", facts, stdin="n\n")
         self.assertEqual((done.returncode, done.stderr), (1, "office: nothing is changed\n"))
         self.assertIn("entries.csv: added 2 changed 0 same 172\n", done.stdout)
-        self.assertIn("joins a session", done.stdout)
+        self.assertIn("2 join a session", done.stdout)
         self.assertEqual((self.state(), self.kept(), self.log()), (before, [], []))
         self.assertIn("imported; ", self.office("take", facts, stdin="y\n"))
         self.assertEqual([os.path.basename(copy).split(" ", 3)[3] for copy in self.kept()], ["take facts"])
@@ -308,9 +308,9 @@ class Taking(Changing):
 
     def test_mistakes_and_refusals_change_nothing(self):
         facts, before = self.facts(), self.state()
-        for kind, row, words in (("entries", "0009001,XX-9\n", "1 mistakes: nothing is changed"),
-                                 ("candidates", "0009002,Ann,\n", "have no access code"),
-                                 ("openings", "MON-AM,NEW1,3,13:00,no,x\n", "mistakes: nothing is changed")):
+        for kind, row, words in (("entries", "0009001,XX-9\n", "1 mistake: nothing is changed"),
+                                 ("candidates", "0009002,Ann,\n", "1 candidate without an access code"),
+                                 ("openings", "MON-AM,NEW1,4,13:00,no\n", "1 mistake: nothing is changed")):
             with open(os.path.join(facts, f"{kind}.csv"), "r+", encoding="utf-8") as file:
                 text = file.read()
                 file.write(row)
