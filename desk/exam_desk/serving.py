@@ -68,6 +68,19 @@ class Serve:
         self.child = self.server = None
 
 
+class Kept:
+    """Asks a server that runs already, as `keep` does. What it raises says nothing of the office: ask a `Serve` then."""
+
+    def __init__(self, server: asking.Server) -> None:
+        self.server = server
+
+    def bodies(self, requests: Sequence[bytes], progress: Progress) -> list[bytes]:
+        """The bodies of the answers. Raises OSError where no whole one comes, `Trouble` where one is no 200."""
+        found: dict[int, bytes] = {}
+        asyncio.run(ask_all(self.server, requests, found, progress))
+        return [found[place] for place in range(len(requests))]
+
+
 def refuse(complaint: str) -> None:
     """Raises `Trouble`, or OSError where another try may do: its port was taken, or a signal ended it."""
     if complaint in ("", "net fault"):
