@@ -13,8 +13,9 @@ import unittest
 
 import sample
 
-from exam_desk import files, words  # beside the tests' folder
+from exam_desk import files  # beside the tests' folder
 from exam_desk.reading import Reading
+from exam_desk.words import UNSHOWN
 
 APPEAL = "INSERT INTO appeal VALUES (?, ?, ?, ?, ?, ?, ?, ?, ?, ?, ?)"
 
@@ -87,7 +88,7 @@ class Lists(sample.SampleSchool):
             bare = self.office(*words)
             self.assertIn("0001748", bare)
             self.assertIn(" To\u009b2Jm\u0085\u202eas\n", bare)
-            self.assertEqual(self.at_terminal(*words), bare.translate(words.UNSHOWN | {10: "\r\n"}))
+            self.assertEqual(self.at_terminal(*words), bare.translate(UNSHOWN | {10: "\r\n"}))
 
     def at_terminal(self, *words):
         """What a command prints on a terminal."""
