@@ -1,0 +1,338 @@
+"""Changes of several steps: tried on a copy, carried out whole or not at all, and what is said after a kill."""
+import contextlib
+import os
+import random
+import shutil
+import signal
+import sqlite3
+import subprocess
+import time
+import unittest
+from unittest import mock
+
+import sample
+from exam_desk import changing, copies, logbook, states
+from exam_desk.changing import Step
+from exam_desk.office import Office
+from exam_desk.trouble import Stale, Trouble
+
+KILLS, SEED = 5, 20261129
+APPEAL = "INSERT INTO appeal VALUES (1051, ?, 'MON-AM', 1, 'PC1', 0, 0, 'a draught', ?, NULL, '2027-05-01')"
+MORE = {  # rows behind those of the sample school
+    "halls": "NEW1,New hall,-\n", "openings": "MON-AM,NEW1,3,13:00,no\n", "candidates": "0009001,Zed,ZZZZZZZZ\n",
+    "arrangements": "0009001,-,25\n", "entries": "0009001,MA-1\n0009001,EN-1\n"}
+STEPS = [Step(("withdraw", "0001000", "MA-1")), Step(("close-hall", "MON-AM", "GYM")),
+         Step(("import", "entries", "more.csv"), b"number,paper\n0001000,FR\n")]
+
+
+class Changing(sample.SampleSchool):
+    def state(self):
+        return states.name_now(self.value)
+
+    def change(self, statement, *values):
+        with contextlib.closing(sqlite3.connect(self.path)) as file:
+            file.execute(statement, values)
+            file.commit()
+
+    def log(self):
+        """The command, the status and the answer of each line of the log."""
+        with contextlib.suppress(FileNotFoundError), open(os.path.join(self.desk, "log"), encoding="utf-8") as log:
+            return [line.rstrip("\n").split("\t")[2:] for line in log]
+        return []
+
+    def kept(self):
+        return copies.listed(self.value)
+
+    def facts(self):
+        """A folder with the files of the sample school and some rows more."""
+        folder = os.path.join(self.folder, "facts")
+        os.mkdir(folder)
+        for kind in sample.KINDS:
+            with open(os.path.join(folder, f"{kind}.csv"), "w", encoding="utf-8") as file:
+                file.write((self.examples / f"{kind}.csv").read_text("utf-8") + MORE.get(kind, ""))
+        return folder
+
+
+class Lists(Changing):
+    def test_it_is_carried_out_as_it_was_tried_with_one_copy(self):
+        before = self.state()
+        with changing.rehearse(self.value, STEPS) as rehearsal:
+            names = rehearsal.made_from, rehearsal.promised
+            self.assertEqual([answer.first_line() for answer in rehearsal.answers],
+                             ["withdrawn", "closed", "added 1 changed 0 same 0"])
+        self.assertEqual((self.state(), names[0], self.kept(), self.log()), (before, before, [], []))
+        carried = changing.carry_out(self.value, STEPS, *names, "three things")
+        self.assertEqual((carried.refused, carried.as_promised, self.state()), (None, True, names[1]))
+        self.assertEqual(self.kept(), [carried.copy])
+        name = os.path.basename(carried.copy)
+        self.assertEqual(self.log(), [
+            ["three things", "begins", name], ["withdraw 0001000 MA-1", "step", ""],
+            ["withdraw 0001000 MA-1", "0", "withdrawn"], ["close-hall MON-AM GYM", "step", ""],
+            ["close-hall MON-AM GYM", "0", "closed"], ["import entries more.csv", "step", ""],
+            ["import entries more.csv", "0", "added 1 changed 0 same 0"], ["three things", "0", "3 steps"]])
+        self.office("back", "1", "--yes")
+        self.assertEqual(self.state(), before)
+
+    def test_one_that_is_refused_in_the_middle_leaves_nothing(self):
+        before = self.state()
+        for place, number in ((0, 10), (1, 9), (2, 9)):
+            steps = [*STEPS[:2], *STEPS[:2]]
+            wrong = Step(("reinstate" if number == 10 else "withdraw", "0001000", "MA-1"))
+            steps.insert(place, wrong)
+            steps = steps if place else steps[:3]
+            carried = changing.carry_out(self.value, steps)
+            self.assertEqual(carried.refused.first_line(), f"refused {number}")
+            self.assertEqual((carried.copy, self.state(), self.kept()), (None, before, []), place)
+            self.assertEqual(self.log()[-1][1:2], ["1"])
+            self.assertIn("all is as before: ", self.log()[-1][2])
+        self.assertEqual(self.office("check"), "good\n")
+        self.assertEqual(os.listdir(os.path.join(self.desk, "tmp")), [])
+
+    def test_a_program_that_does_not_start_in_the_middle(self):
+        before, runs = self.state(), []
+
+        def tell(_):
+            runs.append(len(runs))
+            if len(runs) == 2:
+                os.rename(self.program, self.program + ".away")
+        self.program = os.path.join(self.folder, "program")
+        os.symlink(sample.built_program(), self.program)
+        office = Office(self.path, self.program, self.value.today, "tester")
+        with self.assertRaises(Trouble):
+            changing.carry_out(office, STEPS, tell=tell)
+        self.assertEqual((self.state(), self.kept()), (before, []))
+
+    def test_a_single_command_that_is_refused_leaves_no_copy(self):
+        carried = changing.carry_out(self.value, [Step(("reinstate", "0001000", "MA-1"))])
+        self.assertEqual((carried.refused.first_line(), carried.copy, self.kept()), ("refused 10", None, []))
+
+    def test_no_office(self):
+        os.remove(self.path)
+        carried = changing.carry_out(self.value, STEPS)
+        self.assertEqual((carried.refused.first_line(), len(carried.answers)), ("refused 24", 1))
+        with self.assertRaises(Trouble):
+            changing.rehearse(self.value, STEPS)
+
+
+class States(Changing):
+    def test_stale(self):
+        with changing.rehearse(self.value, STEPS) as rehearsal:
+            made_from = rehearsal.made_from
+        self.change(APPEAL, "HA1", 1)  # who lodges an appeal disturbs nobody
+        self.assertIsNone(changing.carry_out(self.value, STEPS[:1], made_from).refused)
+        now = self.state()
+        with self.assertRaises(Stale):
+            changing.carry_out(self.value, STEPS[1:], made_from)
+        self.assertEqual((self.state(), len(self.kept()), len(self.log())), (now, 1, 2))
+
+    def test_each_table_that_decides_has_a_part_in_the_name(self):
+        names = {self.state()}
+        self.change(APPEAL, "HA1", 1)
+        self.assertEqual({self.state()}, names)
+        changes = ["UPDATE session SET start = start + 1 WHERE code = 'TUE-AM'", "UPDATE paper SET title = 'x' WHERE code = 'MA-1'",
+                   "UPDATE hall SET features = features + 0, title = 'x' WHERE code = 'GYM'",
+                   "UPDATE opening SET desks = desks + 1 WHERE session = 'MON-AM' AND hall = 'GYM'",
+                   "UPDATE candidate SET code = 'AAAAAAAA' WHERE number = 1051", "UPDATE entry SET live = 0 WHERE number = 1051",
+                   "DELETE FROM arrangement WHERE number = (SELECT min(number) FROM arrangement)",
+                   "UPDATE appeal SET state = 2", "INSERT INTO standing VALUES (1051, 'HA1')",
+                   "DELETE FROM seat WHERE number = (SELECT min(number) FROM seat)"]
+        for statement in changes:
+            self.change(statement)
+            names.add(self.state())
+        self.assertEqual(len(names), len(changes) + 1)
+
+    def test_a_result_that_is_not_the_promised_one_is_said(self):
+        self.assertIs(changing.carry_out(self.value, STEPS[:1], promised=self.state()).as_promised, False)
+
+
+class Full(Changing):
+    """No room, at each place where something is written before or between the steps."""
+
+    def test_no_room_before_the_first_step(self):
+        before = self.state()
+        for name in ("exam_desk.copies.keep_copy", "exam_desk.undo.ready", "exam_desk.logbook.write"):
+            with mock.patch(name, side_effect=OSError(28, "No space left on device", "/x")):
+                with self.assertRaisesRegex(changing.NotBegun, "nothing is changed: /x: No space left on device; make room"):
+                    changing.carry_out(self.value, STEPS)
+            self.assertEqual((self.state(), self.kept()), (before, []), name)
+
+    def test_no_room_for_a_line_in_the_middle(self):
+        before, real = self.state(), logbook.write
+
+        def write(office, words, status, answer):
+            if status == logbook.STEP and words[0] == "close-hall":
+                raise OSError(28, "No space left on device", "/x")
+            real(office, words, status, answer)
+        with mock.patch("exam_desk.logbook.write", write), self.assertRaises(changing.NotBegun):
+            changing.carry_out(self.value, STEPS)
+        self.assertEqual((self.state(), self.kept()), (before, []))
+
+    def test_what_cannot_be_put_back_is_said_and_its_copy_stays(self):
+        with mock.patch("exam_desk.undo.move_in", side_effect=OSError(5, "Input/output error")):
+            with self.assertRaisesRegex(Trouble, "could not be put back as it was .*`office back` lists the copy of"):
+                changing.carry_out(self.value, [STEPS[0], STEPS[0]])
+        self.assertEqual(len(self.kept()), 1)
+
+    @unittest.skipUnless(os.geteuid() == 0 and shutil.which("mount"), "a small disk needs root")
+    def test_a_disk_that_fills_up(self):
+        """The steps fill the disk: what is put back needs no room."""
+        with self.small_disk() as folder:
+            for name in os.listdir(self.made):
+                shutil.copy2(os.path.join(self.made, name), folder)
+            office = Office(os.path.join(folder, "office.db"), sample.built_program(), self.value.today, "tester")
+            before = states.name_now(office)
+            for place in range(len(STEPS)):
+                told = []
+
+                def tell(_):
+                    told.append(1)
+                    if len(told) == place + 1:
+                        fill(folder)
+                with contextlib.suppress(Trouble):
+                    carried = changing.carry_out(office, STEPS, tell=tell)
+                    self.assertIsNotNone(carried.refused)
+                os.remove(os.path.join(folder, "filler"))
+                self.assertEqual((states.name_now(office), copies.listed(office)), (before, []), place)
+
+    @contextlib.contextmanager
+    def small_disk(self):
+        folder = os.path.join(self.folder, "disk")
+        os.mkdir(folder)
+        done = subprocess.run(["mount", "-t", "tmpfs", "-o", "size=1m", "none", folder], capture_output=True, check=False)
+        if done.returncode:
+            self.skipTest("nothing can be mounted here")
+        try:
+            yield folder
+        finally:
+            subprocess.run(["umount", folder], check=True)
+
+
+def fill(folder):
+    with contextlib.suppress(OSError), open(os.path.join(folder, "filler"), "wb", buffering=0) as file:
+        while True:
+            file.write(bytes(4096))
+
+
+class Killed(Changing):
+    def program(self, text):
+        """A program that does this before the real one, which is called with the words."""
+        path = self.write("program", f"#!/bin/sh\n{text}\nexec {sample.built_program()} \"$@\"\n")
+        os.chmod(path, 0o700)
+        return path
+
+    def test_each_step(self):
+        """`take` is killed as a step begins: the next change says it, once, and how to put back what was before."""
+        facts, before = self.facts(), self.state()
+        for kind in ("sessions", "openings", "entries"):
+            program = self.program(f'case "$5 $6" in "import {kind}") [ "$2" = "{self.path}" ] && kill -9 $PPID && exit 9;; esac')
+            done = self.run_office("take", facts, "--yes", EXAMOFFICE=program)
+            self.assertEqual(done.returncode, -signal.SIGKILL)
+            said = self.run_office("reinstate", "0001000", "MA-1").stderr
+            if kind in ("sessions", "openings"):  # the files before halls change nothing
+                behind = {"sessions": "nothing of it is left", "openings": "behind `import halls halls.csv`"}[kind]
+                self.assertIn(behind, said)
+            self.assertRegex(said, r"^office: `take facts` of \S+ \S+ was broken off")
+            if self.state() != before:
+                self.assertRegex(said, "`office back` lists the copy of .*, before take facts, and puts it back\n")
+                self.office("back", "1", "--yes")
+            self.assertEqual(self.state(), before)
+            self.assertNotIn("broken off", self.run_office("reinstate", "0001000", "MA-1").stderr)
+
+    def test_at_any_time(self):
+        facts = self.facts()
+        self.assertEqual(kill_often(self, facts, KILLS, SEED), KILLS)
+
+
+def kill_often(school, facts, count, seed):
+    """Kills `take` so many times, at random; gives how often the office was as before or whole, or could be put back."""
+    chance, before, good = random.Random(seed), school.state(), 0
+    began = time.monotonic()
+    school.office("take", facts, "--yes")
+    length, after = time.monotonic() - began, school.state()
+    school.office("back", "1", "--yes")
+    for _ in range(count):
+        process = subprocess.Popen([sample.DESK / "office", "take", facts, "--yes"], env=school.environment,
+                                   stdout=subprocess.DEVNULL, stderr=subprocess.DEVNULL)
+        time.sleep(chance.uniform(0.1, 1) * length)
+        process.kill()
+        process.wait()
+        said = school.run_office("reinstate", "0001000", "MA-1").stderr
+        state = school.state()
+        if state not in (before, after) and "and puts it back" in said:
+            school.office("back", "1", "--yes")
+            state = school.state()
+        good += state in (before, after)
+        if state != before:
+            school.office("back", "1", "--yes")
+        school.assertEqual(school.office("check"), "good\n")
+    return good
+
+
+class WhatIf(Changing):
+    def test_it_says_what_would_be_and_changes_nothing(self):
+        before = self.state()
+        text = self.office("what-if", "close-hall", "MON-AM", "GYM")
+        self.assertTrue(text.startswith("closed\n"), text)
+        self.assertRegex(text, r"(?m)^  MON-AM \d{7} .*: GYM desk \d+ -> ")
+        self.assertRegex(text, r"(?m)^session MON-AM: \d+ candidates, \d+ without a desk \(before: \d+ and \d+\)$")
+        self.assertEqual((self.state(), self.kept(), self.log()), (before, [], []))
+        self.office("close-hall", "MON-AM", "GYM")
+        told = {line[2:] for line in self.office("changes", "1").split("\n") if line.startswith("!")}
+        self.assertTrue({line[2:] for line in text.split("\n") if line.startswith("  MON-AM")} <= told)
+
+    def test_refusals(self):
+        self.assertIn("refused 9\n  the entry is withdrawn already",
+                      self.refused_after(["withdraw", "0001000", "MA-1"], "what-if", "withdraw", "0001000", "MA-1"))
+        self.assertIn("name a command", self.refused("what-if", "serve", "8080"))
+        self.assertIn("name a command", self.refused("what-if"))
+        self.assertEqual(self.run_office("what-if", "close-hall").returncode, 2)
+
+    def refused_after(self, first, *words):
+        self.office(*first)
+        return self.refused(*words)
+
+
+class Taking(Changing):
+    def test_a_folder(self):
+        facts, before = self.facts(), self.state()
+        done = self.run_office("take", facts, stdin="n\n")
+        self.assertEqual((done.returncode, done.stderr), (1, "office: nothing is changed\n"))
+        self.assertIn("entries.csv: added 2 changed 0 same 172\n", done.stdout)
+        self.assertIn("2 join a session", done.stdout)
+        self.assertEqual((self.state(), self.kept(), self.log()), (before, [], []))
+        self.assertIn("imported; ", self.office("take", facts, stdin="y\n"))
+        self.assertEqual([os.path.basename(copy).split(" ", 3)[3] for copy in self.kept()], ["take facts"])
+        self.assertIn("has all this already: nothing is changed", self.office("take", facts))
+        self.assertIn("the office is as it was", self.office("back", "1", "--yes"))
+        self.assertEqual(self.state(), before)
+
+    def test_mistakes_and_refusals_change_nothing(self):
+        facts, before = self.facts(), self.state()
+        for kind, row, words in (("entries", "0009001,XX-9\n", "1 mistake: nothing is changed"),
+                                 ("candidates", "0009002,Ann,\n", "1 candidate without an access code"),
+                                 ("openings", "MON-AM,NEW1,4,13:00,no\n", "1 mistake: nothing is changed")):
+            with open(os.path.join(facts, f"{kind}.csv"), "r+", encoding="utf-8") as file:
+                text = file.read()
+                file.write(row)
+            done = self.run_office("take", facts, "--yes")
+            self.assertEqual(done.returncode, 1)
+            self.assertIn(words, done.stderr)
+            self.write(f"facts/{kind}.csv", text)
+        self.assertEqual((self.state(), self.log()), (before, []))
+
+    def test_what_a_spreadsheet_broke_is_mended(self):
+        facts = self.facts()
+        path = os.path.join(facts, "entries.csv")
+        with open(path, encoding="utf-8") as file:
+            text = file.read().replace("0009001", "9001")
+        self.write("facts/entries.csv", text)
+        said = self.office("take", facts, "--yes")
+        self.assertRegex(said, "entries!A174.*0009001")
+        self.assertIn("entries.csv: added 2 changed 0 same 172\n", said)
+
+    def test_no_office(self):
+        self.assertIn("`office init` makes one", self.refused("take", self.facts(), OFFICE=self.path + ".none"))
+
+
+if __name__ == "__main__":
+    unittest.main()
