@@ -1,4 +1,5 @@
 """The pages of ten random offices beside the program's own sheets; `bench/random-offices` tries more."""
+import collections
 import tempfile
 import unittest
 
@@ -11,11 +12,12 @@ class RandomOffices(unittest.TestCase):
     maxDiff = None
 
     def test_pages_say_what_the_sheets_say(self):
-        members = 0
+        counts = collections.Counter()
         for seed in range(1, 11):
             with self.subTest(seed=seed), tempfile.TemporaryDirectory(prefix="office-test-") as folder:
-                members += random_offices.look_at(folder, seed)
-        self.assertGreater(members, 100)
+                counts += random_offices.look_at(folder, seed)
+        for what in ("members", "without a desk", "arrangements", "clashes", "appeals", "granted", "standing", "changes"):
+            self.assertGreater(counts[what], 10, what)
 
 
 if __name__ == "__main__":
