@@ -49,7 +49,7 @@ class RandomOffice:
         self.chance = random.Random(seed)
         self.folder, self.path = folder, os.path.join(folder, "office.db")
         self.office = Office(self.path, sample.built_program(), lambda: TODAY, "tester", lambda text: None)
-        self.counts = collections.Counter(offices=1)
+        self.compared = collections.Counter(offices=1)
 
     def run(self, *words):
         """What a command prints; None where it is refused, which a random one may be."""
@@ -201,11 +201,11 @@ class RandomOffice:
 
     def count(self, rows):
         seats = [seat for seats in self.now.values() for seat in seats.values()]
-        self.counts += {"members": len(seats), "without a desk": sum(seat.hall == "-" for seat in seats),
+        self.compared += {"members": len(seats), "without a desk": sum(seat.hall == "-" for seat in seats),
                         "arrangements": sum(map(bool, self.arrangements.values())),
                         "clashes": sum(len(self.clashes(session)) for session in self.sessions)}
         for what, table in [("appeals", "appeal"), ("granted", "appeal WHERE state = 2"), ("standing", "standing")]:
-            self.counts[what] += rows.execute(f"SELECT count(*) FROM {table}").fetchone()[0]
+            self.compared[what] += rows.execute(f"SELECT count(*) FROM {table}").fetchone()[0]
 
     def doors(self, reading, session):
         tables = Cells(page := doors.page(reading, session)).tables
@@ -342,7 +342,7 @@ class RandomOffice:
                   for session in self.sessions for then, now in [(old[session], self.now[session])]
                   for number in then.keys() | now.keys() if then.get(number) != now.get(number)}
         equal(shown, wanted, "changes", telling.text(found))
-        self.counts["changes"] += len(wanted)
+        self.compared["changes"] += len(wanted)
         for row in rows:
             equal(row[0], "yes" if row[6:9] != row[12:15] or not row[7] or not row[13] else "no", "tell", row)
 
@@ -360,7 +360,7 @@ def look_at(folder, seed):
         office.look()
     except AssertionError as fault:
         raise AssertionError(f"seed {seed}: {fault}") from fault
-    return office.counts
+    return office.compared
 
 
 if __name__ == "__main__":
