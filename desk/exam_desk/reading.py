@@ -6,7 +6,6 @@ code of a candidate, which is among the rows; and sheets are printed from it. `s
 """
 from __future__ import annotations
 
-import asyncio
 import contextlib
 import os
 import threading
@@ -183,7 +182,7 @@ def of_few(office: Office, read: Callable[[Reading], Found]) -> Found:
     state = turns.keep_state(office)
     if state and state.get("state") == "serving":
         kept = Kept(asking.Server(state["pid"], state["place"]))
-        with contextlib.suppress(OSError, asyncio.TimeoutError, Trouble), Reading(office, kept=kept) as reading:
+        with contextlib.suppress(OSError, Trouble), Reading(office, kept=kept) as reading:
             found = read(reading)
             if reading.is_current():
                 return found

@@ -82,20 +82,20 @@ class RandomOffice:
 
     def files(self):
         chance = self.chance
-        openings = [[session, hall, chance.randint(1, 9), chance.choice(["10:30", "12:00", "24:00"]), chance.choice(["no", "no", "yes"])]
+        openings = [[session, hall, chance.randint(1, 9), chance.choice(["10:30", "12:00", "24:00", "24:00"]), chance.choice(["no", "no", "yes"])]
                     for session in self.sessions for hall in self.halls if chance.random() < 0.8]
         entries = sorted({(number, paper) for number in self.codes for paper in chance.sample(sorted(self.papers), min(
             len(self.papers), chance.choice([0, 1, 2, 3])))})
         return {
-            "sessions": [["session", "date", "start"], *([code, chance.choice(DAYS), chance.choice(["09:00", "23:30"])]
+            "sessions": [["session", "date", "start"], *([code, chance.choice(DAYS), chance.choice(["09:00", "09:00", "13:30", "22:45"])]
                                                          for code in self.sessions)],
             "papers": [["paper", "title", "session", "minutes", "requires"],
-                       *([code, chance.choice(NAMES), session, chance.choice([45, 61, 90, 600]), self.features(0.2)]
+                       *([code, chance.choice(NAMES), session, chance.choice([45, 61, 90, 600]), self.features(0.03)]
                          for code, session in self.papers.items())],
-            "halls": [["hall", "title", "features"], *([code, chance.choice(NAMES), self.features(0.6)] for code in self.halls)],
+            "halls": [["hall", "title", "features"], *([code, chance.choice(NAMES), self.features(0.7)] for code in self.halls)],
             "openings": [["session", "hall", "desks", "until", "reserved"], *openings],
             "candidates": [["number", "name", "code"], *([number, chance.choice(NAMES), code] for number, code in self.codes.items())],
-            "arrangements": [["number", "needs", "extra"], *([number, self.features(0.2), chance.choice([0, 10, 25, 33, 100])]
+            "arrangements": [["number", "needs", "extra"], *([number, self.features(0.08), chance.choice([0, 10, 25, 33, 100])]
                                                              for number in self.codes if chance.random() < 0.3)],
             "entries": [["number", "paper"], *entries],
         }
@@ -132,7 +132,7 @@ class RandomOffice:
         hall = next((seat["hall"] for seat in seats if seat["session"] == asked["session"]), None)
         if hall and kind == "hall":
             return asked | {"kind": kind, "hall": hall}
-        return asked | {"kind": "arrangement", "needs": self.features(0.2), "extra": chance.choice([0, 10, 50])}
+        return asked | {"kind": "arrangement", "needs": self.features(0.08), "extra": chance.choice([0, 10, 50])}
 
     @contextlib.contextmanager
     def served(self, path=None):
