@@ -238,6 +238,13 @@ class Killed(Changing):
             self.assertEqual(self.state(), before)
             self.assertNotIn("broken off", self.run_office("reinstate", "0001000", "MA-1").stderr)
 
+    def test_a_program_that_goes_on_after_its_command_is_waited_for(self):
+        program = self.program("kill -9 $PPID; sleep 1")
+        self.assertEqual(self.run_office("withdraw", "0001000", "MA-1", EXAMOFFICE=program).returncode, -signal.SIGKILL)
+        done = self.run_office("reinstate", "0001000", "MA-1")
+        self.assertEqual(done.stdout, "reinstated\n", done.stderr)
+        self.assertIn("has no end in the log: it is there whole or not at all; look", done.stderr)
+
     def test_at_any_time(self):
         facts = self.facts()
         self.assertEqual(kill_often(self, facts, KILLS, SEED), KILLS)
