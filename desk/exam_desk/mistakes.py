@@ -350,7 +350,8 @@ def missing_columns(kind: str, fields: tuple[bytes, ...]) -> list[str] | None:
     head = [field.decode("utf-8", "replace").strip().lower() for field in fields]
     there = [name for name in wanted if name in head]
     missing = [name for name in wanted if name not in head]
-    is_one = files.needed_columns(kind).isdisjoint(missing) and len(there) > 1 and head[:len(there)] == there and not any(head[len(there):])
+    is_in_order = head[:len(there)] == there and not any(head[len(there):])
+    is_one = files.needed_columns(kind).isdisjoint(missing) and len(there) > 1 and is_in_order
     return missing if is_one else None
 
 
@@ -395,4 +396,5 @@ def code_notes(field: bytes) -> Iterable[str]:
     return [spoiled] if LIKE_A_NUMBER(field) else ()
 
 
-NOTES: dict[str, Callable[[bytes], Iterable[str]]] = {"name": name_notes, "title": name_notes, **dict.fromkeys(["session", "paper", "hall", "code"], code_notes)}
+NOTES: dict[str, Callable[[bytes], Iterable[str]]] = {
+    "name": name_notes, "title": name_notes, **dict.fromkeys(["session", "paper", "hall", "code"], code_notes)}

@@ -86,14 +86,14 @@ def usage(office: Office, name: str) -> list[str]:
 def not_started(office: Office, fault: OSError) -> NotStarted:
     """What is said of a program that the system does not start."""
     if shutil.which(office.program) is None:
-        return NotStarted(f"there is no program {office.program}; EXAMOFFICE names another, and ./try-it --prove builds "
-                          "one")
+        return NotStarted(f"there is no program {office.program}; EXAMOFFICE names another, and ./try-it --prove "
+                          "builds one")
     return NotStarted(f"the program cannot be started, so nothing is changed: {office.program}: {fault.strerror}")
 
 
 def end_with(parent: int, number: int) -> Callable[[], None]:
-    """What a child does first, so that a signal ends it where its parent is killed. The thread that begins the child must
-    live as long: the system asks for that thread."""
+    """What a child does first, so that a signal ends it where its parent is killed. The thread that begins the child
+    must live as long: the system asks for that thread."""
     library = ctypes.CDLL(None)
 
     def arrange() -> None:

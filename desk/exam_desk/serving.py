@@ -91,7 +91,7 @@ def refuse(complaint: str) -> None:
     """Raises `Trouble`, or OSError where another try may do: its port was taken, or a signal ended it."""
     if complaint in ("", "net fault"):
         raise OSError("serve does not listen")
-    raise Trouble(f"the program does not read the office: {complaint}; nothing is printed")
+    raise Trouble(f"the program does not read the office ({complaint}); `office check` says more; nothing is printed")
 
 
 def ask_all(server: asking.Server, requests: Sequence[bytes], found: list[bytes], progress: Progress) -> None:

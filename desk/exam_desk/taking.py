@@ -25,8 +25,8 @@ def steps_of(reading: Reading) -> list[Step]:
         raise Trouble(f"{lists.count(count, 'mistake')}: nothing is changed")
     empty = sum(not record.fields[2] for record in reading.records.get("candidates", []))
     if empty:
-        raise Trouble(f"{lists.count(empty, 'candidate')} without an access code: nothing is changed; write the files by "
-                      "`office read` or `office mend`, fill the codes by `office codes`, and take that folder")
+        raise Trouble(f"{lists.count(empty, 'candidate')} without an access code: nothing is changed; write the files "
+                      "by `office read` or `office mend`, fill the codes by `office codes`, and take that folder")
     steps = [step for kind in KINDS if reading.records.get(kind) for step in imports_of(kind, reading.records[kind])]
     if not steps:
         raise Trouble("there is no row to import")

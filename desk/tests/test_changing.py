@@ -1,4 +1,5 @@
 """Changes of several steps: tried on a copy, carried out whole or not at all, and what is said after a kill."""
+import collections
 import contextlib
 import os
 import random
@@ -246,33 +247,37 @@ class Killed(Changing):
         self.assertIn("has no end in the log: it is there whole or not at all; look", done.stderr)
 
     def test_at_any_time(self):
-        facts = self.facts()
-        self.assertEqual(kill_often(self, facts, KILLS, SEED), KILLS)
+        self.assertEqual(kill_often(self, self.facts(), KILLS, SEED).total(), KILLS)
 
 
 def kill_often(school, facts, count, seed):
-    """Kills `take` so many times, at random; gives how often the office was as before or whole, or could be put back."""
-    chance, before, good = random.Random(seed), school.state(), 0
+    """Kills `take` so many times, at random; counts how often the office was as before, whole, or was put back."""
+    chance, before = random.Random(seed), school.state()
     began = time.monotonic()
     school.office("take", facts, "--yes")
     length, after = time.monotonic() - began, school.state()
     school.office("back", "1", "--yes")
+    counts = collections.Counter()
     for _ in range(count):
-        process = subprocess.Popen([sample.DESK / "office", "take", facts, "--yes"], env=school.environment,
-                                   stdout=subprocess.DEVNULL, stderr=subprocess.DEVNULL)
-        time.sleep(chance.uniform(0.1, 1) * length)
-        process.kill()
-        process.wait()
-        said = school.run_office("reinstate", "0001000", "MA-1").stderr
-        state = school.state()
-        if state not in (before, after) and "and puts it back" in said:
-            school.office("back", "1", "--yes")
-            state = school.state()
-        good += state in (before, after)
-        if state != before:
-            school.office("back", "1", "--yes")
-        school.assertEqual(school.office("check"), "good\n")
-    return good
+        counts[what_a_kill_leaves(school, facts, chance.uniform(0.2, 1) * length, before, after)] += 1
+    del counts["bad"]
+    return counts
+
+
+def what_a_kill_leaves(school, facts, seconds, before, after):
+    """Kills a `take` after some seconds; what it left, in a word. The office is as before then, and good."""
+    process = subprocess.Popen([sample.DESK / "office", "take", facts, "--yes"], env=school.environment,
+                               stdout=subprocess.DEVNULL, stderr=subprocess.DEVNULL)
+    time.sleep(seconds)
+    process.kill()
+    process.wait()
+    said = school.run_office("reinstate", "0001000", "MA-1").stderr
+    state = school.state()
+    if state == before:
+        return "before"
+    school.office("back", "1", "--yes")
+    is_good = school.state() == before and school.office("check") == "good\n"
+    return "whole" if is_good and state == after else "put back" if is_good and "and puts it back" in said else "bad"
 
 
 class WhatIf(Changing):
