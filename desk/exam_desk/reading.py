@@ -145,12 +145,21 @@ class Reading:
 
     def bodies(self, people: Sequence[Person], what: str) -> list[bytes]:
         """The answers to one question about each. Call it with the lock of those who ask."""
-        if not people:
-            return []
+        requests = [request(person, what) for person in people]
+        return self.begun().bodies(requests, self.progress) if requests else []
+
+    def begun(self) -> Serve | Kept:
+        """Who is asked. Call it with the lock of those who ask."""
         if self.serve is None:
             self.serve = serve = Serve(self.office, self.second_copy())
             self.stack.callback(serve.close)
-        return self.serve.bodies([request(person, what) for person in people], self.progress)
+        return self.serve
+
+    def prepare(self) -> None:
+        """Lets `serve` open the office while something else is done, such as a sheet."""
+        with self.asking:
+            if isinstance(serve := self.begun(), Serve):
+                serve.begin()
 
     def second_copy(self) -> str:
         """The path of the files for `serve`: while it has them open nobody else can print a sheet of them."""

@@ -29,7 +29,8 @@ class Serve:
     def __init__(self, office: Office, path: str) -> None:
         self.office, self.path = office, path
         self.child: subprocess.Popen[bytes] | None = None
-        self.server: asking.Server | None = None
+        self.port = 0
+        self.server: asking.Server | None = None  # once it has said that it serves
 
     def bodies(self, requests: Sequence[bytes], progress: Progress) -> list[bytes]:
         """The bodies of the answers, which must have the status 200. Raises `Trouble` where the program refuses the
@@ -42,24 +43,28 @@ class Serve:
             self.close()
         raise Trouble(f"the program ends while it is asked: {TRIES} times; nothing is printed")
 
-    def started(self) -> asking.Server:
-        """Who answers; begins `serve` where none runs. Raises OSError where it does not come to listen."""
-        if self.server is None:
-            port = asking.free_port()
-            self.child = self.begun(port)
-            assert self.child.stdout and self.child.stderr
-            if not self.child.stdout.readline().startswith(b"serving"):
-                refuse(self.child.stderr.readline().decode("utf-8", "replace").strip())
-            self.server = asking.Server(self.child.pid, str(port))
-        return self.server
+    def begin(self) -> subprocess.Popen[bytes]:
+        """Begins `serve` where none runs, and does not wait until it has opened the office."""
+        if self.child is None:
+            self.port = asking.free_port()
+            line = self.office.line_over(self.path, "serve", str(self.port))
+            try:
+                self.child = subprocess.Popen(
+                    line, stdin=subprocess.DEVNULL, stdout=subprocess.PIPE, stderr=subprocess.PIPE,
+                    preexec_fn=running.end_with(os.getpid(), signal.SIGKILL))
+            except OSError as fault:
+                raise running.not_started(self.office, fault) from fault
+        return self.child
 
-    def begun(self, port: int) -> subprocess.Popen[bytes]:
-        line = self.office.line_over(self.path, "serve", str(port))
-        try:
-            return subprocess.Popen(line, stdin=subprocess.DEVNULL, stdout=subprocess.PIPE, stderr=subprocess.PIPE,
-                                    preexec_fn=running.end_with(os.getpid(), signal.SIGKILL))
-        except OSError as fault:
-            raise running.not_started(self.office, fault) from fault
+    def started(self) -> asking.Server:
+        """Who answers. Raises OSError where it does not come to listen."""
+        if self.server is None:
+            child = self.begin()
+            assert child.stdout and child.stderr
+            if not child.stdout.readline().startswith(b"serving"):
+                refuse(child.stderr.readline().decode("utf-8", "replace").strip())
+            self.server = asking.Server(child.pid, str(self.port))
+        return self.server
 
     def close(self) -> None:
         """Ends `serve`, which has nothing to save."""

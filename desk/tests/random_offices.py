@@ -66,7 +66,7 @@ class RandomOffice:
         self.codes = {f"{number:07}": f"CODE{number:07}" for number in self.chance.sample(range(1, 9_999_999), self.chance.randint(8, 30))}
         self.sessions = [f"S{place}" for place in range(self.chance.randint(1, 3))]
         self.papers = {f"P{place}": self.chance.choice(self.sessions) for place in range(self.chance.randint(2, 7))}
-        self.halls = [f"H{place}" for place in range(self.chance.randint(1, 5))]
+        self.halls = [f"H{place}" for place in range(self.chance.randint(2, 6))]
         for kind, rows in self.files().items():
             path = os.path.join(self.folder, f"{kind}.csv")
             with open(path, "w", encoding="utf-8", newline="") as file:
@@ -83,7 +83,7 @@ class RandomOffice:
     def files(self):
         chance = self.chance
         openings = [[session, hall, chance.randint(1, 9), chance.choice(["10:30", "12:00", "24:00", "24:00"]), chance.choice(["no", "no", "yes"])]
-                    for session in self.sessions for hall in self.halls if chance.random() < 0.8]
+                    for session in self.sessions for hall in self.halls if chance.random() < 0.9]
         entries = sorted({(number, paper) for number in self.codes for paper in chance.sample(sorted(self.papers), min(
             len(self.papers), chance.choice([0, 1, 2, 3])))})
         return {
@@ -92,7 +92,7 @@ class RandomOffice:
             "papers": [["paper", "title", "session", "minutes", "requires"],
                        *([code, chance.choice(NAMES), session, chance.choice([45, 61, 90, 600]), self.features(0.03)]
                          for code, session in self.papers.items())],
-            "halls": [["hall", "title", "features"], *([code, chance.choice(NAMES), self.features(0.7)] for code in self.halls)],
+            "halls": [["hall", "title", "features"], *([code, chance.choice(NAMES), self.features(0.8)] for code in self.halls)],
             "openings": [["session", "hall", "desks", "until", "reserved"], *openings],
             "candidates": [["number", "name", "code"], *([number, chance.choice(NAMES), code] for number, code in self.codes.items())],
             "arrangements": [["number", "needs", "extra"], *([number, self.features(0.08), chance.choice([0, 10, 25, 33, 100])]
