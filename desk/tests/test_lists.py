@@ -15,6 +15,7 @@ import sample
 
 import files  # beside the tests' folder
 import school
+from exam_desk.words import UNSHOWN
 
 APPEAL = "INSERT INTO appeal VALUES (?, ?, ?, ?, ?, ?, ?, ?, ?, ?, ?)"
 
@@ -87,7 +88,7 @@ class Lists(sample.SampleSchool):
             bare = self.office(*words)
             self.assertIn("0001748", bare)
             self.assertIn(" To\u009b2Jm\u0085\u202eas\n", bare)
-            self.assertEqual(self.at_terminal(*words), bare.translate(school.UNSHOWN | {10: "\r\n"}))
+            self.assertEqual(self.at_terminal(*words), bare.translate(UNSHOWN | {10: "\r\n"}))
 
     def at_terminal(self, *words):
         """What a command prints on a terminal."""
