@@ -179,14 +179,14 @@ def carry_out(office: Office, steps: Sequence[Step], made_from: str | None = Non
     if not os.path.isfile(office.path):  # the program says what is wrong
         return Carried([Answered(steps[0], run_patiently(office, steps[0].words))], None, None)
     title = title or ", ".join(step.title() for step in steps)
-    with placed(office, steps) as lines, begun(office, title, made_from, tell) as turn:
+    with placed(office, steps) as lines, turn(office, title, made_from, tell) as taken:
         copy = kept_copy(office, title)
         try:
             if len(steps) == 1:
-                answers = [turn.carried(steps[0], lines[0], logbook.BEGINS)]
+                answers = [taken.carried(steps[0], lines[0], logbook.BEGINS)]
                 is_undone = has_done_nothing(office, answers[0], copy)
             else:
-                answers = carried_all(turn, title, list(zip(steps, lines)), copy)
+                answers = carried_all(taken, title, list(zip(steps, lines)), copy)
                 is_undone = refused_of(answers) is not None
         except (NotBegun, running.NotStarted):
             copies.drop(copy)
@@ -203,9 +203,9 @@ def has_done_nothing(office: Office, answered: Answered, copy: str) -> bool:
 
 
 @contextlib.contextmanager
-def begun(office: Office, title: str, made_from: str | None, tell: Tell) -> Iterator[Turn]:
+def turn(office: Office, title: str, made_from: str | None = None, tell: Tell = ignore) -> Iterator[Turn]:
     """The office for this process alone, in the state that was looked at. Says of a change without an end what is known
-    of it."""
+    of it. Raises `Stale` where it is in another state, and `Trouble` where it cannot be had."""
     with contextlib.ExitStack() as stack:
         try:
             lock = stack.enter_context(turns.alone(office, [title]))
@@ -260,14 +260,14 @@ def run_patiently(office: Office, words: Sequence[str], lock: int | None = None)
         time.sleep(PAUSE)
 
 
-def carried_all(turn: Turn, title: str, steps: list[tuple[Step, tuple[str, ...]]], copy: str) -> list[Answered]:
+def carried_all(taken: Turn, title: str, steps: list[tuple[Step, tuple[str, ...]]], copy: str) -> list[Answered]:
     """Carries out steps up to the first that is refused; then, or where one cannot be saved, the copy is put back."""
     answers: list[Answered] = []
-    office = turn.office
+    office = taken.office
     with prepared(office, copy) as ready, logged(office, [title], os.path.basename(copy)) as outcome:
         try:
             for step, line in steps:
-                answers.append(turn.carried(step, line, logbook.STEP))
+                answers.append(taken.carried(step, line, logbook.STEP))
                 if refused_of(answers):
                     break
         except BaseException:
@@ -293,6 +293,24 @@ def prepared(office: Office, copy: str) -> Iterator[str]:
         except OSError as fault:
             raise no_copy(office, fault) from fault
         yield ready
+
+
+def go_back(office: Office, words: Sequence[str], copy: str, may_go: Callable[[list[str]], bool],
+            made_from: str | None = None) -> tuple[bool, list[str]]:
+    """Puts a copy in the place of the office, in one turn, where `may_go` agrees to the appeals and decisions that this
+    takes away: whether it did, and a line for each of these. Raises as `turn`, and `Trouble` where the copy is gone or
+    no good office."""
+    with turn(office, " ".join(words), made_from):
+        if not os.path.isdir(copy):
+            raise Trouble("this copy is gone by now: `office back` lists what is there; nothing is changed")
+        lines = undo.taken_away(office, copy)
+        if not may_go(lines):
+            return False, lines
+        when, _ = copies.when_and_what(copy)
+        with logged(office, words) as outcome:
+            undo.put_back(office, copy)
+            outcome.status, outcome.answer = 0, "; ".join([f"as it was on {when}", *lines])
+    return True, lines
 
 
 def restore(office: Office, ready: str, copy: str) -> None:

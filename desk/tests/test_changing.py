@@ -240,7 +240,9 @@ class Killed(Changing):
             self.assertNotIn("broken off", self.run_office("reinstate", "0001000", "MA-1").stderr)
 
     def test_a_program_that_goes_on_after_its_command_is_waited_for(self):
-        program = self.program("kill -9 $PPID; sleep 1")
+        """It begins its work long after the next command has begun to wait."""
+        waits = f"grep -q reinstate {self.desk}/want.lock"
+        program = self.program(f"kill -9 $PPID; for _ in $(seq 300); do {waits} && break; sleep 0.1; done; sleep 2")
         self.assertEqual(self.run_office("withdraw", "0001000", "MA-1", EXAMOFFICE=program).returncode, -signal.SIGKILL)
         done = self.run_office("reinstate", "0001000", "MA-1")
         self.assertEqual(done.stdout, "reinstated\n", done.stderr)
