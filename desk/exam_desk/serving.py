@@ -70,7 +70,10 @@ class Serve:
         """Ends `serve`, which has nothing to save."""
         if self.child is not None:
             self.child.kill()
-            self.child.communicate()
+            for stream in (self.child.stdout, self.child.stderr):
+                if stream is not None:
+                    stream.close()
+            self.child.wait()
         self.child = self.server = None
 
 
