@@ -19,7 +19,7 @@ from typing import NamedTuple
 import sample
 from cells import Cells
 
-from exam_desk import checking_shortage, lists, reasons, shortage, telling  # beside the tests' folder
+from exam_desk import checking_shortage, reasons, shortage, telling  # beside the tests' folder
 from exam_desk.names import fold, name_order
 from exam_desk.office import Office
 from exam_desk.reading import Reading
