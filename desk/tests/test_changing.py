@@ -71,6 +71,8 @@ class Lists(Changing):
             ["withdraw 0001000 MA-1", "0", "withdrawn"], ["close-hall MON-AM GYM", "step", ""],
             ["close-hall MON-AM GYM", "0", "closed"], ["import entries more.csv", "step", ""],
             ["import entries more.csv", "0", "added 1 changed 0 same 0"], ["three things", "0", "3 steps"]])
+        with open(os.path.join(self.desk, "log"), encoding="utf-8") as log:
+            self.assertEqual({line.split("\t")[1] for line in log}, {"tester"})
         self.office("back", "1", "--yes")
         self.assertEqual(self.state(), before)
 
@@ -106,6 +108,12 @@ class Lists(Changing):
     def test_a_single_command_that_is_refused_leaves_no_copy(self):
         carried = changing.carry_out(self.value, [Step(("reinstate", "0001000", "MA-1"))])
         self.assertEqual((carried.refused.first_line(), carried.copy, self.kept()), ("refused 10", None, []))
+
+    def test_an_office_that_cannot_be_read(self):
+        self.write("office.db", b"rubbish" * 1000)
+        with self.assertRaisesRegex(changing.NotBegun, "cannot be read, so nothing is changed"):
+            changing.carry_out(self.value, STEPS)
+        self.assertEqual((self.kept(), self.log()), ([], []))
 
     def test_no_office(self):
         os.remove(self.path)
