@@ -6,7 +6,7 @@ import sqlite3
 from collections.abc import Collection, Iterable
 from typing import NamedTuple
 
-from exam_desk import facts, files, lists
+from exam_desk import facts, files
 from exam_desk.answers import Sitting
 from exam_desk.names import name_order
 from exam_desk.reading import Reading

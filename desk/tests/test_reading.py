@@ -87,7 +87,7 @@ class Readings(sample.SampleSchool):
     def test_a_program_that_ends_again_and_again(self):
         self.environment["EXAMOFFICE"] = self.write("ends", "#!/bin/sh\nexit 1\n")
         os.chmod(self.environment["EXAMOFFICE"], 0o700)
-        self.assertIn("the program ends while it is asked", self.refused("doors", "MON-AM"))
+        self.assertIn("the program ended 5 times while it was asked", self.refused("doors", "MON-AM"))
         self.environment["EXAMOFFICE"] = os.path.join(self.folder, "nowhere")
         self.assertIn("there is no program", self.refused("doors", "MON-AM"))
 

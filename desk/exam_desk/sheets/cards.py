@@ -16,7 +16,7 @@ from exam_desk.words import clock, short_day
 STYLE = """
 .pair { display: flex; break-inside: avoid }
 .card { box-sizing: border-box; width: 92mm; height: 52mm; padding: 4mm 5mm; overflow: hidden }
-.card { border: 0.5pt dashed #555 } .card p { margin: 1.5mm 0 0 }
+.card { border: 0.5pt dashed #555 } .card p { margin: 1.5mm 0 0; font-size: 12pt }
 .card b { float: right; font-size: 34pt; line-height: 1 }
 .card i { font: 700 15pt/1.15 "Liberation Sans", sans-serif; display: block; overflow-wrap: anywhere }
 """

@@ -12,7 +12,7 @@ from exam_desk.snapshot import session_row
 
 STYLE = """
 h1 { font-size: 52pt; line-height: 1; margin: 0 0 3mm; overflow-wrap: anywhere } h2 { font-size: 22pt; margin: 0 0 4mm }
-.columns { columns: 3; column-gap: 6mm } .columns td { padding: 0.4mm 1mm 0.4mm 0; line-height: 1.15 }
+.columns { columns: 3; column-gap: 6mm } .columns td { padding: 0.1mm 1mm 0.1mm 0; line-height: 1.1 }
 .columns td.n { font-weight: 700; padding-right: 0 }
 """
 HEADS = ["Name", "n:Desk"]
