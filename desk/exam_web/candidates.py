@@ -4,7 +4,7 @@ from __future__ import annotations
 import sqlite3
 from typing import NoReturn
 
-from flask import Blueprint, abort, g, redirect, render_template, request, url_for
+from flask import Blueprint, abort, redirect, render_template, request, url_for
 from werkzeug.wrappers import Response
 
 from exam_desk import appeals, facts, lists
@@ -26,7 +26,8 @@ def find() -> str | Response:
     if len(found) == 1:
         return redirect(url_for("candidates.page", number=found[0][0]))
     everybody = view().once("candidates", lambda: view().count("SELECT count(*) FROM candidate"))
-    return render_template("candidates.html", asked=asked, found=found[:MOST_FOUND], total=len(found), everybody=everybody)
+    return render_template("candidates.html", asked=asked, found=found[:MOST_FOUND], total=len(found),
+                           everybody=everybody)
 
 
 def search(asked: str) -> list[tuple[int, str]]:
@@ -69,7 +70,7 @@ def page(number: int, code: str = "") -> str:
 
 @pages.post("/candidates/<int:number>/code")
 def code(number: int) -> str:
-    """The access code, because somebody asked for it: a POST, so that it is in no history and is never fetched ahead."""
+    """The access code, for who asks: a POST, so that it is in no history and is never fetched ahead."""
     row = view().row("SELECT code FROM candidate WHERE number = ?", [number]) or missing()
     return page(number, row["code"])
 
@@ -77,5 +78,4 @@ def code(number: int) -> str:
 @pages.post("/candidates/<int:number>/slip")
 def slip(number: int) -> str:
     candidate_row(number)
-    made, g.style = printing.slip(view().reading, f"{number:07}", "codes" in request.form)
-    return made
+    return printing.slip(view().reading, f"{number:07}", "codes" in request.form)

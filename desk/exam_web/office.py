@@ -12,6 +12,7 @@ from flask import Blueprint, Response, abort, g, redirect, render_template, requ
 from werkzeug.wrappers import Response as Answer
 
 from exam_desk import changing, copies, kept, logbook, private, turns, undo
+from exam_desk.consequences import kind_of
 from exam_desk.trouble import Stale
 from exam_web import downloads, effects, proposals
 from exam_web.desk import View, desk, office, view
@@ -33,7 +34,8 @@ def copy_key(path: str) -> str:
 
 
 def copy_of(key: str) -> str:
-    return next((path for path in copies.listed(desk().office) if copy_key(path) == key), None) or missing()
+    found = [path for path in copies.listed(desk().office) if copy_key(path) == key]
+    return found[0] if found else missing()
 
 
 def log_since(when: str = "") -> list[list[str]]:
@@ -55,7 +57,7 @@ def copy(key: str) -> str:
     path = copy_of(key)
     when, what = copies.when_and_what(path)
     return render_template("copy.html", key=key, when=when, what=what, e=since(path), kinds=effects.KINDS,
-                           kind_of=effects.kind_of, most=proposals.MOST_ROWS, lost=undo.taken_away(desk().office, path),
+                           kind_of=kind_of, most=proposals.MOST_ROWS, lost=undo.taken_away(desk().office, path),
                            log=[line for line in log_since(when) if line[3] not in (logbook.BEGINS, logbook.STEP)])
 
 
@@ -83,14 +85,17 @@ def back(key: str) -> Answer | tuple[str, int]:
         with desk().rehearsing, changing.turn(who, "back", request.form.get("state", "")):
             lost = undo.taken_away(who, path)
             if not set(lost) <= set(request.form.getlist("lost")):
-                return proposals.wrong_page(proposals.Wrong(page, lost=text("tick each of these, or leave the office as it is")), "back")
+                wrong = proposals.Wrong(page, lost=text("tick each of these, or leave the office as it is"))
+                return proposals.wrong_page(wrong, "back")
             with changing.logged(who, ["back"]) as outcome:
                 undo.put_back(who, path)
                 outcome.status, outcome.answer = 0, "; ".join([f"as it was on {when}", *lost])
     except Stale:
-        g.visit.said.append(("bad", text("Nothing is changed: the office is another than the page showed. This is how it stands now.")))
+        said = text("Nothing is changed: the office is another than the page showed. This is how it stands now.")
+        g.visit.said.append(("bad", said))
         return redirect(url_for("office.copy", key=key), 303)
-    g.visit.said.append(("good", text("The office is as it was on {when}. The office from before is the newest copy.", when=when)))
+    said = text("The office is as it was on {when}. The office from before is the newest copy.", when=when)
+    g.visit.said.append(("good", said))
     return redirect(url_for("office.page"), 303)
 
 

@@ -3,7 +3,7 @@ from __future__ import annotations
 
 import datetime
 import hashlib
-from collections import Counter
+from collections.abc import Callable
 from typing import NamedTuple
 
 from flask import g
@@ -25,8 +25,9 @@ class State(NamedTuple):
 
 
 def made(reading: Reading, code: str, sheet: str) -> str:
-    makers = {"doors": doors.page, "board": board.page, "counts": counts.page,
-              "slips": lambda reading, code: slips.page(reading, slips.Choice(sessions=[code], desks=True))}
+    makers: dict[str, Callable[[Reading, str], str]] = {
+        "doors": doors.page, "board": board.page, "counts": counts.page,
+        "slips": lambda reading, code: slips.page(reading, slips.Choice(sessions=[code], desks=True))}
     return styled(makers[sheet](reading, code))
 
 
@@ -53,7 +54,8 @@ def marks(code: str) -> dict[str, str]:
                 "ORDER BY hall, seat.number", [code]):
             found.setdefault(hall, hashlib.sha256()).update(repr(tuple(row)).encode("utf-8", "surrogatepass"))
         facts = str([tuple(row) for row in view().rows(
-            "SELECT session.*, paper.* FROM session JOIN paper ON session = session.code WHERE session = ? ORDER BY 4", [code])])
+            "SELECT session.*, paper.* FROM session JOIN paper ON session = session.code WHERE session = ? "
+            "ORDER BY paper.code", [code])])
         return {hall: hashlib.sha256(facts.encode() + mark.digest()).hexdigest()[:16] for hall, mark in found.items()}
     return view().once(("marks", code), make)
 
@@ -71,5 +73,6 @@ def states(code: str) -> dict[str, State]:
     found = {}
     for sheet, about in remembered.read(desk().office.path, PRINTED).get(code, {}).items():
         old, new = about.get("halls", {}), marks(code)
-        found[sheet] = State(about.get("when", ""), sorted(hall for hall in {**old, **new} if old.get(hall) != new.get(hall)))
+        changed = sorted(hall for hall in {**old, **new} if old.get(hall) != new.get(hall))
+        found[sheet] = State(about.get("when", ""), changed)
     return found

@@ -12,7 +12,7 @@ from exam_desk import appeals, facts, lastdays
 from exam_desk.facts import Opening
 from exam_desk.reading import Member
 from exam_web import counting, downloads, pictures, printing, shortages
-from exam_web.desk import desk, view
+from exam_web.desk import view
 from exam_web.wording import text
 
 pages = Blueprint("session", __name__)
@@ -32,7 +32,8 @@ def openings(code: str) -> list[Opening]:
 
 
 def opening(code: str, hall: str) -> Opening:
-    return next((each for each in openings(code) if each.hall == hall), None) or missing()
+    found = [each for each in openings(code) if each.hall == hall]
+    return found[0] if found else missing()
 
 
 @pages.get("/sessions/<code>")
@@ -52,7 +53,8 @@ def page(code: str) -> str:
 
 def taken(code: str) -> dict[str, int]:
     """How many sit in each hall."""
-    return dict(map(tuple, view().rows("SELECT hall, count(*) FROM seat WHERE session = ? GROUP BY hall", [code])))
+    found = view().rows("SELECT hall, count(*) FROM seat WHERE session = ? GROUP BY hall", [code])
+    return {hall: count for hall, count in found}
 
 
 def papers(code: str) -> list[sqlite3.Row]:
@@ -82,8 +84,8 @@ def members_of(code: str, numbers: list[int]) -> list[Member]:
 
 def sitting_in(code: str, hall: str) -> list[Member]:
     """Who sits in a hall, by desk."""
-    numbers = [number for number, in view().rows("SELECT number FROM seat WHERE session = ? AND hall = ?", [code, hall])]
-    return sorted(members_of(code, numbers), key=lambda member: member.sitting.desk or 0)
+    numbers = view().rows("SELECT number FROM seat WHERE session = ? AND hall = ?", [code, hall])
+    return sorted(members_of(code, [number for number, in numbers]), key=lambda member: member.sitting.desk or 0)
 
 
 @pages.get("/sessions/<code>/halls/<hall>")
@@ -117,8 +119,9 @@ def seats_csv(code: str) -> Response:
     rows = [[code, sums.day, each.sitting.start, each.sitting.finish, each.number, each.name, each.sitting.paper,
              titles[each.sitting.paper], each.sitting.hall or "", each.sitting.desk or "", each.sitting.extra,
              "+".join(each.sitting.needs) or "-"] for each in view().reading.members(code)]
-    return downloads.csv(["session", "date", "start", "finish", "number", "name", "paper", "paper title", "hall", "desk",
-                          "extra", "needs"], rows, f"{code}-seats.csv")
+    header = ["session", "date", "start", "finish", "number", "name", "paper", "paper title", "hall", "desk", "extra",
+              "needs"]
+    return downloads.csv(header, rows, f"{code}-seats.csv")
 
 
 @pages.get("/sessions/<code>/print/<sheet>")

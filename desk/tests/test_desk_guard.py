@@ -25,7 +25,7 @@ sys.path.insert(0, sys.argv[1])
 from exam_desk.office import Office
 from exam_web import application, desk, guard
 import datetime
-app, _ = application.make(desk.Desk(Office('none.db', 'none', datetime.date.today, 'x'), '127.0.0.1:1', '/x', False))
+app = application.make(desk.Desk(Office('none.db', 'none', datetime.date.today, 'x'), '127.0.0.1:1', '/x', False))
 print(json.dumps([[rule.rule, sorted(rule.methods - {'HEAD', 'OPTIONS'}), rule.endpoint in guard.OPEN] for rule in app.url_map.iter_rules()]))
 """
 
