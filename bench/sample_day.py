@@ -124,7 +124,7 @@ class Office:
     def __init__(self, program, folder, environment=None):
         self.program, self.folder, self.environment = program, folder, environment
         self.server: Optional[subprocess.Popen] = None
-        self.port = 0
+        self.port, self.day = 0, ""  # of the server
         self.codes = built.codes()
 
     def line(self, day, *words):
@@ -138,6 +138,7 @@ class Office:
 
     def serve(self, day):
         """Starts a server at a free port, and answers its line without the port, or its complaint."""
+        self.day = day
         for _ in range(built.PORTS):
             self.port = built.free_port()
             self.server = subprocess.Popen(self.line(day, "serve", str(self.port)), cwd=self.folder, env=self.environment,
@@ -165,8 +166,10 @@ class Office:
         return b"".join(parts)
 
     def do(self, step):
-        """Does a step, and answers what it answers: a request goes to the server, which any other step ends."""
+        """Does a step, and answers what it answers: a request goes to the server of its day, which any other step ends."""
         if step.method:
+            if self.day != step.day:
+                self.stop()
             if not self.server:
                 self.serve(step.day)
             return self.ask(step)

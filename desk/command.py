@@ -14,12 +14,15 @@ import signal
 import sqlite3
 import sys
 from types import FrameType, TracebackType
+from typing import TYPE_CHECKING
 
 from exam_desk import beside
 from exam_desk.office import Office
-from exam_desk.reading import Reading
 from exam_desk.trouble import Trouble
 from exam_desk.words import plain
+
+if TYPE_CHECKING:
+    from exam_desk.reading import Reading
 
 DESK = pathlib.Path(__file__).resolve().parent
 BAR = 24  # letters of a bar that is full
@@ -92,6 +95,7 @@ def office() -> Office:
 
 def reading(path: str | None = None) -> Reading:
     """The office, or another file of one, as it is now; a terminal shows how far long questions are."""
+    from exam_desk.reading import Reading  # here, since half the time of a command without it would be this import
     return Reading(office(), path, show_asked)
 
 

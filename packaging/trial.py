@@ -8,7 +8,7 @@ import subprocess
 import tempfile
 
 SUITE = "bookworm"
-NEEDED = ["python3", "sqlite3"]  # what the package depends on and a bare Debian lacks
+NEEDED = ["python3", "python3-markupsafe", "sqlite3"]  # what the package depends on and a bare Debian lacks
 OFFICE = "srv/examoffice"
 KINDS = ["sessions", "papers", "halls", "openings", "candidates", "arrangements", "entries"]
 ADDED = [1, 1, 2, 2, 3, 1, 3]  # rows of each kind in examples/day

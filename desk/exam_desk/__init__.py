@@ -1,1 +1,1 @@
-"""What the commands of the desk do, apart from words, lines and exits: functions that return values or raise `Trouble`."""
+"""What the commands of the desk do, apart from words and lines: functions that return values or raise `Trouble`."""

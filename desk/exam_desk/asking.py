@@ -60,6 +60,32 @@ async def answer(server: Server, request: bytes) -> bytes:
     return b"".join(parts)
 
 
+def sent(server: Server, request: bytes, seconds: float) -> socket.socket:
+    """A connection over which a request went, for who asks many one after the other and does nothing else meanwhile.
+    Raises as `answer`; each wait for the server lasts so long at most."""
+    family, where = address(server.place)
+    connection = socket.socket(family)
+    try:
+        connection.settimeout(seconds)
+        connection.connect(where)
+        refuse_stranger(connection, server)
+        connection.sendall(request)
+        connection.shutdown(socket.SHUT_WR)
+    except BaseException:
+        connection.close()
+        raise
+    return connection
+
+
+def received(connection: socket.socket) -> bytes:
+    """All that comes over a connection, which ends then."""
+    parts = []
+    with connection:
+        while part := connection.recv(1 << 16):
+            parts.append(part)
+    return b"".join(parts)
+
+
 def refuse_stranger(connection: socket.socket, server: Server) -> None:
     """Looks who is at the other end of a connection that nothing was sent over yet."""
     if connection.family == socket.AF_UNIX:

@@ -96,6 +96,21 @@ class Rehearsal:
         return states.name_now(self.office, self.after)
 
 
+class Turn(NamedTuple):
+    """The office for this process alone."""
+    office: Office
+    lock: int
+    tell: Tell
+
+    def carried(self, step: Step, line: tuple[str, ...], status: str) -> Answered:
+        """Carries out one step, which the program does whole or not at all; `status` begins its line in the log."""
+        self.tell(step.title())
+        with logged(self.office, step.words, status=status) as outcome:
+            answered = Answered(step, run_patiently(self.office, line, self.lock))
+            outcome.status, outcome.answer = answered.ran.status, answered.first_line()
+        return answered
+
+
 def refused_of(answers: list[Answered]) -> Answered | None:
     return answers[-1] if answers and answers[-1].ran.status else None
 
@@ -164,14 +179,14 @@ def carry_out(office: Office, steps: Sequence[Step], made_from: str | None = Non
     if not os.path.isfile(office.path):  # the program says what is wrong
         return Carried([Answered(steps[0], run_patiently(office, steps[0].words))], None, None)
     title = title or ", ".join(step.title() for step in steps)
-    with placed(office, steps) as lines, turn(office, title, made_from):
+    with placed(office, steps) as lines, turn(office, title, made_from, tell) as taken:
         copy = kept_copy(office, title)
         try:
             if len(steps) == 1:
-                answers = carried_one(office, steps[0], lines[0], tell)
+                answers = [taken.carried(steps[0], lines[0], logbook.BEGINS)]
                 is_undone = has_done_nothing(office, answers[0], copy)
             else:
-                answers = carried_all(office, title, list(zip(steps, lines)), copy, tell)
+                answers = carried_all(taken, title, list(zip(steps, lines)), copy)
                 is_undone = refused_of(answers) is not None
         except (NotBegun, running.NotStarted):
             copies.drop(copy)
@@ -188,19 +203,19 @@ def has_done_nothing(office: Office, answered: Answered, copy: str) -> bool:
 
 
 @contextlib.contextmanager
-def turn(office: Office, title: str, made_from: str | None) -> Iterator[None]:
+def turn(office: Office, title: str, made_from: str | None = None, tell: Tell = ignore) -> Iterator[Turn]:
     """The office for this process alone, in the state that was looked at. Says of a change without an end what is known
-    of it."""
+    of it. Raises `Stale` where it is in another state, and `Trouble` where it cannot be had."""
     with contextlib.ExitStack() as stack:
         try:
-            stack.enter_context(turns.alone(office, [title]))
+            lock = stack.enter_context(turns.alone(office, [title]))
         except OSError as fault:
             raise no_copy(office, fault) from fault
         if made_from is not None and not is_in_state(office, made_from):
             raise Stale("the office has changed since you looked at it, so nothing is changed: look again")
         if found := logbook.unfinished(office):
             office.warn(broken_off(office, found))
-        yield
+        yield Turn(office, lock, tell)
 
 
 def is_in_state(office: Office, name: str) -> bool:
@@ -235,34 +250,24 @@ def logged(office: Office, words: Sequence[str], copy: str = "",
         yield outcome
 
 
-def carried_one(office: Office, step: Step, line: tuple[str, ...], tell: Tell,
-                status: str = logbook.BEGINS) -> list[Answered]:
-    """Carries out one step, which the program does whole or not at all."""
-    tell(step.title())
-    with logged(office, step.words, status=status) as outcome:
-        answered = Answered(step, run_patiently(office, line))
-        outcome.status, outcome.answer = answered.ran.status, answered.first_line()
-    return [answered]
-
-
-def run_patiently(office: Office, words: Sequence[str]) -> running.Ran:
+def run_patiently(office: Office, words: Sequence[str], lock: int | None = None) -> running.Ran:
     """Runs the program over the office, and tries again for some time while another command has the file."""
     until = time.monotonic() + turns.PATIENCE
     while True:
-        ran = running.run_over(office, office.path, *words)
+        ran = running.run_over(office, office.path, *words, lock=lock)
         if refusals.number_of(ran.complaint) != 23 or time.monotonic() > until or not refusals.may_pass(office):
             return ran
         time.sleep(PAUSE)
 
 
-def carried_all(office: Office, title: str, steps: list[tuple[Step, tuple[str, ...]]], copy: str,
-                tell: Tell) -> list[Answered]:
+def carried_all(taken: Turn, title: str, steps: list[tuple[Step, tuple[str, ...]]], copy: str) -> list[Answered]:
     """Carries out steps up to the first that is refused; then, or where one cannot be saved, the copy is put back."""
     answers: list[Answered] = []
+    office = taken.office
     with prepared(office, copy) as ready, logged(office, [title], os.path.basename(copy)) as outcome:
         try:
             for step, line in steps:
-                answers += carried_one(office, step, line, tell, logbook.STEP)
+                answers.append(taken.carried(step, line, logbook.STEP))
                 if refused_of(answers):
                     break
         except BaseException:
@@ -288,6 +293,24 @@ def prepared(office: Office, copy: str) -> Iterator[str]:
         except OSError as fault:
             raise no_copy(office, fault) from fault
         yield ready
+
+
+def go_back(office: Office, words: Sequence[str], copy: str, may_go: Callable[[list[str]], bool],
+            made_from: str | None = None) -> tuple[bool, list[str]]:
+    """Puts a copy in the place of the office, in one turn, where `may_go` agrees to the appeals and decisions that this
+    takes away: whether it did, and a line for each of these. Raises as `turn`, and `Trouble` where the copy is gone or
+    no good office."""
+    with turn(office, " ".join(words), made_from):
+        if not os.path.isdir(copy):
+            raise Trouble("this copy is gone by now: `office back` lists what is there; nothing is changed")
+        lines = undo.taken_away(office, copy)
+        if not may_go(lines):
+            return False, lines
+        when, _ = copies.when_and_what(copy)
+        with logged(office, words) as outcome:
+            undo.put_back(office, copy)
+            outcome.status, outcome.answer = 0, "; ".join([f"as it was on {when}", *lines])
+    return True, lines
 
 
 def restore(office: Office, ready: str, copy: str) -> None:

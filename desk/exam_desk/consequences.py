@@ -21,8 +21,8 @@ NAMED = ["loses", "moves", "other"]  # these are named one by one
 
 
 def of(rehearsal: Rehearsal, most: int | None, progress: Progress) -> list[str]:
-    """What the steps of a rehearsal would do, of those who are named at most so many in each way. Where nobody has a seat
-    yet, nobody can lose or change one."""
+    """What the steps of a rehearsal would do, of those who are named at most so many in each way. Where nobody has a
+    seat yet, nobody can lose or change one."""
     with (Reading(rehearsal.office, rehearsal.before, progress) as before,
           Reading(rehearsal.office, rehearsal.after, progress) as after):
         found = lines(telling.differences(before, after), most) if has_seats(before) else []

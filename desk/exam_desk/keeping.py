@@ -1,7 +1,7 @@
 """What `keep` does: serves the office, with one lock for all that use it, and comes back after each command.
 
-It begins `serve` anew whatever ends it or keeps it from beginning. Nothing ends `keep` itself but its signals, or a port
-or a socket that cannot be had.
+It begins `serve` anew whatever ends it or keeps it from beginning. Nothing ends `keep` itself but its signals, or a
+port or a socket that cannot be had.
 """
 from __future__ import annotations
 
@@ -110,7 +110,7 @@ class Keep:
         return fault != ""
 
     async def serve_once(self, want: contextlib.ExitStack, turn: contextlib.ExitStack) -> str:
-        """Runs one `serve`, with the office alone; frees want.lock once it has begun. Gives its fault, "" without one."""
+        """Runs one `serve`, with the office alone; frees want.lock once it has begun. Gives its fault, or ""."""
         self.wanted.clear()  # a command wants the office only while it holds want.lock
         self.hold.broken.clear()
         day = self.office.today()

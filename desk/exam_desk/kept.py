@@ -25,7 +25,7 @@ class Status(NamedTuple):
 
 
 def start(office: Office, line: Sequence[str]) -> Status:
-    """Runs `keep` in the background by this command line, and waits until it serves. Raises `Trouble` where one runs."""
+    """Runs `keep` in the background by this line, and waits until it serves. Raises `Trouble` where one runs."""
     if turns.keep_state(office) is not None:
         raise Trouble(keeping.RUNS)
     turns.make_folder(office)

@@ -55,7 +55,7 @@ def asked(words: Sequence[str]) -> Lodging | None:
 
 
 def candidate(office: Office, number: str) -> tuple[str, str]:
-    """The access code of a candidate, and the next free reference. Raises `Trouble` where there is no such candidate."""
+    """The access code of a candidate, and the next free reference. Raises `Trouble` where the office has none such."""
     with contextlib.closing(snapshot.rows(office)) as connection:
         found = connection.execute("SELECT code FROM candidate WHERE number = ?", [int(number)]).fetchone()
         refs = {ref for ref, in connection.execute("SELECT ref FROM appeal WHERE number = ?", [int(number)])}

@@ -1,7 +1,7 @@
 """The log of an office, in the folder beside it: a line before each change and a line after it.
 
 A line has the time, who worked, the command, its status and the first line of its answer, parted by tabs. A change that
-begins has the status `begins`, a step of a list `step`, and their answers are empty but for a list, which names its copy.
+begins has the status `begins`, a step of a list `step`. Their answers are empty, but a list names its copy.
 """
 from __future__ import annotations
 
@@ -46,7 +46,8 @@ def shown(words: Sequence[str]) -> list[str]:
 
 def write(office: Office, words: Sequence[str], status: int | str, answer: str) -> None:
     """Adds a line to the log."""
-    columns = [datetime.datetime.now().isoformat(" ", "seconds"), office.user, " ".join(shown(words)), str(status), answer]
+    now = datetime.datetime.now().isoformat(" ", "seconds")
+    columns = [now, office.user, " ".join(shown(words)), str(status), answer]
     line = "\t".join(map(plain, columns)) + "\n"
     turns.make_folder(office)
     file = beside.open_file(office.path, NAME, flags=os.O_WRONLY | os.O_CREAT | os.O_APPEND)

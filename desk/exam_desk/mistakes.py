@@ -206,8 +206,7 @@ class File:
         if text[:2] in (b"\xff\xfe", b"\xfe\xff"):
             self.wrong.add(1, "file", "saved as Unicode text (UTF-16): save it as CSV UTF-8")
             text = text.decode("utf-16", "replace").encode()
-        first = next(files.records(text), None)
-        for comma, why in COMMAS if first else ():
+        for comma, why in COMMAS:
             found = files.records(text, comma)
             for place, record in enumerate(itertools.islice(found, 4)):
                 missing = missing_columns(self.kind, record.fields)
@@ -216,9 +215,7 @@ class File:
                     self.header_mistakes(record, place, why)
                     empty = len(record.fields) > len(self.header)
                     return (row._replace(fields=self.filled(row.fields, empty)) for row in found)
-        others = [other for other in files.HEADERS if files.is_header(other, first)]
-        why = f"these are {others[0]}" if others else "no such header is found" if first else "the file is empty"
-        self.wrong.add(1, "file", f"the first line must be {','.join(self.header)}; {why}")
+        self.wrong.add(1, "file", f"the first line must be {','.join(self.header)}; {beginning_of(text)}")
         return None
 
     def header_mistakes(self, record: files.Record, place: int, commas: str) -> None:
@@ -340,6 +337,14 @@ class File:
                 self.notes.add(record.line, "row", "a standing grant is in force for this candidate in its place")
 
 
+def beginning_of(text: bytes) -> str:
+    """What stands in place of a header. A first line can have a million fields, so it is gone again before another is
+    looked at."""
+    first = next(files.records(text), None)
+    others = [other for other in files.HEADERS if files.is_header(other, first)]
+    return f"these are {others[0]}" if others else "no such header is found" if first else "the file is empty"
+
+
 def missing_columns(kind: str, fields: tuple[bytes, ...]) -> list[str] | None:
     """The columns that a header lacks, however it is spelt; None where it is no header. None of them makes the key or
     refers to another file."""
@@ -350,7 +355,8 @@ def missing_columns(kind: str, fields: tuple[bytes, ...]) -> list[str] | None:
     head = [field.decode("utf-8", "replace").strip().lower() for field in fields]
     there = [name for name in wanted if name in head]
     missing = [name for name in wanted if name not in head]
-    is_one = files.needed_columns(kind).isdisjoint(missing) and len(there) > 1 and head[:len(there)] == there and not any(head[len(there):])
+    is_in_order = head[:len(there)] == there and not any(head[len(there):])
+    is_one = files.needed_columns(kind).isdisjoint(missing) and len(there) > 1 and is_in_order
     return missing if is_one else None
 
 
@@ -395,4 +401,5 @@ def code_notes(field: bytes) -> Iterable[str]:
     return [spoiled] if LIKE_A_NUMBER(field) else ()
 
 
-NOTES: dict[str, Callable[[bytes], Iterable[str]]] = {"name": name_notes, "title": name_notes, **dict.fromkeys(["session", "paper", "hall", "code"], code_notes)}
+NOTES: dict[str, Callable[[bytes], Iterable[str]]] = {
+    "name": name_notes, "title": name_notes, **dict.fromkeys(["session", "paper", "hall", "code"], code_notes)}

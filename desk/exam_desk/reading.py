@@ -10,15 +10,17 @@ import contextlib
 import os
 import threading
 import time
-from collections.abc import Collection, Iterable, Sequence
+from collections.abc import Callable, Collection, Iterable, Sequence
 from types import TracebackType
-from typing import NamedTuple
+from typing import NamedTuple, TypeVar
 
-from exam_desk import answers, facts, private, running, snapshot
+from exam_desk import answers, asking, facts, private, running, snapshot, turns
 from exam_desk.answers import Appeal, Sitting
 from exam_desk.office import Office
-from exam_desk.serving import Progress, Serve
+from exam_desk.serving import Kept, Progress, Serve
 from exam_desk.trouble import Trouble
+
+Found = TypeVar("Found")
 
 JUST_NOW = 50_000_000  # nanoseconds in which a second change of a file may leave its time as it is
 
@@ -44,13 +46,15 @@ def silent(done: int, of: int) -> None:
 class Reading:
     """A context. Several threads may use it; the first that asks must live as long as it."""
 
-    def __init__(self, office: Office, path: str | None = None, progress: Progress = silent) -> None:
-        """Reads the office, or another file of an office. Raises `Trouble` where it cannot be read."""
+    def __init__(self, office: Office, path: str | None = None, progress: Progress = silent,
+                 kept: Kept | None = None) -> None:
+        """Reads the office, or another file of an office. Who is given as `kept` is asked in place of a `serve` over the
+        copy. Raises `Trouble` where the office cannot be read."""
         self.office = office
         self.path = path or office.path
         self.progress = progress
         self.asking, self.printing = threading.Lock(), threading.Lock()
-        self.serve: Serve | None = None
+        self.serve: Serve | Kept | None = kept
         self.sittings: dict[int, dict[str, Sitting]] = {}  # what the program said, by number and session
         self.missed: dict[int, list[answers.Clash]] = {}
         self.read_at = time.time_ns()
@@ -141,12 +145,21 @@ class Reading:
 
     def bodies(self, people: Sequence[Person], what: str) -> list[bytes]:
         """The answers to one question about each. Call it with the lock of those who ask."""
-        if not people:
-            return []
+        requests = [request(person, what) for person in people]
+        return self.begun().bodies(requests, self.progress) if requests else []
+
+    def begun(self) -> Serve | Kept:
+        """Who is asked. Call it with the lock of those who ask."""
         if self.serve is None:
-            self.serve = Serve(self.office, self.second_copy())
-            self.stack.callback(self.serve.close)
-        return self.serve.bodies([request(person, what) for person in people], self.progress)
+            self.serve = serve = Serve(self.office, self.second_copy())
+            self.stack.callback(serve.close)
+        return self.serve
+
+    def prepare(self) -> None:
+        """Lets `serve` open the office while something else is done, such as a sheet."""
+        with self.asking:
+            if isinstance(serve := self.begun(), Serve):
+                serve.begin()
 
     def second_copy(self) -> str:
         """The path of the files for `serve`: while it has them open nobody else can print a sheet of them."""
@@ -170,6 +183,20 @@ class Reading:
             complaint = done.complaint.split("\n")[0] or f"status {done.status}"
             raise Trouble(f"no {name} {' '.join(values)}: {complaint}; nothing is printed")
         return done.answer
+
+
+def of_few(office: Office, read: Callable[[Reading], Found]) -> Found:
+    """What is read of a few candidates. `keep` is asked where it serves, which opens no office anew, if this stays as it
+    was copied meanwhile: so the rows and the answers are of one moment."""
+    state = turns.keep_state(office)
+    if state and state.get("state") == "serving":
+        kept = Kept(asking.Server(state["pid"], state["place"]))
+        with contextlib.suppress(OSError, Trouble), Reading(office, kept=kept) as reading:
+            found = read(reading)
+            if reading.is_current():
+                return found
+    with Reading(office) as reading:
+        return read(reading)
 
 
 def request(person: Person, what: str) -> bytes:

@@ -8,15 +8,25 @@ from __future__ import annotations
 import collections
 from collections.abc import Iterator
 
-from exam_desk import facts
+from exam_desk import facts, shortage
 from exam_desk.facts import Opening
 from exam_desk.reading import Member, Reading
 from exam_desk.shortage import Shortage
+from exam_desk.snapshot import session_row
 from exam_desk.trouble import Trouble
 from exam_desk.words import FEATURES, clock, features, plain
 
 MOST_NAMED = 3  # occupants of a full hall
 GRANTED_HALLS = "SELECT number, target FROM appeal WHERE session = ? AND kind = 1 AND state = 2"
+
+
+def compared(reading: Reading, session: str) -> tuple[Reasons, Shortage]:
+    """The reasons and the printed shortage of a session, to be compared. Raises `Trouble` where there is no such session,
+    or the program refuses the sheet."""
+    session_row(reading.rows, session)
+    reading.prepare()
+    printed = shortage.read(reading.sheet("shortage", session))
+    return Reasons(reading, session), printed
 
 
 class Reasons:
@@ -85,14 +95,14 @@ class Reasons:
                 f"needs {'+'.join(self.needs(member)) or '-'}\n"
                 + ("".join(f"  {hall:8} {reason}\n" for hall, reason in halls) or "  no hall is open\n"))
 
-    def differences(self, shortage: Shortage) -> Iterator[str]:
+    def differences(self, printed: Shortage) -> Iterator[str]:
         """A line for each thing that the reasons say and a printed shortage does not, or the other way round."""
-        halls, candidates = dict(shortage.halls), set(shortage.candidates)
+        halls, candidates = dict(printed.halls), set(printed.candidates)
         unseated, listed = self.unseated(), [each for each in self.members if each.number in candidates]
         yield from (f"{member.number} has no desk and is not listed"
                     for member in unseated if member.number not in candidates)
-        if len(unseated) != shortage.unseated:
-            yield f"{len(unseated)} have no desk, and the sheet counts {shortage.unseated}"
+        if len(unseated) != printed.unseated:
+            yield f"{len(unseated)} have no desk, and the sheet counts {printed.unseated}"
         for opening in self.openings:
             suited = [member.number for member in unseated if not self.obstacles(member, opening)]
             if suited and opening.hall not in halls:

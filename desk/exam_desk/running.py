@@ -48,9 +48,9 @@ def readable(office: Office) -> Iterator[str]:
         yield path
 
 
-def run_over(office: Office, path: str, *words: str) -> Ran:
-    """Runs a command over a file. Raises `NotStarted`."""
-    return ran(office, path, words, subprocess.PIPE)
+def run_over(office: Office, path: str, *words: str, lock: int | None = None) -> Ran:
+    """Runs a command over a file; the program holds the lock too, where one is given. Raises `NotStarted`."""
+    return ran(office, path, words, subprocess.PIPE, () if lock is None else (lock,))
 
 
 def hand_on(office: Office, path: str, *words: str) -> Ran:
@@ -58,9 +58,10 @@ def hand_on(office: Office, path: str, *words: str) -> Ran:
     return ran(office, path, words, None)
 
 
-def ran(office: Office, path: str, words: tuple[str, ...], output: int | None) -> Ran:
+def ran(office: Office, path: str, words: tuple[str, ...], output: int | None, files: tuple[int, ...] = ()) -> Ran:
     try:
-        done = subprocess.run(office.line_over(path, *words), stdout=output, stderr=subprocess.PIPE, check=False)
+        done = subprocess.run(office.line_over(path, *words), stdout=output, stderr=subprocess.PIPE, pass_fds=files,
+                              check=False)
     except OSError as fault:
         raise not_started(office, fault) from fault
     status = done.returncode if done.returncode >= 0 else 128 - done.returncode
@@ -85,14 +86,14 @@ def usage(office: Office, name: str) -> list[str]:
 def not_started(office: Office, fault: OSError) -> NotStarted:
     """What is said of a program that the system does not start."""
     if shutil.which(office.program) is None:
-        return NotStarted(f"there is no program {office.program}; EXAMOFFICE names another, and ./try-it --prove builds "
-                          "one")
+        return NotStarted(f"there is no program {office.program}; EXAMOFFICE names another, and ./try-it --prove "
+                          "builds one")
     return NotStarted(f"the program cannot be started, so nothing is changed: {office.program}: {fault.strerror}")
 
 
 def end_with(parent: int, number: int) -> Callable[[], None]:
-    """What a child does first, so that a signal ends it where its parent is killed. The thread that begins the child must
-    live as long: the system asks for that thread."""
+    """What a child does first, so that a signal ends it where its parent is killed. The thread that begins the child
+    must live as long: the system asks for that thread."""
     library = ctypes.CDLL(None)
 
     def arrange() -> None:

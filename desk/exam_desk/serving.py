@@ -1,18 +1,19 @@
 """`serve` over a file that nobody else uses, as a child of this process: it ends with this process, however that ends."""
 from __future__ import annotations
 
-import asyncio
+import collections
 import contextlib
 import os
 import signal
+import socket
 import subprocess
-from collections.abc import Callable, Iterator, Sequence
+from collections.abc import Callable, Sequence
 
 from exam_desk import asking, running
 from exam_desk.office import Office
 from exam_desk.trouble import Trouble
 
-AT_ONCE = 4  # connections: while `serve` answers one, the next are made
+AT_ONCE = 4  # connections: while `serve` answers the first, the next are made
 SECONDS = 60  # that an answer may take
 TRIES = 5  # of a `serve` that ends before it has answered, or whose port another process takes
 
@@ -28,37 +29,42 @@ class Serve:
     def __init__(self, office: Office, path: str) -> None:
         self.office, self.path = office, path
         self.child: subprocess.Popen[bytes] | None = None
-        self.server: asking.Server | None = None
+        self.port = 0
+        self.server: asking.Server | None = None  # once it has said that it serves
 
     def bodies(self, requests: Sequence[bytes], progress: Progress) -> list[bytes]:
         """The bodies of the answers, which must have the status 200. Raises `Trouble` where the program refuses the
         office, or ends again and again."""
-        found: dict[int, bytes] = {}
+        found: list[bytes] = []
         for _ in range(TRIES):
-            with contextlib.suppress(OSError, asyncio.TimeoutError):
-                asyncio.run(ask_all(self.started(), requests, found, progress))
-                return [found[place] for place in range(len(requests))]
+            with contextlib.suppress(OSError):
+                ask_all(self.started(), requests, found, progress)
+                return found
             self.close()
         raise Trouble(f"the program ends while it is asked: {TRIES} times; nothing is printed")
 
-    def started(self) -> asking.Server:
-        """Who answers; begins `serve` where none runs. Raises OSError where it does not come to listen."""
-        if self.server is None:
-            port = asking.free_port()
-            self.child = self.begun(port)
-            assert self.child.stdout and self.child.stderr
-            if not self.child.stdout.readline().startswith(b"serving"):
-                refuse(self.child.stderr.readline().decode("utf-8", "replace").strip())
-            self.server = asking.Server(self.child.pid, str(port))
-        return self.server
+    def begin(self) -> subprocess.Popen[bytes]:
+        """Begins `serve` where none runs, and does not wait until it has opened the office."""
+        if self.child is None:
+            self.port = asking.free_port()
+            line = self.office.line_over(self.path, "serve", str(self.port))
+            try:
+                self.child = subprocess.Popen(
+                    line, stdin=subprocess.DEVNULL, stdout=subprocess.PIPE, stderr=subprocess.PIPE,
+                    preexec_fn=running.end_with(os.getpid(), signal.SIGKILL))
+            except OSError as fault:
+                raise running.not_started(self.office, fault) from fault
+        return self.child
 
-    def begun(self, port: int) -> subprocess.Popen[bytes]:
-        line = self.office.line_over(self.path, "serve", str(port))
-        try:
-            return subprocess.Popen(line, stdin=subprocess.DEVNULL, stdout=subprocess.PIPE, stderr=subprocess.PIPE,
-                                    preexec_fn=running.end_with(os.getpid(), signal.SIGKILL))
-        except OSError as fault:
-            raise running.not_started(self.office, fault) from fault
+    def started(self) -> asking.Server:
+        """Who answers. Raises OSError where it does not come to listen."""
+        if self.server is None:
+            child = self.begin()
+            assert child.stdout and child.stderr
+            if not child.stdout.readline().startswith(b"serving"):
+                refuse(child.stderr.readline().decode("utf-8", "replace").strip())
+            self.server = asking.Server(child.pid, str(self.port))
+        return self.server
 
     def close(self) -> None:
         """Ends `serve`, which has nothing to save."""
@@ -68,33 +74,49 @@ class Serve:
         self.child = self.server = None
 
 
+class Kept:
+    """Asks a server that runs already, as `keep` does. What it raises says nothing of the office: ask a `Serve` then."""
+
+    def __init__(self, server: asking.Server) -> None:
+        self.server = server
+
+    def bodies(self, requests: Sequence[bytes], progress: Progress) -> list[bytes]:
+        """The bodies of the answers. Raises OSError where no whole one comes, `Trouble` where one is no 200."""
+        found: list[bytes] = []
+        ask_all(self.server, requests, found, progress)
+        return found
+
+
 def refuse(complaint: str) -> None:
     """Raises `Trouble`, or OSError where another try may do: its port was taken, or a signal ended it."""
     if complaint in ("", "net fault"):
         raise OSError("serve does not listen")
-    raise Trouble(f"the program does not read the office: {complaint}; nothing is printed")
+    raise Trouble(f"the program does not read the office ({complaint}); `office check` says more; nothing is printed")
 
 
-async def ask_all(server: asking.Server, requests: Sequence[bytes], found: dict[int, bytes],
-                  progress: Progress) -> None:
-    """Puts the body of each answer at its place where there is none yet. Raises OSError where no whole one comes."""
-    waiting = iter([place for place in range(len(requests)) if place not in found])
-    await asyncio.gather(*(ask_some(server, requests, waiting, found, progress) for _ in range(AT_ONCE)))
+def ask_all(server: asking.Server, requests: Sequence[bytes], found: list[bytes], progress: Progress) -> None:
+    """Adds the body of each answer to those that are found already. Raises OSError where no whole one comes, and
+    `Trouble` where one has another status than 200."""
+    waiting: collections.deque[socket.socket] = collections.deque()
+    try:
+        for request in requests[len(found):]:
+            if len(waiting) == AT_ONCE:
+                take_body(waiting.popleft(), found)
+                progress(len(found), len(requests))
+            waiting.append(asking.sent(server, request, SECONDS))
+        while waiting:
+            take_body(waiting.popleft(), found)
+            progress(len(found), len(requests))
+    finally:
+        for connection in waiting:
+            connection.close()
 
 
-async def ask_some(server: asking.Server, requests: Sequence[bytes], waiting: Iterator[int],
-                   found: dict[int, bytes], progress: Progress) -> None:
-    for place in waiting:
-        found[place] = await ask(server, requests[place])
-        progress(len(found), len(requests))
-
-
-async def ask(server: asking.Server, request: bytes) -> bytes:
-    """The body of an answer. Raises OSError where it is not whole, and `Trouble` where it is no 200."""
-    answer = await asyncio.wait_for(asking.answer(server, request), SECONDS)
-    status = asking.status_of(answer)
+def take_body(connection: socket.socket, found: list[bytes]) -> None:
+    answer = asking.received(connection)
+    status, body = asking.status_of(answer), asking.body_of(answer)
     if status == 0:
         raise ConnectionError("the answer is not whole")
     if status != 200:
-        raise Trouble(f"the program answered {status} {asking.body_of(answer).decode('utf-8', 'replace')[:60]}")
-    return asking.body_of(answer)
+        raise Trouble(f"the program answered {status} {body.decode('utf-8', 'replace')[:60]}")
+    found.append(body)

@@ -2,12 +2,15 @@
 from __future__ import annotations
 
 import os
+from collections.abc import Iterator
 
+from exam_desk import lists
 from exam_desk.changing import Step
 from exam_desk.trouble import Trouble
 from exam_desk.workbook.checking import file_parts
 from exam_desk.workbook.headers import KINDS
 from exam_desk.workbook.reading import Reading
+from exam_desk.workbook.rows import Record
 
 
 def title_of(source: str) -> str:
@@ -16,20 +19,21 @@ def title_of(source: str) -> str:
 
 
 def steps_of(reading: Reading) -> list[Step]:
-    """The imports of what was read, in order. Raises `Trouble` where there is a mistake, nothing, or a candidate without
-    an access code."""
+    """The imports of what was read, in order. Raises `Trouble` where there is a mistake, a candidate without an access
+    code, or nothing."""
     if count := reading.report.count("mistake"):
-        raise Trouble(f"{count} mistakes: nothing is changed")
+        raise Trouble(f"{lists.count(count, 'mistake')}: nothing is changed")
     empty = sum(not record.fields[2] for record in reading.records.get("candidates", []))
     if empty:
-        raise Trouble(f"{empty} candidates have no access code, so nothing is changed: write the files by `office read` or "
-                      "`office mend`, fill the codes by `office codes`, and take that folder")
-    steps = [Step(("import", kind, name_of(kind, place)), text) for kind in KINDS if reading.records.get(kind)
-             for place, (text, _) in enumerate(file_parts(kind, (record.fields for record in reading.records[kind])), 1)]
+        raise Trouble(f"{lists.count(empty, 'candidate')} without an access code: nothing is changed; write the files "
+                      "by `office read` or `office mend`, fill the codes by `office codes`, and take that folder")
+    steps = [step for kind in KINDS if reading.records.get(kind) for step in imports_of(kind, reading.records[kind])]
     if not steps:
         raise Trouble("there is no row to import")
     return steps
 
 
-def name_of(kind: str, place: int) -> str:
-    return f"{kind}.csv" if place == 1 else f"{kind}-{place}.csv"
+def imports_of(kind: str, records: list[Record]) -> Iterator[Step]:
+    """The imports of a kind: more than one where its rows are more than an import takes."""
+    for place, (text, _) in enumerate(file_parts(kind, (record.fields for record in records)), 1):
+        yield Step(("import", kind, f"{kind}.csv" if place == 1 else f"{kind}-{place}.csv"), text)

@@ -8,8 +8,9 @@ Beside office.db the folder desk-office.db (mode 0700) holds four lock files (fl
     keep.lock     held by `keep` as long as it lives (fcntl(2), which tells its process); its text says where it serves
 
 A command takes want.lock once turn.lock is free, asks `keep` to step aside, and takes office.lock. `keep` needs both to
-serve again, so it never comes between. The system lets go of the locks of a process that ends, in whatever way; no
-child inherits them.
+serve again, so it never comes between. The system lets go of the locks of a process that ends, in whatever way. The one
+child that inherits a lock, office.lock, is the program that a change runs: where the command is killed, the next one
+waits until that program has ended.
 """
 from __future__ import annotations
 
@@ -123,8 +124,9 @@ def opened(office: Office, name: str) -> Iterator[int]:
 
 
 @contextlib.contextmanager
-def alone(office: Office, words: Sequence[str]) -> Iterator[None]:
-    """The office for this process alone: waits up to PATIENCE seconds for others, then raises `Trouble`.
+def alone(office: Office, words: Sequence[str]) -> Iterator[int]:
+    """The office for this process alone, and office.lock: waits up to PATIENCE seconds for others, then raises
+    `Trouble`.
 
     Candidates who wait go first: `keep` holds turn.lock for them, and takes it while a command has want.lock, so
     whoever has want.lock looks at turn.lock again.
@@ -138,8 +140,14 @@ def alone(office: Office, words: Sequence[str]) -> Iterator[None]:
         ask_keep_aside(office)
         with opened(office, "office.lock") as lock:
             while not try_lock(lock):
-                wait.pause(lambda: f"`keep` (it does not step aside: {keep_state(office)})")
-            yield
+                wait.pause(lambda: having(office))
+            yield lock
+
+
+def having(office: Office) -> str:
+    """Who has the office though this process has want.lock."""
+    state = keep_state(office)
+    return f"`keep` (it does not step aside: {state})" if state else "the program (a command that began it was killed)"
 
 
 def ahead(office: Office, turn: int) -> str:

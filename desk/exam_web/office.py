@@ -80,20 +80,18 @@ def back(key: str) -> Answer | tuple[str, int]:
     """Puts a copy back, if the office is as the page showed it and each appeal that would be lost has its tick."""
     path, who = copy_of(key), office()
     when, _ = copies.when_and_what(path)
-    page = ("office.copy", {"key": key})
+    ticked = set(request.form.getlist("lost"))
     try:
-        with desk().rehearsing, changing.turn(who, "back", request.form.get("state", "")):
-            lost = undo.taken_away(who, path)
-            if not set(lost) <= set(request.form.getlist("lost")):
-                wrong = proposals.Wrong(page, lost=text("tick each of these, or leave the office as it is"))
-                return proposals.wrong_page(wrong, "back")
-            with changing.logged(who, ["back"]) as outcome:
-                undo.put_back(who, path)
-                outcome.status, outcome.answer = 0, "; ".join([f"as it was on {when}", *lost])
+        with desk().rehearsing:
+            is_back, _ = changing.go_back(who, ["back"], path, lambda lost: ticked.issuperset(lost),
+                                          request.form.get("state", ""))
     except Stale:
         said = text("Nothing is changed: the office is another than the page showed. This is how it stands now.")
         g.visit.said.append(("bad", said))
         return redirect(url_for("office.copy", key=key), 303)
+    if not is_back:
+        wrong = text("tick each of these, or leave the office as it is")
+        return proposals.wrong_page(proposals.Wrong(("office.copy", {"key": key}), lost=wrong), "back")
     said = text("The office is as it was on {when}. The office from before is the newest copy.", when=when)
     g.visit.said.append(("good", said))
     return redirect(url_for("office.page"), 303)

@@ -49,14 +49,13 @@ class RandomOffice:
         self.chance = random.Random(seed)
         self.folder, self.path = folder, os.path.join(folder, "office.db")
         self.office = Office(self.path, sample.built_program(), lambda: TODAY, "tester", lambda text: None)
-        self.refused = 0
+        self.compared = collections.Counter(offices=1)
 
     def run(self, *words):
         """What a command prints; None where it is refused, which a random one may be."""
         done = subprocess.run(self.office.line(*words), capture_output=True, check=False)
         if done.returncode:
             assert done.stderr.startswith(b"refused"), (words, done.stderr)
-            self.refused += 1
             return None
         return done.stdout.decode()
 
@@ -67,7 +66,7 @@ class RandomOffice:
         self.codes = {f"{number:07}": f"CODE{number:07}" for number in self.chance.sample(range(1, 9_999_999), self.chance.randint(8, 30))}
         self.sessions = [f"S{place}" for place in range(self.chance.randint(1, 3))]
         self.papers = {f"P{place}": self.chance.choice(self.sessions) for place in range(self.chance.randint(2, 7))}
-        self.halls = [f"H{place}" for place in range(self.chance.randint(1, 5))]
+        self.halls = [f"H{place}" for place in range(self.chance.randint(2, 6))]
         for kind, rows in self.files().items():
             path = os.path.join(self.folder, f"{kind}.csv")
             with open(path, "w", encoding="utf-8", newline="") as file:
@@ -83,20 +82,20 @@ class RandomOffice:
 
     def files(self):
         chance = self.chance
-        openings = [[session, hall, chance.randint(1, 9), chance.choice(["10:30", "12:00", "24:00"]), chance.choice(["no", "no", "yes"])]
-                    for session in self.sessions for hall in self.halls if chance.random() < 0.8]
+        openings = [[session, hall, chance.randint(1, 9), chance.choice(["10:30", "12:00", "24:00", "24:00"]), chance.choice(["no", "no", "yes"])]
+                    for session in self.sessions for hall in self.halls if chance.random() < 0.9]
         entries = sorted({(number, paper) for number in self.codes for paper in chance.sample(sorted(self.papers), min(
             len(self.papers), chance.choice([0, 1, 2, 3])))})
         return {
-            "sessions": [["session", "date", "start"], *([code, chance.choice(DAYS), chance.choice(["09:00", "23:30"])]
+            "sessions": [["session", "date", "start"], *([code, chance.choice(DAYS), chance.choice(["09:00", "09:00", "13:30", "22:45"])]
                                                          for code in self.sessions)],
             "papers": [["paper", "title", "session", "minutes", "requires"],
-                       *([code, chance.choice(NAMES), session, chance.choice([45, 61, 90, 600]), self.features(0.2)]
+                       *([code, chance.choice(NAMES), session, chance.choice([45, 61, 90, 600]), self.features(0.03)]
                          for code, session in self.papers.items())],
-            "halls": [["hall", "title", "features"], *([code, chance.choice(NAMES), self.features(0.6)] for code in self.halls)],
+            "halls": [["hall", "title", "features"], *([code, chance.choice(NAMES), self.features(0.8)] for code in self.halls)],
             "openings": [["session", "hall", "desks", "until", "reserved"], *openings],
             "candidates": [["number", "name", "code"], *([number, chance.choice(NAMES), code] for number, code in self.codes.items())],
-            "arrangements": [["number", "needs", "extra"], *([number, self.features(0.2), chance.choice([0, 10, 25, 33, 100])]
+            "arrangements": [["number", "needs", "extra"], *([number, self.features(0.08), chance.choice([0, 10, 25, 33, 100])]
                                                              for number in self.codes if chance.random() < 0.3)],
             "entries": [["number", "paper"], *entries],
         }
@@ -133,7 +132,7 @@ class RandomOffice:
         hall = next((seat["hall"] for seat in seats if seat["session"] == asked["session"]), None)
         if hall and kind == "hall":
             return asked | {"kind": kind, "hall": hall}
-        return asked | {"kind": "arrangement", "needs": self.features(0.2), "extra": chance.choice([0, 10, 50])}
+        return asked | {"kind": "arrangement", "needs": self.features(0.08), "extra": chance.choice([0, 10, 50])}
 
     @contextlib.contextmanager
     def served(self, path=None):
@@ -198,6 +197,15 @@ class RandomOffice:
             self.summary(reading)
             self.persons(reading)
             self.changes(before, reading)
+            self.count(reading.rows)
+
+    def count(self, rows):
+        seats = [seat for seats in self.now.values() for seat in seats.values()]
+        self.compared += {"members": len(seats), "without a desk": sum(seat.hall == "-" for seat in seats),
+                        "arrangements": sum(map(bool, self.arrangements.values())),
+                        "clashes": sum(len(self.clashes(session)) for session in self.sessions)}
+        for what, table in [("appeals", "appeal"), ("granted", "appeal WHERE state = 2"), ("standing", "standing")]:
+            self.compared[what] += rows.execute(f"SELECT count(*) FROM {table}").fetchone()[0]
 
     def doors(self, reading, session):
         tables = Cells(page := doors.page(reading, session)).tables
@@ -251,10 +259,9 @@ class RandomOffice:
         equal(Cells(part).rows[1:], [[number, plain(seats[number].name), sits, clash] for number, sits, clash in self.clashes(session)],
               "clashes", page)
         rows = Cells(page[page.index("<section id=appeals>"):]).rows[1:]
-        register = [[line[:7], line[8:24].strip(), line[25:36].strip(), line[64:], line[48:58].strip() if False else line[48:58], line[37:47].strip()]
-                    for line in self.sheet(self.path, "appeals", session)[2:]]
-        equal([[row[0], row[2], row[3], row[6]] for row in rows], [[row[0], row[1], row[2], row[5]] for row in register], "appeals", page)
-        equal([row[4] for row in rows], [line.split(None, 5)[5] for line in self.sheet(self.path, "appeals", session)[2:]], "subjects", page)
+        register = [line.split(None, 5) for line in self.sheet(self.path, "appeals", session)[2:]]
+        equal([[number, ref, kind, state, lodged, subject] for number, _, ref, kind, subject, lodged, state in rows], register,
+              "appeals", page)
         sheet = shortage.read("\n".join([*self.sheet(self.path, "shortage", session), ""]))
         assert (f"{len(seats):,} candidate" in page and sheet.unseated == sum(seat.hall == "-" for seat in seats.values())
                 and (f"+ {sheet.unseated} unseated</p>" in page) == (sheet.unseated > 0)), "shortage"
@@ -335,6 +342,7 @@ class RandomOffice:
                   for session in self.sessions for then, now in [(old[session], self.now[session])]
                   for number in then.keys() | now.keys() if then.get(number) != now.get(number)}
         equal(shown, wanted, "changes", telling.text(found))
+        self.compared["changes"] += len(wanted)
         for row in rows:
             equal(row[0], "yes" if row[6:9] != row[12:15] or not row[7] or not row[13] else "no", "tell", row)
 
@@ -345,14 +353,14 @@ def equal(found, wanted, what, page):
 
 
 def look_at(folder, seed):
-    """Makes the office of a seed and looks at its pages."""
+    """Makes the office of a seed and looks at its pages; counts what was compared."""
     office = RandomOffice(folder, seed)
     try:
         office.make()
         office.look()
     except AssertionError as fault:
         raise AssertionError(f"seed {seed}: {fault}") from fault
-    return sum(len(seats) for seats in office.now.values())
+    return office.compared
 
 
 if __name__ == "__main__":

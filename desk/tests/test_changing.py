@@ -1,4 +1,5 @@
 """Changes of several steps: tried on a copy, carried out whole or not at all, and what is said after a kill."""
+import collections
 import contextlib
 import os
 import random
@@ -22,7 +23,7 @@ MORE = {  # rows behind those of the sample school
     "halls": "NEW1,New hall,-\n", "openings": "MON-AM,NEW1,3,13:00,no\n", "candidates": "0009001,Zed,ZZZZZZZZ\n",
     "arrangements": "0009001,-,25\n", "entries": "0009001,MA-1\n0009001,EN-1\n"}
 STEPS = [Step(("withdraw", "0001000", "MA-1")), Step(("close-hall", "MON-AM", "GYM")),
-         Step(("import", "entries", "more.csv"), b"number,paper\n0001000,FR-1\n")]
+         Step(("import", "entries", "more.csv"), b"number,paper\n0001000,FR\n")]
 
 
 class Changing(sample.SampleSchool):
@@ -238,34 +239,47 @@ class Killed(Changing):
             self.assertEqual(self.state(), before)
             self.assertNotIn("broken off", self.run_office("reinstate", "0001000", "MA-1").stderr)
 
+    def test_a_program_that_goes_on_after_its_command_is_waited_for(self):
+        """It begins its work long after the next command has begun to wait."""
+        waits = f"grep -q reinstate {self.desk}/want.lock"
+        program = self.program(f"kill -9 $PPID; for _ in $(seq 300); do {waits} && break; sleep 0.1; done; sleep 2")
+        self.assertEqual(self.run_office("withdraw", "0001000", "MA-1", EXAMOFFICE=program).returncode, -signal.SIGKILL)
+        done = self.run_office("reinstate", "0001000", "MA-1")
+        self.assertEqual(done.stdout, "reinstated\n", done.stderr)
+        self.assertIn("has no end in the log: it is there whole or not at all; look", done.stderr)
+
     def test_at_any_time(self):
-        facts = self.facts()
-        self.assertEqual(kill_often(self, facts, KILLS, SEED), KILLS)
+        self.assertEqual(kill_often(self, self.facts(), KILLS, SEED).total(), KILLS)
 
 
 def kill_often(school, facts, count, seed):
-    """Kills `take` so many times, at random; gives how often the office was as before or whole, or could be put back."""
-    chance, before, good = random.Random(seed), school.state(), 0
+    """Kills `take` so many times, at random; counts how often the office was as before, whole, or was put back."""
+    chance, before = random.Random(seed), school.state()
     began = time.monotonic()
     school.office("take", facts, "--yes")
     length, after = time.monotonic() - began, school.state()
     school.office("back", "1", "--yes")
+    counts = collections.Counter()
     for _ in range(count):
-        process = subprocess.Popen([sample.DESK / "office", "take", facts, "--yes"], env=school.environment,
-                                   stdout=subprocess.DEVNULL, stderr=subprocess.DEVNULL)
-        time.sleep(chance.uniform(0.1, 1) * length)
-        process.kill()
-        process.wait()
-        said = school.run_office("reinstate", "0001000", "MA-1").stderr
-        state = school.state()
-        if state not in (before, after) and "and puts it back" in said:
-            school.office("back", "1", "--yes")
-            state = school.state()
-        good += state in (before, after)
-        if state != before:
-            school.office("back", "1", "--yes")
-        school.assertEqual(school.office("check"), "good\n")
-    return good
+        counts[what_a_kill_leaves(school, facts, chance.uniform(0.2, 1) * length, before, after)] += 1
+    del counts["bad"]
+    return counts
+
+
+def what_a_kill_leaves(school, facts, seconds, before, after):
+    """Kills a `take` after some seconds; what it left, in a word. The office is as before then, and good."""
+    process = subprocess.Popen([sample.DESK / "office", "take", facts, "--yes"], env=school.environment,
+                               stdout=subprocess.DEVNULL, stderr=subprocess.DEVNULL)
+    time.sleep(seconds)
+    process.kill()
+    process.wait()
+    said = school.run_office("reinstate", "0001000", "MA-1").stderr
+    state = school.state()
+    if state == before:
+        return "before"
+    school.office("back", "1", "--yes")
+    is_good = school.state() == before and school.office("check") == "good\n"
+    return "whole" if is_good and state == after else "put back" if is_good and "and puts it back" in said else "bad"
 
 
 class WhatIf(Changing):
@@ -298,7 +312,7 @@ class Taking(Changing):
         done = self.run_office("take", facts, stdin="n\n")
         self.assertEqual((done.returncode, done.stderr), (1, "office: nothing is changed\n"))
         self.assertIn("entries.csv: added 2 changed 0 same 172\n", done.stdout)
-        self.assertIn("joins a session", done.stdout)
+        self.assertIn("2 join a session", done.stdout)
         self.assertEqual((self.state(), self.kept(), self.log()), (before, [], []))
         self.assertIn("imported; ", self.office("take", facts, stdin="y\n"))
         self.assertEqual([os.path.basename(copy).split(" ", 3)[3] for copy in self.kept()], ["take facts"])
@@ -308,9 +322,9 @@ class Taking(Changing):
 
     def test_mistakes_and_refusals_change_nothing(self):
         facts, before = self.facts(), self.state()
-        for kind, row, words in (("entries", "0009001,XX-9\n", "1 mistakes: nothing is changed"),
-                                 ("candidates", "0009002,Ann,\n", "have no access code"),
-                                 ("openings", "MON-AM,NEW1,3,13:00,no,x\n", "mistakes: nothing is changed")):
+        for kind, row, words in (("entries", "0009001,XX-9\n", "1 mistake: nothing is changed"),
+                                 ("candidates", "0009002,Ann,\n", "1 candidate without an access code"),
+                                 ("openings", "MON-AM,NEW1,4,13:00,no\n", "1 mistake: nothing is changed")):
             with open(os.path.join(facts, f"{kind}.csv"), "r+", encoding="utf-8") as file:
                 text = file.read()
                 file.write(row)

@@ -13,8 +13,9 @@ import unittest
 
 import sample
 
-import files  # beside the tests' folder
-import school
+from exam_desk import files  # beside the tests' folder
+from exam_desk.reading import Reading
+from exam_desk.words import UNSHOWN
 
 APPEAL = "INSERT INTO appeal VALUES (?, ?, ?, ?, ?, ?, ?, ?, ?, ?, ?)"
 
@@ -29,9 +30,9 @@ class Lists(sample.SampleSchool):
 
     def members(self, path):
         """Who is in each session, with what, seated or not."""
-        with contextlib.closing(school.rows(path)) as connection:
-            return [[member._replace(hall=None, desk=None) for member in school.members(connection, session)]
-                    for session in ("MON-AM", "MON-PM", "TUE-AM")]
+        with Reading(self.value, path) as reading:
+            return [[member._replace(sitting=member.sitting._replace(hall=None, desk=None))
+                     for member in reading.members(session)] for session in ("MON-AM", "MON-PM", "TUE-AM")]
 
     def copy(self):
         folder = os.path.join(self.folder, "before")
@@ -87,7 +88,7 @@ class Lists(sample.SampleSchool):
             bare = self.office(*words)
             self.assertIn("0001748", bare)
             self.assertIn(" To\u009b2Jm\u0085\u202eas\n", bare)
-            self.assertEqual(self.at_terminal(*words), bare.translate(school.UNSHOWN | {10: "\r\n"}))
+            self.assertEqual(self.at_terminal(*words), bare.translate(UNSHOWN | {10: "\r\n"}))
 
     def at_terminal(self, *words):
         """What a command prints on a terminal."""
@@ -264,21 +265,18 @@ class Lists(sample.SampleSchool):
             self.assertIn("refused 24; nothing is", self.refused(command, "MON-AM", EXAMOFFICE=program))
 
     def test_signals_leave_nothing(self):
-        temporary = os.path.join(self.folder, "temporary")
-        os.mkdir(temporary)
         slow = self.write("slow", "#!/bin/sh\nsleep 30\n")
         os.chmod(slow, 0o700)
-        for number in (signal.SIGHUP, signal.SIGINT, signal.SIGTERM):
-            environment = {**self.environment, "TMPDIR": temporary, "EXAMOFFICE": slow}
-            with subprocess.Popen([sample.DESK / "office", "print-session", "MON-AM"], env=environment,
-                                  stdout=subprocess.PIPE, stderr=subprocess.PIPE, start_new_session=True) as process:
-                until = time.monotonic() + 20
-                while not os.listdir(temporary) and time.monotonic() < until:
-                    time.sleep(0.02)
-                time.sleep(0.3)
-                os.kill(process.pid, number)
-                self.assertEqual(process.communicate(), (b"", b""))
-                self.assertEqual((process.returncode, os.listdir(temporary)), (128 + number, []))
+        copies = os.path.join(self.desk, "tmp")
+        for command in ("print-session", "doors"):
+            for number in (signal.SIGHUP, signal.SIGINT, signal.SIGTERM):
+                with subprocess.Popen([sample.DESK / "office", command, "MON-AM"], env={**self.environment, "EXAMOFFICE": slow},
+                                      stdout=subprocess.PIPE, stderr=subprocess.PIPE, start_new_session=True) as process:
+                    sample.until(lambda: os.path.isdir(copies) and os.listdir(copies))
+                    time.sleep(0.3)
+                    os.kill(process.pid, number)
+                    self.assertEqual(process.communicate(), (b"", b""))
+                    self.assertEqual((process.returncode, os.listdir(copies)), (128 + number, []))
 
 
 class NoOffice(sample.SampleSchool):

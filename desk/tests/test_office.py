@@ -4,7 +4,6 @@ import sqlite3
 import stat
 import subprocess
 import sys
-import time
 import unittest
 from contextlib import closing, suppress
 from unittest import mock
@@ -209,8 +208,7 @@ class Back(sample.SampleSchool):
     def test_a_killed_command_leaves_no_lock(self):
         process = subprocess.Popen([sample.DESK / "office", "import", "entries", "/dev/stdin"], env=self.environment,
                                    stdin=subprocess.PIPE, stderr=subprocess.DEVNULL)
-        while not os.path.isdir(os.path.join(self.desk, "copies")) or not os.listdir(os.path.join(self.desk, "copies")):
-            time.sleep(0.02)
+        sample.until(lambda: os.path.exists(os.path.join(self.desk, "log")))
         process.kill()
         process.communicate()
         done = self.run_office("withdraw", "0001000", "MA-1")

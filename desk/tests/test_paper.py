@@ -1,6 +1,5 @@
 """The papers for people over the sample school, and over one with hostile names."""
 import contextlib
-import html.parser
 import re
 import shutil
 import sqlite3
@@ -8,34 +7,10 @@ import subprocess
 import unittest
 
 import sample
+from cells import Cells
 
 HOSTILE = ["=1+1", "<script>alert(1)</script>", "\"quotes\" & 'more'", "C1 \u009b2J \u0085 end", "left \u202eright",
            "line\u2028end", "</bdi></td></table>", "W" * 80, "\u00e9" * 40, "Ada Lin", " "]
-
-
-class Cells(html.parser.HTMLParser):
-    """The tables of a page as rows of texts; the parser also sees that every element is one of a table or known."""
-
-    known = set("html head meta title style body h1 h2 h3 p b i small span bdi br div section table thead tbody tr "
-                "th td header nav a ol ul li dl dt dd svg rect code".split())
-
-    def __init__(self, page):
-        super().__init__()
-        self.rows, self.strange = [], set()
-        self.feed(page)
-
-    def handle_starttag(self, tag, attrs):
-        self.strange |= {tag} - self.known
-        if tag == "tr":
-            self.rows.append([])
-        elif tag in ("td", "th"):
-            self.rows[-1].append("")
-        elif tag == "br" and self.rows and self.rows[-1]:
-            self.rows[-1][-1] += "|"
-
-    def handle_data(self, data):
-        if self.rows and self.rows[-1]:
-            self.rows[-1][-1] += data.strip("\n")
 
 
 class Papers(sample.SampleSchool):

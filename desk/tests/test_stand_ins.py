@@ -1,161 +1,169 @@
 """Five programs that answer one thing otherwise: each page and list shows their answer, so none reckons by itself."""
+import contextlib
 import csv
+import dataclasses
+import io
 import json
 import os
+import subprocess
 import unittest
+from unittest import mock
 
 import sample
 from cells import Cells
 
-SESSION, SITS, STANDS = "MON-AM", "0001153", "0001612"  # who has a desk in the library, and who has none
-STAND_IN = os.path.join(os.path.dirname(__file__), "stand_in")
-NUMBER, NAME = SITS, "Jana Roe"
+from exam_desk import checking_shortage, reasons, shortage, telling  # beside the tests' folder
+from exam_desk.reading import Reading
+from exam_desk.sheets import board, counts, doors, person, slips, summary
+from exam_desk.sheets.session_page import Page
+from exam_desk.trouble import Trouble
+
+SESSION, NUMBER, NAME = "MON-AM", "0001153", "Jana Roe"
+UNSEATED = "0001187"
+STAND_IN = os.path.join(os.path.dirname(os.path.abspath(__file__)), "stand_in")
 
 
-class StandIns(sample.SampleSchool):
-    """What the sample school says of Jana Roe on Monday: LAT until 10:53, 25 % extra time and a screen, LIB desk 1."""
-    maxDiff = None
+class Pages:
+    """All pages and lists of one reading."""
 
-    def stand_in(self, number=SITS, **members):
-        """Lets a program answer so of a candidate's sitting on Monday."""
-        self.environment |= {"EXAMOFFICE": STAND_IN, "REAL": sample.built_program(),
-                             "COUNT": os.path.join(self.folder, "count"),
-                             "CHANGED": json.dumps({number: {SESSION: members}})}
+    def __init__(self, reading, before):
+        self.doors = doors.page(reading, SESSION)
+        self.slips = slips.page(reading, slips.Choice([SESSION], desks=True))
+        self.board = board.page(reading, SESSION)
+        self.counts = counts.page(reading, SESSION)
+        page = Page(reading, SESSION)
+        self.page, self.differences = page.document(), page.differences
+        self.summary = summary.text(reading, [SESSION])
+        self.reasons = reasons.Reasons(reading, SESSION)
+        self.faults = list(checking_shortage.faults(reading, shortage.read(reading.sheet("shortage", SESSION))))
+        self.look = "\n".join(person.lines(reading, person.find(reading.rows, NUMBER), False))
+        changes = telling.differences(before, reading)
+        self.changes = telling.text(changes)
+        rows = list(csv.reader(io.StringIO(telling.csv_text(changes, telling.titles_of(reading)).removeprefix("\ufeff"))))
+        self.csv = [dict(zip(rows[0], row)) for row in rows[1:] if NUMBER in row]
 
-    def row(self, *words, of=NAME):
-        """The row of a page that has a name or a number."""
-        [row] = [row for row in Cells(self.office(*words)).rows if any(cell == of or cell.startswith(of + " ")
-                                                                       for cell in row)]
+    def row(self, page):
+        """The row of a page that has the name."""
+        [row] = [row for row in Cells(getattr(self, page)).rows if NAME in row]
         return row
 
     def slip(self):
-        return self.rows("slips", SESSION, "--only", SITS, "--desks")[2]
+        return next(table for table in Cells(self.slips).tables if NUMBER in table[0][0])[2]
 
-    def rows(self, *words):
-        return Cells(self.office(*words)).rows
+    def count(self, hall):
+        return [row for row in Cells(self.counts).rows if row[0] == hall]
 
-    def why(self, number=SITS):
-        return self.run_office("why", SESSION, number).stdout
+    def why(self, number=NUMBER):
+        return self.reasons.text(number)
 
-    def look(self):
-        return self.office("look", SITS)
 
-    def changes(self, *words):
-        """The lines of `changes` since the last change, of which this program answers otherwise."""
-        self.office("withdraw", "0001306", "LAT", EXAMOFFICE=sample.built_program())
-        self.environment["FROM"] = "1"
-        return [line for line in self.office("changes", "1", SESSION, *words).split("\n") if SITS in line]
+class StandIns(sample.SampleSchool):
+    """The real program says of Jana Roe on Monday: LAT until 10:53, 25 % extra time and a screen, LIB desk 1."""
+    maxDiff = None
 
-    def csv_row(self):
-        [line] = self.changes("--csv")
-        return next(csv.reader([line]))
+    def setUp(self):
+        """Somebody else's desk in the hall is another than in `self.made`, so `changes` asks for the session."""
+        super().setUp()
+        subprocess.run(self.value.line("withdraw", "0001306", "LAT"), check=True, stdout=subprocess.DEVNULL)
+
+    def pages(self, number=NUMBER, **members):
+        """The pages, where a program answers so of a candidate's sitting on Monday."""
+        environment = {"REAL": sample.built_program(), "CHANGED": json.dumps({number: {SESSION: members}})}
+        with contextlib.ExitStack() as stack:
+            stack.enter_context(mock.patch.dict(os.environ, environment))
+            before = stack.enter_context(Reading(self.value, os.path.join(self.made, "office.db")))
+            return Pages(stack.enter_context(Reading(dataclasses.replace(self.value, program=STAND_IN))), before)
 
     def test_the_real_program(self):
-        self.stand_in()
-        self.assertEqual(self.row("doors", SESSION, "LIB"),
-                         ["1", SITS, NAME, "LAT", "10:53", "25 % extra time, screen", ""])
-        self.assertEqual(self.slip(), ["Mon 7 June 2027", "09:00–10:53", "Latin (LAT)|with 25 % extra time, screen",
-                                       "Library (LIB), desk\u00a01"])
-        self.assertEqual(self.row("board", SESSION), [NAME, "LIB", "1"])
-        self.assertEqual(self.row("session-page", SESSION), ["1", SITS, NAME, "LAT", "10:53"])
+        pages = self.pages()
+        self.assertEqual(pages.row("doors"), ["1", NUMBER, NAME, "LAT", "10:53", "25 % extra time, screen", ""])
+        self.assertEqual(pages.slip(), ["Mon 7 June 2027", "09:00–10:53", "Latin (LAT)|with 25 % extra time, screen",
+                                        "Library (LIB), desk\u00a01"])
+        self.assertEqual(pages.row("board"), [NAME, "LIB", "1"])
+        self.assertEqual(pages.row("page"), ["1", NUMBER, NAME, "LAT", "10:53"])
+        self.assertNotIn(NUMBER, pages.changes)
+        self.assertEqual((pages.differences, pages.faults), ([], []))
 
     def test_paper(self):
-        self.stand_in(paper="CS-1")
-        self.assertEqual(self.row("doors", SESSION, "LIB")[3], "CS-1")
-        self.assertIn("Computer science (CS-1)", self.slip()[2])
-        self.assertIn(["Library (LIB)", "Computer science (CS-1)", "1", "10:53"], self.rows("counts", SESSION))
-        self.assertEqual(self.row("session-page", SESSION)[3], "CS-1")
-        self.assertIn("sits CS-1 until 10:53", self.why())
-        self.assertIn("LAT Latin: not sat, since they sit CS-1 then", self.look())
-        self.assertIn("LAT -> CS-1", self.changes()[0])
-
-    def test_paper_as_csv(self):
-        self.stand_in(paper="CS-1")
-        self.assertEqual((self.csv_row()[7], self.csv_row()[13]), ("LAT", "CS-1"))
+        pages = self.pages(paper="CS-1")
+        self.assertEqual((pages.row("doors")[3], pages.row("page")[3]), ("CS-1", "CS-1"))
+        self.assertIn("Computer science (CS-1)", pages.slip()[2])
+        self.assertIn(["Library (LIB)", "Computer science (CS-1)", "1", "10:53"], pages.count("Library (LIB)"))
+        self.assertIn("sits CS-1 until 10:53", pages.why())
+        self.assertIn("LAT Latin: not sat, since they sit CS-1 then", pages.look)
+        self.assertIn("Jana Roe: LAT -> CS-1\n", pages.changes)
+        self.assertEqual([(row["old paper"], row["paper"]) for row in pages.csv], [("LAT", "CS-1")])
 
     def test_finish(self):
-        self.stand_in(finish="23:45")
-        self.assertEqual(self.row("doors", SESSION, "LIB")[4], "23:45")
-        self.assertIn("last finish 23:45", self.office("doors", SESSION, "LIB"))
-        self.assertEqual(self.slip()[1], "09:00–23:45")
-        self.assertIn("23:45", [row[-1] for row in self.rows("counts", SESSION) if row[:2] == ["Library (LIB)", "Latin (LAT)"]])
-        self.assertEqual(self.row("session-page", SESSION)[4], "23:45")
-        self.assertIn("until 23:45", self.why())
-        self.assertIn("AULA     closes ", self.why())
-        self.assertIn("until 23:45", self.look())
-        self.assertIn("10:53 -> 2027-06-07 09:00 to 23:45", self.changes()[0])
-
-    def test_finish_as_csv(self):
-        self.stand_in(finish="23:45")
-        self.assertEqual((self.csv_row()[6], self.csv_row()[12]), ("10:53", "23:45"))
+        pages = self.pages(finish="23:45")
+        self.assertEqual((pages.row("doors")[4], pages.row("page")[4], pages.slip()[1]), ("23:45", "23:45", "09:00–23:45"))
+        self.assertIn("last finish 23:45", pages.doors)
+        self.assertIn(["Library (LIB)", "Latin (LAT)", "1", "23:45"], pages.count("Library (LIB)"))
+        self.assertIn("until 23:45", pages.why())
+        self.assertIn("GYM      no screen, closes ", pages.why())
+        self.assertIn("until 23:45", pages.look)
+        self.assertIn("10:53 -> 2027-06-07 09:00 to 23:45", pages.changes)
+        self.assertEqual([(row["old finish"], row["finish"]) for row in pages.csv], [("10:53", "23:45")])
 
     def test_needs_and_extra_time(self):
-        self.stand_in(needs="screen+quiet", extra=77)
+        pages = self.pages(needs="screen+quiet", extra=77)
         said = "77 % extra time, screen, quiet"
-        self.assertEqual(self.row("doors", SESSION, "LIB")[5], said)
-        self.assertIn(f"with {said}", self.slip()[2])
-        self.assertIn("extra 77, needs screen+quiet", self.why())
-        self.assertIn("AULA     no screen, no quiet", self.why())
-        self.assertIn(f"with {said}", self.look())
+        self.assertEqual(pages.row("doors")[5], said)
+        self.assertIn(f"with {said}", pages.slip()[2])
+        self.assertIn("extra 77, needs screen+quiet", pages.why())
+        self.assertIn("GYM      no screen, no quiet", pages.why())
+        self.assertIn(f"with {said}", pages.look)
 
     def test_needs_of_who_has_no_desk(self):
-        sheet = self.write("sheet", self.office("shortage", SESSION))
-        self.stand_in(STANDS, needs="quiet", extra=77)
-        text = self.run_office("session-page", SESSION).stdout
-        self.assertIn("with 77 % extra time, needs computer+quiet", text)
-        self.assertIn("extra 77, needs computer+quiet", self.why(STANDS))
-        self.assertIn("PC1      no quiet", self.why(STANDS))
-        self.stand_in(STANDS, needs="-", paper="LAT")
-        self.assertIn("but is not listed", self.run_office("check-shortage", sheet).stdout)
+        pages = self.pages(UNSEATED, needs="quiet", extra=77)
+        self.assertIn("with 77 % extra time, needs computer+quiet", pages.page)
+        self.assertIn("extra 77, needs computer+quiet", pages.why(UNSEATED))
+        self.assertRegex(pages.why(UNSEATED), "PC1      .*no quiet")
+
+    def test_a_hall_that_the_sheet_has_not(self):
+        pages = self.pages(UNSEATED, paper="MA-1")
+        self.assertIn("hall LIB with 6 desks suits one of the candidates, but is not listed with as many desks", pages.faults)
+        self.assertTrue([line for line in pages.differences if "suits 0001187, who has no desk, and is not listed" in line])
 
     def test_hall(self):
-        self.stand_in(hall="R12")
-        self.assertEqual(self.row("doors", SESSION, "R12")[:3], ["1", SITS, NAME])
-        self.assertIn("Room 12 (R12)", self.slip()[3])
-        self.assertEqual(self.row("board", SESSION)[1], "R12")
-        self.assertIn(["Room 12 (R12)", "Latin (LAT)", "1", "10:53"], self.rows("counts", SESSION))
-        page = self.office("session-page", SESSION)
-        self.assertIn(NAME, page[page.index("id=hall-R12"):page.index("id=clashes")])
-        self.assertIn("R12      sits here, at desk 1", self.why())
-        self.assertIn("R12 Room 12, desk 1", self.look())
-        self.assertIn("LIB desk 1 -> R12 desk 1", self.changes()[0])
-
-    def test_hall_as_csv(self):
-        self.stand_in(hall="R12")
-        self.assertEqual((self.csv_row()[8], self.csv_row()[14], self.csv_row()[17]), ("LIB", "R12", "Room 12"))
+        pages = self.pages(hall="R12")
+        sheet = next(table for table in Cells(pages.doors).tables if "|R12" in table[0][0] or table[0][0].endswith("R12"))
+        self.assertIn(NUMBER, [row[1] for row in sheet if len(row) > 1])
+        self.assertIn("Room 12 (R12)", pages.slip()[3])
+        self.assertEqual(pages.row("board")[1], "R12")
+        self.assertIn(["Room 12 (R12)", "Latin (LAT)", "1", "10:53"], pages.count("Room 12 (R12)"))
+        self.assertIn(NAME, pages.page[pages.page.index("id=hall-R12"):pages.page.index("id=clashes")])
+        self.assertIn("R12      sits here, at desk 1", pages.why())
+        self.assertIn("R12 Room 12, desk 1", pages.look)
+        self.assertIn("LIB desk 1 -> R12 desk 1", pages.changes)
+        self.assertEqual([(row["old hall"], row["hall"], row["hall title"]) for row in pages.csv],
+                         [("LIB", "R12", "Room 12")])
 
     def test_no_hall(self):
-        sheet = self.write("sheet", self.office("shortage", SESSION))
-        self.stand_in(hall=None, desk=None)
-        self.assertIn("no desk yet: ask the office", self.slip()[3])
-        self.assertEqual(self.row("board", SESSION)[1], "ask the office")
-        self.assertIn(["no desk", "Latin (LAT)", "1", "10:53"], self.rows("counts", SESSION))
-        self.assertEqual(self.office("summary", SESSION).split()[-6:-1], ["60", "57", "3", "58", "1"])
-        self.assertIn("unseated: the sheet counts 2, and there are 3", self.run_office("check-shortage", sheet).stdout)
-        for command in ("why", "session-page"):
-            done = self.run_office(command, SESSION)
-            self.assertIn(f"{SITS} has no desk and is not listed", done.stderr)
-            self.assertEqual(done.returncode, 1)
-            self.assertIn(NAME, done.stdout)
+        pages = self.pages(hall=None, desk=None)
+        self.assertNotIn(NAME, pages.doors)
+        self.assertIn("no desk yet: ask the office", pages.slip()[3])
+        self.assertEqual(pages.row("board")[1], "ask the office")
+        self.assertIn(["no desk", "Latin (LAT)", "1", "10:53"], pages.count("no desk"))
+        self.assertEqual(pages.summary.split()[-6:], ["60", "57", "3", "58", "1", "0"])
+        self.assertIn("unseated: the sheet counts 2, and there are 3", pages.faults)
+        self.assertIn(f"{NUMBER} has no desk and is not listed", pages.differences)
+        self.assertIn(NAME, pages.reasons.text())
+        self.assertIn("LIB desk 1 -> no desk", pages.changes)
 
     def test_desk(self):
-        self.stand_in(desk=77)
-        self.assertEqual(self.row("doors", SESSION, "LIB")[0], "77")
-        self.assertIn("desk\u00a077", self.slip()[3])
-        self.assertEqual(self.row("board", SESSION)[2], "77")
-        self.assertEqual(self.row("session-page", SESSION)[0], "77")
-        self.assertIn("sits here, at desk 77", self.why())
-        self.assertIn("LIB Library, desk 77", self.look())
-        self.assertIn("  MON-AM 0001153 Jana Roe: LIB desk 1 -> LIB desk 77", self.changes())
-
-    def test_desk_as_csv(self):
-        self.stand_in(desk=77)
-        self.assertEqual((self.csv_row()[9], self.csv_row()[15]), ("1", "77"))
+        pages = self.pages(desk=77)
+        self.assertEqual((pages.row("doors")[0], pages.row("board")[2], pages.row("page")[0]), ("77", "77", "77"))
+        self.assertIn("desk\u00a077", pages.slip()[3])
+        self.assertIn("sits here, at desk 77", pages.why())
+        self.assertIn("LIB Library, desk 77", pages.look)
+        self.assertIn("  MON-AM 0001153 Jana Roe: LIB desk 1 -> LIB desk 77\n", pages.changes)
+        self.assertEqual([(row["tell"], row["old desk"], row["desk"]) for row in pages.csv], [("no", "1", "77")])
 
     def test_answers_of_another_form(self):
         for members in ({"finish": 653}, {"desk": "1"}, {"hall": "<b>"}, {"needs": None}, {"more": 1}, {"extra": -1}):
-            self.stand_in(**members)
-            self.assertIn("the program answered something else than seats", self.refused("doors", SESSION))
+            with self.assertRaisesRegex(Trouble, "the program answered something else than seats"):
+                self.pages(**members)
 
 
 if __name__ == "__main__":

@@ -28,6 +28,8 @@ td.below { border: 0; padding-top: 6mm } .w { white-space: nowrap; overflow-wrap
 .sheet { break-after: page } .sheet:last-child { break-after: auto }
 @media screen { body { max-width: 186mm; margin: 8mm auto } .sheet { margin-bottom: 15mm } }
 """
+DOCUMENT = ('<!doctype html>\n<html lang="en"><head><meta charset="utf-8"><title>{}</title>\n<style>{}</style></head>\n'
+            "<body>\n{}</body></html>\n")
 HEAD = re.compile("(?:([a-z]+):)?(.*)")  # of a column: its kind, if it has one, and its words
 
 
@@ -80,5 +82,4 @@ def when(head: sqlite3.Row) -> Markup:
 
 
 def document(title: str, body: Markup, style: str = "") -> str:
-    return html('<!doctype html>\n<html lang="en"><head><meta charset="utf-8"><title>{}</title>\n<style>{}</style></head>\n'
-                "<body>\n{}</body></html>\n", title, Markup(STYLE + style), body)
+    return str(html(DOCUMENT, title, Markup(STYLE + style), body))

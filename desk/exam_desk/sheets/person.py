@@ -9,6 +9,7 @@ from exam_desk import facts, lists
 from exam_desk.answers import Sitting
 from exam_desk.reading import Person, Reading
 from exam_desk.snapshot import Rows
+from exam_desk.trouble import Trouble
 from exam_desk.words import clock, feature_text
 
 MOST_SHOWN = 10  # of more only names and numbers
@@ -25,6 +26,14 @@ def find(rows: Rows, asked: str) -> list[Person]:
         return [person for person in everybody if int(person.number) == int(asked)]
     found = [person for person in everybody if lists.fold(asked) in lists.fold(person.name)]
     return sorted(found, key=lambda person: lists.name_order(person.name, person.number))
+
+
+def asked_lines(reading: Reading, asked: str, codes: bool) -> list[str]:
+    """Lines on whoever is meant. Raises `Trouble` where nobody is."""
+    found = find(reading.rows, asked)
+    if not found:
+        raise Trouble(f"no candidate has {asked} as number or in the name")
+    return lines(reading, found, codes)
 
 
 def lines(reading: Reading, found: list[Person], codes: bool) -> list[str]:

@@ -5,10 +5,9 @@ import sqlite3
 
 from markupsafe import Markup
 
-from exam_desk import appeals, lists, shortage
+from exam_desk import appeals, lists, reasons
 from exam_desk.facts import Opening
 from exam_desk.reading import Reading
-from exam_desk.reasons import Reasons
 from exam_desk.sheets import drawing, pages
 from exam_desk.snapshot import session_row
 from exam_desk.words import clock, features, long_day
@@ -28,8 +27,7 @@ class Page:
     def __init__(self, reading: Reading, session: str) -> None:
         """Raises `Trouble` where there is no such session, or the program refuses the sheet."""
         self.head = session_row(reading.rows, session)
-        self.shortage = shortage.read(reading.sheet("shortage", session))
-        self.reasons = Reasons(reading, session)
+        self.reasons, self.shortage = reasons.compared(reading, session)
         self.openings, self.members = self.reasons.openings, self.reasons.members
         self.seated = {opening.hall: lists.by_desk(self.members, opening.hall) for opening in self.openings}
         self.unseated = self.reasons.unseated()
@@ -94,7 +92,7 @@ class Page:
         parts = [self.halls_part(), self.shortage_part(), self.seats_part(), self.clashes_part(), self.appeals_part()]
         sections = pages.joined((pages.html("<section id={}><h2>{}</h2>\n{}\n</section>", *each, part)
                                  for each, part in zip(SECTIONS.items(), parts)), "\n")
-        return pages.html(DOCUMENT, head, Markup(drawing.STYLE), self.title(), sections)
+        return str(pages.html(DOCUMENT, head, Markup(drawing.STYLE), self.title(), sections))
 
 
 def hall_label(opening: Opening, listed: bool) -> Markup:

@@ -48,7 +48,7 @@ def lines_of(report: Report) -> bytes:
 
 
 def put_workbook(path: str, rows: Rows, example: bool = False) -> None:
-    """Makes a workbook for its owner alone. Raises `Trouble` where something has its name, or where it cannot be made."""
+    """Makes a workbook for its owner alone. Raises `Trouble` where something has its name, or openpyxl is missing."""
     if not path.endswith(".xlsx"):
         raise Trouble("the name of the workbook must end in .xlsx")
     if os.path.lexists(path):
