@@ -3,6 +3,7 @@ from __future__ import annotations
 
 import contextlib
 import fcntl
+import logging
 import os
 import secrets
 import socket
@@ -104,6 +105,7 @@ def serve_at(office: Office, listening: socket.socket, lock: int, pretended: boo
     app = application.make(desk)
     os.pwrite(lock, f"{address} {prefix}".ljust(NOTE_BYTES).encode(), 0)
     guard.drop_links(office.path)
+    logging.getLogger("waitress.queue").setLevel(logging.ERROR)  # that a request waits is nothing to say
     try:
         if desk.is_there():
             desk.start_reading()
