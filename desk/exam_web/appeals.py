@@ -43,7 +43,7 @@ def one(number: int, ref: str) -> str:
     others = view().count("SELECT count(*) FROM appeal WHERE number = ?", [number]) - 1
     return render_template("appeal.html", row=row, member=member, appeals=appeals, others=others,
                            last=lastdays.to_decide(row["day"]), titles=facts.paper_titles(view().reading.rows),
-                           late=days_until(row["day"]) <= 0)
+                           late=days_until(lastdays.to_decide(row["day"])) < 0)
 
 
 @pages.get("/appeals/<int:number>/<ref>/if-granted")
