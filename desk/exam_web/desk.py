@@ -88,6 +88,9 @@ class Desk:
                 self.changed.wait_for(lambda: self.is_closed or self.wanted > self.read_until)
                 if self.is_closed:
                     return
+                if self.has_current(self.wanted):  # asked for while it was read
+                    self.wanted = self.read_until
+                    continue
             self.read()
 
     def read(self) -> None:

@@ -1,12 +1,15 @@
 """Changes at the desk in a browser: what is rehearsed is what is done, once, and from the state that was shown."""
 import concurrent.futures
+import http.client
 import os
 import pathlib
 import random
 import re
+import threading
 import unittest
 import urllib.parse
 
+import sample
 from desk_client import MARK, Browser, DeskSchool
 
 EFFECT = r'effect (\w+)"><b>([\d,]+)'
@@ -49,6 +52,8 @@ class TestRehearsal(DeskSchool):
         mark = re.search(MARK, self.browser.get(page))[1]
         with concurrent.futures.ThreadPoolExecutor(6) as threads:
             list(threads.map(lambda _: self.browser.ask("POST", page + "/do", urllib.parse.urlencode({"mark": mark})), range(6)))
+        self.assertIn("Take it back", self.browser.words(page))
+        self.assertNotIn("nothing was done", self.browser.words(page))
         self.assertEqual(self.log().count("withdraw 0001051 PH-1\t0"), 1)
         self.assertEqual(self.log().count("withdraw 0001051 PH-1\tbegins"), 1)
 
@@ -230,6 +235,39 @@ class TestWalk(DeskSchool):
             self.assertEqual(int(dict(promised).get("moves", "0")), moved)
             done += 1
         self.assertGreater(done, self.STEPS // 3)
+
+
+class TestBesideKeep(DeskSchool):
+    def test_no_answer_of_a_candidate_is_lost(self):
+        port = sample.free_port()
+        self.browser.post("/office/keep", "/office", 422, what="start", port="80")
+        self.browser.post("/office/keep", "/office", what="start", port=str(port))
+        self.addCleanup(self.run_office, "keep", "stop")
+        self.assertIn(f"127.0.0.1 {port}", self.browser.words("/office"))
+        stop, answers = threading.Event(), []
+
+        def ask():
+            while not stop.is_set():
+                connection = http.client.HTTPConnection("127.0.0.1", port, timeout=sample.PATIENCE)
+                connection.request("GET", f"/candidates/{sample.NUMBER}/seats", headers={"exam-code": sample.CODE})
+                answers.append(connection.getresponse().status)
+                connection.close()
+        candidates = [threading.Thread(target=ask) for _ in range(3)]
+        for each in candidates:
+            each.start()
+        try:
+            for what in ("withdraw", "reinstate"):
+                page, _ = self.browser.post(f"/propose/{what}", "/candidates/1051", number="0001051", paper="PH-1")
+                self.browser.post(page + "/do", page)
+                self.assertIn("What changed", self.browser.words(page))
+        finally:
+            stop.set()
+            for each in candidates:
+                each.join()
+        self.assertGreater(len(answers), 3)
+        self.assertEqual(set(answers), {200})
+        self.browser.post("/office/keep", "/office", what="stop")
+        self.assertIn("not served", self.browser.words("/office"))
 
 
 class TestManyOfficers(DeskSchool):
