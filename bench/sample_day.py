@@ -14,6 +14,9 @@ from typing import NamedTuple, Optional
 import built
 
 
+EMPTY_LOG = 41  # bytes of a second file that holds no change
+
+
 class Step(NamedTuple):
     """A command line, or a request to the server that is running: the words of the line, or its candidate, page and body."""
     day: str
@@ -95,8 +98,10 @@ def copied(one, other):
 
 
 def contents(folder):
-    """The names of an office's files, and the sums of their bytes."""
-    return tuple((name, hashlib.sha256(pathlib.Path(folder, name).read_bytes()).digest()) for name in sorted(office_files(folder)))
+    """The names of an office's files, and the sums of their bytes; a second file without a change differs by chance alone."""
+    files = {name: pathlib.Path(folder, name).read_bytes() for name in sorted(office_files(folder))}
+    return tuple((name, hashlib.sha256(b"" if name.endswith("-wal") and len(text) <= EMPTY_LOG else text).digest())
+                 for name, text in files.items())
 
 
 def tables(folder):

@@ -10,6 +10,7 @@ import contextlib
 import errno
 import functools
 import os
+import sqlite3
 import time
 from collections.abc import Callable, Iterator, Sequence
 from dataclasses import dataclass
@@ -49,7 +50,7 @@ class Answered(NamedTuple):
 
 
 class NotBegun(Trouble):
-    """There is no room for the copy or the log, so nothing is changed."""
+    """There is no room for the copy or the log, or the office cannot be read, so nothing is changed."""
 
 
 class Carried(NamedTuple):
@@ -292,6 +293,9 @@ def prepared(office: Office, copy: str) -> Iterator[str]:
             ready = stack.enter_context(undo.ready(office, copy))
         except OSError as fault:
             raise no_copy(office, fault) from fault
+        except sqlite3.Error as fault:
+            raise NotBegun(f"{office.path} cannot be read, so nothing is changed: {fault}; `office check` says more"
+                           ) from fault
         yield ready
 
 

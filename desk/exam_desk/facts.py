@@ -48,6 +48,7 @@ def hall_titles(rows: Rows) -> dict[str, str]:
 
 def entered(rows: Rows, session: str) -> dict[int, int]:
     """The numbers of all who have an entry in a session, a withdrawn one too, each with the count of these."""
+    rows.index_entries()
     found = rows.execute("SELECT entry.number, count(*) FROM paper JOIN entry ON entry.paper = paper.code "
                          "WHERE paper.session = ? GROUP BY entry.number ORDER BY entry.number", [session])
     return {number: count for number, count in found}

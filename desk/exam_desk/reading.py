@@ -107,9 +107,10 @@ class Reading:
 
     def clashes(self, session: str, only: Collection[str] = ()) -> dict[str, list[str]]:
         """The papers that each candidate with such papers is entered for and does not sit, by number; of all members, or
-        of some."""
-        several = [person for number, count in facts.entered(self.rows, session).items()
-                   if count > 1 and (not only or f"{number:07}" in only) and (person := self.person(number))]
+        of some candidates."""
+        asked = map(int, only) if only else (
+            number for number, count in facts.entered(self.rows, session).items() if count > 1)
+        several = [self.person(number) for number in asked]
         with self.asking:
             unknown = [person for person in several if int(person.number) not in self.missed]
             for person, body in zip(unknown, self.bodies(unknown, "clashes")):
@@ -123,6 +124,11 @@ class Reading:
         with self.asking:
             [body] = self.bodies([self.person(int(number))], "appeals")
         return answers.appeals(body)
+
+    def knows(self, number: str) -> bool:
+        """Whether the office has a candidate with this number of seven digits."""
+        query = "SELECT 1 FROM candidate WHERE printf('%07d', number) = ?"
+        return self.rows.execute(query, [number]).fetchone() is not None
 
     def person(self, number: int) -> Person:
         """Raises `Trouble` where the office has no such candidate."""

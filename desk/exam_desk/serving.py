@@ -41,7 +41,7 @@ class Serve:
                 ask_all(self.started(), requests, found, progress)
                 return found
             self.close()
-        raise Trouble(f"the program ends while it is asked: {TRIES} times; nothing is printed")
+        raise Trouble(f"the program ended {TRIES} times while it was asked; nothing is printed")
 
     def begin(self) -> subprocess.Popen[bytes]:
         """Begins `serve` where none runs, and does not wait until it has opened the office."""
@@ -70,7 +70,10 @@ class Serve:
         """Ends `serve`, which has nothing to save."""
         if self.child is not None:
             self.child.kill()
-            self.child.communicate()
+            for stream in (self.child.stdout, self.child.stderr):
+                if stream is not None:
+                    stream.close()
+            self.child.wait()
         self.child = self.server = None
 
 

@@ -22,6 +22,10 @@ class Rows(sqlite3.Connection):
     """The rows of an office in memory; `path` is that of its file. Nothing can be written back."""
     path = ""
 
+    def index_entries(self) -> None:
+        """From now on the entries of a session are found without a look at all entries. It takes some time once."""
+        self.executescript(INDEXES)
+
 
 def rows(office: Office, path: str | None = None) -> Rows:
     """The rows of an office as they are now, or those of another file of an office.
@@ -50,7 +54,7 @@ def rows_of(copy: str, path: str) -> Rows:
     except sqlite3.Error as fault:
         raise Trouble(f"{path} holds no office: {fault}") from fault
     memory.row_factory = sqlite3.Row
-    memory.executescript(INDEXES)
+    memory.execute("PRAGMA query_only = ON")
     return memory
 
 

@@ -14,7 +14,6 @@ import os
 import random
 import shutil
 import subprocess
-import sys
 from typing import NamedTuple
 
 import sample
@@ -28,8 +27,10 @@ from exam_desk.sheets.session_page import Page
 from exam_desk.words import FEATURES, plain
 
 TODAY = datetime.date(2027, 5, 1)
-NAMES = ["Ada Lin", "=1+1", "<script>alert(1)</script>", "\"quotes\" & 'more'", "C1 \u009b2J \u0085 end", "left \u202eright",
+NAMES = ["Ada Lin", "=1+1", "<script>alert(1)</script>", "\"quotes\" & 'more'", "C1 \u009b2J \u0085 end",
+         "left \u202eright",
          "line\u2028end", "</bdi></td></table>", "W" * 80, "é" * 40, " ", "Zoë Ømer"]
+STARTS = ["09:00", "09:00", "13:30", "22:45"]
 DAYS = ["2027-06-07", "2027-06-07", "2027-06-08", "2027-06-10"]
 
 
@@ -63,7 +64,8 @@ class RandomOffice:
 
     def make(self):
         self.run("init")
-        self.codes = {f"{number:07}": f"CODE{number:07}" for number in self.chance.sample(range(1, 9_999_999), self.chance.randint(8, 30))}
+        numbers = self.chance.sample(range(1, 9_999_999), self.chance.randint(8, 30))
+        self.codes = {f"{number:07}": f"CODE{number:07}" for number in numbers}
         self.sessions = [f"S{place}" for place in range(self.chance.randint(1, 3))]
         self.papers = {f"P{place}": self.chance.choice(self.sessions) for place in range(self.chance.randint(2, 7))}
         self.halls = [f"H{place}" for place in range(self.chance.randint(2, 6))]
@@ -82,21 +84,25 @@ class RandomOffice:
 
     def files(self):
         chance = self.chance
-        openings = [[session, hall, chance.randint(1, 9), chance.choice(["10:30", "12:00", "24:00", "24:00"]), chance.choice(["no", "no", "yes"])]
+        openings = [[session, hall, chance.randint(1, 9), chance.choice(["10:30", "12:00", "24:00", "24:00"]),
+                     chance.choice(["no", "no", "yes"])]
                     for session in self.sessions for hall in self.halls if chance.random() < 0.9]
         entries = sorted({(number, paper) for number in self.codes for paper in chance.sample(sorted(self.papers), min(
             len(self.papers), chance.choice([0, 1, 2, 3])))})
         return {
-            "sessions": [["session", "date", "start"], *([code, chance.choice(DAYS), chance.choice(["09:00", "09:00", "13:30", "22:45"])]
-                                                         for code in self.sessions)],
+            "sessions": [["session", "date", "start"],
+                         *([code, chance.choice(DAYS), chance.choice(STARTS)] for code in self.sessions)],
             "papers": [["paper", "title", "session", "minutes", "requires"],
                        *([code, chance.choice(NAMES), session, chance.choice([45, 61, 90, 600]), self.features(0.03)]
                          for code, session in self.papers.items())],
-            "halls": [["hall", "title", "features"], *([code, chance.choice(NAMES), self.features(0.8)] for code in self.halls)],
+            "halls": [["hall", "title", "features"],
+                      *([code, chance.choice(NAMES), self.features(0.8)] for code in self.halls)],
             "openings": [["session", "hall", "desks", "until", "reserved"], *openings],
-            "candidates": [["number", "name", "code"], *([number, chance.choice(NAMES), code] for number, code in self.codes.items())],
-            "arrangements": [["number", "needs", "extra"], *([number, self.features(0.08), chance.choice([0, 10, 25, 33, 100])]
-                                                             for number in self.codes if chance.random() < 0.3)],
+            "candidates": [["number", "name", "code"],
+                           *([number, chance.choice(NAMES), code] for number, code in self.codes.items())],
+            "arrangements": [["number", "needs", "extra"],
+                             *([number, self.features(0.08), chance.choice([0, 10, 25, 33, 100])]
+                               for number in self.codes if chance.random() < 0.3)],
             "entries": [["number", "paper"], *entries],
         }
 
@@ -112,7 +118,8 @@ class RandomOffice:
         with self.served() as ask:
             for place in range(8):
                 number = chance.choice(numbers)
-                if answer := ask("POST", number, "appeals", self.appeal(f"A{chance.randrange(1000)}X{place}", number, ask)):
+                body = self.appeal(f"A{chance.randrange(1000)}X{place}", number, ask)
+                if answer := ask("POST", number, "appeals", body):
                     lodged.append((number, answer))
         for number, ref in lodged:
             state = chance.choice(["granted", "granted", "refused", "standing", ""])
@@ -125,7 +132,8 @@ class RandomOffice:
         """A lodging that may well be taken: of what the candidate sits, or misses."""
         seats, clashes = ask("GET", number, "seats")["seats"], ask("GET", number, "clashes")["clashes"]
         chance = self.chance
-        asked = {"ref": ref, "reason": chance.choice(NAMES), "session": chance.choice([*(seat["session"] for seat in seats), "S0"])}
+        asked = {"ref": ref, "reason": chance.choice(NAMES),
+                 "session": chance.choice([*(seat["session"] for seat in seats), "S0"])}
         kind = chance.choice(["hall", "clash", "arrangement", "arrangement"])
         if clashes and kind == "clash":
             return asked | {"kind": kind, "paper": clashes[0]["paper"], "session": clashes[0]["session"]}
@@ -136,9 +144,11 @@ class RandomOffice:
 
     @contextlib.contextmanager
     def served(self, path=None):
-        """A function that asks a `serve` over the office by python's own client; of a lodging it gives the reference."""
+        """A function that asks a `serve` over the office by python's own client; of a lodging it gives the
+        reference."""
         port = sample.free_port()
-        with subprocess.Popen(self.office.line_over(path or self.path, "serve", str(port)), stdout=subprocess.PIPE) as server:
+        line = self.office.line_over(path or self.path, "serve", str(port))
+        with subprocess.Popen(line, stdout=subprocess.PIPE) as server:
             try:
                 assert server.stdout.readline().startswith(b"serving")
 
@@ -167,9 +177,9 @@ class RandomOffice:
         found = {}
         for paper, of in self.papers.items():
             for line in self.sheet(path, "attendance", session, paper)[2:] if of == session else ():
-                number, hall, desk, finish, name = line[:7], line[8:16].strip(), line[17:21].strip(), line[22:27], line[28:]
-                found[number] = Seat(paper, hall, desk, finish, name)
-        exported = [f"{session},{number},{seat.paper},{seat.hall},{seat.desk}" for number, seat in sorted(found.items())]
+                found[line[:7]] = Seat(paper, line[8:16].strip(), line[17:21].strip(), line[22:27], line[28:])
+        exported = [f"{session},{number},{seat.paper},{seat.hall},{seat.desk}"
+                    for number, seat in sorted(found.items())]
         assert self.sheet(path, "export", session)[1:] == exported, session
         return found
 
@@ -184,11 +194,11 @@ class RandomOffice:
         with self.served() as ask:
             for number in self.codes:
                 for seat in ask("GET", number, "seats")["seats"]:
-                    parts = [f"{seat['extra']} % extra time"] * (seat["extra"] > 0) + seat["needs"].replace("-", "", seat["needs"] == "-").split("+")
-                    self.arrangements[number, seat["session"]] = ", ".join(filter(None, parts))
+                    needs = seat["needs"].split("+") if seat["needs"] != "-" else []
+                    extra = [f"{seat['extra']} % extra time"] if seat["extra"] else []
+                    self.arrangements[number, seat["session"]] = ", ".join(extra + needs)
         self.now = {session: self.seats(self.path, session) for session in self.sessions}
         with Reading(self.office) as reading, Reading(self.office, os.path.join(self.before, "office.db")) as before:
-            assert reading.is_current() in (True, False)
             self.titles = telling.titles_of(reading)
             for session in self.sessions:
                 for look in (self.doors, self.board, self.counts, self.session_page, self.printed, self.reasons):
@@ -214,17 +224,19 @@ class RandomOffice:
         for hall, table in zip(halls, tables):
             lines = self.sheet(self.path, "door-list", session, hall)
             rows = [[*line[:25].split(), line[26:]] for line in lines[2:]]
-            wanted = [[desk, number, plain(name), paper, self.now[session][number].finish, self.arrangements[number, session], ""]
+            wanted = [[desk, number, plain(name), paper, self.now[session][number].finish,
+                       self.arrangements[number, session], ""]
                       for desk, number, paper, name in rows]
             equal(table[2:-1], wanted, "doors", page)
             last = max(self.now[session][number].finish for _, number, *_ in rows)
             assert f"last finish {last}" in table[0][0] and f"{len(rows)} seated" in table[0][0], table[0]
 
     def board(self, reading, session):
-        names = collections.Counter(lists.fold(seat.name) for seat in self.now[session].values())
+        seats = sorted(self.now[session].items(), key=lambda each: lists.name_order(each[1].name, each[0]))
+        names = collections.Counter(lists.fold(seat.name) for _, seat in seats)
         wanted = [[plain(seat.name) + (f" {number}" if names[lists.fold(seat.name)] > 1 else ""),
                    *(["ask the office", ""] if seat.hall == "-" else [seat.hall, seat.desk])]
-                  for number, seat in sorted(self.now[session].items(), key=lambda each: lists.name_order(each[1].name, each[0]))]
+                  for number, seat in seats]
         equal(Cells(page := board.page(reading, session)).rows[2:], wanted, "board", page)
 
     def counts(self, reading, session):
@@ -250,29 +262,34 @@ class RandomOffice:
         assert not Cells(page).strange, Cells(page).strange
         seats = self.now[session]
         seated = [[table for table in Cells(f"<table>{part}").rows if len(table) == 5][1:]
-                  for part in page[page.index("<section id=seats>"):page.index("<section id=clashes>")].split("<section class=hall")[1:]]
+                  for part in part_of(page, "seats", "clashes").split("<section class=hall")[1:]]
         wanted = [[[seat.desk, number, plain(seat.name), seat.paper, seat.finish] for number, seat in
-                   sorted(seats.items(), key=lambda each: int(each[1].desk.replace("-", "0"))) if seat.hall == opening.hall]
+                   sorted(seats.items(), key=lambda each: int(each[1].desk.replace("-", "0")))
+                   if seat.hall == opening.hall]
                   for opening in found.openings]
         equal(seated, wanted, "session page", page)
-        part = page[page.index("<section id=clashes>"):page.index("<section id=appeals>")]
-        equal(Cells(part).rows[1:], [[number, plain(seats[number].name), sits, clash] for number, sits, clash in self.clashes(session)],
+        equal(Cells(part_of(page, "clashes", "appeals")).rows[1:],
+              [[number, plain(seats[number].name), sits, clash] for number, sits, clash in self.clashes(session)],
               "clashes", page)
         rows = Cells(page[page.index("<section id=appeals>"):]).rows[1:]
         register = [line.split(None, 5) for line in self.sheet(self.path, "appeals", session)[2:]]
-        equal([[number, ref, kind, state, lodged, subject] for number, _, ref, kind, subject, lodged, state in rows], register,
-              "appeals", page)
+        equal([[number, ref, kind, state, lodged, subject] for number, _, ref, kind, subject, lodged, state in rows],
+              register, "appeals", page)
         sheet = shortage.read("\n".join([*self.sheet(self.path, "shortage", session), ""]))
-        assert (f"{len(seats):,} candidate" in page and sheet.unseated == sum(seat.hall == "-" for seat in seats.values())
+        unseated = sum(seat.hall == "-" for seat in seats.values())
+        assert (f"{len(seats):,} candidate" in page and sheet.unseated == unseated
                 and (f"+ {sheet.unseated} unseated</p>" in page) == (sheet.unseated > 0)), "shortage"
 
     def printed(self, reading, session):
         text = printing.text(reading, session, 999, 200)
-        halls = [opening for opening, in reading.rows.execute("SELECT hall FROM opening WHERE session = ? ORDER BY hall", [session])]
+        halls = [hall for hall, in reading.rows.execute(
+            "SELECT hall FROM opening WHERE session = ? ORDER BY hall", [session])]
         sheets = [["door-list", session, hall] for hall in halls]
         sheets += [["attendance", session, paper] for paper, of in sorted(self.papers.items()) if of == session]
-        wanted = [lines for words in sheets if len(lines := self.sheet(self.path, *words)) > 2] + [self.sheet(self.path, "clashes", session)]
-        equal(text.split("\f"), ["".join(f"{plain(line)}\n" for line in lines) for lines in wanted], "print-session", text)
+        wanted = [lines for words in sheets if len(lines := self.sheet(self.path, *words)) > 2]
+        wanted.append(self.sheet(self.path, "clashes", session))
+        equal(text.split("\f"), ["".join(f"{plain(line)}\n" for line in lines) for lines in wanted], "print-session",
+              text)
 
     def reasons(self, reading, session):
         """Nobody who has no desk suits a hall with a free one; the program's sheet adds up."""
@@ -281,7 +298,8 @@ class RandomOffice:
         equal([line[:7] for line in text.split("\n") if line[:1].isdigit()],
               [number for number, seat in sorted(self.now[session].items()) if seat.hall == "-"], "why", text)
         assert "are free" not in text, text
-        equal((list(found.differences(sheet)), list(checking_shortage.faults(reading, sheet))), ([], []), "shortage", text)
+        equal((list(found.differences(sheet)), list(checking_shortage.faults(reading, sheet))), ([], []), "shortage",
+              text)
 
     def slips(self, reading):
         found = {}
@@ -291,7 +309,8 @@ class RandomOffice:
         for session in self.sessions:
             for number, _, clash in self.clashes(session):
                 clashes[number, session].append(clash)
-        heads = {code: (day, start) for code, day, start in reading.rows.execute("SELECT code, day, start FROM session")}
+        heads = {code: (day, start)
+                 for code, day, start in reading.rows.execute("SELECT code, day, start FROM session")}
         order = sorted(self.sessions, key=lambda code: (*heads[code], code))
         equal(sorted(found), sorted({number for seats in self.now.values() for number in seats}), "slips", page)
         for number, table in found.items():
@@ -305,7 +324,9 @@ class RandomOffice:
         seat, day = self.now[session][number], datetime.date.fromisoformat(head[0])
         notes = [f"with {self.arrangements[number, session]}"] * bool(self.arrangements[number, session])
         notes += [f"not {self.titled(code)}, at the same time" for code in clashes]
-        place = "no desk yet: ask the office" if seat.hall == "-" else f"{self.titled(seat.hall)}, desk\u00a0{seat.desk}"
+        place = "no desk yet: ask the office"
+        if seat.hall != "-":
+            place = f"{self.titled(seat.hall)}, desk\u00a0{seat.desk}"
         return [f"{day:%a} {day.day} {day:%B} {day.year}", f"{head[1] // 60:02}:{head[1] % 60:02}–{seat.finish}",
                 "|".join([self.titled(seat.paper), *notes]), place]
 
@@ -315,9 +336,10 @@ class RandomOffice:
             seats = self.now[session]
             there = sum(seat.hall != "-" for seat in seats.values())
             appeals = [line[37:47].strip() for line in self.sheet(self.path, "appeals", session)[2:]]
-            [all_desks] = reading.rows.execute("SELECT coalesce(sum(desks), 0) FROM opening WHERE session = ?", [session]).fetchone()
-            equal([members, seated, short, desks, free, waiting], [*map(str, (
-                len(seats), there, len(seats) - there, all_desks, all_desks - there, appeals.count("open")))], "summary", line)
+            [all_desks] = reading.rows.execute("SELECT coalesce(sum(desks), 0) FROM opening WHERE session = ?",
+                                               [session]).fetchone()
+            wanted = [len(seats), there, len(seats) - there, all_desks, all_desks - there, appeals.count("open")]
+            equal([members, seated, short, desks, free, waiting], [*map(str, wanted)], "summary", line)
 
     def persons(self, reading):
         for number in self.chance.sample(sorted(self.codes), 3):
@@ -337,7 +359,8 @@ class RandomOffice:
         shown = {(row[1], row[2]): (row[6:10], row[12:16]) for row in rows}
 
         def columns(seat):
-            return [seat.finish, seat.paper, *(["", ""] if seat.hall == "-" else [seat.hall, seat.desk])] if seat else [""] * 4
+            place = [seat.hall, seat.desk] if seat and seat.hall != "-" else ["", ""]
+            return [seat.finish, seat.paper, *place] if seat else [""] * 4
         wanted = {(session, number): (columns(then.get(number)), columns(now.get(number)))
                   for session in self.sessions for then, now in [(old[session], self.now[session])]
                   for number in then.keys() | now.keys() if then.get(number) != now.get(number)}
@@ -345,6 +368,11 @@ class RandomOffice:
         self.compared["changes"] += len(wanted)
         for row in rows:
             equal(row[0], "yes" if row[6:9] != row[12:15] or not row[7] or not row[13] else "no", "tell", row)
+
+
+def part_of(page, first, behind):
+    """The page of a session from one of its sections to another."""
+    return page[page.index(f"<section id={first}>"):page.index(f"<section id={behind}>")]
 
 
 def equal(found, wanted, what, page):
@@ -361,7 +389,3 @@ def look_at(folder, seed):
     except AssertionError as fault:
         raise AssertionError(f"seed {seed}: {fault}") from fault
     return office.compared
-
-
-if __name__ == "__main__":
-    sys.exit(__doc__)

@@ -78,6 +78,13 @@ class Asking(unittest.TestCase):
             self.assertFalse(asking.listens(asking.Server(os.getpid(), str(other.getsockname()[1]))))
         self.assertFalse(asking.listens(asking.Server(os.getpid(), str(sample.free_port()))))
 
+    def test_who_asks_many_sends_to_nobody_else(self):
+        with listening() as (thief, place), listening() as (meant, own):
+            self.assertEqual(asking.received(asking.sent(asking.Server(meant.pid, own), REQUEST, 30)), ANSWER)
+            with self.assertRaises(asking.Stranger):
+                asking.sent(asking.Server(meant.pid, place), REQUEST, 30)
+            self.assertEqual(thief.stdout.readline(), "0\n")
+
     def test_it_looks_after_the_connection(self):
         with listening() as (process, place):
             with mock.patch("exam_desk.asking.refuse_stranger", side_effect=lambda connection, _: connection.getpeername()) as look:

@@ -352,7 +352,7 @@ class Faults(Beside):
             self.change(change, *(["A1"] if table == "appeal" else []))
             named = f"office.db: there are rows that no office has (table {table})"
             for words in (["summary"], ["why", "MON-AM"]):
-                said = "(refused 24); `office check` says more" if table == "seat" else named
+                said = "refused 24" if table == "seat" else named  # the program looks at seats
                 self.assertIn(said, self.refused(*words))
 
 

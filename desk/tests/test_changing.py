@@ -71,6 +71,8 @@ class Lists(Changing):
             ["withdraw 0001000 MA-1", "0", "withdrawn"], ["close-hall MON-AM GYM", "step", ""],
             ["close-hall MON-AM GYM", "0", "closed"], ["import entries more.csv", "step", ""],
             ["import entries more.csv", "0", "added 1 changed 0 same 0"], ["three things", "0", "3 steps"]])
+        with open(os.path.join(self.desk, "log"), encoding="utf-8") as log:
+            self.assertEqual({line.split("\t")[1] for line in log}, {"tester"})
         self.office("back", "1", "--yes")
         self.assertEqual(self.state(), before)
 
@@ -106,6 +108,12 @@ class Lists(Changing):
     def test_a_single_command_that_is_refused_leaves_no_copy(self):
         carried = changing.carry_out(self.value, [Step(("reinstate", "0001000", "MA-1"))])
         self.assertEqual((carried.refused.first_line(), carried.copy, self.kept()), ("refused 10", None, []))
+
+    def test_an_office_that_cannot_be_read(self):
+        self.write("office.db", b"rubbish" * 1000)
+        with self.assertRaisesRegex(changing.NotBegun, "cannot be read, so nothing is changed"):
+            changing.carry_out(self.value, STEPS)
+        self.assertEqual((self.kept(), self.log()), ([], []))
 
     def test_no_office(self):
         os.remove(self.path)
@@ -255,24 +263,34 @@ class Killed(Changing):
 def kill_often(school, facts, count, seed):
     """Kills `take` so many times, at random; counts how often the office was as before, whole, or was put back."""
     chance, before = random.Random(seed), school.state()
-    began = time.monotonic()
-    school.office("take", facts, "--yes")
-    length, after = time.monotonic() - began, school.state()
+    with begun(school, facts) as process:
+        began = time.monotonic()
+        process.wait()
+        length, after = time.monotonic() - began, school.state()
     school.office("back", "1", "--yes")
     counts = collections.Counter()
     for _ in range(count):
-        counts[what_a_kill_leaves(school, facts, chance.uniform(0.2, 1) * length, before, after)] += 1
+        counts[what_a_kill_leaves(school, facts, chance.uniform(0, 1.1) * length, before, after)] += 1
     del counts["bad"]
     return counts
 
 
+@contextlib.contextmanager
+def begun(school, facts):
+    """A `take` from the moment in which the log has its first line."""
+    lines = len(school.log())
+    with subprocess.Popen([sample.DESK / "office", "take", facts, "--yes"], env=school.environment,
+                          stdout=subprocess.DEVNULL, stderr=subprocess.DEVNULL) as process:
+        sample.until(lambda: len(school.log()) > lines)
+        yield process
+
+
 def what_a_kill_leaves(school, facts, seconds, before, after):
-    """Kills a `take` after some seconds; what it left, in a word. The office is as before then, and good."""
-    process = subprocess.Popen([sample.DESK / "office", "take", facts, "--yes"], env=school.environment,
-                               stdout=subprocess.DEVNULL, stderr=subprocess.DEVNULL)
-    time.sleep(seconds)
-    process.kill()
-    process.wait()
+    """Kills a `take` some seconds after its first line in the log; what it left, in a word. The office is as before then,
+    and good."""
+    with begun(school, facts) as process:
+        time.sleep(seconds)
+        process.kill()
     said = school.run_office("reinstate", "0001000", "MA-1").stderr
     state = school.state()
     if state == before:

@@ -77,7 +77,10 @@ class TestFiles(Uploads):
         text = self.browser.words(page)
         self.assertIn("No mistake", text)
         self.assertIn("0012001", self.browser.ask("GET", page + "/candidates.csv")[1])
-        page = self.upload(("students.xlsx", workbook({"Sessions": [["session", "date", "start"], ["X-1", "01/06/2027", "9:00"]]})))
+        page = self.upload(("students.xlsx", workbook({
+            "Sessions": [["session", "date", "start"], ["X-1", "01/06/2027", "9:00"]],
+            "Candidates": [["number", "name", "code"], [12001, "Nadia", "K4WBN7RTQD"]]})))
+        self.assertNotIn("/candidates.csv", self.browser.get(page))
         self.assertIn("Sessions!B2", self.browser.words(page))
         self.assertIn("MISTAKE", self.browser.words(page))
         self.assertNotIn("/propose/files", self.browser.get(page))

@@ -270,8 +270,10 @@ class Lists(sample.SampleSchool):
         copies = os.path.join(self.desk, "tmp")
         for command in ("print-session", "doors"):
             for number in (signal.SIGHUP, signal.SIGINT, signal.SIGTERM):
-                with subprocess.Popen([sample.DESK / "office", command, "MON-AM"], env={**self.environment, "EXAMOFFICE": slow},
-                                      stdout=subprocess.PIPE, stderr=subprocess.PIPE, start_new_session=True) as process:
+                environment = {**self.environment, "EXAMOFFICE": slow}
+                line = [sample.DESK / "office", command, "MON-AM"]
+                with subprocess.Popen(line, env=environment, stdout=subprocess.PIPE, stderr=subprocess.PIPE,
+                                      start_new_session=True) as process:
                     sample.until(lambda: os.path.isdir(copies) and os.listdir(copies))
                     time.sleep(0.3)
                     os.kill(process.pid, number)

@@ -16,7 +16,8 @@ class RandomOffices(unittest.TestCase):
         for seed in range(1, 11):
             with self.subTest(seed=seed), tempfile.TemporaryDirectory(prefix="office-test-") as folder:
                 counts += random_offices.look_at(folder, seed)
-        for what in ("members", "without a desk", "arrangements", "clashes", "appeals", "granted", "standing", "changes"):
+        for what in ("members", "without a desk", "arrangements", "clashes", "appeals", "granted", "standing",
+                     "changes"):
             self.assertGreater(counts[what], 10, what)
 
 

@@ -81,12 +81,13 @@ class Readings(sample.SampleSchool):
                     open(f"/proc/{reading.serve.child.pid}/environ", "rb") as environment:
                 self.assertNotIn(sample.CODE.encode(), line.read() + environment.read())
             for folder, _, names in os.walk(os.path.dirname(reading.copy)):
-                self.assertEqual([name for name in [".", *names] if os.stat(os.path.join(folder, name)).st_mode & 0o077], [])
+                modes = {name: os.stat(os.path.join(folder, name)).st_mode & 0o077 for name in [".", *names]}
+                self.assertEqual(set(modes.values()), {0}, modes)
 
     def test_a_program_that_ends_again_and_again(self):
         self.environment["EXAMOFFICE"] = self.write("ends", "#!/bin/sh\nexit 1\n")
         os.chmod(self.environment["EXAMOFFICE"], 0o700)
-        self.assertIn("the program ends while it is asked", self.refused("doors", "MON-AM"))
+        self.assertIn("the program ended 5 times while it was asked", self.refused("doors", "MON-AM"))
         self.environment["EXAMOFFICE"] = os.path.join(self.folder, "nowhere")
         self.assertIn("there is no program", self.refused("doors", "MON-AM"))
 
@@ -96,7 +97,8 @@ class Kept(sample.KeptSchool):
         sample.until(lambda: self.state().get("state") == "serving")
         time.sleep(0.1)
         with mock.patch.object(serving.Serve, "bodies", side_effect=AssertionError("a `serve` of its own")):
-            self.assertEqual(of_few(self.value, lambda reading: reading.member("MON-AM", sample.NUMBER).sitting.hall), "PC1")
+            member = of_few(self.value, lambda reading: reading.member("MON-AM", sample.NUMBER))
+            self.assertEqual(member.sitting.hall, "PC1")
             self.assertIn("PC1 Computer room, desk 1", "".join(of_few(self.value, looked)))
 
     def test_rows_and_answers_are_of_one_moment(self):

@@ -35,7 +35,7 @@ HEAD = re.compile("(?:([a-z]+):)?(.*)")  # of a column: its kind, if it has one,
 
 def html(form: str, *values: object) -> Markup:
     """A form of HTML with each value put in at a `{}`."""
-    return Markup(form).format(*map(safe, values))
+    return Markup(form.format(*map(safe, values)))
 
 
 def safe(value: object) -> Markup:

@@ -38,14 +38,19 @@ class Titles(NamedTuple):
 
 def page(reading: Reading, choice: Choice) -> str:
     """The slips by name. Raises `Trouble` where a candidate who is asked for sits nothing in these sessions."""
+    choice = choice._replace(only=list(dict.fromkeys(choice.only)))
+    refuse_missing(choice.only, set(filter(reading.knows, choice.only)))
     found = rows_by_candidate(reading, choice)
-    numbers = {number for _, number in found}
-    for number in choice.only:
-        if number not in numbers:
-            raise Trouble(f"{number} sits nothing there; a number has seven digits")
+    refuse_missing(choice.only, {number for _, number in found})
     slips = [slip(number, name, reading.person(int(number)).code if choice.codes else "", found[name, number])
              for name, number in sorted(found, key=lambda key: lists.name_order(*key))]
     return pages.document("Slips", pages.joined(slips), STYLE)
+
+
+def refuse_missing(asked: Collection[str], found: Collection[str]) -> None:
+    for number in asked:
+        if number not in found:
+            raise Trouble(f"{number} sits nothing there; a number has seven digits")
 
 
 def rows_by_candidate(reading: Reading, choice: Choice) -> dict[tuple[str, str], list[list[object]]]:

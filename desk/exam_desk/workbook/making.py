@@ -3,10 +3,10 @@ import io
 import re
 from typing import Any
 
-import openpyxl
 from openpyxl.comments import Comment
 from openpyxl.styles import Alignment, Font, PatternFill
 from openpyxl.utils import get_column_letter
+from openpyxl.workbook.workbook import Workbook
 from openpyxl.worksheet.datavalidation import DataValidation
 
 TEXT = "@"
@@ -14,7 +14,7 @@ TEXT = "@"
 
 def made(sheets: list[dict[str, Any]]) -> bytes:
     """The workbook of the plans of its sheets."""
-    book = openpyxl.Workbook()
+    book = Workbook()
     book.remove(book.active)
     for plan in sheets:
         fill(book.create_sheet(plan["name"]), plan)

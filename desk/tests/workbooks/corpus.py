@@ -113,6 +113,9 @@ def run_inside(case: Case, folder: pathlib.Path) -> Done:
         status: object = 0
     except SystemExit as end:
         status = end.code
+    except Exception as fault:  # what ends a command: it has said how
+        sys.excepthook(type(fault), fault, fault.__traceback__)
+        status = 1
     finally:
         sys.stdout, sys.stderr, sys.excepthook, sys.argv = before
     texts = []
