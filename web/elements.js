@@ -1,4 +1,5 @@
 // Pieces of the page. Whatever comes from the office goes in as text, never as HTML.
+import { TEXTS } from "./texts.js";
 
 export const byId = (id) => document.getElementById(id);
 
@@ -13,23 +14,32 @@ export function element(tag, properties = {}, ...contents) {
 export const data = (text) => element("bdi", {}, text);
 
 /**
- * A table that stays a table for a screen reader where the style sheet shows it as cards.
- * @param {string[]} heads
- * @param {(string | number | Node)[][]} rows a cell for each head
+ * A table that stays a table for a screen reader where the style sheet shows it as cards. It leaves out a column that
+ * has nothing in any row.
+ * @template Row
+ * @param {[head: string, content: (row: Row) => string | number | Node | null, className?: string][]} columns
+ * @param {Row[]} rows
  */
-export function table(heads, rows) {
-  const head = element("tr", { role: "row" });
-  head.append(...heads.map((text) => element("th", { role: "columnheader", scope: "col" }, text)));
+export function table(columns, rows) {
+  const contents = rows.map((row) => columns.map(([, content]) => content(row)));
+  const shown = columns.map((_, place) => contents.some((cells) => cells[place] !== null));
+  const kept = (cells) => cells.filter((_, place) => shown[place]);
+  const heads = kept(columns).map(([text, , className = ""]) =>
+    element("th", { role: "columnheader", scope: "col", className }, text));
   const body = element("tbody", { role: "rowgroup" });
-  body.append(...rows.map((cells) => tableRow(heads, cells)));
+  body.append(...contents.map((cells) => tableRow(kept(columns), kept(cells))));
+  const head = element("tr", { role: "row" }, ...heads);
   return element("table", { role: "table" }, element("thead", { role: "rowgroup" }, head), body);
 }
 
-function tableRow(heads, cells) {
+/** Where the row is a card the style sheet leaves out the cells with nothing in them. */
+function tableRow(columns, cells) {
   const row = element("tr", { role: "row" });
   row.append(...cells.map((content, place) => {
-    const cell = element("td", { role: "cell" }, element("div", {}, content));
-    cell.dataset.head = heads[place];
+    const [head, , className = ""] = columns[place];
+    const cell = element("td", { role: "cell", className }, element("div", {}, content ?? TEXTS.nothing));
+    cell.classList.toggle("nothing", content === null);
+    cell.dataset.head = head;
     return cell;
   }));
   return row;

@@ -49,7 +49,7 @@ export class Candidate {
    * @param {string} method GET, POST or DELETE
    * @param {string} route what follows the number in the path
    * @param {object} [body] the appeal of a POST
-   * @param {() => void} [waits] is called before each wait
+   * @param {(why: string) => void} [waits] is called before each wait
    * @returns {Promise<object>}
    */
   async ask(method, route, body, waits = () => {}) {
@@ -60,7 +60,7 @@ export class Candidate {
     let answer = await answerTo(path, options, this.#leaving.signal);
     for (const wait of WAITS) {
       if (this.left || (answer && !Object.hasOwn(BUSY, answer.status))) break;
-      waits();
+      waits(answer ? TEXTS.waiting : TEXTS.unanswered);
       await pause(wait * (1 + Math.random()), this.#leaving.signal);
       if (!this.left) answer = await answerTo(path, options, this.#leaving.signal);
     }
@@ -85,10 +85,12 @@ async function answerTo(path, options, leaving) {
   }
 }
 
+/** Waits so many seconds, and no longer than until the device is online again. */
 function pause(seconds, leaving) {
   return new Promise((done) => {
     setTimeout(done, seconds * 1000);
     leaving.addEventListener("abort", done, { once: true });
+    addEventListener("online", done, { once: true });
   });
 }
 

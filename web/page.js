@@ -66,10 +66,13 @@ function tell(fault) {
   return warn(fill(fault.message, { day: fault.day ? dayText(fault.day) : "" }), fault.field);
 }
 
-const waits = () => say(TEXTS.waiting);
+/** What the page shows stays there without a connection. */
+function showConnection() {
+  byId("offline").textContent = navigator.onLine ? "" : TEXTS.offline;
+}
 
 async function list(asked, name) {
-  const answer = await asked.ask("GET", name, undefined, waits);
+  const answer = await asked.ask("GET", name, undefined, say);
   if (!Array.isArray(answer[name])) throw new Fault(TEXTS.pageFault);
   return answer[name];
 }
@@ -156,7 +159,7 @@ async function lodge() {
 /** The state of the appeal once the office has it. Where another appeal has the reference it takes the next one. */
 async function lodged(body, tries) {
   try {
-    const { state } = await candidate.ask("POST", "appeals", { ...body, ref: lodging.reference(body) }, waits);
+    const { state } = await candidate.ask("POST", "appeals", { ...body, ref: lodging.reference(body) }, say);
     return state;
   } catch (fault) {
     if (fault.open) fault.message += ` ${TEXTS.mayHaveArrived}`;
@@ -177,7 +180,7 @@ function askRetract(appeal) {
 }
 
 async function retract() {
-  await candidate.ask("DELETE", `appeals/${retracting.ref}`, undefined, waits);
+  await candidate.ask("DELETE", `appeals/${retracting.ref}`, undefined, say);
   await lookAtAppeals();
   show();
   say(TEXTS.retractDone);
@@ -228,7 +231,10 @@ function start() {
   byId("print").addEventListener("click", () => print());
   byId("logout").addEventListener("click", logOut);
   byId("retract").addEventListener("close", () => byId("retract").returnValue === "yes" && step(retract));
+  addEventListener("online", showConnection);
+  addEventListener("offline", showConnection);
   addEventListener("pageshow", ({ persisted }) => persisted && logOut()); // what the browser kept of the page
+  showConnection();
   byId("starting").remove();
   byId("login").hidden = false;
 }

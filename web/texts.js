@@ -17,6 +17,7 @@ export const TEXTS = {
   badCode: "An access code has 8 to 16 letters and digits.",
 
   candidate: "Candidate",
+  compare: "Is this the number on your slip? If not, log out, and log in with yours.",
   again: "Look again",
   calendar: "Calendar file",
   print: "Print",
@@ -103,6 +104,8 @@ export const TEXTS = {
   eventNote: "Desk {desk}, as of {day}. Hall and desk can change: look again on the day before.",
   eventNoHall: "No desk yet, as of {day}: please ask the exam office.",
 
+  offline: "This device is offline: nothing can be looked up or sent until it is connected.",
+  unanswered: "No answer yet. Trying again …",
   waiting: "The office is busy. Trying again …",
   notAnswered: "No answer came. Check the connection and try again.",
   mayHaveArrived: "What you sent may have arrived. Send it again: nothing is done twice.",

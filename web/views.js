@@ -29,7 +29,7 @@ export class Own {
     if (kind === "hall") return fill(TEXTS.aboutHall, { hall: this.titles.hall(subject) });
     if (kind === "clash") return fill(TEXTS.aboutClash, { paper: this.titles.paper(subject) });
     const [needs, extra] = subject.split(" ");
-    return fill(TEXTS.aboutArrangement, { needs: arrangementText(needs, extra) });
+    return fill(TEXTS.aboutArrangement, { needs: arrangementText(needs, extra) || TEXTS.nothing });
   }
 }
 
@@ -37,40 +37,39 @@ const none = (text) => element("p", {}, text);
 
 export function seatTable({ seats, titles }) {
   if (seats.length === 0) return none(TEXTS.noSeats);
-  const heads = [TEXTS.day, TEXTS.time, TEXTS.paper, TEXTS.hall, TEXTS.desk, TEXTS.arrangement, TEXTS.session];
-  return table(heads, seats.map((seat) => [
-    dayText(seat.date),
-    fill(TEXTS.times, { start: seat.start, finish: timeText(seat.finish) }),
-    data(titles.paper(seat.paper)),
-    seat.hall === null ? element("span", { className: "lacking" }, TEXTS.noHall) : data(titles.hall(seat.hall)),
-    seat.desk ?? TEXTS.nothing,
-    arrangementText(seat.needs, seat.extra),
-    element("span", { className: "code" }, seat.session),
-  ]));
+  return table([
+    [TEXTS.day, ({ date }) => dayText(date)],
+    [TEXTS.time, ({ start, finish }) => fill(TEXTS.times, { start, finish: timeText(finish) })],
+    [TEXTS.paper, ({ paper }) => data(titles.paper(paper))],
+    [TEXTS.hall, ({ hall }) =>
+      hall === null ? element("span", { className: "lacking" }, TEXTS.noHall) : data(titles.hall(hall))],
+    [TEXTS.desk, ({ desk }) => desk ?? null],
+    [TEXTS.arrangement, ({ needs, extra }) => arrangementText(needs, extra) || null],
+    [TEXTS.session, ({ session }) => element("span", { className: "code" }, session)],
+  ], seats);
 }
 
 export function clashTable(own) {
   if (own.clashes.length === 0) return none(TEXTS.noClashes);
-  return table([TEXTS.session, TEXTS.sitting, TEXTS.missing], own.clashes.map((clash) => [
-    own.sessionText(clash.session),
-    data(own.titles.paper(clash.sitting)),
-    data(own.titles.paper(clash.paper)),
-  ]));
+  return table([
+    [TEXTS.session, ({ session }) => own.sessionText(session)],
+    [TEXTS.sitting, ({ sitting }) => data(own.titles.paper(sitting))],
+    [TEXTS.missing, ({ paper }) => data(own.titles.paper(paper))],
+  ], own.clashes);
 }
 
 /** @param {(appeal: object) => void} retract is called where the candidate presses the button of an open appeal */
 export function appealTable(own, retract) {
   if (own.appeals.length === 0) return none(TEXTS.noAppeals);
-  const heads = [TEXTS.about, TEXTS.session, TEXTS.lodged, TEXTS.reason, TEXTS.state, TEXTS.answer, TEXTS.change];
-  return table(heads, own.appeals.map((appeal) => [
-    data(own.aboutText(appeal)),
-    own.sessionText(appeal.session),
-    dayText(appeal.lodged),
-    appeal.reason ? data(appeal.reason) : TEXTS.nothing,
-    stateText(appeal),
-    appeal.answer ? data(appeal.answer) : TEXTS.nothing,
-    appeal.state === "open" ? retractButton(own, appeal, retract) : TEXTS.nothing,
-  ]));
+  return table([
+    [TEXTS.about, (appeal) => data(own.aboutText(appeal))],
+    [TEXTS.session, ({ session }) => own.sessionText(session)],
+    [TEXTS.lodged, ({ lodged }) => dayText(lodged)],
+    [TEXTS.reason, ({ reason }) => (reason ? data(reason) : null)],
+    [TEXTS.state, stateText],
+    [TEXTS.answer, ({ answer }) => (answer ? data(answer) : null)],
+    [TEXTS.change, (appeal) => (appeal.state === "open" ? retractButton(own, appeal, retract) : null), "screen"],
+  ], own.appeals);
 }
 
 function stateText({ state, standing }) {

@@ -29,11 +29,11 @@ export function sessionText(date, start, code) {
   return fill(TEXTS.titled, { title: `${dayText(date)}, ${timeText(start)}`, code });
 }
 
-/** `screen+reader` and 25 in words. */
+/** `screen+reader` and 25 in words; no word where there is neither. */
 export function arrangementText(needs, extra) {
   const words = needs === "-" ? [] : needs.split("+").map((feature) => TEXTS[feature] ?? feature);
   if (Number(extra) > 0) words.push(fill(TEXTS.extraTime, { extra }));
-  return words.join("; ") || TEXTS.nothing;
+  return words.join("; ");
 }
 
 /** The titles of papers and halls by code, and the days of sessions. Where one is missing the code is shown. */

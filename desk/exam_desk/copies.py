@@ -8,7 +8,7 @@ import os
 import re
 import shutil
 
-from exam_desk import beside, private, turns
+from exam_desk import beside, notebook, private, turns
 from exam_desk.office import Office
 from exam_desk.trouble import Trouble
 
@@ -44,12 +44,14 @@ def keep_day(office: Office, day: datetime.date, most: int) -> str | None:
 
 
 def make(office: Office, place: str, name: str) -> str:
-    """Copies the office's two files into a new folder in a place, whole and on the disk, or not at all; its path."""
+    """Copies the office's two files, and the notebook beside it, into a new folder in a place, whole and on the disk,
+    or not at all; its path."""
     target = os.path.join(turns.make_folder(office, place), name)
     with private.private_folder(turns.make_folder(office, private.PLACE)) as folder:
         making = os.path.join(folder, PLACE)
         os.mkdir(making, 0o700)
         private.copy_files(os.path.realpath(office.path), os.path.join(making, office.base_name()))
+        notebook.copy_into(office, making)
         for path in (*(entry.path for entry in os.scandir(making)), making):
             beside.sync(path)
         os.rename(making, target)

@@ -1,25 +1,11 @@
 """What lists and papers share: the order of names and desks, counts and arrangements in words."""
 from __future__ import annotations
 
-import unicodedata
 from collections.abc import Iterable
 
 from exam_desk.answers import Sitting
+from exam_desk.names import name_order
 from exam_desk.reading import Member
-
-LETTERS = str.maketrans({"ø": "o", "æ": "ae", "œ": "oe", "ł": "l", "đ": "d", "ð": "d", "þ": "th", "ı": "i"})
-
-
-def fold(text: str) -> str:
-    """A text without accents and without regard to capitals, as people look names up."""
-    parts = unicodedata.normalize("NFKD", text.casefold())
-    return "".join(part for part in parts if not unicodedata.combining(part)).translate(LETTERS)
-
-
-def name_order(name: str, number: str) -> tuple[str, list[str], str]:
-    """The order of a list by name: the last word of the name first, and namesakes by number."""
-    words = fold(name).split() or [""]
-    return words[-1], words, number
 
 
 def by_name(members: Iterable[Member]) -> list[Member]:

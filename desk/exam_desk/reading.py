@@ -63,7 +63,7 @@ class Reading:
                 self.state = state_of(self.path)
                 self.copy = stack.enter_context(private.private_copy(self.path, office.path))
             except OSError as fault:
-                raise Trouble(str(fault.strerror or fault), self.path) from fault
+                raise snapshot.unreadable(self.path, fault) from fault
             self.rows = snapshot.rows_of(self.copy, self.path)
             stack.callback(self.rows.close)
             self.stack = stack.pop_all()

@@ -13,6 +13,7 @@ from collections.abc import Iterable, Sequence
 
 from exam_desk import files, snapshot, turns
 from exam_desk.office import Office
+from exam_desk.trouble import NoOffice
 
 SENTENCES = {
     1: "a value has the wrong form; correct it and import the whole file again",
@@ -51,6 +52,8 @@ OTHER = {
     "net fault": "the port is taken, or the system gives no more connections; take another one, from 1024 on",
 }
 MOST_LINES = 5  # of an import file that are shown
+NO_CODE = ("`office codes FILE` fills in the codes that the office has, and new ones; for another name alone take "
+           "`office name NUMBER NAME`")
 WHOLE_OR_NOT = "a command is there whole or not at all: look, or give it again"
 
 
@@ -68,6 +71,8 @@ def explained(office: Office, words: Sequence[str], complaint: str, data: bytes 
     lines = [sentence] if sentence else []
     if number == 23:
         lines = [f"{sentence}: {cause(office)}", WHOLE_OR_NOT]
+    elif number == 24 and not os.path.exists(office.path):
+        lines = [str(NoOffice(office.path))]
     elif number and words[0] == "import":
         lines += places(office, words, number, answer, data)
     return [f"  {line}" for line in lines]
@@ -105,6 +110,8 @@ def record_lines(kind: str, name: str, record: files.Record, column: int, number
     lines = [f"line {record.line} of {name}: {files.row_shown(record.fields)}"]
     if 1 <= column <= len(record.fields) == len(files.HEADERS[kind]):
         lines.append(f"{files.HEADERS[kind][column - 1]} is {files.shown(record.fields[column - 1])}")
+        if (kind, column) == ("candidates", 3):
+            lines.append(NO_CODE)
     elif number == 1 and not record.closed:
         lines.append("a quote is not closed")
     elif number == 1:

@@ -5,11 +5,12 @@ Who sits what, where and until when is not read from rows: the program says it (
 from __future__ import annotations
 
 import contextlib
+import os
 import sqlite3
 
 from exam_desk import bad_rows, private
 from exam_desk.office import Office
-from exam_desk.trouble import Trouble
+from exam_desk.trouble import NoOffice, Trouble
 
 TABLES = ["office", "session", "paper", "hall", "opening", "candidate", "entry", "arrangement", "appeal", "standing",
           "seat"]
@@ -37,7 +38,12 @@ def rows(office: Office, path: str | None = None) -> Rows:
         with private.private_copy(path, office.path) as copy:
             return rows_of(copy, path)
     except OSError as fault:
-        raise Trouble(str(fault.strerror or fault), path) from fault
+        raise unreadable(path, fault) from fault
+
+
+def unreadable(path: str, fault: OSError) -> Trouble:
+    """What is said of an office whose files cannot be copied."""
+    return Trouble(fault.strerror or str(fault), path) if os.path.exists(path) else NoOffice(path)
 
 
 def rows_of(copy: str, path: str) -> Rows:

@@ -6,8 +6,9 @@ import sqlite3
 from collections.abc import Collection, Iterable
 from typing import NamedTuple
 
-from exam_desk import facts, files, lists
+from exam_desk import facts, files
 from exam_desk.answers import Sitting
+from exam_desk.names import name_order
 from exam_desk.reading import Reading
 from exam_desk.trouble import Trouble
 from exam_desk.words import plain
@@ -112,7 +113,7 @@ def of_session(before: Reading, after: Reading, session: str) -> list[Change]:
     names = {**old, **new}
     found = [Change(session, number, names[number][0], *(side.get(number, (None, None))[1] for side in (old, new)))
              for number in names]
-    return sorted(filter(is_change, found), key=lambda change: lists.name_order(change.name, change.number))
+    return sorted(filter(is_change, found), key=lambda change: name_order(change.name, change.number))
 
 
 def is_change(change: Change) -> bool:

@@ -14,6 +14,14 @@ class Trouble(Exception):
         return f"{self.place}: {self.sentence}" if self.place else self.sentence
 
 
+class NoOffice(Trouble):
+    """There is no file of an office."""
+
+    def __init__(self, path: str) -> None:
+        super().__init__("there is no office here; go to its folder, as its user (/srv/examoffice, as examoffice, "
+                         "where a package made them), or let OFFICE name its file; `office init` makes a new one", path)
+
+
 class BadRows(Trouble):
     """Rows that no office has, by file and table."""
 

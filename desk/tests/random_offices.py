@@ -19,7 +19,8 @@ from typing import NamedTuple
 import sample
 from cells import Cells
 
-from exam_desk import checking_shortage, lists, reasons, shortage, telling  # beside the tests' folder
+from exam_desk import checking_shortage, reasons, shortage, telling  # beside the tests' folder
+from exam_desk.names import fold, name_order
 from exam_desk.office import Office
 from exam_desk.reading import Reading
 from exam_desk.sheets import board, counts, doors, person, printing, slips, summary
@@ -232,9 +233,9 @@ class RandomOffice:
             assert f"last finish {last}" in table[0][0] and f"{len(rows)} seated" in table[0][0], table[0]
 
     def board(self, reading, session):
-        seats = sorted(self.now[session].items(), key=lambda each: lists.name_order(each[1].name, each[0]))
-        names = collections.Counter(lists.fold(seat.name) for _, seat in seats)
-        wanted = [[plain(seat.name) + (f" {number}" if names[lists.fold(seat.name)] > 1 else ""),
+        seats = sorted(self.now[session].items(), key=lambda each: name_order(each[1].name, each[0]))
+        names = collections.Counter(fold(seat.name) for _, seat in seats)
+        wanted = [[plain(seat.name) + (f" {number}" if names[fold(seat.name)] > 1 else ""),
                    *(["ask the office", ""] if seat.hall == "-" else [seat.hall, seat.desk])]
                   for number, seat in seats]
         equal(Cells(page := board.page(reading, session)).rows[2:], wanted, "board", page)
@@ -323,7 +324,7 @@ class RandomOffice:
     def slip_row(self, number, session, head, clashes):
         seat, day = self.now[session][number], datetime.date.fromisoformat(head[0])
         notes = [f"with {self.arrangements[number, session]}"] * bool(self.arrangements[number, session])
-        notes += [f"not {self.titled(code)}, at the same time" for code in clashes]
+        notes += [f"not {self.titled(code)}, at the same time: ask the exams office" for code in clashes]
         place = "no desk yet: ask the office"
         if seat.hall != "-":
             place = f"{self.titled(seat.hall)}, desk\u00a0{seat.desk}"

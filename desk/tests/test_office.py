@@ -63,7 +63,7 @@ class Words(sample.SampleSchool):
     def test_a_file_that_is_no_office(self):
         before = os.listdir(self.folder)
         text = self.refused("shortage", "MON-AM", OFFICE=os.path.join(self.folder, "other.db"))
-        self.assertTrue(text.startswith("refused 24\n  the file is not there"))
+        self.assertRegex(text, r"^refused 24\n  .*other\.db: there is no office here; go to its folder")
         self.assertEqual(os.listdir(self.folder), before)
 
     def test_why(self):

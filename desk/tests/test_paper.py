@@ -23,8 +23,8 @@ class Papers(sample.SampleSchool):
         rows = self.rows("slips", "--only", "0001051", "--codes")
         self.assertEqual(rows, [
             ["access code VMGNZGEDP90001051Di Berg"], ["Day", "Time", "Paper", "Hall"],
-            ["Mon 7 June 2027", "09:00–11:00", "Computer science (CS-1)|not Latin (LAT), at the same time",
-             "Computer room (PC1)"],
+            ["Mon 7 June 2027", "09:00–11:00",
+             "Computer science (CS-1)|not Latin (LAT), at the same time: ask the exams office", "Computer room (PC1)"],
             ["Mon 7 June 2027", "13:30–15:00", "English language (EN-1)", "Aula, main building (AULA)"],
             ["Tue 8 June 2027", "09:00–11:00", "Physics (PH-1)", "Aula, main building (AULA)"]])
         text = self.office("slips")
@@ -53,7 +53,8 @@ class Papers(sample.SampleSchool):
         self.assertEqual(text.count("<div class=sheet>"), 5)
         rows = self.rows("doors", "MON-AM", "LIB")
         self.assertEqual(rows[:3], [
-            ["Monday, 7 June 2027, 09:00 (MON-AM)|open until 14:00, last finish 12:08|6 desks, 6 seatedLibrary|LIB"],
+            ["Monday, 7 June 2027, 09:00 (MON-AM)|open until 14:00, last finish 12:08|6 desks, 6 seatedLibrary|LIB|"
+             "LAT Latin; MA-1 Mathematics 1; MA-2 Mathematics 2"],
             ["Desk", "Number", "Name", "Paper", "Finish", "Arrangement", "Signature"],
             ["1", "0001153", "Jana Roe", "LAT", "10:53", "25 % extra time, screen", ""]])
         self.assertEqual((len(rows), rows[-1][0][:18]), (9, "Present: ________ "))

@@ -96,11 +96,14 @@ class Page(unittest.TestCase):
         for kind, words in (("hall", "against a hall"), ("clash", "on a clash"), ("arrangement", "for an arrangement")):
             self.assertRegex(handbook, rf"(?m)^\| {words} \| {days[kind]} days before")
 
-    def test_contrast(self):
-        colours = dict(re.findall(r"--([\w-]+): (#[0-9a-f]{6});", (WEB / "page.css").read_text("utf-8")))
-        for text, ground in TEXT_ON_GROUND:
-            self.assertGreaterEqual(contrast(colours[text], colours[ground]), LEAST_CONTRAST, (text, ground))
-        self.assertGreaterEqual(contrast(colours["edge"], colours["ground"]), LEAST_EDGE)
+    def test_contrast_by_day_and_by_night(self):
+        light, dark = (dict(re.findall(r"--([\w-]+): (#[0-9a-f]{6});", block)) for block in re.findall(
+            r"^ *:root \{\n.*?^ *\}\n", (WEB / "page.css").read_text("utf-8"), re.M | re.S))
+        self.assertEqual(light.keys(), dark.keys())
+        for colours in (light, dark):
+            for text, ground in TEXT_ON_GROUND:
+                self.assertGreaterEqual(contrast(colours[text], colours[ground]), LEAST_CONTRAST, (text, ground))
+            self.assertGreaterEqual(contrast(colours["edge"], colours["ground"]), LEAST_EDGE)
 
     def test_functions_and_files_are_short(self):
         for name, text in scripts().items():

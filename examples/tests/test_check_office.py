@@ -7,6 +7,7 @@ import os
 import pathlib
 import shutil
 import subprocess
+import sys
 import tempfile
 import time
 import unittest
@@ -47,7 +48,12 @@ WRONG_ROWS = {
         "CREATE TABLE other (session TEXT NOT NULL, number INTEGER NOT NULL, hall TEXT NOT NULL) STRICT; "
         "INSERT INTO other SELECT * FROM seat; DROP TABLE seat; ALTER TABLE other RENAME TO seat; "
         "INSERT INTO seat VALUES ('S1', 5, 'A')", "table seat has two rows for S1 5"),
-    "a seat is missing": ("DELETE FROM seat WHERE session = 'S1' AND number = 5", "sheet S1.export, line 6"),
+    "a seat is missing": ("DELETE FROM seat WHERE session = 'S1' AND number = 5",
+                          "with 2 without a desk, since hall B has a free one and suits candidate 0000005"),
+    "a chain is missing": ("DELETE FROM seat WHERE session = 'S1' AND number = 2; "
+                           "UPDATE seat SET hall = 'A' WHERE session = 'S1' AND number = 7",
+                           "with 2 without a desk, since hall R has a free one and suits candidate 0000001"),
+    "no day": ("UPDATE session SET day = '2027-06-31' WHERE code = 'S3'", "there is no such day"),
     "another lawful hall": ("UPDATE seat SET hall = 'C' WHERE session = 'S1' AND number = 3; "
                             "UPDATE seat SET hall = 'A' WHERE session = 'S1' AND number = 7; "
                             "UPDATE opening SET desks = 3 WHERE hall = 'A' AND session = 'S1'", "sheet S1.export, line 7"),
@@ -133,12 +139,14 @@ NO_OFFICE = {
 def loaded():
     """The script as a module, since a process for each of a hundred checks would take long."""
     loader = importlib.machinery.SourceFileLoader("check_office", str(CHECK))
+    sys.path.insert(0, str(CHECK.parent))  # where the script finds its other part
     module = importlib.util.module_from_spec(importlib.util.spec_from_loader("check_office", loader))
     loader.exec_module(module)
     return module
 
 
 MODULE = loaded()
+PRINTING = sys.modules["printing"]
 
 
 class SmallOffice(unittest.TestCase):
@@ -155,7 +163,10 @@ class SmallOffice(unittest.TestCase):
 
     def call(self, *words):
         with contextlib.redirect_stdout(io.StringIO()) as out, contextlib.redirect_stderr(io.StringIO()) as err:
-            status = MODULE.main([str(word) for word in words])
+            try:
+                status = MODULE.main([str(word) for word in words])
+            except SystemExit as end:  # words that it does not understand
+                status = end.code
         return status, out.getvalue(), err.getvalue()
 
     def finds(self, said):
@@ -228,6 +239,11 @@ class CheckOffice(SmallOffice):
         small_office.change(self.path, "UPDATE session SET day = '2027-06-01' WHERE code = 'S2'")
         for sheet in self.sheets.glob("S2.*"):
             sheet.write_text(sheet.read_text("utf-8").replace("2027-06-02", "2027-06-01"), "utf-8")
+        self.right = """note: session S2 begins on 2027-06-01 at 09:00, and these of its candidates sit in S1 then: \
+0000001, 0000002, 0000005
+note: session S2 begins on 2027-06-01 at 09:00, and these of its halls have candidates of S1 then: A, B
+right: 3 sessions, 8 seats, 1 without a desk, 2 notes
+"""
         self.is_right()
 
     def test_the_latest_standing_grant(self):
@@ -256,17 +272,92 @@ class CheckOffice(SmallOffice):
                 self.finds(said)
         self.assertGreaterEqual(len(WRONG_SHEETS), 20)
 
-    def test_fewer_seats_than_there_could_be(self):
-        """Rows and sheets agree, and every seat is lawful. But the sum of the shortage does not hold."""
-        small_office.change(self.path, "DELETE FROM seat WHERE session = 'S1' AND number = 5")
-        self.edit("S1.export", "MA-1,B,1", "MA-1,-,-")
-        self.edit("S1.attendance.MA-1", "B           1", "-           -")
-        self.edit("S1.door-list.B", "seated 1", "seated 0", "   1 0000005 MA-1         =1+1 Noël\n", "")
-        for halls, candidates in (("halls 1 desks 1\nhall C desks 1", "2\n0000003\n0000004"),
-                                  ("halls 4 desks 5\nhall A desks 2\nhall B desks 1\nhall C desks 1\nhall R desks 1",
-                                   "6\n0000001\n0000002\n0000003\n0000004\n0000005\n0000007")):
-            (self.sheets / "S1.shortage").write_text(f"SHORTAGE session S1\nunseated 2\n{halls}\ncandidates {candidates}\n")
-            self.finds("without a desk")
+    def test_a_shortage_that_does_not_add_up(self):
+        """Its candidates can sit in its halls alone, but they are fewer than the desks and the unseated."""
+        self.edit("S1.shortage", "candidates 2\n0000003\n", "candidates 1\n")
+        self.finds("session S1, shortage: 1 candidates are not 1 desks and 1 without a desk")
+
+    def overlapping(self, statements):
+        """The notes after a change of the rows, without their common beginning."""
+        small_office.change(self.path, statements)
+        rows = MODULE.load(self.path)
+        parts = MODULE.by_session(rows)
+        notes = MODULE.overlaps([MODULE.Session(rows, parts, code) for code, in rows["session"]])
+        return [note.removeprefix("note: session ").replace(", and these of its", "") for note in notes]
+
+    def test_sessions_that_overlap(self):
+        """Candidate 1 finishes S1 at 10:15, by extra time, in hall A; S2 begins then, or a minute earlier."""
+        move = "UPDATE session SET day = '2027-06-01', start = {} WHERE code = 'S2'"
+        self.assertEqual(self.overlapping(move.format(615)), [])
+        self.assertEqual(self.overlapping(move.format(614)), [
+            "S2 begins on 2027-06-01 at 10:14 candidates sit in S1 then: 0000001",
+            "S2 begins on 2027-06-01 at 10:14 halls have candidates of S1 then: A"])
+        self.assertEqual(self.overlapping("UPDATE session SET start = 480 WHERE code = 'S2'"), [
+            "S1 begins on 2027-06-01 at 09:00 candidates sit in S2 then: 0000001",  # until 09:15
+            "S1 begins on 2027-06-01 at 09:00 halls have candidates of S2 then: B"])
+        self.assertEqual(self.overlapping("UPDATE seat SET hall = 'A' WHERE session = 'S2'"), [
+            "S1 begins on 2027-06-01 at 09:00 candidates sit in S2 then: 0000001",
+            "S1 begins on 2027-06-01 at 09:00 halls have candidates of S2 then: A"])
+
+    def test_a_paper_that_runs_past_midnight(self):
+        late = "UPDATE session SET start = 1380 WHERE code = 'S1'; UPDATE session SET start = {} WHERE code = 'S2'"
+        self.assertEqual(self.overlapping(late.format(15)), [])
+        self.assertEqual(self.overlapping(late.format(14)), [
+            "S2 begins on 2027-06-02 at 00:14 candidates sit in S1 then: 0000001",
+            "S2 begins on 2027-06-02 at 00:14 halls have candidates of S1 then: A"])
+        self.assertEqual(self.overlapping("UPDATE session SET day = '2027-06-03' WHERE code = 'S2'"), [])
+
+    def test_three_sessions_and_many_candidates(self):
+        more = [f"INSERT INTO candidate VALUES ({n}, 'N', 'C'); INSERT INTO entry VALUES ({n}, 'MA-1', 1), ({n}, 'LA-1', 1)"
+                for n in range(100, 121)]
+        notes = self.overlapping("UPDATE session SET day = '2027-06-01'; UPDATE paper SET session = 'S3' WHERE code = 'MB-1'; "
+                                 + "; ".join(more))
+        self.assertEqual([note[:2] + note[note.index("in S"):note.index("in S") + 5] for note in notes if "sit" in note],
+                         ["S2in S1", "S3in S1"])
+        self.assertIn("0000118 and 2 more", notes[0])
+
+    def fake_program(self):
+        """Prints the sheets that were written by hand, and fails where two print from one file at one time."""
+        fake = self.folder / "fake"
+        fake.write_text(f"""#!/bin/sh
+mkdir "$2.used" || exit 1
+sleep 0.02
+cat "{self.sheets}/$7.$5${{8:+.$8}}"
+rmdir "$2.used"
+""")
+        fake.chmod(0o700)
+        return str(fake)
+
+    def test_as_many_at_once_as_there_are_cores(self):
+        with unittest.mock.patch.object(PRINTING.os, "sched_getaffinity", lambda _: {1, 2, 3, 5, 8}), \
+                unittest.mock.patch.dict(os.environ, {"EXAMOFFICE": self.fake_program()}):
+            self.assertEqual(self.call(self.path), (0, self.right, ""))
+            printed = self.folder / "printed"
+            self.assertEqual(self.call("--print", self.path, printed), (0, self.right, ""))
+        self.assertEqual({sheet.name: sheet.read_text("utf-8") for sheet in printed.iterdir()}, small_office.SHEETS)
+
+    def test_so_many_sheets(self):
+        count = len(small_office.SHEETS)
+        left = f"{count - 4} of {count} sheets are not looked at"
+        self.edit("S3.appeals", "0\n", "1\n")
+        found = (0, f"{self.right[:-1]}; {left}\n", f"check-office: {left}\n")
+        self.assertEqual(self.call("--sheets", "4", self.path, self.sheets), found)
+        self.assertEqual(self.call("--sheets", count - 1, self.path, self.sheets)[0], 1)
+        self.edit("S1.export", "1,MA-1,A,1", "1,MA-1,A,9")
+        self.assertEqual(self.call("--sheets", "1", self.path, self.sheets)[0], 1)
+        self.assertEqual(self.call("--sheets", "0", self.path, self.sheets)[0], 0)
+        self.edit("S1.export", "1,MA-1,A,9", "1,MA-1,A,1")
+        with unittest.mock.patch.dict(os.environ, {"EXAMOFFICE": self.fake_program()}):
+            self.assertEqual(self.call("--sheets", "4", self.path), found)
+            self.assertEqual(self.call("--sheets", count, self.path)[0], 1)
+
+    def test_says_how_far_it_is(self):
+        with unittest.mock.patch.object(PRINTING, "EVERY", 0):
+            status, out, err = self.call(self.path, self.sheets)
+        self.assertEqual((status, out), (0, self.right))
+        lines = err.splitlines()
+        self.assertEqual(lines[:2], ["check-office: 0 of 3 sessions are right", "check-office: 1 of 3 sessions are right"])
+        self.assertEqual(lines[3], f"check-office: all rows, seats and halls are right, and 0 of {len(small_office.SHEETS)} sheets")
 
     def test_sheets_that_are_missing_or_too_many(self):
         (self.sheets / "S2.shortage").unlink()
@@ -292,7 +383,8 @@ class CheckOffice(SmallOffice):
         (self.folder / "none.db").write_text("no database at all" * 100)
         for words in ([], ["--print", self.path], [self.path, self.sheets, "more"], ["--what", self.path],
                       [self.folder / "missing.db"], [self.folder / "none.db", self.sheets], [self.folder],
-                      [self.path, self.folder / "missing"], ["--print", self.path, self.sheets]):
+                      [self.path, self.folder / "missing"], ["--print", self.path, self.sheets], ["--sheets", "-1", self.path, self.sheets],
+                      ["--sheets", "all", self.path, self.sheets], ["--print", self.path]):
             with self.subTest(words):
                 self.cannot_look(*words)
 
@@ -303,13 +395,13 @@ class CheckOffice(SmallOffice):
         self.assertNotIn("Traceback", err)
 
     def test_changed_meanwhile(self):
-        copy_file = MODULE.shutil.copyfile
+        copy_file = PRINTING.shutil.copyfile
 
         def change_too(source, target):
             copy_file(source, target)
             small_office.change(self.path, "UPDATE candidate SET name = 'Bo' WHERE number = 1")
 
-        with unittest.mock.patch.object(MODULE.shutil, "copyfile", change_too):
+        with unittest.mock.patch.object(PRINTING.shutil, "copyfile", change_too):
             status, _, err = self.call(self.path, self.sheets)
         self.assertEqual(status, 2)
         self.assertIn("somebody changed the office meanwhile", err)
@@ -326,17 +418,18 @@ class CheckOffice(SmallOffice):
 
 
     def test_stopped(self):
-        """A check that is stopped says so, and leaves no copy."""
+        """A check that is stopped says so, and leaves neither a copy nor a program that prints."""
         slow, begun = self.folder / "slow", self.folder / "begun"
-        slow.write_text(f"#!/bin/sh\n: >'{begun}'\nexec sleep 60\n")
+        slow.write_text(f"#!/bin/sh\necho $$ >>'{begun}'\nexec sleep 60\n")
         slow.chmod(0o700)
         with subprocess.Popen([CHECK, self.path], stderr=subprocess.PIPE, encoding="utf-8",
                               env={**os.environ, "EXAMOFFICE": str(slow), "TMPDIR": str(self.folder)}) as process:
             while not begun.exists() and process.poll() is None:
                 time.sleep(0.01)
             process.terminate()
-            self.assertEqual((process.communicate()[1], process.returncode), ("check-office: stopped\n", 2))
+            self.assertEqual((process.communicate(timeout=30)[1], process.returncode), ("check-office: stopped\n", 2))
         self.assertEqual(list(self.folder.glob("check-office-*")), [])
+        self.assertFalse([pid for pid in begun.read_text().split() if os.path.exists(f"/proc/{pid}")])
 
 
 PROGRAM = shutil.which(os.environ.get("EXAMOFFICE") or TOP / "crates/examoffice/out/examoffice")

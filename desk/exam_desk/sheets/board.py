@@ -3,9 +3,11 @@ from __future__ import annotations
 
 import collections
 
-from exam_desk import facts, lists
+from exam_desk import facts, lists, notebook
+from exam_desk.names import fold
+from exam_desk.notebook import Desk
 from exam_desk.reading import Member, Reading
-from exam_desk.sheets import pages
+from exam_desk.sheets import beside, pages
 from exam_desk.snapshot import session_row
 from markupsafe import Markup
 
@@ -17,19 +19,21 @@ BODY = "<h1>{}</h1>\n<p class=legend>{}</p>\n<div class=columns>{}</div>\n"
 def page(reading: Reading, session: str) -> str:
     head = session_row(reading.rows, session)
     members = lists.by_name(reading.members(session))
-    names = collections.Counter(lists.fold(member.name) for member in members)
+    names = collections.Counter(fold(member.name) for member in members)
     shared = {name for name, times in names.items() if times > 1}
     halls = facts.hall_titles(reading.rows)
     used = sorted({member.sitting.hall for member in members if member.sitting.hall})
     legend = pages.joined((pages.html("<b>{}</b> {}", code, pages.text(halls[code])) for code in used), "<br>")
-    body = pages.table(HEADS, [row(member, shared) for member in members], pages.when(head))
-    return pages.document(f"Notice board {session}", pages.html(BODY, pages.when(head), legend, body), STYLE)
+    printed = notebook.printed(reading.office, session)
+    body = pages.table(HEADS, [row(member, shared, printed) for member in members], pages.when(head))
+    above = beside.school(reading.office, "<br>") + pages.when(head)
+    return pages.document(f"Notice board {session}", pages.html(BODY, above, legend, body), STYLE)
 
 
-def row(member: Member, shared: set[str]) -> list[object]:
+def row(member: Member, shared: set[str], printed: dict[str, Desk]) -> list[object]:
     name = pages.text(member.name)
-    if lists.fold(member.name) in shared:
+    if fold(member.name) in shared:
         name += pages.html(" <small class=w>{}</small>", member.number)
     if member.sitting.hall is None:
         return [name, Markup("<b>ask the office</b>"), ""]
-    return [name, member.sitting.hall, member.sitting.desk]
+    return [name, member.sitting.hall, beside.desk(member, printed)]

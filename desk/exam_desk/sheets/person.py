@@ -7,6 +7,7 @@ from collections.abc import Iterator
 
 from exam_desk import facts, lists
 from exam_desk.answers import Sitting
+from exam_desk.names import fold, name_order
 from exam_desk.reading import Person, Reading
 from exam_desk.snapshot import Rows
 from exam_desk.trouble import Trouble
@@ -24,8 +25,8 @@ def find(rows: Rows, asked: str) -> list[Person]:
                  for number, name, code in rows.execute("SELECT number, name, code FROM candidate"))
     if re.fullmatch("[0-9]{1,7}", asked):
         return [person for person in everybody if int(person.number) == int(asked)]
-    found = [person for person in everybody if lists.fold(asked) in lists.fold(person.name)]
-    return sorted(found, key=lambda person: lists.name_order(person.name, person.number))
+    found = [person for person in everybody if fold(asked) in fold(person.name)]
+    return sorted(found, key=lambda person: name_order(person.name, person.number))
 
 
 def asked_lines(reading: Reading, asked: str, codes: bool) -> list[str]:

@@ -6,10 +6,11 @@ from typing import NamedTuple
 
 from markupsafe import Markup
 
-from exam_desk import facts, lists
+from exam_desk import facts, lists, notebook
 from exam_desk.answers import Sitting
-from exam_desk.reading import Member, Reading
-from exam_desk.sheets import pages
+from exam_desk.names import name_order
+from exam_desk.reading import Member, Person, Reading
+from exam_desk.sheets import beside, pages
 from exam_desk.trouble import Trouble
 from exam_desk.words import clock, short_day
 
@@ -42,8 +43,9 @@ def page(reading: Reading, choice: Choice) -> str:
     refuse_missing(choice.only, set(filter(reading.knows, choice.only)))
     found = rows_by_candidate(reading, choice)
     refuse_missing(choice.only, {number for _, number in found})
-    slips = [slip(number, name, reading.person(int(number)).code if choice.codes else "", found[name, number])
-             for name, number in sorted(found, key=lambda key: lists.name_order(*key))]
+    notes, school = notebook.notes(reading.office), beside.school(reading.office, "<br>")
+    slips = [slip(reading.person(int(number)), choice.codes, found[name, number], school, notes.get(number, ""))
+             for name, number in sorted(found, key=lambda key: name_order(*key))]
     return pages.document("Slips", pages.joined(slips), STYLE)
 
 
@@ -85,11 +87,12 @@ def where(sitting: Sitting, halls: dict[str, Markup], desks: bool) -> Markup:
 def what(sitting: Sitting, clashes: list[str], papers: dict[str, Markup]) -> Markup:
     """The paper, and in small lines what else holds there."""
     notes = [f"with {lists.allowance(sitting)}"] if lists.allowance(sitting) else []
-    notes += [pages.html("not {}, at the same time", papers[code]) for code in clashes]
+    notes += [pages.html("not {}, at the same time: ask the exams office", papers[code]) for code in clashes]
     return pages.joined([papers[sitting.paper], *(pages.html("<small>{}</small>", note) for note in notes)], "<br>")
 
 
-def slip(number: str, name: str, code: str, rows: list[list[object]]) -> Markup:
-    shown = pages.html("<span>access code {}</span>", code) if code else ""
-    above = pages.html("{}<span>{}</span><b>{}</b>", shown, number, pages.text(name))
+def slip(person: Person, codes: bool, rows: list[list[object]], school: Markup, note: str) -> Markup:
+    shown = pages.html("<span>access code {}</span>", person.code) if codes else ""
+    below = pages.html("<br><small>{}</small>", pages.text(note)) if note else ""
+    above = pages.html("{}{}<span>{}</span><b>{}</b>{}", school, shown, person.number, pages.text(person.name), below)
     return pages.html("<div class=slip>{}</div>\n", pages.table(HEADS, rows, above))

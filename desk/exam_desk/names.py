@@ -1,0 +1,28 @@
+"""The order of names in lists: one on every machine, whatever its language."""
+from __future__ import annotations
+
+import re
+import unicodedata
+
+LETTERS = str.maketrans({"ø": "o", "æ": "ae", "œ": "oe", "ł": "l", "đ": "d", "ð": "d", "þ": "th", "ı": "i",
+                         "‘": "'", "’": "'", "ʼ": "'", "‐": "-", "–": "-"})
+COMMA = re.compile("[,،]")  # folding makes a Latin comma of a Chinese one
+
+
+def fold(text: str) -> str:
+    """A text without accents, invisible marks and capitals, as people look names up."""
+    parts = unicodedata.normalize("NFKD", unicodedata.normalize("NFKD", text).casefold())
+    return "".join(part for part in parts if not unicodedata.combining(part)
+                   and unicodedata.category(part) != "Cf").translate(LETTERS)
+
+
+def name_order(name: str, number: str) -> tuple[str, str, str, str]:
+    """The place of a candidate in a list by name: folded surname, folded other names, name as written, number.
+
+    The surname is what stands before the first comma; without one, or with nothing before it, the last word.
+    """
+    folded = " ".join(fold(name).split())
+    surname, *others = (part.strip() for part in COMMA.split(folded, maxsplit=1))
+    if not surname or not others:
+        *others, surname = COMMA.sub(" ", folded).split() or [""]
+    return surname, " ".join(others), name, number

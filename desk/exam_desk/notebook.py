@@ -1,0 +1,249 @@
+"""What the school keeps beside its office: notes on candidates, its name, how desks stand in halls, which desks were
+printed, who was absent.
+
+Each is a file of JSON in the folder `notebook` beside the office, for the office's user alone. None of it is a fact of
+the office: no seat depends on it, and `office back` leaves it as it is. The copies of the office have it too.
+"""
+from __future__ import annotations
+
+import contextlib
+import fcntl
+import json
+import os
+import shutil
+from collections.abc import Callable, Iterable, Iterator, Mapping
+from typing import NamedTuple, TypeVar
+
+from exam_desk import beside, files
+from exam_desk.office import Office
+from exam_desk.trouble import NoOffice, Trouble
+
+PLACE = "notebook"
+SCHOOL, NOTES, ROWS = "school.json", "notes.json", "rows.json"
+RUNNING = ["across", "across-and-back", "down", "down-and-up"]  # how the numbers of desks run
+NEW = ".new"  # the end of the name of a file that is being written
+HEADER = ["number", "text"]
+MOST_NOTE_BYTES = 200
+Value = TypeVar("Value")
+
+
+class Desk(NamedTuple):
+    """Where somebody sits."""
+    hall: str
+    desk: int
+
+
+class Rows(NamedTuple):
+    """How the desks of a hall stand."""
+    across: int  # desks in a row
+    running: str  # one of RUNNING
+
+
+class Noted(NamedTuple):
+    """What became of the rows of a file of notes."""
+    added: int
+    changed: int
+    removed: int
+    same: int
+
+
+def school_name(office: Office) -> str:
+    """The name of the school; nothing where none was given."""
+    return read(office, SCHOOL, "", is_text)
+
+
+def set_school_name(office: Office, name: str) -> None:
+    """Raises `Trouble` where the name has another form than a title."""
+    if name and not files.is_name(name.encode("utf-8", "surrogateescape")):
+        raise Trouble("the name of a school has 1 to 80 bytes and no control characters; '' takes it away")
+    with alone(office):
+        write(office, SCHOOL, name)
+
+
+def notes(office: Office) -> dict[str, str]:
+    """The note on each candidate who has one, by number."""
+    nothing: dict[str, str] = {}
+    return read(office, NOTES, nothing, lambda value: is_map(value, is_text))
+
+
+def take_notes(office: Office, new: Mapping[str, str]) -> Noted:
+    """Keeps notes by number; an empty text takes a note away."""
+    with alone(office):
+        before = notes(office)
+        after = {number: text for number, text in sorted({**before, **new}.items()) if text}
+        write(office, NOTES, after)
+    known = {number: before.get(number, "") for number in new}
+    return Noted(sum(not known[number] and text != "" for number, text in new.items()),
+                 sum(text not in ("", known[number]) and known[number] != "" for number, text in new.items()),
+                 sum(known[number] != "" and text == "" for number, text in new.items()),
+                 sum(text == known[number] for number, text in new.items()))
+
+
+def notes_in(path: str, known: set[str]) -> dict[str, str]:
+    """The notes of a file. Raises `Trouble` where it is none of notes, or has a number that is not known."""
+    text = files.read(path)
+    if len(text) > files.MOST_BYTES:
+        raise Trouble(f"is longer than {files.MOST_BYTES} bytes; split it", path)
+    rows = files.records(text)
+    first = next(rows, None)
+    if first is None or first.fields != tuple(name.encode() for name in HEADER):
+        raise Trouble(f"line 1 must be: {','.join(HEADER)}", path)
+    found: dict[str, str] = {}
+    for row in rows:
+        if wrong := bad_note(row, known):
+            raise Trouble(f"line {row.line}: {wrong}; nothing is noted", path)
+        number, note = (field.decode() for field in row.fields)
+        if found.setdefault(number, note) != note:
+            raise Trouble(f"line {row.line}: there is another text for {number} above; nothing is noted", path)
+    return found
+
+
+def bad_note(row: files.Record, known: set[str]) -> str:
+    """What is wrong with a row of notes; nothing where all is right."""
+    if not row.closed or len(row.fields) != len(HEADER):
+        return "a row has a number and a text; put quotes around a text with a comma"
+    number, text = row.fields
+    if not files.is_number(number) or number.decode() not in known:
+        return f"the office has no candidate {files.shown(number)}; a number has seven digits"
+    if len(text) > MOST_NOTE_BYTES or files.CONTROL.search(text) or not files.is_utf_8(text):
+        return f"a text has at most {MOST_NOTE_BYTES} bytes of UTF-8 and no control characters"
+    return ""
+
+
+def rows_of_halls(office: Office) -> dict[str, Rows]:
+    """How the desks stand in each hall of which somebody said it."""
+    nothing: dict[str, tuple[int, str]] = {}
+    found = read(office, ROWS, nothing, lambda value: is_map(value, is_rows))
+    return {hall: Rows(*rows) for hall, rows in found.items()}
+
+
+def keep_rows(office: Office, hall: str, rows: Rows) -> None:
+    with alone(office):
+        write(office, ROWS, {**rows_of_halls(office), hall: rows})
+
+
+def printed(office: Office, session: str) -> dict[str, Desk]:
+    """The desks that were printed for a session, by number; none where nobody said that they were."""
+    nothing: dict[str, tuple[str, int]] = {}
+    found = read(office, f"printed.{session}.json", nothing, lambda value: is_map(value, is_desk))
+    return {number: Desk(*desk) for number, desk in found.items()}
+
+
+def keep_printed(office: Office, session: str, desks: Mapping[str, Desk]) -> None:
+    with alone(office):
+        write(office, f"printed.{session}.json", desks)
+
+
+def moved(before: Mapping[str, Desk], now: Mapping[str, Desk]) -> list[str]:
+    """The numbers of who has another desk than before, or none, or one for the first time; by number."""
+    return sorted(number for number in {*before, *now} if before.get(number) != now.get(number))
+
+
+def out_of_date(before: Mapping[str, Desk], now: Mapping[str, Desk]) -> list[str]:
+    """The halls in which somebody has another desk than before, by code."""
+    others = moved(before, now)
+    return sorted({desks[number].hall for desks in (before, now) for number in others if number in desks})
+
+
+def absent(office: Office, session: str) -> set[str]:
+    """The numbers of who was missing in a session."""
+    nobody: list[str] = []
+    return set(read(office, f"absent.{session}.json", nobody, is_list_of_texts))
+
+
+def keep_absent(office: Office, session: str, missing: Iterable[str], there: Iterable[str]) -> set[str]:
+    """Adds some to the absent of a session and takes others away; who was missing then."""
+    with alone(office):
+        found = (absent(office, session) | set(missing)) - set(there)
+        write(office, f"absent.{session}.json", sorted(found))
+    return found
+
+
+def is_text(value: object) -> bool:
+    return isinstance(value, str)
+
+
+def is_list_of_texts(value: object) -> bool:
+    return isinstance(value, list) and all(map(is_text, value))
+
+
+def is_map(value: object, right: Callable[[object], bool]) -> bool:
+    return isinstance(value, dict) and all(map(right, value.values()))
+
+
+def is_desk(value: object) -> bool:
+    return isinstance(value, list) and len(value) == 2 and is_text(value[0]) and isinstance(value[1], int)
+
+
+def is_rows(value: object) -> bool:
+    return (isinstance(value, list) and len(value) == 2 and isinstance(value[0], int) and value[0] > 0
+            and value[1] in RUNNING)
+
+
+@contextlib.contextmanager
+def alone(office: Office) -> Iterator[None]:
+    """The notebook for this process alone: what is read in it and written is not another's in between."""
+    if not os.path.isfile(office.path):
+        raise NoOffice(office.path)
+    beside.make_folder(office.path, PLACE)
+    folder = beside.open_folder(office.path, PLACE)
+    try:
+        fcntl.flock(folder, fcntl.LOCK_EX)
+        yield
+    finally:
+        os.close(folder)
+
+
+def read(office: Office, name: str, empty: Value, right: Callable[[object], bool]) -> Value:
+    """What a file holds. Raises `Trouble` where it holds another thing."""
+    try:
+        file = beside.open_file(office.path, PLACE, name, flags=os.O_RDONLY)
+    except FileNotFoundError:
+        return empty
+    place = os.path.join(beside.folder(office.path), PLACE, name)
+    with open(file, "rb") as opened:
+        try:
+            value: Value | None = json.loads(opened.read())
+        except ValueError:
+            value = None
+    if value is None or not right(value):
+        raise Trouble("is damaged: look, and move it away, or take the file of a copy", place)
+    return value
+
+
+def write(office: Office, name: str, value: object) -> None:
+    """Writes a file whole and onto the disk, or not at all."""
+    folder = beside.open_folder(office.path, PLACE)
+    try:
+        with contextlib.suppress(FileNotFoundError):  # of a command that was killed
+            os.unlink(name + NEW, dir_fd=folder)
+        file = beside.open_file(office.path, PLACE, name + NEW, flags=os.O_WRONLY | os.O_CREAT | os.O_EXCL)
+        with open(file, "wb") as opened:
+            opened.write(json.dumps(value, indent=0).encode("ascii"))
+            opened.flush()
+            os.fsync(opened.fileno())
+        os.rename(name + NEW, name, src_dir_fd=folder, dst_dir_fd=folder)
+        os.fsync(folder)
+    finally:
+        os.close(folder)
+
+
+def copy_into(office: Office, target: str) -> None:
+    """Copies the notebook, if there is one, into a new folder of that name."""
+    try:
+        folder = beside.open_folder(office.path, PLACE)
+    except FileNotFoundError:
+        return
+    place = os.path.join(target, PLACE)
+    os.mkdir(place, 0o700)
+    try:
+        fcntl.flock(folder, fcntl.LOCK_SH)
+        for name in os.listdir(folder):
+            source = beside.open_file(office.path, PLACE, name, flags=os.O_RDONLY)
+            with open(source, "rb") as opened, open(os.open(os.path.join(place, name), os.O_WRONLY | os.O_CREAT
+                                                            | os.O_EXCL, 0o600), "wb") as copy:
+                shutil.copyfileobj(opened, copy)
+                copy.flush()
+                os.fsync(copy.fileno())
+    finally:
+        os.close(folder)

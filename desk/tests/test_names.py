@@ -1,0 +1,49 @@
+"""The order of names in lists, over names as schools write them."""
+import pathlib
+import random
+import sys
+import unittest
+
+sys.path.insert(0, str(pathlib.Path(__file__).resolve().parents[1]))
+from exam_desk import names  # noqa: E402
+
+# In the order of a list: the surname is what stands before a comma, otherwise the last word.
+IN_ORDER = [
+    "<b>Bold</b>", "=1+1, Eve", "Adeyemi-Bankole, Adam", "Adeyemi‐Bankole, Amelia", "Ahmed, Adam", "Åkesson, Bo",
+    "al-Rashid, Omar", "Ander, Sönke", "Anders", "Andersson, Anna", "Anna Andersson", "Berg, Jan Å.",
+    "Jan van der Berg", "Bo Berg, Jr", "Çelik, İpek", "D'Souza, Lia", "D’Souza, Mia", "de la Cruz, Juan",
+    "Đorđević, Ana", "Ellis", "Fay Ito", "Iwu, Ike", "Ilya Łoś", "Los, Kim", "Madonna", "MÜLLER, Zoë",
+    "Muller Zoe, Ann", "Ana Nunez", "Nu\u0301n\u0303ez,  Ana", "Núñez, Ana", "O'Brien, Tim", "O’Brien, Tom",
+    "\u200fOrr, Di", "Straße, Al", "STRASSE, BO", "Þór, Jón", "van der Berg, Jan", ", Zed", "𝐙oe", "Ολγα Αλεξίου",
+    "Иванов, Пётр", "كريم، منى", "佐藤，愛",
+]
+# The letter under which a name is looked for.
+UNDER = {"van der Berg, Jan": "v", "Jan van der Berg": "b", "Madonna": "m", "Ilya Łoś": "l", "\u200fOrr, Di": "o",
+         ", Zed": "z", "كريم، منى": "ك", "Berg,": "b", ",": "", "": "", " \u00a0": ""}
+
+
+class Names(unittest.TestCase):
+    maxDiff = None
+
+    def test_order(self):
+        self.assertGreaterEqual(len(IN_ORDER), 40)
+        for seed in range(5):
+            mixed = random.Random(seed).sample(IN_ORDER, len(IN_ORDER))
+            self.assertEqual(sorted(mixed, key=lambda name: names.name_order(name, "0000001")), IN_ORDER)
+
+    def test_surname(self):
+        for name, letter in UNDER.items():
+            self.assertEqual(names.name_order(name, "0000001")[0][:1], letter, name)
+
+    def test_namesakes_by_number(self):
+        numbers = ["0000010", "0000002", "0000001"]
+        self.assertEqual(sorted(numbers, key=lambda number: names.name_order("Lin, Ada", number)), numbers[::-1])
+
+    def test_names_that_are_written_otherwise_are_looked_up_as_one(self):
+        for one, other in (("Núñez", "nunez"), ("O’Brien", "o'brien"), ("Łoś", "LOS"), ("Straße", "strasse"),
+                           ("İpek", "ipek"), ("ﬁnn", "Finn"), ("Ada\u200e Lin", "ada lin"), ("Ｌin", "lin")):
+            self.assertEqual(names.fold(one), names.fold(other))
+
+
+if __name__ == "__main__":
+    unittest.main()

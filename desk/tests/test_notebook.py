@@ -1,0 +1,219 @@
+"""What the school keeps beside its office, and the commands for it."""
+import csv
+import io
+import multiprocessing
+import os
+import pathlib
+import stat
+import sys
+import tempfile
+import unittest
+
+import sample
+
+sys.path.insert(0, str(pathlib.Path(__file__).resolve().parents[1]))
+from exam_desk import beside, copies, notebook  # noqa: E402
+from exam_desk.notebook import Desk  # noqa: E402
+from exam_desk.office import Office  # noqa: E402
+from exam_desk.trouble import Trouble  # noqa: E402
+
+HOSTILE = '=1+1 "quoted", <b>bold</b> \u202eleft \u009b2J é'
+KNOWN = {"0000001", "0000002", "0000003"}
+# A file of notes that is refused, and what is said of it.
+WRONG = {
+    "no header": ("0000001,a\n", "line 1 must be: number,text"),
+    "empty": ("", "line 1 must be: number,text"),
+    "another header": ("number,name\n", "line 1 must be: number,text"),
+    "a field too many": ("number,text\n0000001,a,b\n", "line 2: a row has a number and a text"),
+    "a field too few": ("number,text\n0000001\n", "line 2: a row has a number and a text"),
+    "an open quote": ('number,text\n0000001,"a\n', "line 2: a row has a number and a text"),
+    "no zeros": ("number,text\n0000001,a\n2,b\n", "line 3: the office has no candidate '2'"),
+    "nobody": ("number,text\n0000004,a\n", "line 2: the office has no candidate '0000004'"),
+    "too long": (f"number,text\n0000001,{'é' * 100}a\n", "line 2: a text has at most 200 bytes"),
+    "a line in a text": ('number,text\n0000001,"a\nb"\n', "line 2: a text has at most 200 bytes"),
+    "no text": (b"number,text\n0000001,\xff\n", "line 2: a text has at most 200 bytes"),
+    "two texts": ("number,text\n0000001,a\n0000001,b\n", "line 3: there is another text for 0000001"),
+}
+
+
+def add_notes(path, number, count):
+    office = Office(path, "none", None, "nobody", print)
+    for each in range(count):
+        notebook.take_notes(office, {f"{number}{each:06}": "a note"})
+
+
+class Notebook(unittest.TestCase):
+    def setUp(self):
+        folder = tempfile.TemporaryDirectory(prefix="office-test-")
+        self.addCleanup(folder.cleanup)
+        self.path = os.path.join(folder.name, "office.db")
+        pathlib.Path(self.path).write_bytes(b"rows")
+        self.office = Office(self.path, "none", None, "nobody", self.fail)
+        self.place = pathlib.Path(folder.name, "desk-office.db", "notebook")
+
+    def file(self, text):
+        path = pathlib.Path(self.path).with_name("notes.csv")
+        path.write_bytes(text.encode() if isinstance(text, str) else text)
+        return str(path)
+
+    def test_nothing_is_there_at_first(self):
+        self.assertEqual((notebook.school_name(self.office), notebook.notes(self.office)), ("", {}))
+        self.assertEqual((notebook.printed(self.office, "S1"), notebook.absent(self.office, "S1")), ({}, set()))
+        self.assertFalse(self.place.exists())
+
+    def test_notes(self):
+        text = f'\ufeffnumber,text\r\n0000001,"{HOSTILE.replace(chr(34), chr(34) * 2)}"\r\n\r\n0000002,rest breaks\r\n'
+        took = notebook.take_notes(self.office, notebook.notes_in(self.file(text), KNOWN))
+        self.assertEqual(took, (2, 0, 0, 0))
+        self.assertEqual(notebook.notes(self.office), {"0000001": HOSTILE, "0000002": "rest breaks"})
+        took = notebook.take_notes(self.office, {"0000001": "scribe", "0000002": "rest breaks", "0000003": ""})
+        self.assertEqual(took, (0, 1, 0, 2))
+        self.assertEqual(notebook.take_notes(self.office, {"0000001": ""}), (0, 0, 1, 0))
+        self.assertEqual(notebook.notes(self.office), {"0000002": "rest breaks"})
+
+    def test_wrong_files(self):
+        notebook.take_notes(self.office, {"0000002": "stays"})
+        for what, (text, said) in WRONG.items():
+            with self.subTest(what), self.assertRaises(Trouble) as found:
+                notebook.take_notes(self.office, notebook.notes_in(self.file(text), KNOWN))
+            self.assertIn(said, str(found.exception))
+        self.assertEqual(notebook.notes(self.office), {"0000002": "stays"})
+
+    def test_school_name(self):
+        notebook.set_school_name(self.office, "École <b>Hill</b>")
+        for wrong in ("a\nb", "é" * 41, "\udcff"):
+            with self.assertRaises(Trouble):
+                notebook.set_school_name(self.office, wrong)
+        self.assertEqual(notebook.school_name(self.office), "École <b>Hill</b>")
+        notebook.set_school_name(self.office, "")
+        self.assertEqual(notebook.school_name(self.office), "")
+
+    def test_printed(self):
+        desks = {"0000001": Desk("A", 1), "0000002": Desk("A", 2), "0000003": Desk("B", 1)}
+        notebook.keep_printed(self.office, "S1", desks)
+        self.assertEqual((notebook.printed(self.office, "S1"), notebook.printed(self.office, "S2")), (desks, {}))
+        now = {"0000002": Desk("A", 1), "0000003": Desk("B", 1), "0000004": Desk("C", 1)}
+        self.assertEqual(notebook.moved(desks, now), ["0000001", "0000002", "0000004"])
+        self.assertEqual(notebook.out_of_date(desks, now), ["A", "C"])
+        self.assertEqual((notebook.moved(desks, desks), notebook.out_of_date(desks, desks)), ([], []))
+
+    def test_absent(self):
+        self.assertEqual(notebook.keep_absent(self.office, "S1", ["0000002", "0000001"], []), {"0000001", "0000002"})
+        self.assertEqual(notebook.keep_absent(self.office, "S1", ["0000003"], ["0000001"]), {"0000002", "0000003"})
+        self.assertEqual((notebook.absent(self.office, "S1"), notebook.absent(self.office, "S2")),
+                         ({"0000002", "0000003"}, set()))
+
+    def test_for_the_user_of_the_office_alone(self):
+        notebook.take_notes(self.office, {"0000001": "a"})
+        notebook.set_school_name(self.office, "Hill")
+        for path in (self.place, *self.place.iterdir()):
+            self.assertEqual(stat.S_IMODE(path.stat().st_mode), 0o700 if path.is_dir() else 0o600, path)
+        self.assertEqual(sorted(os.listdir(self.place)), ["notes.json", "school.json"])
+
+    def test_links_and_damage(self):
+        notebook.set_school_name(self.office, "Hill")
+        victim = pathlib.Path(self.path).with_name("victim")
+        victim.write_text('"stranger"')
+        for text in (b"", b"{", b"[]", b"null", b"\xff", b'{"0000001": 1}'):
+            (self.place / "notes.json").write_bytes(text)
+            with self.assertRaisesRegex(Trouble, "is damaged"):
+                notebook.notes(self.office)
+        for name in ("school.json", "school.json.new"):
+            (self.place / name).unlink(missing_ok=True)
+            os.symlink(victim, self.place / name)
+            if not name.endswith(".new"):
+                self.assertRaises(beside.Strange, notebook.school_name, self.office)
+        notebook.set_school_name(self.office, "Dale")
+        self.assertEqual((notebook.school_name(self.office), victim.read_text()), ("Dale", '"stranger"'))
+
+    def test_no_office(self):
+        os.remove(self.path)
+        with self.assertRaisesRegex(Trouble, "there is no office"):
+            notebook.set_school_name(self.office, "Hill")
+        self.assertFalse(self.place.parent.exists())
+
+    def test_two_at_one_time(self):
+        workers = [multiprocessing.Process(target=add_notes, args=(self.path, number, 40)) for number in (1, 2, 3)]
+        for worker in workers:
+            worker.start()
+        for worker in workers:
+            worker.join()
+        self.assertEqual(len(notebook.notes(self.office)), 120)
+
+    def test_copies_have_it(self):
+        plain = copies.keep_copy(self.office, "withdraw")
+        self.assertEqual(os.listdir(plain), ["office.db"])
+        notebook.take_notes(self.office, {"0000001": HOSTILE})
+        copy = pathlib.Path(copies.keep_copy(self.office, "withdraw"), "notebook")
+        self.assertEqual({path.name: path.read_bytes() for path in copy.iterdir()},
+                         {path.name: path.read_bytes() for path in self.place.iterdir()})
+        self.assertEqual(stat.S_IMODE((copy / "notes.json").stat().st_mode), 0o600)
+
+
+class Commands(sample.SampleSchool):
+    def test_notes(self):
+        self.write("notes.csv", "number,text\n0001051,rest breaks\n0001000,a \u202escribe\n")
+        self.assertEqual(self.office("notes", "notes.csv"), "added 2 changed 0 removed 0 same 0\n")
+        self.assertEqual(self.office("notes"), "0001000 Ada Lin: a ?scribe\n0001051 Di Berg: rest breaks\n")
+        self.write("notes.csv", "number,text\n9999999,x\n")
+        self.assertIn("line 2: the office has no candidate '9999999'", self.refused("notes", "notes.csv"))
+        self.assertFalse(os.path.exists(os.path.join(self.desk, "log")))
+
+    def test_school(self):
+        self.assertEqual((self.office("school"), self.office("school", "Hill"), self.office("school")),
+                         ("no name\n", "Hill\n", "Hill\n"))
+
+    def board(self):
+        return list(csv.reader(io.StringIO(self.office("absent", "MON-AM"))))
+
+    def test_absent(self):
+        lines = self.board()
+        self.assertEqual(lines[0], ["number", "paper", "attendance"])
+        self.assertEqual({line[2] for line in lines[1:]}, {"present"})
+        members = [line for line in self.office("export", "MON-AM").splitlines()[1:]]
+        self.assertEqual(sorted((line.split(",")[1], line.split(",")[2]) for line in members),
+                         sorted((line[0], line[1]) for line in lines[1:]))
+        self.assertEqual(self.office("absent", "MON-AM", "0001051"), f"1 candidate absent of {len(members)}\n")
+        self.assertEqual(self.office("absent", "MON-AM", "-", stdin="0001000\n0001017, 0001051\n"),
+                         f"3 candidates absent of {len(members)}\n")
+        self.office("absent", "MON-AM", "--there", "0001000")
+        self.assertEqual({line[0] for line in self.board() if line[2] == "absent"}, {"0001017", "0001051"})
+        self.assertIn("nothing is noted: 1051 sit nothing in MON-AM", self.refused("absent", "MON-AM", "0001000", "1051"))
+        self.assertEqual(len([line for line in self.board() if line[2] == "absent"]), 2)
+        self.assertIn("there is no session MON", self.refused("absent", "MON"))
+
+    def test_printed(self):
+        self.assertIn("nobody noted", self.refused("printed", "MON-AM", "--look"))
+        self.assertRegex(self.office("printed", "MON-AM"), r"^\d+ desks noted\n$")
+        self.assertEqual(self.office("printed", "MON-AM", "--look"), "the papers are up to date\n")
+        seats = [line.split(",") for line in self.office("export", "MON-AM").splitlines()[1:]]
+        number, paper, hall = next((seat[1], seat[2], seat[3]) for seat in seats if seat[4] == "1")
+        self.office("withdraw", number, paper)
+        lines = self.office("printed", "MON-AM", "--look").splitlines()
+        self.assertTrue(any(line.startswith(number) and line.endswith(f"was {hall} 1") for line in lines), lines)
+        self.assertIn(hall, lines[-1].removeprefix("to print again: ").split(", "))
+        self.assertRegex(self.office("printed", "MON-AM"), r"^\d+ desks noted, [1-9]\d* other than before\n$")
+        self.assertEqual(self.office("printed", "MON-AM", "--look"), "the papers are up to date\n")
+
+    def test_on_papers(self):
+        """Notes stand on the invigilators' sheet and the slip alone; whose desk is another sees which it was."""
+        self.office("school", "Hill & Co")
+        self.write("notes.csv", "number,text\n0001051,<b>rest</b> breaks\n")
+        self.office("notes", "notes.csv")
+        for words, shown in ((["doors", "MON-AM", "PC1"], True), (["slips", "--only", "0001051"], True),
+                             (["board", "MON-AM"], False), (["poster", "MON-AM"], False), (["cards", "MON-AM"], False)):
+            text = self.office(*words)
+            self.assertEqual("&lt;b&gt;rest&lt;/b&gt; breaks" in text, shown, words)
+            self.assertNotIn("<b>rest", text)
+            self.assertEqual("Hill &amp; Co" in text, words[0] != "cards", words)
+        self.office("printed", "MON-AM")
+        self.assertNotIn("<small>was", self.office("doors", "MON-AM"))
+        seats = [line.split(",") for line in self.office("export", "MON-AM").splitlines()[1:]]
+        number, paper = next((seat[1], seat[2]) for seat in seats if seat[3:] == ["GYM", "1"])
+        self.office("withdraw", number, paper)
+        self.assertIn("<td class=n>1 <small>was 2</small></td>", self.office("doors", "MON-AM", "GYM"))
+        self.assertIn("<td class=n>1 <small>was 2</small></td>", self.office("board", "MON-AM"))
+
+
+if __name__ == "__main__":
+    unittest.main()

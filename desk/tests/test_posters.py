@@ -1,0 +1,117 @@
+"""Posters, cards and charts over the sample school, and over one with hostile names."""
+import contextlib
+import os
+import re
+import sqlite3
+import unittest
+
+import sample
+import test_paper
+
+from exam_desk.notebook import Rows  # beside the tests' folder
+from exam_desk.sheets import chart
+
+PRIVATE = ["extra time", "reader", "step-free", "small-room", "VMGNZGEDP9"]  # arrangements, a code
+
+
+class Numbers(unittest.TestCase):
+    def test_how_the_numbers_run(self):
+        self.assertEqual(chart.numbered(5, Rows(3, "across")), [[1, 2, 3], [4, 5, None]])
+        self.assertEqual(chart.numbered(5, Rows(3, "across-and-back")), [[1, 2, 3], [None, 5, 4]])
+        self.assertEqual(chart.numbered(5, Rows(3, "down")), [[1, 3, 5], [2, 4, None]])
+        self.assertEqual(chart.numbered(5, Rows(3, "down-and-up")), [[1, 4, 5], [2, 3, None]])
+        self.assertEqual(chart.numbered(2, Rows(3, "down")), [[1, 2, None]])
+        self.assertEqual(chart.numbered(1, Rows(1, "across-and-back")), [[1]])
+
+    def test_each_desk_stands_once(self):
+        for running in ("across", "across-and-back", "down", "down-and-up"):
+            for desks in range(1, 40):
+                for across in range(1, 9):
+                    found = [number for row in chart.numbered(desks, Rows(across, running)) for number in row if number]
+                    self.assertEqual(sorted(found), list(range(1, desks + 1)))
+
+
+class Posters(sample.SampleSchool):
+    def seats(self, session="MON-AM"):
+        rows = [line.split(",") for line in self.office("export", session).splitlines()[1:]]
+        return {row[1]: (row[3], row[4]) for row in rows if row[3] != "-"}
+
+    def change(self, statement, values=()):
+        with contextlib.closing(sqlite3.connect(self.path)) as file:
+            file.execute(statement, values)
+            file.commit()
+
+    def names(self):
+        with contextlib.closing(sqlite3.connect(self.path)) as file:
+            return {f"{number:07}": name for number, name in file.execute("SELECT number, name FROM candidate")}
+
+    def page(self, *words):
+        text = self.office(*words)
+        parsed = test_paper.Cells(text)
+        self.assertEqual(parsed.strange - {"b"}, set())
+        self.assertIn("size: A4", text)
+        for word in PRIVATE:
+            self.assertNotIn(word, text)
+        return text, parsed.rows
+
+    def test_poster(self):
+        self.office("school", "Hill <School>")
+        text, _ = self.page("poster", "MON-AM")
+        seats, names = self.seats(), self.names()
+        self.assertEqual(sorted(re.findall(r"<td><bdi>(.*?)</bdi></td><td class=n>(\d+)</td>", text)),
+                         sorted((names[number], desk) for number, (_, desk) in seats.items()))
+        self.assertEqual(text.count("<div class=sheet>"), len({hall for hall, _ in seats.values()}))
+        self.assertNotRegex(text, r"\b0001\d{3}\b")
+        self.assertIn("Hill &lt;School&gt;", text)
+        self.assertIn("there is no session S9", self.refused("poster", "S9"))
+
+    def test_cards(self):
+        text, _ = self.page("cards", "MON-AM")
+        seats, names = self.seats(), self.names()
+        found = re.findall(r"<div class=card><b>(\d+)</b><i><bdi>(.*?)</bdi></i><p>(\d{7})</p>", text)
+        self.assertEqual({number: (names[number], desk) for desk, _, number in found},
+                         {number: (names[number], desk) for number, (_, desk) in seats.items()})
+        self.assertEqual((len(found), text.count("<div class=sheet>")), (len(seats), -(-len(seats) // 10)))
+        self.assertNotRegex(text, r"\d\d:\d\d[^,]{0,3}\d\d:\d\d")  # a finish would show who has extra time
+        one = self.page("cards", "MON-AM", "PC1")[0]
+        self.assertEqual(one.count("<div class=card>"), sum(hall == "PC1" for hall, _ in seats.values()))
+        self.assertIn("nobody sits in X", self.refused("cards", "MON-AM", "X"))
+
+    def test_chart(self):
+        self.assertIn("say once how the desks stand in AULA", self.refused("chart", "MON-AM", "AULA"))
+        self.assertEqual(self.office("rows"), "nothing is kept\n")
+        self.assertEqual(self.office("rows", "AULA", "4", "down"), "AULA: rows of 4, down\n")
+        text, rows = self.page("chart", "MON-AM", "AULA")
+        seats, names = self.seats(), self.names()
+        for number, (hall, desk) in seats.items():
+            if hall == "AULA":
+                self.assertIn(f"<td><b>{desk}</b><bdi>{names[number]}</bdi> {number} ", text)
+        depth = len(rows)
+        self.assertTrue(rows[1][0].startswith("2"), rows)
+        self.assertEqual(rows[0][1][:len(str(depth + 1))], str(depth + 1))
+        for words in (["X", "4"], ["AULA"], ["AULA", "0"], ["AULA", "101"]):
+            self.refused("rows", *words)
+        self.assertEqual(self.run_office("rows", "AULA", "4", "sideways").returncode, 2)
+
+    def test_hostile_names(self):
+        for place, name in enumerate(test_paper.HOSTILE):
+            self.change("UPDATE candidate SET name = ? WHERE number = ?", (name, 1000 + 17 * place))
+        self.change("UPDATE hall SET title = ? WHERE code = 'AULA'", ("<b>A</b> \u202ex \u009b",))
+        for hall in ("AULA", "GYM", "LIB", "PC1", "R12", "R21"):
+            self.run_office("rows", hall, "5")
+        for command in ("poster", "cards", "chart"):
+            text, _ = self.page(command, "MON-AM")
+            for sign in ("<script>", "\u202e", "\u009b", "\u2028", "\u0085", "<b>A</b>"):
+                self.assertNotIn(sign, text, command)
+            self.assertIn("&lt;script&gt;", text)
+
+    def test_nothing_of_it_is_a_change(self):
+        before = {name: os.stat(os.path.join(self.folder, name)).st_mtime_ns for name in ("office.db", "office.db-wal")
+                  if os.path.exists(os.path.join(self.folder, name))}
+        self.office("poster", "MON-AM")
+        self.assertEqual(before, {name: os.stat(os.path.join(self.folder, name)).st_mtime_ns for name in before})
+        self.assertFalse(os.path.exists(os.path.join(self.desk, "notebook")))
+
+
+if __name__ == "__main__":
+    unittest.main()
