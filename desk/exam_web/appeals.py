@@ -2,14 +2,13 @@
 from __future__ import annotations
 
 import sqlite3
-from typing import NoReturn
 
-from flask import Blueprint, abort, render_template, request
+from flask import Blueprint, render_template, request
 
 from exam_desk import appeals, changing, facts, lastdays
 from exam_desk.consequences import kind_of
 from exam_web import plans, proposals
-from exam_web.desk import desk, view
+from exam_web.desk import desk, missing, view
 from exam_web.wording import days_until
 
 pages = Blueprint("appeals", __name__)
@@ -17,10 +16,6 @@ MOST_SHOWN = 300
 ALL = ("SELECT appeal.*, day, session.start AS start, name FROM appeal JOIN session ON session.code = session "
        "JOIN candidate ON candidate.number = appeal.number ")
 ORDER = "ORDER BY day, session.start, lodged, appeal.number"
-
-
-def missing() -> NoReturn:
-    abort(404)
 
 
 @pages.get("/appeals")

@@ -2,21 +2,16 @@
 from __future__ import annotations
 
 import sqlite3
-from typing import NoReturn
 
-from flask import Blueprint, abort, redirect, render_template, request, url_for
+from flask import Blueprint, redirect, render_template, request, url_for
 from werkzeug.wrappers import Response
 
-from exam_desk import appeals, facts, lists
+from exam_desk import appeals, facts, names
 from exam_web import printing
-from exam_web.desk import View, view
+from exam_web.desk import View, missing, view
 
 pages = Blueprint("candidates", __name__)
 MOST_FOUND, MOST_ASKED = 100, 80
-
-
-def missing() -> NoReturn:
-    abort(404)
 
 
 @pages.get("/candidates")
@@ -36,14 +31,14 @@ def search(asked: str) -> list[tuple[int, str]]:
     if asked.isascii() and asked.isdigit():
         end = asked.lstrip("0") or "0"
         return [(number, name) for number, name, _ in people if str(number).endswith(end)]
-    words = lists.fold(asked).split()
+    words = names.fold(asked).split()
     return [(number, name) for number, name, letters in people if all(word in letters for word in words)]
 
 
 def folded(found: View) -> list[tuple[int, str, str]]:
     """All candidates in the order of their names, each with the letters that the search compares."""
-    people = [(number, name, lists.fold(name)) for number, name in found.rows("SELECT number, name FROM candidate")]
-    return sorted(people, key=lambda each: lists.name_order(each[1], f"{each[0]:07}"))
+    people = [(number, name, names.fold(name)) for number, name in found.rows("SELECT number, name FROM candidate")]
+    return sorted(people, key=lambda each: names.name_order(each[1], f"{each[0]:07}"))
 
 
 def candidate_row(number: int) -> sqlite3.Row:

@@ -8,9 +8,9 @@ import sqlite3
 import threading
 import time
 from collections.abc import Callable, Iterator, Sequence
-from typing import Any, TypeVar
+from typing import Any, NoReturn, TypeVar
 
-from flask import current_app, g
+from flask import abort, current_app, g
 
 from exam_desk import changing, states
 from exam_desk.office import Office
@@ -175,6 +175,11 @@ class Desk:
         self.reader.join()
         if self.held:
             self.held.close()
+
+
+def missing() -> NoReturn:
+    """Answers that what is asked for is not there."""
+    abort(404)
 
 
 def desk() -> Desk:

@@ -6,7 +6,6 @@ import os
 import pathlib
 import sys
 from contextlib import closing
-from typing import NoReturn
 
 from flask import Blueprint, Response, abort, g, redirect, render_template, request, url_for
 from werkzeug.wrappers import Response as Answer
@@ -15,17 +14,13 @@ from exam_desk import changing, copies, kept, logbook, private, turns, undo
 from exam_desk.consequences import kind_of
 from exam_desk.trouble import Stale
 from exam_web import downloads, effects, proposals
-from exam_web.desk import View, desk, office, view
+from exam_web.desk import View, desk, missing, office, view
 from exam_web.wording import shown, text
 
 pages = Blueprint("office", __name__)
 MOST_LINES = 200  # of the log
 KEEP = str(pathlib.Path(__file__).resolve().parent.parent / "keep")  # the command
 LOWEST_PORT, HIGHEST_PORT = 1024, 65535
-
-
-def missing() -> NoReturn:
-    abort(404)
 
 
 def copy_key(path: str) -> str:

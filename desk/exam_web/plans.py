@@ -4,9 +4,8 @@ from __future__ import annotations
 import re
 import sqlite3
 from collections.abc import Callable
-from typing import NoReturn
 
-from flask import Blueprint, abort, g, request
+from flask import Blueprint, g, request
 from werkzeug.datastructures import MultiDict
 from werkzeug.wrappers import Response
 
@@ -14,7 +13,7 @@ from exam_desk import coding, files, lodging, mistakes
 from exam_desk.changing import Step
 from exam_desk.words import FEATURES, clock
 from exam_web import proposals, session, uploads
-from exam_web.desk import view
+from exam_web.desk import missing, view
 from exam_web.proposals import Page, Plan, Wrong
 from exam_web.wording import text
 
@@ -26,10 +25,6 @@ REF = re.compile("[A-Z0-9]{1,16}")
 OUTCOMES = {"granted": ("Grant appeal {ref} of {name}", "Grant"),
             "standing": ("Grant appeal {ref} of {name}, for later sessions too", "Grant, standing"),
             "refused": ("Refuse appeal {ref} of {name}", "Refuse")}
-
-
-def missing() -> NoReturn:
-    abort(404)
 
 
 def command(word: str, *values: str) -> Step:

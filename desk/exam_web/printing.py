@@ -9,12 +9,12 @@ from typing import NamedTuple
 from flask import g
 
 from exam_desk.reading import Reading
-from exam_desk.sheets import board, counts, doors, slips
+from exam_desk.sheets import board, cards, counts, doors, poster, slips
 from exam_web import remembered
 from exam_web.desk import desk, view
 
-SHEETS = {"doors": "Door sheets to sign", "slips": "Slips for candidates", "board": "Notice board by name",
-          "counts": "Copies of each paper"}
+SHEETS = {"doors": "Invigilators' sheets to sign", "poster": "Posters for doors", "cards": "Desk cards",
+          "slips": "Slips for candidates", "board": "Notice board by name", "counts": "Copies of each paper"}
 PRINTED = "printed.json"
 
 
@@ -27,6 +27,7 @@ class State(NamedTuple):
 def made(reading: Reading, code: str, sheet: str) -> str:
     makers: dict[str, Callable[[Reading, str], str]] = {
         "doors": doors.page, "board": board.page, "counts": counts.page,
+        "poster": poster.page, "cards": cards.page,
         "slips": lambda reading, code: slips.page(reading, slips.Choice(sessions=[code], desks=True))}
     return styled(makers[sheet](reading, code))
 

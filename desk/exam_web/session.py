@@ -3,16 +3,15 @@ from __future__ import annotations
 
 import sqlite3
 from collections import Counter
-from typing import NoReturn
 
-from flask import Blueprint, abort, g, redirect, render_template, request, url_for
+from flask import Blueprint, g, redirect, render_template, request, url_for
 from werkzeug.wrappers import Response
 
 from exam_desk import appeals, facts, lastdays
 from exam_desk.facts import Opening
 from exam_desk.reading import Member
 from exam_web import counting, downloads, pictures, printing, shortages
-from exam_web.desk import view
+from exam_web.desk import missing, view
 from exam_web.wording import text
 
 pages = Blueprint("session", __name__)
@@ -21,10 +20,6 @@ MOST_PEOPLE = 100  # with two papers at once, or appeals, that the page lists
 
 def sums_of(code: str) -> counting.Sums:
     return counting.sums(view()).get(code) or missing()
-
-
-def missing() -> NoReturn:
-    abort(404)
 
 
 def openings(code: str) -> list[Opening]:
