@@ -20,14 +20,25 @@ VALUES = {"number": "1051", "code": "MON-AM", "hall": "PC1", "ref": "D1", "key":
           "kind": "entries", "filename": "desk.css"}
 SCREENS = ["/", "/sessions/MON-AM", "/sessions/MON-AM/halls/PC1", "/candidates", "/candidates/1051", "/appeals", "/clashes", "/files",
            "/office"]
-TABLE = """
-import json, sys
+MAKE = """
+import datetime, json, sys
 sys.path.insert(0, sys.argv[1])
 from exam_desk.office import Office
 from exam_web import application, desk, guard
-import datetime
 app = application.make(desk.Desk(Office('none.db', 'none', datetime.date.today, 'x'), '127.0.0.1:1', '/x', False))
+"""
+TABLE = MAKE + """
 print(json.dumps([[rule.rule, sorted(rule.methods - {'HEAD', 'OPTIONS'})] for rule in app.url_map.iter_rules()]))
+"""
+IDLE = MAKE + """
+visits = app.extensions['guard'].visits
+visits[guard.digest('secret')] = visit = guard.Visit('ab')
+client = app.test_client()
+def ask():
+    return client.get('/office', headers={'Cookie': 'desk=secret'}).headers['Location']
+first = ask()
+visit.seen -= 8 * 3600 + 1
+print(first, ask(), len(visits))
 """
 
 
@@ -225,6 +236,13 @@ class TestProcess(DeskSchool):
                                 f"Cookie: {self.browser.cookie}\r\nOrigin: http://127.0.0.1:{self.browser.port}\r\n"
                                 "Content-Length: 99999999999\r\n\r\n").encode())
             self.assertIn(b" 413 ", connection.recv(200))
+
+
+@unittest.skipUnless(HAS_FLASK, "Flask or waitress is missing")
+class TestIdle(unittest.TestCase):
+    def test_a_visit_ends_after_eight_hours_without_a_click(self):
+        done = subprocess.run([PYTHON, "-c", IDLE, DESK], capture_output=True, text=True, check=True)
+        self.assertEqual(done.stdout.split(), ["/", "/enter", "0"])
 
 
 @unittest.skipUnless(HAS_FLASK, "Flask or waitress is missing")
