@@ -34,8 +34,9 @@ IDLE = MAKE + """
 visits = app.extensions['guard'].visits
 visits[guard.digest('secret')] = visit = guard.Visit('ab')
 client = app.test_client()
+client.set_cookie('localhost', 'desk', 'secret')
 def ask():
-    return client.get('/office', headers={'Cookie': 'desk=secret'}).headers['Location']
+    return client.get('/office').headers['Location']
 first = ask()
 visit.seen -= 8 * 3600 + 1
 print(first, ask(), len(visits))
