@@ -1,4 +1,4 @@
-"""Files at the desk in a browser: uploads of every kind, their mistakes, corrections, and the import that is rehearsed."""
+"""Files at the desk in a browser: uploads of every kind, their mistakes, corrections, and the rehearsed import."""
 import html
 import io
 import json
@@ -72,7 +72,8 @@ class TestFiles(Uploads):
         self.assertEqual(self.rows("SELECT * FROM opening ORDER BY 1, 2"), before)
 
     def test_a_workbook(self):
-        page = self.upload(("students.xlsx", workbook({"Candidates": [["number", "name", "code"], [12001, "Nadia", "K4WBN7RTQD"],
+        page = self.upload(("students.xlsx", workbook({"Candidates": [["number", "name", "code"],
+                                                                      [12001, "Nadia", "K4WBN7RTQD"],
                                                                       [12008, "Tom", "K4WBN7RTQE"]]})))
         text = self.browser.words(page)
         self.assertIn("No mistake", text)
@@ -84,7 +85,8 @@ class TestFiles(Uploads):
         self.assertIn("Sessions!B2", self.browser.words(page))
         self.assertIn("MISTAKE", self.browser.words(page))
         self.assertNotIn("/propose/files", self.browser.get(page))
-        page = self.upload(("students.xlsx", workbook({"Sessions": [["session", "date", "start"], ["X-1", "01/06/2027", "9:00"]]})),
+        page = self.upload(("students.xlsx", workbook({"Sessions": [["session", "date", "start"],
+                                                                    ["X-1", "01/06/2027", "9:00"]]})),
                            dates="day-first")
         self.assertIn("X-1,2027-06-01,09:00", self.browser.ask("GET", page + "/sessions.csv")[1].replace('"', ""))
 
@@ -103,7 +105,8 @@ class TestFiles(Uploads):
         self.assertEqual(self.upload(), "/files")
 
     def test_broken_files(self):
-        for name, content in (("a.xlsx", b"PK"), ("a.ods", b"\x00" * 99), ("x.csv", b"\xff\xfe\x00"), ("entries.csv", b""),
+        for name, content in (("a.xlsx", b"PK"), ("a.ods", b"\x00" * 99), ("x.csv", b"\xff\xfe\x00"),
+                              ("entries.csv", b""),
                               ("<script>.csv", b"a"), ("entries.csv", b'number,paper\n"0001051'), ("n.txt", b"hello")):
             page = self.upload((name, content))
             text = self.browser.get(page)
@@ -117,7 +120,8 @@ class TestFiles(Uploads):
             self.assertEqual(answer.headers["Content-Type"], "application/zip")
             self.assertIn("attachment", answer.headers["Content-Disposition"])
             self.assertTrue(name)
-        self.assertEqual(os.listdir(os.path.join(self.desk, "tmp")), [name for name in os.listdir(os.path.join(self.desk, "tmp"))
+        self.assertEqual(os.listdir(os.path.join(self.desk, "tmp")),
+                         [name for name in os.listdir(os.path.join(self.desk, "tmp"))
                                                                       if name.startswith("office-copy-")])
 
 
@@ -156,7 +160,8 @@ class TestTexts(unittest.TestCase):
         for path in [*TEMPLATES.glob("templates/*.html"), *TEMPLATES.glob("*.py")]:
             text = path.read_text("utf-8")
             called = r"\b_" if path.suffix == ".html" else r"\btext"
-            used |= {found[1:-1] for found in re.findall(called + r"""\(\s*("(?:[^"\\]|\\.)*"|'(?:[^'\\]|\\.)*')""", text)}
+            used |= {found[1:-1] for found in re.findall(called + r"""\(\s*("(?:[^"\\]|\\.)*"|'(?:[^'\\]|\\.)*')""",
+                                                         text)}
             for pair in re.findall(r"""\bmany\([^"]*?("(?:[^"\\]|\\.)*"),\s*("(?:[^"\\]|\\.)*")""", text):
                 used |= {each[1:-1] for each in pair}
         self.assertGreater(len(used), 300)
@@ -170,7 +175,8 @@ class TestTexts(unittest.TestCase):
 
 class TestGerman(DeskSchool):
     def test_every_page(self):
-        for path, words in (("/", "Zu tun"), ("/sessions/MON-AM", "Räume"), ("/candidates/1051", "Prüfungsplan"), ("/files", "Dateien"),
+        for path, words in (("/", "Zu tun"), ("/sessions/MON-AM", "Räume"), ("/candidates/1051", "Prüfungsplan"),
+                            ("/files", "Dateien"),
                             ("/nothing", "Nicht hier"), ("/office", "Protokoll")):
             answer, text = self.browser.ask("GET", path, headers={"Accept-Language": "de-AT,de;q=0.9,en;q=0.5"})
             self.assertIn(words, html.unescape(text))
@@ -182,7 +188,8 @@ def workbook(sheets):
     script = ("import io, json, openpyxl, sys\nbook = openpyxl.Workbook()\nbook.remove(book.active)\n"
               "for name, rows in json.load(sys.stdin).items():\n    sheet = book.create_sheet(name)\n"
               "    for row in rows:\n        sheet.append(row)\nbook.save(sys.stdout.buffer)")
-    return subprocess.run([PYTHON, "-c", script], input=json.dumps(sheets).encode(), capture_output=True, check=True).stdout
+    return subprocess.run([PYTHON, "-c", script], input=json.dumps(sheets).encode(), capture_output=True,
+                          check=True).stdout
 
 
 if __name__ == "__main__":

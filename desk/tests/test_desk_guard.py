@@ -16,9 +16,11 @@ from desk_client import HAS_FLASK, MARK, PYTHON, DeskSchool
 from sample import DESK
 
 OPEN = {"/enter", "/static/desk.css"}  # without a visit
-VALUES = {"number": "1051", "code": "MON-AM", "hall": "PC1", "ref": "D1", "key": "nothing", "what": "withdraw", "sheet": "doors",
+VALUES = {"number": "1051", "code": "MON-AM", "hall": "PC1", "ref": "D1", "key": "nothing", "what": "withdraw",
+          "sheet": "doors",
           "kind": "entries", "filename": "desk.css"}
-SCREENS = ["/", "/sessions/MON-AM", "/sessions/MON-AM/halls/PC1", "/candidates", "/candidates/1051", "/appeals", "/clashes", "/files",
+SCREENS = ["/", "/sessions/MON-AM", "/sessions/MON-AM/halls/PC1", "/candidates", "/candidates/1051", "/appeals",
+           "/clashes", "/files",
            "/office"]
 MAKE = """
 import datetime, json, sys
@@ -63,14 +65,19 @@ class TestRoutes(DeskSchool):
                 with self.subTest(path=path, method=method):
                     if not is_open:
                         answer, text = self.browser.ask(method, path, body, {"Cookie": None})
-                        self.assertEqual((answer.status, answer.headers["Location"]), (302, self.browser.prefix + "/enter"))
+                        self.assertEqual((answer.status, answer.headers["Location"]),
+                                         (302, self.browser.prefix + "/enter"))
                         self.assertNotIn("Di Berg", text)
-                    self.assertEqual(self.browser.ask(method, path, body, {"Sec-Fetch-Site": "cross-site"})[0].status, 403)
-                    self.assertEqual(self.browser.ask(method, path, body, {"Sec-Fetch-Site": "same-site"})[0].status, 403)
+                    self.assertEqual(self.browser.ask(method, path, body, {"Sec-Fetch-Site": "cross-site"})[0].status,
+                                     403)
+                    self.assertEqual(self.browser.ask(method, path, body, {"Sec-Fetch-Site": "same-site"})[0].status,
+                                     403)
                     self.assertEqual(self.browser.ask(method, path, body, {"Host": "evil.example"})[0].status, 421)
                     if method == "POST":
-                        for origin in (None, "null", "http://evil.example", f"http://127.0.0.1:{self.browser.port + 1}"):
-                            self.assertEqual(self.browser.ask(method, path, body, {"Origin": origin})[0].status, 403, origin)
+                        for origin in (None, "null", "http://evil.example",
+                                       f"http://127.0.0.1:{self.browser.port + 1}"):
+                            self.assertEqual(self.browser.ask(method, path, body, {"Origin": origin})[0].status, 403,
+                                             origin)
                         for wrong in ("", "mark=", "mark=" + "x" * 32) if not is_open else ():
                             self.assertEqual(self.browser.ask(method, path, wrong)[0].status, 403)
             for method in ("PUT", "DELETE", "PATCH", "OPTIONS", "TRACE"):
@@ -151,7 +158,8 @@ class TestPages(DeskSchool):
 
     def test_nothing_inline(self):
         for path in SCREENS:
-            self.assertNotRegex(self.browser.get(path), r"<script(?! src=)|<style|\sstyle=|\son[a-z]+=\"|javascript:", path)
+            self.assertNotRegex(self.browser.get(path), r"<script(?! src=)|<style|\sstyle=|\son[a-z]+=\"|javascript:",
+                                path)
 
     def test_a_sheet_brings_its_own_style_alone(self):
         answer, text = self.browser.ask("GET", "/sessions/MON-AM/print/doors")
@@ -159,15 +167,19 @@ class TestPages(DeskSchool):
         self.assertEqual(text.count("<style"), 1)
 
     def test_hostile_texts(self):
-        names = ['<script>alert("x")</script>', '"><img src=x onerror=alert(1)>', "Ana \u202egnorts\u202c Silva", "{{ 7 * 7 }}",
+        names = ['<script>alert("x")</script>', '"><img src=x onerror=alert(1)>', "Ana \u202egnorts\u202c Silva",
+                 "{{ 7 * 7 }}",
                  "=HYPERLINK(\"http://x\",\"y\")", "a'b\"c", "\u2066x"]
-        self.office("import", "candidates", self.write("candidates.csv", 'number,name,code\n' + "".join(
-            f'000105{place},"{name.replace(chr(34), chr(34) * 2)}",HOSTILE{place}X9\n' for place, name in enumerate(names))))
-        self.office("import", "halls", self.write("halls.csv", 'hall,title,features\nPC1,<script>1</script>,step-free+screen+computer\n'))
+        rows = "".join(f'000105{place},"{name.replace(chr(34), chr(34) * 2)}",HOSTILE{place}X9\n'
+                       for place, name in enumerate(names))
+        self.office("import", "candidates", self.write("candidates.csv", "number,name,code\n" + rows))
+        hall = "hall,title,features\nPC1,<script>1</script>,step-free+screen+computer\n"
+        self.office("import", "halls", self.write("halls.csv", hall))
         self.office("import", "entries", self.write("entries.csv", "number,paper\n" + "".join(
             f"000105{place},CS-1\n" for place in range(len(names)))))
         self.office("lodge", "0001050", "MON-AM", "arrangement", "quiet", "0", "<b onclick=1>\u202e</b>")
-        for path in (*SCREENS, *(f"/candidates/105{place}" for place in range(len(names))), "/candidates?q=%3Cscript%3E+nobody",
+        for path in (*SCREENS, *(f"/candidates/105{place}" for place in range(len(names))),
+                     "/candidates?q=%3Cscript%3E+nobody",
                      "/appeals/1050/D1", "/appeals/1050/D1/if-granted", "/sessions/MON-AM/print/board"):
             text = self.browser.get(path)
             self.assertNotRegex(text, r"<script(?! src=)|<img|<b on|\u202e|\u2066", path)
