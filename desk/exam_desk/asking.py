@@ -1,4 +1,4 @@
-"""The client of all the desk: it sends nothing, no access code above all, to another process than the one that it means.
+"""The client of all the desk: it sends nothing, no access code above all, to a process that is not the one it means.
 
 A port is anybody's as soon as its owner is gone: another user of the machine can take it between two requests. A look
 at who listens does not help before the connection: it says nothing of who is there when the connection comes. So who

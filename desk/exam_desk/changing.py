@@ -16,7 +16,7 @@ from collections.abc import Callable, Iterator, Sequence
 from dataclasses import dataclass
 from typing import NamedTuple
 
-from exam_desk import copies, logbook, private, refusals, running, states, turns, undo
+from exam_desk import copies, files, logbook, private, refusals, running, states, turns, undo
 from exam_desk.office import Office
 from exam_desk.trouble import Stale, Trouble
 
@@ -165,8 +165,7 @@ def put(folder: str, place: int, step: Step) -> tuple[str, ...]:
     if step.data is None:
         return step.words
     path = os.path.join(folder, f"step-{place}.csv")
-    with open(os.open(path, os.O_WRONLY | os.O_CREAT | os.O_EXCL, 0o600), "wb") as file:
-        file.write(step.data)
+    files.put(path, step.data)
     return *step.words[:-1], path
 
 
@@ -177,8 +176,8 @@ def carry_out(office: Office, steps: Sequence[Step], made_from: str | None = Non
     Where names of states are given, the office must be of the first one, else `Stale` is raised; and it is said whether
     it is of the second one then. Raises `Trouble` where nothing could begin, and nothing is changed.
     """
-    if not os.path.isfile(office.path):  # the program says what is wrong
-        return Carried([Answered(steps[0], run_patiently(office, steps[0].words))], None, None)
+    if not os.path.isfile(office.path):
+        return Carried(said_of_none(office, steps[0]), None, None)
     title = title or ", ".join(step.title() for step in steps)
     with placed(office, steps) as lines, turn(office, title, made_from, tell) as taken:
         copy = kept_copy(office, title)
@@ -196,6 +195,12 @@ def carry_out(office: Office, steps: Sequence[Step], made_from: str | None = Non
             copies.drop(copy)
         as_promised = None if promised is None or is_undone else is_in_state(office, promised)
     return Carried(answers, None if is_undone else copy, as_promised)
+
+
+def said_of_none(office: Office, step: Step) -> list[Answered]:
+    """What the program says where there is no office."""
+    with placed(office, [step]) as [line]:
+        return [Answered(step, run_patiently(office, line))]
 
 
 def has_done_nothing(office: Office, answered: Answered, copy: str) -> bool:

@@ -6,10 +6,10 @@ import itertools
 import re
 import sqlite3
 from collections import Counter, defaultdict
-from collections.abc import Callable, Iterable, Iterator, Sequence
+from collections.abc import Callable, Iterator, Sequence
 from typing import NamedTuple
 
-from exam_desk import files, states, words
+from exam_desk import files, noting, states, words
 
 MOST_COUNTED = 100_000  # mistakes of a file; what is behind the last of them is not looked at
 MOST_TO_MEND = 200  # bytes of a value for which a better one is sought
@@ -31,8 +31,6 @@ COMMAS = [(b",", ""), (b";", "semicolons part the columns: save it with commas")
           (b"\t", "tabs part the columns: save it with commas")]
 EMPTY_ROW = "an empty row of the spreadsheet: delete it"
 RIGHT = {column: right for kind, header in files.HEADERS.items() for column, right in zip(header, files.FORMS[kind])}
-WRONG_LETTERS = re.compile("Ã.|Â.|â€|Å[\x80-\xbf¡-ÿ€-™]|\ufffd")
-LIKE_A_NUMBER = re.compile(rb"[0-9]+E[0-9]+|[1-9][0-9]?0{4,}").fullmatch
 LOST_ZEROS = re.compile(rb"([0-9]{1,7})(\.0+)?").fullmatch
 
 
@@ -195,7 +193,7 @@ class File:
         self.wrong, self.notes = Found(most), Found(most)
         self.missing: list[str] = []  # the columns that the header lacks; their fields are empty
         references = dict(files.REFERENCES.get(kind, []))
-        self.columns = [(column, right, references.get(place), NOTES.get(column, no_notes))
+        self.columns = [(column, right, references.get(place), noting.NOTES.get(column, noting.no_notes))
                         for place, (column, right) in enumerate(zip(self.header, files.FORMS[kind]))]
         self.first: dict[tuple[bytes, ...], files.Record] = {}  # the first record of each key
 
@@ -371,35 +369,3 @@ def count_cure(record: files.Record, wanted: int) -> str:
     if not any(record.fields):
         return EMPTY_ROW
     return "put a value with a comma in double quotes" if len(record.fields) > wanted else "values are missing"
-
-
-def has_wrong_letters(text: str) -> bool:
-    """Whether a text looks as if it was read in a wrong encoding."""
-    return bool(WRONG_LETTERS.search(text))
-
-
-def no_notes(_: bytes) -> Iterable[str]:
-    return ()
-
-
-def name_notes(field: bytes) -> Iterator[str]:
-    """What may be wrong with a name or a title that has a right form."""
-    text = field.decode("utf-8", "replace")
-    if text.isascii() and text.isprintable() and text == text.strip():
-        return
-    if has_wrong_letters(text):
-        yield "looks like letters that were read in a wrong encoding"
-    if text != text.strip() or "\u00a0" in text:
-        yield "has a space at an end, or a hard space"
-    if words.plain(text) != text:
-        yield "holds marks that no screen shows"
-
-
-def code_notes(field: bytes) -> Iterable[str]:
-    """What may have become of a code."""
-    spoiled = "may be what a spreadsheet made of a code such as 1E5, or will make of it"
-    return [spoiled] if LIKE_A_NUMBER(field) else ()
-
-
-NOTES: dict[str, Callable[[bytes], Iterable[str]]] = {
-    "name": name_notes, "title": name_notes, **dict.fromkeys(["session", "paper", "hall", "code"], code_notes)}

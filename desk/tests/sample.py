@@ -67,7 +67,8 @@ class SampleSchool(unittest.TestCase):
         self.path = os.path.join(self.folder, "office.db")
         self.desk = os.path.join(self.folder, "desk-office.db")
         self.said = []  # what a person must know at once
-        self.value = Office(self.path, built_program(), lambda: datetime.date.fromisoformat(TODAY), "tester", self.said.append)
+        self.value = Office(self.path, built_program(), lambda: datetime.date.fromisoformat(TODAY), "tester",
+                            self.said.append)
         self.environment = {**os.environ, "OFFICE": self.path, "TODAY": TODAY, "EXAMOFFICE": built_program()}
 
     def run_office(self, *words, stdin="", **environment):

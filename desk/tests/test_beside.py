@@ -116,7 +116,8 @@ class Copies(Beside):
         self.numbered(*old)
         self.office("withdraw", "0001000", "MA-1")
         self.assertRegex(self.office("back"), r"^  1  20[2-8].* before withdraw 0001000 MA-1\n  2  2099-01-01 00:00:49")
-        os.rename(copies.listed(self.value)[0], os.path.join(self.desk, "copies", "000009 2098-01-01 00.00.00 withdraw"))
+        ninth = os.path.join(self.desk, "copies", "000009 2098-01-01 00.00.00 withdraw")
+        os.rename(copies.listed(self.value)[0], ninth)
         made = [os.path.basename(copies.keep_copy(self.value, "reinstate")) for _ in range(2)]
         self.assertEqual([name[:7] for name in made], ["000010 ", "000011 "])
         self.assertEqual(list(map(os.path.basename, copies.listed(self.value)[:3])),

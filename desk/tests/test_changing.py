@@ -138,10 +138,12 @@ class States(Changing):
         names = {self.state()}
         self.change(APPEAL, "HA1", 1)
         self.assertEqual({self.state()}, names)
-        changes = ["UPDATE session SET start = start + 1 WHERE code = 'TUE-AM'", "UPDATE paper SET title = 'x' WHERE code = 'MA-1'",
+        changes = ["UPDATE session SET start = start + 1 WHERE code = 'TUE-AM'",
+                   "UPDATE paper SET title = 'x' WHERE code = 'MA-1'",
                    "UPDATE hall SET features = features + 0, title = 'x' WHERE code = 'GYM'",
                    "UPDATE opening SET desks = desks + 1 WHERE session = 'MON-AM' AND hall = 'GYM'",
-                   "UPDATE candidate SET code = 'AAAAAAAA' WHERE number = 1051", "UPDATE entry SET live = 0 WHERE number = 1051",
+                   "UPDATE candidate SET code = 'AAAAAAAA' WHERE number = 1051",
+                   "UPDATE entry SET live = 0 WHERE number = 1051",
                    "DELETE FROM arrangement WHERE number = (SELECT min(number) FROM arrangement)",
                    "UPDATE appeal SET state = 2", "INSERT INTO standing VALUES (1051, 'HA1')",
                    "DELETE FROM seat WHERE number = (SELECT min(number) FROM seat)"]
@@ -161,7 +163,7 @@ class Full(Changing):
         before = self.state()
         for name in ("exam_desk.copies.keep_copy", "exam_desk.undo.ready", "exam_desk.logbook.write"):
             with mock.patch(name, side_effect=OSError(28, "No space left on device", "/x")):
-                with self.assertRaisesRegex(changing.NotBegun, "nothing is changed: /x: No space left on device; make room"):
+                with self.assertRaisesRegex(changing.NotBegun, "nothing is changed: /x: No space left on .*; make room"):
                     changing.carry_out(self.value, STEPS)
             self.assertEqual((self.state(), self.kept()), (before, []), name)
 
@@ -207,7 +209,8 @@ class Full(Changing):
     def small_disk(self):
         folder = os.path.join(self.folder, "disk")
         os.mkdir(folder)
-        done = subprocess.run(["mount", "-t", "tmpfs", "-o", "size=1m", "none", folder], capture_output=True, check=False)
+        line = ["mount", "-t", "tmpfs", "-o", "size=1m", "none", folder]
+        done = subprocess.run(line, capture_output=True, check=False)
         if done.returncode:
             self.skipTest("nothing can be mounted here")
         try:
@@ -233,7 +236,8 @@ class Killed(Changing):
         """`take` is killed as a step begins: the next change says it, once, and how to put back what was before."""
         facts, before = self.facts(), self.state()
         for kind in ("sessions", "openings", "entries"):
-            program = self.program(f'case "$5 $6" in "import {kind}") [ "$2" = "{self.path}" ] && kill -9 $PPID && exit 9;; esac')
+            begins = f'[ "$2 $5 $6" = "{self.path} import {kind}" ]'
+            program = self.program(f"{begins} && kill -9 $PPID && exit 9")
             done = self.run_office("take", facts, "--yes", EXAMOFFICE=program)
             self.assertEqual(done.returncode, -signal.SIGKILL)
             said = self.run_office("reinstate", "0001000", "MA-1").stderr
@@ -286,8 +290,8 @@ def begun(school, facts):
 
 
 def what_a_kill_leaves(school, facts, seconds, before, after):
-    """Kills a `take` some seconds after its first line in the log; what it left, in a word. The office is as before then,
-    and good."""
+    """Kills a `take` some seconds after its first line in the log; what it left, in a word. The office is as before
+    then, and good."""
     with begun(school, facts) as process:
         time.sleep(seconds)
         process.kill()

@@ -213,8 +213,8 @@ class Back(sample.SampleSchool):
         process.communicate()
         done = self.run_office("withdraw", "0001000", "MA-1")
         self.assertEqual((done.stdout, done.returncode), ("withdrawn\n", 0))
-        self.assertRegex(done.stderr, "^office: `import entries /dev/stdin` of .* has no end in the log: it is there whole or "
-                                      "not at all; look\n$")
+        self.assertRegex(done.stderr, "^office: `import entries /dev/stdin` of .* has no end in the log: "
+                                      "it is there whole or not at all; look\n$")
         self.assertEqual(self.office("reinstate", "0001000", "MA-1"), "reinstated\n")
 
 

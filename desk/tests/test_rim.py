@@ -164,7 +164,8 @@ class Elsewhere(sample.SampleSchool):
 
     def test_no_signal_goes_to_a_group(self):
         for process in (0, -1, -42):
-            with mock.patch("exam_desk.turns.keep_state", return_value={"pid": process}), mock.patch("os.kill") as sent:
+            with (mock.patch("exam_desk.turns.keep_state", return_value={"pid": process}),
+                  mock.patch("os.kill") as sent):
                 with self.assertRaises(Trouble):
                     turns.ask_keep_aside(self.value)
                 sent.assert_not_called()

@@ -2,7 +2,7 @@
 import re
 from collections.abc import Callable
 
-from exam_desk import files, mistakes
+from exam_desk import files, mistakes, noting
 from exam_desk.workbook.amounts import NONE, read_time, read_whole
 from exam_desk.workbook.cells import Cell
 from exam_desk.workbook.days import MONTHS, read_date
@@ -115,7 +115,7 @@ def read_name(column: str, cell: Cell | None, way: Way) -> Value:
         note = "is a number in the workbook"
         if cell.shown != text:
             refuse_other_digits(cell)
-    if re.search("[\u200c\u200d]", text) and not mistakes.has_wrong_letters(text):
+    if re.search("[\u200c\u200d]", text) and not noting.has_wrong_letters(text):
         note = "holds a joiner that no eye sees; it is kept"
     return Value(text, reason(done), note)
 
