@@ -113,6 +113,9 @@ class TestEntering(DeskSchool):
             except OSError:
                 continue
 
+    def test_a_stranger_sends_little(self):
+        self.assertEqual(self.browser.ask("POST", "/enter", "token=" + "x" * 5000, {"Cookie": None})[0].status, 413)
+
     def test_wrong_initials_leave_the_link(self):
         other = self.another()
         for initials in ("", "a\tb", "<b>", "x" * 13):
