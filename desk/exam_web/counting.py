@@ -59,10 +59,3 @@ def two_papers(view: View, session: str | None = None) -> dict[str, list[int]]:
                                   "ORDER BY session, number", values):
         found.setdefault(code, []).append(number)
     return found
-
-
-def without_desk(view: View, session: str) -> list[int]:
-    """The numbers of the members of a session who have no seat in it."""
-    return [number for number, in view.rows(
-        f"SELECT DISTINCT number {LIVE} AND session = ? EXCEPT SELECT number FROM seat WHERE session = ?",
-        [session, session])]

@@ -83,8 +83,8 @@ def sitting_in(code: str, hall: str) -> list[Member]:
     return sorted(members_of(code, [number for number, in numbers]), key=lambda member: member.sitting.desk or 0)
 
 
-@pages.get("/sessions/<code>/halls/<hall>")
-def hall(code: str, hall: str) -> str:
+@pages.get("/sessions/<code>/halls/<hall>", endpoint="hall")
+def hall_page(code: str, hall: str) -> str:
     """A hall as a picture: a piece of the session's page, or a page of its own where no script runs."""
     sums, found = sums_of(code), opening(code, hall)
     members = sitting_in(code, hall)
@@ -102,7 +102,7 @@ def draw(code: str, hall: str) -> Response | tuple[str, int]:
     columns, order = request.form.get("columns", ""), request.form.get("order", "")
     if order not in pictures.ORDERS or not columns.isdecimal() or not 1 <= int(columns[:4]) <= pictures.MOST_COLUMNS:
         g.wrong, g.given, g.asked_form = {"columns": text("a whole number from 1 to 40")}, request.form, "draw"
-        return globals()["hall"](code, hall), 422
+        return hall_page(code, hall), 422
     pictures.set_room(hall, int(columns), order)
     return redirect(url_for("session.page", code=code) + f"#hall-{hall}", 303)
 
