@@ -2,29 +2,26 @@
 from __future__ import annotations
 
 import sqlite3
-from typing import NoReturn
 
-from flask import Blueprint, abort, render_template, request
+from flask import Blueprint, render_template, request
 
 from exam_desk import appeals, changing, facts, lastdays
-from exam_web import effects, plans, proposals
-from exam_web.desk import desk, view
+from exam_desk.consequences import kind_of
+from exam_web import plans, proposals
+from exam_web.desk import desk, missing, view
 from exam_web.wording import days_until
 
 pages = Blueprint("appeals", __name__)
 MOST_SHOWN = 300
 ALL = ("SELECT appeal.*, day, session.start AS start, name FROM appeal JOIN session ON session.code = session "
        "JOIN candidate ON candidate.number = appeal.number ")
-
-
-def missing() -> NoReturn:
-    abort(404)
+ORDER = "ORDER BY day, session.start, lodged, appeal.number"
 
 
 @pages.get("/appeals")
 def page() -> str:
-    waiting = view().rows(ALL + "WHERE state = 1 ORDER BY day, session.start, lodged, appeal.number")
-    rest = view().rows(ALL + "WHERE state <> 1 ORDER BY day, session.start, lodged, appeal.number LIMIT ?", [MOST_SHOWN])
+    waiting = view().rows(ALL + "WHERE state = 1 " + ORDER)
+    rest = view().rows(ALL + "WHERE state <> 1 " + ORDER + " LIMIT ?", [MOST_SHOWN])
     decided = view().count("SELECT count(*) FROM appeal WHERE state <> 1")
     return render_template("appeals.html", waiting=waiting, rest=rest, decided=decided, appeals=appeals,
                            last_day=lastdays.to_decide)
@@ -41,7 +38,7 @@ def one(number: int, ref: str) -> str:
     others = view().count("SELECT count(*) FROM appeal WHERE number = ?", [number]) - 1
     return render_template("appeal.html", row=row, member=member, appeals=appeals, others=others,
                            last=lastdays.to_decide(row["day"]), titles=facts.paper_titles(view().reading.rows),
-                           late=days_until(row["day"]) <= 0)
+                           late=days_until(lastdays.to_decide(row["day"])) < 0)
 
 
 @pages.get("/appeals/<int:number>/<ref>/if-granted")
@@ -56,4 +53,4 @@ def if_granted(number: int, ref: str) -> str:
         refusal = rehearsal.refused.first_line() if rehearsal.refused else ""
         found = None if refusal else proposals.compared(desk(), rehearsal)[0]
     return render_template("if_granted.html" if "piece" in request.args else "if_granted_page.html", row=row, e=found,
-                           refusal=proposals.worded(refusal), most=12, kind_of=effects.kind_of)
+                           refusal=proposals.worded(refusal), most=12, kind_of=kind_of)

@@ -8,17 +8,18 @@ from typing import Any
 from flask import Flask, g, redirect, render_template, request, url_for
 from werkzeug.datastructures import MultiDict
 from werkzeug.exceptions import HTTPException
+from werkzeug.routing import RequestRedirect
 from werkzeug.wrappers import Response
 
 from exam_desk.trouble import Trouble
 from exam_desk.words import FEATURES
-from exam_web import (appeals, candidates, clashes, entering, files, guard, office, plans, proposals, season, session, texts,
-                      wording)
-from exam_web.desk import Desk, StillReading, release
+from exam_web import (appeals, candidates, clashes, entering, files, guard, office, plans, proposals, season, session,
+                      texts, wording)
+from exam_web.desk import Desk, StillReading, desk, release
 from exam_web.wording import text
 
-SCREENS = [entering.pages, season.pages, session.pages, candidates.pages, appeals.pages, clashes.pages, files.pages,
-           plans.pages, proposals.pages, office.pages]
+SCREENS = [screen.pages for screen in (entering, season, session, candidates, appeals, clashes, files, plans, proposals,
+                                       office)]
 PLACES = [("season.page", "Season"), ("files.page", "Files"), ("candidates.find", "Candidates"),
           ("appeals.page", "Appeals"), ("office.page", "Office")]
 PROBLEMS = {
@@ -31,44 +32,44 @@ PROBLEMS = {
 NO_ROOM = {errno.ENOSPC, errno.EDQUOT}
 
 
-def make(desk: Desk) -> tuple[Flask, guard.Guard]:
-    """The application over a desk, and who guards it."""
+def make(here: Desk) -> Flask:
+    """The application over a desk."""
     app = Flask(__name__)
-    app.extensions["desk"] = desk
-    app.extensions["guard"] = keeper = guard.Guard(app, desk.address, desk.prefix)
+    app.extensions["desk"] = here
+    app.extensions["guard"] = guard.Guard(app, here.address, here.prefix)
     wording.prepare(app)
     for screen in SCREENS:
         app.register_blueprint(screen)
     app.context_processor(everywhere)
     app.teardown_request(release)
     app.register_error_handler(HTTPException, refused)
-    for kind, answer in ((StillReading, still_reading), (Trouble, troubled), (OSError, faulty), (sqlite3.Error, faulty)):
-        app.register_error_handler(kind, answer)
-    desk.warm = season.warm
-    return app, keeper
+    app.register_error_handler(StillReading, still_reading)
+    app.register_error_handler(Trouble, troubled)
+    app.register_error_handler(OSError, faulty)
+    app.register_error_handler(sqlite3.Error, faulty)
+    here.warm = season.warm
+    return app
 
 
 def everywhere() -> dict[str, Any]:
     """What every page has besides its own."""
-    from flask import current_app
-    desk: Desk = current_app.extensions["desk"]
-    visit = g.get("visit")
+    here, visit = desk(), g.get("visit")
     said: list[tuple[str, Any]] = []
     if visit:
         said, visit.said = visit.said, []
-    shown = [(name, word) for name, word in PLACES if name in current_app.view_functions]
-    return {"mark": visit and visit.mark, "initials": visit and visit.initials, "said": said, "places": shown,
-            "today": desk.office.today().isoformat(), "pretended": desk.pretended, "office_name": desk.office.base_name(),
-            "state": g.view.name if "view" in g else "", "wrong": g.get("wrong", {}), "given": g.get("given", MultiDict()),
-            "asked_form": g.get("asked_form"), "FEATURES": FEATURES, "direction": texts.DIRECTIONS.get(wording.language())}
+    return {"mark": visit and visit.mark, "initials": visit and visit.initials, "said": said, "places": PLACES,
+            "today": here.office.today().isoformat(), "pretended": here.pretended,
+            "office_name": here.office.base_name(), "state": g.view.name if "view" in g else "", "FEATURES": FEATURES,
+            "wrong": g.get("wrong", {}), "given": g.get("given", MultiDict()), "asked_form": g.get("asked_form"),
+            "direction": texts.DIRECTIONS.get(wording.language())}
 
 
 def refused(fault: HTTPException) -> Response | tuple[str, int]:
     if fault.code == 401:
         return redirect(url_for("entering.page"))
-    if isinstance(fault.response, Response) or fault.code not in PROBLEMS:
-        return fault.get_response() if fault.code and fault.code < 400 else problem(str(fault.description), fault.code or 500)
-    return problem(text(PROBLEMS[fault.code]), fault.code)
+    if isinstance(fault, RequestRedirect):
+        return redirect(fault.new_url, fault.code)
+    return problem(text(PROBLEMS[fault.code]) if fault.code in PROBLEMS else str(fault.description), fault.code or 500)
 
 
 def problem(said: object, status: int) -> tuple[str, int]:

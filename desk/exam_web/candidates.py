@@ -2,21 +2,16 @@
 from __future__ import annotations
 
 import sqlite3
-from typing import NoReturn
 
-from flask import Blueprint, abort, g, redirect, render_template, request, url_for
+from flask import Blueprint, redirect, render_template, request, url_for
 from werkzeug.wrappers import Response
 
-from exam_desk import appeals, facts, lists
+from exam_desk import appeals, facts, names
 from exam_web import printing
-from exam_web.desk import View, view
+from exam_web.desk import View, missing, view
 
 pages = Blueprint("candidates", __name__)
 MOST_FOUND, MOST_ASKED = 100, 80
-
-
-def missing() -> NoReturn:
-    abort(404)
 
 
 @pages.get("/candidates")
@@ -26,7 +21,8 @@ def find() -> str | Response:
     if len(found) == 1:
         return redirect(url_for("candidates.page", number=found[0][0]))
     everybody = view().once("candidates", lambda: view().count("SELECT count(*) FROM candidate"))
-    return render_template("candidates.html", asked=asked, found=found[:MOST_FOUND], total=len(found), everybody=everybody)
+    return render_template("candidates.html", asked=asked, found=found[:MOST_FOUND], total=len(found),
+                           everybody=everybody)
 
 
 def search(asked: str) -> list[tuple[int, str]]:
@@ -35,14 +31,14 @@ def search(asked: str) -> list[tuple[int, str]]:
     if asked.isascii() and asked.isdigit():
         end = asked.lstrip("0") or "0"
         return [(number, name) for number, name, _ in people if str(number).endswith(end)]
-    words = lists.fold(asked).split()
+    words = names.fold(asked).split()
     return [(number, name) for number, name, letters in people if all(word in letters for word in words)]
 
 
 def folded(found: View) -> list[tuple[int, str, str]]:
     """All candidates in the order of their names, each with the letters that the search compares."""
-    people = [(number, name, lists.fold(name)) for number, name in found.rows("SELECT number, name FROM candidate")]
-    return sorted(people, key=lambda each: lists.name_order(each[1], f"{each[0]:07}"))
+    people = [(number, name, names.fold(name)) for number, name in found.rows("SELECT number, name FROM candidate")]
+    return sorted(people, key=lambda each: names.name_order(each[1], f"{each[0]:07}"))
 
 
 def candidate_row(number: int) -> sqlite3.Row:
@@ -69,7 +65,7 @@ def page(number: int, code: str = "") -> str:
 
 @pages.post("/candidates/<int:number>/code")
 def code(number: int) -> str:
-    """The access code, because somebody asked for it: a POST, so that it is in no history and is never fetched ahead."""
+    """The access code, for who asks: a POST, so that it is in no history and is never fetched ahead."""
     row = view().row("SELECT code FROM candidate WHERE number = ?", [number]) or missing()
     return page(number, row["code"])
 
@@ -77,5 +73,4 @@ def code(number: int) -> str:
 @pages.post("/candidates/<int:number>/slip")
 def slip(number: int) -> str:
     candidate_row(number)
-    made, g.style = printing.slip(view().reading, f"{number:07}", "codes" in request.form)
-    return made
+    return printing.slip(view().reading, f"{number:07}", "codes" in request.form)

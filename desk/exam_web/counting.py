@@ -45,7 +45,8 @@ def sums(view: View) -> dict[str, Sums]:
 
 
 def make_sums(view: View) -> dict[str, Sums]:
-    counts = {name: dict(map(tuple, view.rows(query))) for name, query in COUNTS.items()}
+    counts: dict[str, dict[str, int]] = {name: {code: count for code, count in view.rows(query)}
+                                         for name, query in COUNTS.items()}
     return {code: Sums(code, day, start, **{name: found.get(code, 0) for name, found in counts.items()})
             for code, day, start in view.rows("SELECT code, day, start FROM session ORDER BY day, start, code")}
 
@@ -58,10 +59,3 @@ def two_papers(view: View, session: str | None = None) -> dict[str, list[int]]:
                                   "ORDER BY session, number", values):
         found.setdefault(code, []).append(number)
     return found
-
-
-def without_desk(view: View, session: str) -> list[int]:
-    """The numbers of the members of a session who have no seat in it."""
-    return [number for number, in view.rows(
-        f"SELECT DISTINCT number {LIVE} AND session = ? EXCEPT SELECT number FROM seat WHERE session = ?",
-        [session, session])]

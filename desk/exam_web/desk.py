@@ -8,9 +8,9 @@ import sqlite3
 import threading
 import time
 from collections.abc import Callable, Iterator, Sequence
-from typing import Any, TypeVar
+from typing import Any, NoReturn, TypeVar
 
-from flask import current_app, g
+from flask import abort, current_app, g
 
 from exam_desk import changing, states
 from exam_desk.office import Office
@@ -88,6 +88,9 @@ class Desk:
                 self.changed.wait_for(lambda: self.is_closed or self.wanted > self.read_until)
                 if self.is_closed:
                     return
+                if self.has_current(self.wanted):  # asked for while it was read
+                    self.wanted = self.read_until
+                    continue
             self.read()
 
     def read(self) -> None:
@@ -172,6 +175,11 @@ class Desk:
         self.reader.join()
         if self.held:
             self.held.close()
+
+
+def missing() -> NoReturn:
+    """Answers that what is asked for is not there."""
+    abort(404)
 
 
 def desk() -> Desk:

@@ -5,7 +5,7 @@ from collections import Counter
 from dataclasses import dataclass
 
 from exam_desk import telling
-from exam_desk.consequences import kind_of
+from exam_desk.consequences import has_seats, kind_of
 from exam_desk.telling import Change
 from exam_web import counting
 from exam_web.desk import View
@@ -47,8 +47,9 @@ class Effects:
 
 
 def effects(before: View, after: View) -> Effects:
-    return Effects(telling.differences(before.reading, after.reading), session_changes(before, after),
-                   telling.titles_of(before.reading, after.reading))
+    """Where nobody has a seat yet, nobody can lose or change one: then the sessions say all."""
+    changes = telling.differences(before.reading, after.reading) if has_seats(before.reading) else []
+    return Effects(changes, session_changes(before, after), telling.titles_of(before.reading, after.reading))
 
 
 def session_changes(before: View, after: View) -> list[SessionChange]:

@@ -23,7 +23,8 @@ COUNTS = {"sessions": "session", "papers": "paper", "halls": "hall", "openings":
 def page() -> str | Answer:
     if not desk().is_there():
         return redirect(url_for("season.page"))
-    counts = view().once("rows", lambda: {kind: view().count(f"SELECT count(*) FROM {table}") for kind, table in COUNTS.items()})
+    counts = view().once("rows", lambda: {kind: view().count(f"SELECT count(*) FROM {table}")
+                                          for kind, table in COUNTS.items()})
     return render_template("files.html", headers=files.HEADERS, counts=counts, uploaded=g.visit.uploads)
 
 
@@ -48,8 +49,9 @@ def look(key: str) -> str:
     upload = uploads.of_visit(key)
     looked = uploads.looked_through(upload.texts, view())
     return render_template("look.html", key=key, upload=upload, looked=looked, headers=files.HEADERS,
-                           total=sum(each.count for each in looked.values()), most=uploads.MOST_SHOWN, most_lines=MOST_LINES,
-                           cures=sum(bool(fault.write) for each in looked.values() for fault in each.faults))
+                           total=sum(each.total for each in looked.values()), most=uploads.MOST_SHOWN,
+                           most_lines=MOST_LINES, cures=sum(bool(fault.write) for each in looked.values()
+                                                            for fault in each.faults))
 
 
 @pages.post("/files/uploaded/<key>/correct")
@@ -64,8 +66,9 @@ def correct(key: str) -> Answer:
             upload.texts[kind] = uploads.corrected(upload.texts[kind], wanted)
             rows += len(wanted)
     upload.edits += rows
-    g.visit.said.append(("good", many(rows, "{count} row is corrected in what was uploaded; your own files are as they were.",
-                                      "{count} rows are corrected in what was uploaded; your own files are as they were.")))
+    said = many(rows, "{count} row is corrected in what was uploaded; your own files are as they were.",
+                "{count} rows are corrected in what was uploaded; your own files are as they were.")
+    g.visit.said.append(("good", said))
     return redirect(url_for("files.look", key=key), 303)
 
 

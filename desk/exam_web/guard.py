@@ -24,6 +24,7 @@ from exam_desk import beside
 LINK_SECONDS = 600  # of a link that nobody opened
 IDLE_SECONDS = 8 * 3600
 MOST_UPLOAD = 32 << 20  # bytes of a request
+MOST_FROM_STRANGERS = 4096  # bytes of a request without a visit
 MOST_VISITS = 40
 LINKS, COOKIE, MARK = "links", "desk", "mark"
 OPEN = {"entering.page", "entering.enter", "static"}
@@ -140,6 +141,8 @@ class Guard:
             abort(403)
         g.visit = self.found()
         if request.endpoint in OPEN:
+            if (request.content_length or 0) > MOST_FROM_STRANGERS:
+                abort(413)
             return
         if g.visit is None:
             abort(401)

@@ -6,15 +6,15 @@ import os
 import pathlib
 import sys
 from contextlib import closing
-from typing import NoReturn
 
 from flask import Blueprint, Response, abort, g, redirect, render_template, request, url_for
 from werkzeug.wrappers import Response as Answer
 
 from exam_desk import changing, copies, kept, logbook, private, turns, undo
+from exam_desk.consequences import kind_of
 from exam_desk.trouble import Stale
 from exam_web import downloads, effects, proposals
-from exam_web.desk import View, desk, office, view
+from exam_web.desk import View, desk, missing, office, view
 from exam_web.wording import shown, text
 
 pages = Blueprint("office", __name__)
@@ -23,17 +23,14 @@ KEEP = str(pathlib.Path(__file__).resolve().parent.parent / "keep")  # the comma
 LOWEST_PORT, HIGHEST_PORT = 1024, 65535
 
 
-def missing() -> NoReturn:
-    abort(404)
-
-
 def copy_key(path: str) -> str:
     """The name by which a browser knows a copy: it is looked up, and never a path."""
     return hashlib.sha256(os.path.basename(path).encode()).hexdigest()[:16]
 
 
 def copy_of(key: str) -> str:
-    return next((path for path in copies.listed(desk().office) if copy_key(path) == key), None) or missing()
+    found = [path for path in copies.listed(desk().office) if copy_key(path) == key]
+    return found[0] if found else missing()
 
 
 def log_since(when: str = "") -> list[list[str]]:
@@ -55,7 +52,7 @@ def copy(key: str) -> str:
     path = copy_of(key)
     when, what = copies.when_and_what(path)
     return render_template("copy.html", key=key, when=when, what=what, e=since(path), kinds=effects.KINDS,
-                           kind_of=effects.kind_of, most=proposals.MOST_ROWS, lost=undo.taken_away(desk().office, path),
+                           kind_of=kind_of, most=proposals.MOST_ROWS, lost=undo.taken_away(desk().office, path),
                            log=[line for line in log_since(when) if line[3] not in (logbook.BEGINS, logbook.STEP)])
 
 
@@ -78,19 +75,20 @@ def back(key: str) -> Answer | tuple[str, int]:
     """Puts a copy back, if the office is as the page showed it and each appeal that would be lost has its tick."""
     path, who = copy_of(key), office()
     when, _ = copies.when_and_what(path)
-    page = ("office.copy", {"key": key})
+    ticked = set(request.form.getlist("lost"))
     try:
-        with desk().rehearsing, changing.turn(who, "back", request.form.get("state", "")):
-            lost = undo.taken_away(who, path)
-            if not set(lost) <= set(request.form.getlist("lost")):
-                return proposals.wrong_page(proposals.Wrong(page, lost=text("tick each of these, or leave the office as it is")), "back")
-            with changing.logged(who, ["back"]) as outcome:
-                undo.put_back(who, path)
-                outcome.status, outcome.answer = 0, "; ".join([f"as it was on {when}", *lost])
+        with desk().rehearsing:
+            is_back, _ = changing.go_back(who, ["back"], path, lambda lost: ticked.issuperset(lost),
+                                          request.form.get("state", ""))
     except Stale:
-        g.visit.said.append(("bad", text("Nothing is changed: the office is another than the page showed. This is how it stands now.")))
+        said = text("Nothing is changed: the office is another than the page showed. This is how it stands now.")
+        g.visit.said.append(("bad", said))
         return redirect(url_for("office.copy", key=key), 303)
-    g.visit.said.append(("good", text("The office is as it was on {when}. The office from before is the newest copy.", when=when)))
+    if not is_back:
+        wrong = text("tick each of these, or leave the office as it is")
+        return proposals.wrong_page(proposals.Wrong(("office.copy", {"key": key}), lost=wrong), "back")
+    said = text("The office is as it was on {when}. The office from before is the newest copy.", when=when)
+    g.visit.said.append(("good", said))
     return redirect(url_for("office.page"), 303)
 
 

@@ -72,7 +72,8 @@ def picture(opening: Opening, members: Sequence[Member], papers: Sequence[str]) 
         cells.append(Cell(number, column * (WIDTH + GAP) + 2, row * (HEIGHT + GAP) + 2, member,
                           papers.index(member.sitting.paper) % SHADES if member else 0,
                           short_name(member.name) if member else "", marks(member) if member else ""))
-    return Picture(cells, max(cell.x for cell in cells) + WIDTH + 2, max(cell.y for cell in cells) + HEIGHT + 2, columns, order)
+    wide, deep = max(cell.x for cell in cells) + WIDTH + 2, max(cell.y for cell in cells) + HEIGHT + 2
+    return Picture(cells, wide, deep, columns, order)
 
 
 def short_name(name: str) -> str:

@@ -1,13 +1,11 @@
-"""What forms ask, as steps of the program. The forms of values are those of the import files; all else the program says."""
+"""What forms ask, as steps of the program. Values have the forms of the import files; all else the program says."""
 from __future__ import annotations
 
 import re
 import sqlite3
 from collections.abc import Callable
-from typing import NoReturn
 
-from flask import Blueprint, abort, g, request
-from markupsafe import Markup
+from flask import Blueprint, g, request
 from werkzeug.datastructures import MultiDict
 from werkzeug.wrappers import Response
 
@@ -15,7 +13,7 @@ from exam_desk import coding, files, lodging, mistakes
 from exam_desk.changing import Step
 from exam_desk.words import FEATURES, clock
 from exam_web import proposals, session, uploads
-from exam_web.desk import view
+from exam_web.desk import missing, view
 from exam_web.proposals import Page, Plan, Wrong
 from exam_web.wording import text
 
@@ -29,10 +27,6 @@ OUTCOMES = {"granted": ("Grant appeal {ref} of {name}", "Grant"),
             "refused": ("Refuse appeal {ref} of {name}", "Refuse")}
 
 
-def missing() -> NoReturn:
-    abort(404)
-
-
 def command(word: str, *values: str) -> Step:
     """A command of the program; `--` keeps values that begin with - from being options."""
     return Step((word, *(["--"] if any(value.startswith("-") for value in values) else []), *values))
@@ -40,7 +34,8 @@ def command(word: str, *values: str) -> Step:
 
 def import_step(kind: str, *values: str) -> Step:
     """An import of one row that was typed in."""
-    return Step(("import", kind, f"{kind}.csv"), files.written([files.HEADERS[kind], values]).encode("utf-8", "surrogateescape"))
+    data = files.written([files.HEADERS[kind], values]).encode("utf-8", "surrogateescape")
+    return Step(("import", kind, f"{kind}.csv"), data)
 
 
 def checked(page: Page, form: Form, **columns: str) -> dict[str, str]:
@@ -77,43 +72,47 @@ def needs(form: Form) -> str:
 def withdraw(form: Form) -> Plan:
     number, row, page = candidate(form)
     paper = checked(page, form, paper="paper")["paper"]
-    return Plan(text("Withdraw {name} from {paper}", name=row["name"], paper=paper), [command("withdraw", number, paper)],
-                page, text("Withdraw"), dict.fromkeys((5, 6, 8, 9), "paper"))
+    title = text("Withdraw {name} from {paper}", name=row["name"], paper=paper)
+    return Plan(title, [command("withdraw", number, paper)], page, text("Withdraw"),
+                dict.fromkeys((5, 6, 8, 9), "paper"))
 
 
 def reinstate(form: Form) -> Plan:
     number, row, page = candidate(form)
     paper = checked(page, form, paper="paper")["paper"]
-    return Plan(text("Reinstate {name} for {paper}", name=row["name"], paper=paper), [command("reinstate", number, paper)],
-                page, text("Reinstate"), dict.fromkeys((5, 6, 8, 10, 20), "paper"))
+    title = text("Reinstate {name} for {paper}", name=row["name"], paper=paper)
+    return Plan(title, [command("reinstate", number, paper)], page, text("Reinstate"),
+                dict.fromkeys((5, 6, 8, 10, 20), "paper"))
 
 
 def enter(form: Form) -> Plan:
     number, row, page = candidate(form)
     paper = checked(page, form, paper="paper")["paper"]
-    return Plan(text("Enter {name} for {paper}", name=row["name"], paper=paper), [import_step("entries", number, paper)],
-                page, text("Enter"), {5: "paper", 20: "paper"})
+    title = text("Enter {name} for {paper}", name=row["name"], paper=paper)
+    return Plan(title, [import_step("entries", number, paper)], page, text("Enter"), {5: "paper", 20: "paper"})
 
 
 def arrangement(form: Form) -> Plan:
     number, row, page = candidate(form)
     extra = checked(page, form, extra="extra")["extra"]
-    return Plan(text("Arrangement of {name}: {needs}, {extra} % extra time", name=row["name"], needs=needs(form), extra=extra),
-                [import_step("arrangements", number, needs(form), extra)], page, text("Set the arrangement"), {20: "extra"},
-                text("It holds in every session in which no grant is in force for the candidate."))
+    title = text("Arrangement of {name}: {needs}, {extra} % extra time", name=row["name"], needs=needs(form),
+                 extra=extra)
+    return Plan(title, [import_step("arrangements", number, needs(form), extra)], page, text("Set the arrangement"),
+                {20: "extra"}, text("It holds in every session in which no grant is in force for the candidate."))
 
 
 def new_code(form: Form) -> Plan:
     number, row, page = candidate(form)
     taken = {code for code, in view().rows("SELECT code FROM candidate")}
     return Plan(text("New access code for {name}", name=row["name"]),
-                [import_step("candidates", number, row["name"], coding.new_code(taken))], page, text("Give the new code"),
+                [import_step("candidates", number, row["name"], coding.new_code(taken))], page,
+                text("Give the new code"),
                 note=text("The old code ends at once."),
                 done_note=text("The candidate's page shows the new code when you ask for it, and prints a slip."))
 
 
 def lodge(form: Form) -> Plan:
-    """An appeal for a candidate who is there: it is lodged over HTTP, as candidates do, so its reason is no argument."""
+    """An appeal for a candidate who is there, lodged over HTTP as candidates do: so its reason is no argument."""
     number, row, page = candidate(form)
     kind = form.get("kind", "")
     code = checked(page, form, session="session")["session"]
@@ -124,9 +123,10 @@ def lodge(form: Form) -> Plan:
     else:
         raise Wrong(page, kind=text("choose one"))
     field = "wanted_extra" if kind == "arrangement" else f"wanted_{kind}"
-    fields = {4: "session", 12: "session", 13: "session", 20: "session", 21: "session", **dict.fromkeys((5, 7, 8, 11, 18, 19), field)}
-    return Plan(text("Lodge for {name}: {kind} {values}, {session}", name=row["name"], kind=text(kind), values=" ".join(values),
-                     session=code), [], page, text("Lodge it"), fields, text("Lodging moves nobody. It is decided afterwards."),
+    fields = {**dict.fromkeys((4, 12, 13, 20, 21), "session"), **dict.fromkeys((5, 7, 8, 11, 18, 19), field)}
+    title = text("Lodge for {name}: {kind} {values}, {session}", name=row["name"], kind=text(kind),
+                 values=" ".join(values), session=code)
+    return Plan(title, [], page, text("Lodge it"), fields, text("Lodging moves nobody. It is decided afterwards."),
                 lodge=(number, code, kind, *values, reason(form, page)))
 
 
@@ -139,8 +139,9 @@ def decide(form: Form) -> Plan:
     if outcome not in OUTCOMES:
         raise Wrong(page, outcome=text("choose one"))
     title, verb = OUTCOMES[outcome]
-    return Plan(text(title, ref=ref, name=row["name"]), [command("decide", number, ref, outcome, reason(form, page))], page,
-                text(verb), dict.fromkeys((8, 12, 15, 16, 17, 26), "outcome"), text("A decision is final."))
+    step = command("decide", number, ref, outcome, reason(form, page))
+    return Plan(text(title, ref=ref, name=row["name"]), [step], page, text(verb),
+                dict.fromkeys((8, 12, 15, 16, 17, 26), "outcome"), text("A decision is final."))
 
 
 def session_page(form: Form) -> tuple[str, Page]:
@@ -158,8 +159,9 @@ def opening(form: Form, page: Page, prefix: str = "") -> list[str]:
 def open_hall(form: Form) -> Plan:
     code, page = session_page(form)
     hall, desks, until, reserved = opening(form, page)
-    return Plan(text("Open {hall} in {session}: {desks} desks until {until}", hall=hall, session=code, desks=desks, until=until),
-                [import_step("openings", code, hall, desks, until, reserved)], page, text("Open it"),
+    title = text("Open {hall} in {session}: {desks} desks until {until}", hall=hall, session=code, desks=desks,
+                 until=until)
+    return Plan(title, [import_step("openings", code, hall, desks, until, reserved)], page, text("Open it"),
                 {4: "hall", 7: "hall", 20: "desks"})
 
 
@@ -175,13 +177,13 @@ def close_hall(form: Form) -> Plan:
         if hall == lost:
             raise Wrong(shown, other_hall=text("this is the hall that is lost"))
         steps.insert(0, import_step("openings", code, hall, desks, until, reserved))
-        title = text("Close {hall} for {session}, and have {other} with {desks} desks until {until}", hall=lost, session=code,
-                     other=hall, desks=desks, until=until)
+        title = text("Close {hall} for {session}, and have {other} with {desks} desks until {until}", hall=lost,
+                     session=code, other=hall, desks=desks, until=until)
     return Plan(title, steps, page, text("Close the hall"), {25: "lost", 7: "lost"}, others=others(code, lost))
 
 
 def others(code: str, lost: str) -> dict[str, object]:
-    """What the form for another hall begins with: those that are closed first, with the desks and the end of the lost one."""
+    """What the form for another hall begins with: the closed halls first, desks and end of the lost one."""
     opened = {each.hall: each for each in session.openings(code)}
     halls = [(row["code"], row["title"], opened[row["code"]].desks if row["code"] in opened else None)
              for row in view().rows("SELECT code, title FROM hall WHERE code <> ? ORDER BY code", [lost])]
@@ -193,8 +195,8 @@ def others(code: str, lost: str) -> dict[str, object]:
 def import_files(form: Form) -> Plan:
     key = form.get("upload", "")
     upload = uploads.of_visit(key)
-    steps = [Step(("import", kind, f"{kind}.csv"), upload.texts[kind]) for kind in files.HEADERS if kind in upload.texts]
-    return Plan(text("Import {kinds}", kinds=Markup(", ").join(step.words[1] for step in steps)), steps,
+    steps = [Step(("import", kind, f"{kind}.csv"), upload.texts[kind]) for kind in upload.kinds]
+    return Plan(text("Import {kinds}", kinds=", ".join(upload.kinds)), steps,
                 ("files.look", {"key": key}), text("Import"))
 
 

@@ -3,18 +3,18 @@ from __future__ import annotations
 
 import datetime
 import hashlib
-from collections import Counter
+from collections.abc import Callable
 from typing import NamedTuple
 
 from flask import g
 
 from exam_desk.reading import Reading
-from exam_desk.sheets import board, counts, doors, slips
+from exam_desk.sheets import board, cards, counts, doors, poster, slips
 from exam_web import remembered
 from exam_web.desk import desk, view
 
-SHEETS = {"doors": "Door sheets to sign", "slips": "Slips for candidates", "board": "Notice board by name",
-          "counts": "Copies of each paper"}
+SHEETS = {"doors": "Invigilators' sheets to sign", "poster": "Posters for doors", "cards": "Desk cards",
+          "slips": "Slips for candidates", "board": "Notice board by name", "counts": "Copies of each paper"}
 PRINTED = "printed.json"
 
 
@@ -25,8 +25,10 @@ class State(NamedTuple):
 
 
 def made(reading: Reading, code: str, sheet: str) -> str:
-    makers = {"doors": doors.page, "board": board.page, "counts": counts.page,
-              "slips": lambda reading, code: slips.page(reading, slips.Choice(sessions=[code], desks=True))}
+    makers: dict[str, Callable[[Reading, str], str]] = {
+        "doors": doors.page, "board": board.page, "counts": counts.page,
+        "poster": poster.page, "cards": cards.page,
+        "slips": lambda reading, code: slips.page(reading, slips.Choice(sessions=[code], desks=True))}
     return styled(makers[sheet](reading, code))
 
 
@@ -53,7 +55,8 @@ def marks(code: str) -> dict[str, str]:
                 "ORDER BY hall, seat.number", [code]):
             found.setdefault(hall, hashlib.sha256()).update(repr(tuple(row)).encode("utf-8", "surrogatepass"))
         facts = str([tuple(row) for row in view().rows(
-            "SELECT session.*, paper.* FROM session JOIN paper ON session = session.code WHERE session = ? ORDER BY 4", [code])])
+            "SELECT session.*, paper.* FROM session JOIN paper ON session = session.code WHERE session = ? "
+            "ORDER BY paper.code", [code])])
         return {hall: hashlib.sha256(facts.encode() + mark.digest()).hexdigest()[:16] for hall, mark in found.items()}
     return view().once(("marks", code), make)
 
@@ -71,5 +74,6 @@ def states(code: str) -> dict[str, State]:
     found = {}
     for sheet, about in remembered.read(desk().office.path, PRINTED).get(code, {}).items():
         old, new = about.get("halls", {}), marks(code)
-        found[sheet] = State(about.get("when", ""), sorted(hall for hall in {**old, **new} if old.get(hall) != new.get(hall)))
+        changed = sorted(hall for hall in {**old, **new} if old.get(hall) != new.get(hall))
+        found[sheet] = State(about.get("when", ""), changed)
     return found

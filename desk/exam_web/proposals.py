@@ -18,12 +18,12 @@ from werkzeug.wrappers import Response
 
 from exam_desk import changing, lodging, logbook, private, refusals
 from exam_desk.changing import Step
+from exam_desk.consequences import kind_of
 from exam_desk.office import Office
 from exam_desk.trouble import Stale, Trouble
 from exam_web import downloads, effects
 from exam_web.desk import PATIENCE, Desk, View, desk, office, view
 from exam_web.effects import Effects
-from exam_web.wording import text
 
 pages = Blueprint("proposals", __name__)
 MOST_PROPOSALS = 20  # of a visit
@@ -199,13 +199,15 @@ def carry_out(proposal: Proposal, here: Desk, who: Office) -> None:
     """Does what was rehearsed, if the office is still the same; else rehearses anew, for another look."""
     proposal.moved_on = None
     try:
-        carried = changing.carry_out(who, proposal.plan.steps, proposal.made_from, proposal.promised, tell=proposal.tell)
+        carried = changing.carry_out(who, proposal.plan.steps, proposal.made_from, proposal.promised,
+                                     tell=proposal.tell)
     except Stale:
         since = proposal.since
         rehearse(proposal, here, who)
         proposal.moved_on = [line for line in logbook.last_lines(who) if line[0] >= since][-MOST_LINES:]
         return
-    proposal.answers, proposal.as_promised, proposal.copy = carried.answers, carried.as_promised is not False, carried.copy or ""
+    proposal.answers, proposal.copy = carried.answers, carried.copy or ""
+    proposal.as_promised = carried.as_promised is not False
     proposal.refusal = carried.refused.first_line() if carried.refused else ""
     proposal.is_done = not proposal.refusal
 
@@ -223,7 +225,7 @@ def page(key: str) -> str:
         return render_template("working.html", p=proposal, seconds=int(time.monotonic() - proposal.began))
     elsewhere = proposal.came_from and proposal.made_from and proposal.came_from != proposal.made_from
     return render_template("proposal.html", p=proposal, plan=plan, e=proposal.effects, kinds=effects.KINDS,
-                           kind_of=effects.kind_of, most=MOST_ROWS, back=url_for(plan.page[0], **plan.page[1]),
+                           kind_of=kind_of, most=MOST_ROWS, back=url_for(plan.page[0], **plan.page[1]),
                            refusal=worded(proposal.refusal), elsewhere=elsewhere and not proposal.is_done,
                            next_appeal=next_appeal(proposal), rows=imported(proposal), copy_page=copy_page(proposal))
 
@@ -236,12 +238,9 @@ def next_appeal(proposal: Proposal) -> sqlite3.Row | None:
 
 def imported(proposal: Proposal) -> list[tuple[str, int, int, int]]:
     """For each file of an import the rows that are added, changed and the same."""
-    found = []
-    for each in proposal.answers:
-        parts = each.first_line().split()
-        if len(proposal.plan.steps) > 1 and each.step.words[0] == "import" and parts[::2] == ["added", "changed", "same"]:
-            found.append((each.step.words[1], *map(int, parts[1::2])))
-    return found
+    parts = [(each.step, each.first_line().split()) for each in proposal.answers if len(proposal.plan.steps) > 1]
+    return [(step.words[1], int(said[1]), int(said[3]), int(said[5])) for step, said in parts
+            if said[::2] == ["added", "changed", "same"]]
 
 
 def copy_page(proposal: Proposal) -> str:

@@ -1,4 +1,4 @@
-"""What the desk keeps beside the office: how halls are drawn, what was printed. No fact of the office: it may be lost."""
+"""What the desk keeps beside the office: how halls are drawn, what was printed. No fact of it, so it may be lost."""
 from __future__ import annotations
 
 import contextlib

@@ -1,4 +1,4 @@
-"""The season: what needs a person, the last days to lodge, the calendar; and the first page, where no office is there."""
+"""The season: what needs a person, the last days to lodge, the calendar; the first page, where there is no office."""
 from __future__ import annotations
 
 import datetime
@@ -101,8 +101,9 @@ def open_appeals() -> list[Attention]:
         left = days_until(last)
         level = "late" if left < 0 else "now" if left <= URGENT else "soon"
         parts = Markup(", ").join(Markup("{} {}").format(count, text(kind)) for kind, count in counts.items())
-        found.append(Attention(level, last, many(sum(counts.values()), "{count} open appeal for {session}: {kinds}",
-                                                 "{count} open appeals for {session}: {kinds}", session=code, kinds=parts),
+        words = many(sum(counts.values()), "{count} open appeal for {session}: {kinds}",
+                     "{count} open appeals for {session}: {kinds}", session=code, kinds=parts)
+        found.append(Attention(level, last, words,
                                url_for("appeals.page") + f"#{code}", text("Decide")))
     return found
 
@@ -124,7 +125,8 @@ def clashes(coming: list[counting.Sums]) -> list[Attention]:
         return []
     count = sum(unheard[each.code] for each in late)
     words = many(count, "{count} candidate with two papers at once and no appeal, in sessions: {sessions}",
-                 "{count} candidates with two papers at once and no appeal, in sessions: {sessions}", sessions=len(late))
+                 "{count} candidates with two papers at once and no appeal, in sessions: {sessions}",
+                 sessions=len(late))
     return [Attention("note", lastdays.to_lodge("clash", late[0].day), words,
                       url_for("clashes.page"), text("Look"))]
 

@@ -3,10 +3,10 @@ from __future__ import annotations
 
 import contextlib
 import fcntl
+import logging
 import os
 import secrets
 import socket
-import threading
 from collections.abc import Callable, Iterator
 
 from exam_desk import beside
@@ -19,8 +19,8 @@ LOCK = "desk.lock"
 NOTE_BYTES = 256
 THREADS = 6
 SILENCE = 120  # seconds after which a connection without a request is closed
-MISSING = ("the desk in a browser needs {}: `apt install python3-flask python3-waitress`, as root; every other command works "
-           "without them")
+MISSING = ("the desk in a browser needs {}: `apt install python3-flask python3-waitress`, as root; every other command "
+           "works without them")
 
 
 def import_waitress() -> None:
@@ -95,18 +95,20 @@ def serve(office: Office, port: int | None, pretended: bool, ready: Callable[[st
     ready(another_link(office))
 
 
-def serve_at(office: Office, listening: socket.socket, lock: int, pretended: bool, ready: Callable[[str], None]) -> None:
+def serve_at(office: Office, listening: socket.socket, lock: int, pretended: bool,
+             ready: Callable[[str], None]) -> None:
     import waitress
     from exam_web import application, guard
     from exam_web.desk import Desk
     address, prefix = f"{HOST}:{listening.getsockname()[1]}", f"/{secrets.token_urlsafe(12)}"
     desk = Desk(office, address, prefix, pretended)
-    app, _ = application.make(desk)
+    app = application.make(desk)
     os.pwrite(lock, f"{address} {prefix}".ljust(NOTE_BYTES).encode(), 0)
     guard.drop_links(office.path)
+    logging.getLogger("waitress.queue").setLevel(logging.ERROR)  # that a request waits is nothing to say
     try:
         if desk.is_there():
-            threading.Thread(target=app.extensions["desk"].read, daemon=True).start()
+            desk.start_reading()
         ready(guard.new_link(office.path, address, prefix))
         waitress.serve(guard.Door(app, address, prefix), sockets=[listening], threads=THREADS, ident="desk",
                        max_request_body_size=guard.MOST_UPLOAD + (1 << 20), channel_timeout=SILENCE, _quiet=True)

@@ -3,16 +3,15 @@ from __future__ import annotations
 
 import sqlite3
 from collections import Counter
-from typing import NoReturn
 
-from flask import Blueprint, abort, g, redirect, render_template, request, url_for
+from flask import Blueprint, g, redirect, render_template, request, url_for
 from werkzeug.wrappers import Response
 
 from exam_desk import appeals, facts, lastdays
 from exam_desk.facts import Opening
 from exam_desk.reading import Member
 from exam_web import counting, downloads, pictures, printing, shortages
-from exam_web.desk import desk, view
+from exam_web.desk import missing, view
 from exam_web.wording import text
 
 pages = Blueprint("session", __name__)
@@ -23,16 +22,13 @@ def sums_of(code: str) -> counting.Sums:
     return counting.sums(view()).get(code) or missing()
 
 
-def missing() -> NoReturn:
-    abort(404)
-
-
 def openings(code: str) -> list[Opening]:
     return view().once(("openings", code), lambda: facts.openings(view().reading.rows, code))
 
 
 def opening(code: str, hall: str) -> Opening:
-    return next((each for each in openings(code) if each.hall == hall), None) or missing()
+    found = [each for each in openings(code) if each.hall == hall]
+    return found[0] if found else missing()
 
 
 @pages.get("/sessions/<code>")
@@ -52,7 +48,8 @@ def page(code: str) -> str:
 
 def taken(code: str) -> dict[str, int]:
     """How many sit in each hall."""
-    return dict(map(tuple, view().rows("SELECT hall, count(*) FROM seat WHERE session = ? GROUP BY hall", [code])))
+    found = view().rows("SELECT hall, count(*) FROM seat WHERE session = ? GROUP BY hall", [code])
+    return {hall: count for hall, count in found}
 
 
 def papers(code: str) -> list[sqlite3.Row]:
@@ -82,12 +79,12 @@ def members_of(code: str, numbers: list[int]) -> list[Member]:
 
 def sitting_in(code: str, hall: str) -> list[Member]:
     """Who sits in a hall, by desk."""
-    numbers = [number for number, in view().rows("SELECT number FROM seat WHERE session = ? AND hall = ?", [code, hall])]
-    return sorted(members_of(code, numbers), key=lambda member: member.sitting.desk or 0)
+    numbers = view().rows("SELECT number FROM seat WHERE session = ? AND hall = ?", [code, hall])
+    return sorted(members_of(code, [number for number, in numbers]), key=lambda member: member.sitting.desk or 0)
 
 
-@pages.get("/sessions/<code>/halls/<hall>")
-def hall(code: str, hall: str) -> str:
+@pages.get("/sessions/<code>/halls/<hall>", endpoint="hall")
+def hall_page(code: str, hall: str) -> str:
     """A hall as a picture: a piece of the session's page, or a page of its own where no script runs."""
     sums, found = sums_of(code), opening(code, hall)
     members = sitting_in(code, hall)
@@ -105,7 +102,7 @@ def draw(code: str, hall: str) -> Response | tuple[str, int]:
     columns, order = request.form.get("columns", ""), request.form.get("order", "")
     if order not in pictures.ORDERS or not columns.isdecimal() or not 1 <= int(columns[:4]) <= pictures.MOST_COLUMNS:
         g.wrong, g.given, g.asked_form = {"columns": text("a whole number from 1 to 40")}, request.form, "draw"
-        return globals()["hall"](code, hall), 422
+        return hall_page(code, hall), 422
     pictures.set_room(hall, int(columns), order)
     return redirect(url_for("session.page", code=code) + f"#hall-{hall}", 303)
 
@@ -117,8 +114,9 @@ def seats_csv(code: str) -> Response:
     rows = [[code, sums.day, each.sitting.start, each.sitting.finish, each.number, each.name, each.sitting.paper,
              titles[each.sitting.paper], each.sitting.hall or "", each.sitting.desk or "", each.sitting.extra,
              "+".join(each.sitting.needs) or "-"] for each in view().reading.members(code)]
-    return downloads.csv(["session", "date", "start", "finish", "number", "name", "paper", "paper title", "hall", "desk",
-                          "extra", "needs"], rows, f"{code}-seats.csv")
+    header = ["session", "date", "start", "finish", "number", "name", "paper", "paper title", "hall", "desk", "extra",
+              "needs"]
+    return downloads.csv(header, rows, f"{code}-seats.csv")
 
 
 @pages.get("/sessions/<code>/print/<sheet>")

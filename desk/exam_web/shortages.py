@@ -5,7 +5,6 @@ What could help is a guess that a button rehearses: only the program says what i
 """
 from __future__ import annotations
 
-from collections import Counter
 from collections.abc import Iterator
 from typing import NamedTuple
 
@@ -54,9 +53,10 @@ def make(code: str) -> Shortage:
 
 
 def by_reason(halls: list[tuple[str, str]]) -> dict[str, list[str]]:
+    """The halls by reason; who sits in a full one is left out."""
     found: dict[str, list[str]] = {}
     for hall, reason in halls:
-        found.setdefault(reason, []).append(hall)
+        found.setdefault(reason.partition(":")[0], []).append(hall)
     return found
 
 
@@ -81,8 +81,9 @@ def begin(opening: Opening, suited: list[Member], last: int) -> Remedy:
     """A hall that is closed, open as it is in most sessions, and long enough."""
     usual = view().row(USUAL, [opening.hall])
     desks, until = (usual["desks"], max(usual["until"], last)) if usual else (len(suited), last)
-    return Remedy(len(suited), text("Open {hall}, {title}, with {desks} desks until {until}", hall=opening.hall,
-                                    title=opening.title, desks=desks, until=clock(until)), opening.hall, desks, until, False)
+    words = text("Open {hall}, {title}, with {desks} desks until {until}", hall=opening.hall, title=opening.title,
+                 desks=desks, until=clock(until))
+    return Remedy(len(suited), words, opening.hall, desks, until, False)
 
 
 def change(why: reasons.Reasons, now: Opening, suited: list[Member], last: int) -> Remedy | None:

@@ -10,6 +10,7 @@ import io
 import os
 import re
 import zipfile
+import zlib
 from collections.abc import Iterable, Mapping
 from dataclasses import dataclass, field
 from typing import IO, NamedTuple
@@ -31,10 +32,12 @@ MOST_MEMBERS = 64  # of a zip
 MOST_UPLOADS = 4  # of a visit
 MOST_NAME = 80  # letters that are shown
 MOST_SHOWN = 40  # mistakes of a file on the page
+MOST_CURED = 20_000  # of a file that one press of a button can mend
 MOST_VALUE = 400  # letters of a value that is typed
 BOOKS = (".xlsx", ".xlsm", ".ods")
 CURE = re.compile(r"(?:write |leading zeros lost\? )(\S+) \(")  # what a cure says is to be written
 NEW_CODE = "a new code"
+UNREADABLE = (zipfile.BadZipFile, zipfile.LargeZipFile, zlib.error, RuntimeError, EOFError, OSError, ValueError)
 
 
 class Fault(NamedTuple):
@@ -52,7 +55,7 @@ class Looked(NamedTuple):
     """A file that was looked through."""
     faults: list[Fault]
     notes: list[Fault]
-    count: int  # of all mistakes
+    total: int  # of all mistakes
     rows: int
 
 
@@ -110,7 +113,7 @@ def take_zip(upload: Upload, stream: IO[bytes]) -> None:
             for member in members:
                 with archive.open(member) as file:
                     take(upload, member.filename.replace("\\", "/").rsplit("/", 1)[-1], file.read(files.MOST_BYTES + 1))
-    except (zipfile.BadZipFile, zipfile.LargeZipFile, RuntimeError, NotImplementedError, EOFError, OSError, ValueError) as fault:
+    except UNREADABLE as fault:
         raise Trouble(f"the zip cannot be read: {fault}") from None
 
 
@@ -154,19 +157,17 @@ def take_book(upload: Upload, name: str, content: bytes, dates: str, view: View 
 
 def looked_through(texts: Mapping[str, bytes], view: View) -> dict[str, Looked]:
     """The files with their mistakes, each beside the office and the files before it."""
-    known, found = mistakes.Known(view.reading.rows), {}
+    known, looked = mistakes.Known(view.reading.rows), {}
     for kind in files.HEADERS:
         if kind in texts:
             wrong, notes = mistakes.looked_through(kind, texts[kind], known)
             wanted = {each.line for each in (*list(wrong)[:MOST_CURED], *list(notes)[:MOST_SHOWN])}
             records = {record.line: record for record in files.records(texts[kind]) if record.line in wanted}
             rows = sum(1 for _ in files.records(texts[kind])) - 1
-            found[kind] = Looked([fault(kind, each, records) for each in list(wrong)[:MOST_CURED]],
-                                 [fault(kind, each, records) for each in list(notes)[:MOST_SHOWN]], wrong.count, max(0, rows))
-    return found
-
-
-MOST_CURED = 20_000  # mistakes of a file that one press of the button can mend
+            faults, shown = ([fault(kind, each, records) for each in list(found)[:most]]
+                             for found, most in ((wrong, MOST_CURED), (notes, MOST_SHOWN)))
+            looked[kind] = Looked(faults, shown, wrong.count, max(0, rows))
+    return looked
 
 
 def fault(kind: str, mistake: mistakes.Mistake, records: Mapping[int, files.Record]) -> Fault:
@@ -186,7 +187,7 @@ Corrections = dict[int, dict[int, str]]  # by line and place; an empty dict take
 
 
 def corrections(kind: str, looked: Looked, form: Mapping[str, str], taken: set[str]) -> Corrections:
-    """What a form corrects in a file: all cures that are clear, or what was typed. `taken` are codes, which it adds to."""
+    """What a form corrects in a file: all clear cures, or what was typed. `taken` are codes; it adds its own."""
     wanted: Corrections = {}
     for each in looked.faults:
         name = f"{kind}:{each.line}:{'row' if each.place is None else each.place}"

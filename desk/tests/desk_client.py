@@ -75,7 +75,8 @@ class DeskSchool(SampleSchool):
         self.start()
 
     def start(self):
-        self.process = subprocess.Popen([PYTHON, DESK / "desk", "--port", "0"], env=self.environment, stdout=subprocess.PIPE,
+        self.process = subprocess.Popen([PYTHON, DESK / "desk", "--port", "0"], env=self.environment,
+                                        stdout=subprocess.PIPE,
                                         stderr=subprocess.PIPE, text=True, cwd=self.folder)
         self.addCleanup(self.end)
         said = ""

@@ -1,12 +1,15 @@
 """Changes at the desk in a browser: what is rehearsed is what is done, once, and from the state that was shown."""
 import concurrent.futures
+import http.client
 import os
 import pathlib
 import random
 import re
+import threading
 import unittest
 import urllib.parse
 
+import sample
 from desk_client import MARK, Browser, DeskSchool
 
 EFFECT = r'effect (\w+)"><b>([\d,]+)'
@@ -34,21 +37,27 @@ class TestRehearsal(DeskSchool):
 
     def test_a_lost_hall_with_another_in_its_place(self):
         page, _ = self.browser.post("/propose/close", "/sessions/MON-AM", session="MON-AM", lost="GYM")
-        both, _ = self.browser.post("/propose/close", page, session="MON-AM", lost="GYM", proposal=page.rsplit("/", 1)[1],
+        both, _ = self.browser.post("/propose/close", page, session="MON-AM", lost="GYM",
+                                    proposal=page.rsplit("/", 1)[1],
                                     other_hall="R14", other_desks="30", other_until="14:00")
         alone, together = (dict(re.findall(EFFECT, self.browser.get(each))) for each in (page, both))
         self.assertLess(int(together.get("loses", "0")), int(alone["loses"]))
         self.browser.post(both + "/do", both)
-        self.assertEqual(self.rows("SELECT desks FROM opening WHERE session = 'MON-AM' AND hall IN ('GYM', 'R14')"), [(30,)])
+        self.assertEqual(self.rows("SELECT desks FROM opening WHERE session = 'MON-AM' AND hall IN ('GYM', 'R14')"),
+                         [(30,)])
         for values in ({"other_hall": "GYM"}, {"other_desks": "0"}, {"other_until": "25:00"}):
-            self.browser.post("/propose/close", page, 422, session="MON-AM", lost="GYM", proposal=page.rsplit("/", 1)[1],
+            self.browser.post("/propose/close", page, 422, session="MON-AM", lost="GYM",
+                              proposal=page.rsplit("/", 1)[1],
                               **{"other_hall": "R14", "other_desks": "9", "other_until": "14:00", **values})
 
     def test_done_once(self):
         page, _ = self.browser.post("/propose/withdraw", "/candidates/1051", number="0001051", paper="PH-1")
         mark = re.search(MARK, self.browser.get(page))[1]
         with concurrent.futures.ThreadPoolExecutor(6) as threads:
-            list(threads.map(lambda _: self.browser.ask("POST", page + "/do", urllib.parse.urlencode({"mark": mark})), range(6)))
+            list(threads.map(lambda _: self.browser.ask("POST", page + "/do", urllib.parse.urlencode({"mark": mark})),
+                             range(6)))
+        self.assertIn("Take it back", self.browser.words(page))
+        self.assertNotIn("nothing was done", self.browser.words(page))
         self.assertEqual(self.log().count("withdraw 0001051 PH-1\t0"), 1)
         self.assertEqual(self.log().count("withdraw 0001051 PH-1\tbegins"), 1)
 
@@ -86,12 +95,14 @@ class TestRehearsal(DeskSchool):
                 ("arrangement", {"extra": "101"}, ["extra"]), ("arrangement", {"extra": "1.5"}, ["extra"]),
                 ("lodge", {"session": "MON-AM", "kind": "hall", "wanted_hall": "GYM"}, ["wanted_hall"]),
                 ("lodge", {"session": "MON-AM", "kind": "clash", "wanted_clash": "CS-1"}, ["wanted_clash"]),
-                ("lodge", {"session": "MON-AM", "kind": "hall", "wanted_hall": "PC1", "reason": "é" * 101}, ["reason"])):
+                ("lodge", {"session": "MON-AM", "kind": "hall", "wanted_hall": "PC1", "reason": "é" * 101},
+                 ["reason"])):
             _, text = self.browser.post(f"/propose/{what}", "/candidates/1051", 422, number="0001051", **values)
             self.assertIn("Nothing was done", text)
             for name in names:
                 self.assertRegex(text, rf'name="{name}"[^>]*aria-invalid="true"', what)
-        _, text = self.browser.post("/propose/open", "/sessions/MON-AM", 422, session="MON-AM", hall="AULA", desks="0", until="25:00")
+        _, text = self.browser.post("/propose/open", "/sessions/MON-AM", 422, session="MON-AM", hall="AULA", desks="0",
+                                    until="25:00")
         for name in ("desks", "until"):
             self.assertRegex(text, rf'name="{name}"[^>]*aria-invalid="true"')
 
@@ -110,7 +121,8 @@ class TestRehearsal(DeskSchool):
 
 class TestAppeals(DeskSchool):
     def lodged(self):
-        page, _ = self.browser.post("/propose/lodge", "/candidates/1051", number="0001051", session="MON-AM", kind="hall",
+        page, _ = self.browser.post("/propose/lodge", "/candidates/1051", number="0001051", session="MON-AM",
+                                    kind="hall",
                                     wanted_hall="PC1", reason=REASON)
         self.assertEqual(self.rows("SELECT * FROM appeal"), [])
         self.browser.post(page + "/do", page)
@@ -123,12 +135,14 @@ class TestAppeals(DeskSchool):
         tried = self.browser.words("/appeals/1051/D1/if-granted")
         self.assertIn("PC1 desk 1 →", tried)
         self.assertEqual(self.seats(), before)
-        page, _ = self.browser.post("/propose/decide", "/appeals/1051/D1", number="0001051", ref="D1", outcome="granted",
+        page, _ = self.browser.post("/propose/decide", "/appeals/1051/D1", number="0001051", ref="D1",
+                                    outcome="granted",
                                     reason="is so")
         self.browser.post(page + "/do", page)
         self.assertEqual(self.rows("SELECT state, answer FROM appeal"), [(2, "is so")])
         self.assertNotEqual(self.seats(), before)
-        page, _ = self.browser.post("/propose/decide", "/office", 422, number="0001051", ref="D1", outcome="refused", reason="x")
+        page, _ = self.browser.post("/propose/decide", "/office", 422, number="0001051", ref="D1", outcome="refused",
+                                    reason="x")
         self.browser.post("/propose/decide", "/office", 422, number="0001051", ref="D1", outcome="other")
 
     def test_a_reason_stands_in_no_log_and_no_argument(self):
@@ -210,7 +224,8 @@ class TestWalk(DeskSchool):
                 ("arrangement", f"/candidates/{number}", {"number": f"{number:07}", "extra": chance.choice([0, 25, 50]),
                                                           "needs": chance.sample(["screen", "reader", "quiet"], 1)}),
                 ("close", f"/sessions/{session}", {"session": session, "lost": hall}),
-                ("open", f"/sessions/{session}", {"session": session, "hall": hall, "desks": max(1, desks + chance.randint(-3, 3)),
+                ("open", f"/sessions/{session}", {"session": session, "hall": hall,
+                                                  "desks": max(1, desks + chance.randint(-3, 3)),
                                                   "until": "13:30"})])
             text = self.browser.get(where)
             answer, text = self.browser.ask("POST", f"/propose/{what}", urllib.parse.urlencode(
@@ -232,10 +247,44 @@ class TestWalk(DeskSchool):
         self.assertGreater(done, self.STEPS // 3)
 
 
+class TestBesideKeep(DeskSchool):
+    def test_no_answer_of_a_candidate_is_lost(self):
+        port = sample.free_port()
+        self.browser.post("/office/keep", "/office", 422, what="start", port="80")
+        self.browser.post("/office/keep", "/office", what="start", port=str(port))
+        self.addCleanup(self.run_office, "keep", "stop")
+        self.assertIn(f"127.0.0.1 {port}", self.browser.words("/office"))
+        stop, answers = threading.Event(), []
+
+        def ask():
+            while not stop.is_set():
+                connection = http.client.HTTPConnection("127.0.0.1", port, timeout=sample.PATIENCE)
+                connection.request("GET", f"/candidates/{sample.NUMBER}/seats", headers={"exam-code": sample.CODE})
+                answers.append(connection.getresponse().status)
+                connection.close()
+        candidates = [threading.Thread(target=ask) for _ in range(3)]
+        for each in candidates:
+            each.start()
+        try:
+            for what in ("withdraw", "reinstate"):
+                page, _ = self.browser.post(f"/propose/{what}", "/candidates/1051", number="0001051", paper="PH-1")
+                self.browser.post(page + "/do", page)
+                self.assertIn("What changed", self.browser.words(page))
+        finally:
+            stop.set()
+            for each in candidates:
+                each.join()
+        self.assertGreater(len(answers), 3)
+        self.assertEqual(set(answers), {200})
+        self.browser.post("/office/keep", "/office", what="stop")
+        self.assertIn("not served", self.browser.words("/office"))
+
+
 class TestManyOfficers(DeskSchool):
     def test_at_once(self):
         browsers = [Browser(self.office("desk", "--link").strip()) for _ in range(4)]
-        numbers = [number for number, in self.rows("SELECT DISTINCT number FROM entry WHERE paper = 'PH-1' AND live = 1 LIMIT 4")]
+        rows = self.rows("SELECT DISTINCT number FROM entry WHERE paper = 'PH-1' AND live = 1 LIMIT 4")
+        numbers = [number for number, in rows]
 
         def work(pair):
             browser, number = pair

@@ -15,26 +15,41 @@ import sample
 from desk_client import HAS_FLASK, MARK, PYTHON, DeskSchool
 from sample import DESK
 
-VALUES = {"number": "1051", "code": "MON-AM", "hall": "PC1", "ref": "D1", "key": "nothing", "what": "withdraw", "sheet": "doors",
+OPEN = {"/enter", "/static/desk.css"}  # without a visit
+VALUES = {"number": "1051", "code": "MON-AM", "hall": "PC1", "ref": "D1", "key": "nothing", "what": "withdraw",
+          "sheet": "doors",
           "kind": "entries", "filename": "desk.css"}
-SCREENS = ["/", "/sessions/MON-AM", "/sessions/MON-AM/halls/PC1", "/candidates", "/candidates/1051", "/appeals", "/clashes", "/files",
+SCREENS = ["/", "/sessions/MON-AM", "/sessions/MON-AM/halls/PC1", "/candidates", "/candidates/1051", "/appeals",
+           "/clashes", "/files",
            "/office"]
-TABLE = """
-import json, sys
+MAKE = """
+import datetime, json, sys
 sys.path.insert(0, sys.argv[1])
 from exam_desk.office import Office
 from exam_web import application, desk, guard
-import datetime
-app, _ = application.make(desk.Desk(Office('none.db', 'none', datetime.date.today, 'x'), '127.0.0.1:1', '/x', False))
-print(json.dumps([[rule.rule, sorted(rule.methods - {'HEAD', 'OPTIONS'}), rule.endpoint in guard.OPEN] for rule in app.url_map.iter_rules()]))
+app = application.make(desk.Desk(Office('none.db', 'none', datetime.date.today, 'x'), '127.0.0.1:1', '/x', False))
+"""
+TABLE = MAKE + """
+print(json.dumps([[rule.rule, sorted(rule.methods - {'HEAD', 'OPTIONS'})] for rule in app.url_map.iter_rules()]))
+"""
+IDLE = MAKE + """
+visits = app.extensions['guard'].visits
+visits[guard.digest('secret')] = visit = guard.Visit('ab')
+client = app.test_client()
+client.set_cookie('localhost', 'desk', 'secret')
+def ask():
+    return client.get('/office').headers['Location']
+first = ask()
+visit.seen -= 8 * 3600 + 1
+print(first, ask(), len(visits))
 """
 
 
 def routes():
-    """Each address of the desk, filled in, with its methods and whether it is open to all."""
+    """Each address of the desk, filled in, with its methods."""
     done = subprocess.run([PYTHON, "-c", TABLE, DESK], capture_output=True, text=True, check=True)
-    for rule, methods, is_open in json.loads(done.stdout):
-        yield re.sub(r"<(?:[^:>]+:)?([^>]+)>", lambda found: VALUES[found[1]], rule), methods, is_open
+    for rule, methods in json.loads(done.stdout):
+        yield re.sub(r"<(?:[^:>]+:)?([^>]+)>", lambda found: VALUES[found[1]], rule), methods
 
 
 class TestRoutes(DeskSchool):
@@ -44,19 +59,25 @@ class TestRoutes(DeskSchool):
         mark = re.search(MARK, self.browser.get("/"))[1]
         body = urllib.parse.urlencode({"mark": mark})
         before = self.seats()
-        for path, methods, is_open in found:
+        for path, methods in found:
+            is_open = path in OPEN
             for method in methods:
                 with self.subTest(path=path, method=method):
                     if not is_open:
                         answer, text = self.browser.ask(method, path, body, {"Cookie": None})
-                        self.assertEqual((answer.status, answer.headers["Location"]), (302, self.browser.prefix + "/enter"))
+                        self.assertEqual((answer.status, answer.headers["Location"]),
+                                         (302, self.browser.prefix + "/enter"))
                         self.assertNotIn("Di Berg", text)
-                    self.assertEqual(self.browser.ask(method, path, body, {"Sec-Fetch-Site": "cross-site"})[0].status, 403)
-                    self.assertEqual(self.browser.ask(method, path, body, {"Sec-Fetch-Site": "same-site"})[0].status, 403)
+                    self.assertEqual(self.browser.ask(method, path, body, {"Sec-Fetch-Site": "cross-site"})[0].status,
+                                     403)
+                    self.assertEqual(self.browser.ask(method, path, body, {"Sec-Fetch-Site": "same-site"})[0].status,
+                                     403)
                     self.assertEqual(self.browser.ask(method, path, body, {"Host": "evil.example"})[0].status, 421)
                     if method == "POST":
-                        for origin in (None, "null", "http://evil.example", f"http://127.0.0.1:{self.browser.port + 1}"):
-                            self.assertEqual(self.browser.ask(method, path, body, {"Origin": origin})[0].status, 403, origin)
+                        for origin in (None, "null", "http://evil.example",
+                                       f"http://127.0.0.1:{self.browser.port + 1}"):
+                            self.assertEqual(self.browser.ask(method, path, body, {"Origin": origin})[0].status, 403,
+                                             origin)
                         for wrong in ("", "mark=", "mark=" + "x" * 32) if not is_open else ():
                             self.assertEqual(self.browser.ask(method, path, wrong)[0].status, 403)
             for method in ("PUT", "DELETE", "PATCH", "OPTIONS", "TRACE"):
@@ -91,6 +112,9 @@ class TestEntering(DeskSchool):
                 self.assertNotIn(other.token.encode(), pathlib.Path("/proc", process, "cmdline").read_bytes())
             except OSError:
                 continue
+
+    def test_a_stranger_sends_little(self):
+        self.assertEqual(self.browser.ask("POST", "/enter", "token=" + "x" * 5000, {"Cookie": None})[0].status, 413)
 
     def test_wrong_initials_leave_the_link(self):
         other = self.another()
@@ -137,7 +161,8 @@ class TestPages(DeskSchool):
 
     def test_nothing_inline(self):
         for path in SCREENS:
-            self.assertNotRegex(self.browser.get(path), r"<script(?! src=)|<style|\sstyle=|\son[a-z]+=\"|javascript:", path)
+            self.assertNotRegex(self.browser.get(path), r"<script(?! src=)|<style|\sstyle=|\son[a-z]+=\"|javascript:",
+                                path)
 
     def test_a_sheet_brings_its_own_style_alone(self):
         answer, text = self.browser.ask("GET", "/sessions/MON-AM/print/doors")
@@ -145,15 +170,19 @@ class TestPages(DeskSchool):
         self.assertEqual(text.count("<style"), 1)
 
     def test_hostile_texts(self):
-        names = ['<script>alert("x")</script>', '"><img src=x onerror=alert(1)>', "Ana \u202egnorts\u202c Silva", "{{ 7 * 7 }}",
+        names = ['<script>alert("x")</script>', '"><img src=x onerror=alert(1)>', "Ana \u202egnorts\u202c Silva",
+                 "{{ 7 * 7 }}",
                  "=HYPERLINK(\"http://x\",\"y\")", "a'b\"c", "\u2066x"]
-        self.office("import", "candidates", self.write("candidates.csv", 'number,name,code\n' + "".join(
-            f'000105{place},"{name.replace(chr(34), chr(34) * 2)}",HOSTILE{place}X9\n' for place, name in enumerate(names))))
-        self.office("import", "halls", self.write("halls.csv", 'hall,title,features\nPC1,<script>1</script>,step-free+screen+computer\n'))
+        rows = "".join(f'000105{place},"{name.replace(chr(34), chr(34) * 2)}",HOSTILE{place}X9\n'
+                       for place, name in enumerate(names))
+        self.office("import", "candidates", self.write("candidates.csv", "number,name,code\n" + rows))
+        hall = "hall,title,features\nPC1,<script>1</script>,step-free+screen+computer\n"
+        self.office("import", "halls", self.write("halls.csv", hall))
         self.office("import", "entries", self.write("entries.csv", "number,paper\n" + "".join(
             f"000105{place},CS-1\n" for place in range(len(names)))))
         self.office("lodge", "0001050", "MON-AM", "arrangement", "quiet", "0", "<b onclick=1>\u202e</b>")
-        for path in (*SCREENS, *(f"/candidates/105{place}" for place in range(len(names))), "/candidates?q=%3Cscript%3E+nobody",
+        for path in (*SCREENS, *(f"/candidates/105{place}" for place in range(len(names))),
+                     "/candidates?q=%3Cscript%3E+nobody",
                      "/appeals/1050/D1", "/appeals/1050/D1/if-granted", "/sessions/MON-AM/print/board"):
             text = self.browser.get(path)
             self.assertNotRegex(text, r"<script(?! src=)|<img|<b on|\u202e|\u2066", path)
@@ -223,6 +252,13 @@ class TestProcess(DeskSchool):
                                 f"Cookie: {self.browser.cookie}\r\nOrigin: http://127.0.0.1:{self.browser.port}\r\n"
                                 "Content-Length: 99999999999\r\n\r\n").encode())
             self.assertIn(b" 413 ", connection.recv(200))
+
+
+@unittest.skipUnless(HAS_FLASK, "Flask or waitress is missing")
+class TestIdle(unittest.TestCase):
+    def test_a_visit_ends_after_eight_hours_without_a_click(self):
+        done = subprocess.run([PYTHON, "-c", IDLE, DESK], capture_output=True, text=True, check=True)
+        self.assertEqual(done.stdout.split(), ["/", "/enter", "0"])
 
 
 @unittest.skipUnless(HAS_FLASK, "Flask or waitress is missing")

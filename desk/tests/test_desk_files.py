@@ -1,0 +1,196 @@
+"""Files at the desk in a browser: uploads of every kind, their mistakes, corrections, and the rehearsed import."""
+import html
+import io
+import json
+import os
+import re
+import subprocess
+import unittest
+import zipfile
+
+from desk_client import MARK, PYTHON, DeskSchool
+from sample import DESK, KINDS
+
+TEMPLATES = DESK / "exam_web"
+NEW = b"number,name,code\n12001,Nadia,K4WBN7RTQD\n0012008,Tom,\n"
+
+
+class Uploads(DeskSchool):
+    def upload(self, *found, status=303, **fields):
+        border = "b0rder"
+        parts = [("mark", None, re.search(MARK, self.browser.get("/files"))[1].encode()),
+                 *((name, None, value.encode()) for name, value in fields.items()),
+                 *(("files", name, text) for name, text in found)]
+        body = b"".join(
+            f'--{border}\r\nContent-Disposition: form-data; name="{field}"'.encode()
+            + (f'; filename="{name}"'.encode() if name else b"") + b"\r\n\r\n" + text + b"\r\n"
+            for field, name, text in parts) + f"--{border}--\r\n".encode()
+        head = {"Content-Type": f"multipart/form-data; boundary={border}"}
+        answer, text = self.browser.ask("POST", "/files", body, head)
+        self.assertEqual(answer.status, status, text[-500:])
+        return (answer.headers["Location"] or "").removeprefix(self.browser.prefix)
+
+
+class TestFiles(Uploads):
+    def test_mistakes_are_corrected_and_the_import_is_rehearsed(self):
+        page = self.upload(("../../etc/passwd", NEW), ("x.csv", b"number,paper\n12001,EN-1\n0012008,EN1\n,\n"))
+        self.assertIn("5 mistakes", self.browser.words(page))
+        self.browser.post(page + "/correct", page, all="1")
+        self.assertIn("2 mistakes", self.browser.words(page))
+        self.browser.post(page + "/correct", page, **{"entries:3:1": "EN-1", "entries:4:row": "drop"})
+        self.assertIn("No mistake", self.browser.words(page))
+        _, text = self.browser.ask("GET", page + "/entries.csv")
+        self.assertEqual(text, "number,paper\n0012001,EN-1\n0012008,EN-1\n")
+        before = self.seats()
+        proposal, _ = self.browser.post("/propose/files", page, upload=page.rsplit("/", 1)[1])
+        self.assertIn("2 would join a session", self.browser.words(proposal))
+        self.assertEqual(self.seats(), before)
+        self.browser.post(proposal + "/do", proposal)
+        self.assertIn("candidates 2 0 0", self.browser.words(proposal))
+        self.assertEqual(self.rows("SELECT count(*) FROM entry WHERE number IN (12001, 12008)"), [(2,)])
+        key = re.search(r'/office/copies/([0-9a-f]{16})"', self.browser.get(proposal))[1]  # both imports are one change
+        self.browser.post(f"/office/copies/{key}/back", f"/office/copies/{key}")
+        self.assertEqual((self.seats(), self.rows("SELECT * FROM candidate WHERE number > 12000")), (before, []))
+
+    def test_a_refused_step_undoes_all(self):
+        page = self.upload(("candidates.csv", b"number,name,code\n0012001,Nadia,K4WBN7RTQD\n"),
+                           ("openings.csv", b"session,hall,desks,until,reserved\nMON-AM,R14,9,14:00,no\n"))
+        proposal, _ = self.browser.post("/propose/files", page, upload=page.rsplit("/", 1)[1])
+        program = os.path.join(self.folder, "program")
+        with open(program, "w", encoding="utf-8") as file:  # it refuses candidates, whatever they are
+            file.write(f'#!/bin/sh\ncase "$*" in *"import candidates"*) echo refused 22 >&2; exit 1;; esac\n'
+                       f'exec {self.value.program} "$@"\n')
+        os.chmod(program, 0o700)
+        self.end()
+        self.environment["EXAMOFFICE"] = program
+        self.start()
+        before = self.rows("SELECT * FROM opening ORDER BY 1, 2")
+        page = self.upload(("candidates.csv", b"number,name,code\n0012001,Nadia,K4WBN7RTQD\n"),
+                           ("openings.csv", b"session,hall,desks,until,reserved\nMON-AM,R14,9,14:00,no\n"))
+        proposal, _ = self.browser.post("/propose/files", page, upload=page.rsplit("/", 1)[1])
+        self.assertIn("out of memory", self.browser.words(proposal))
+        self.assertEqual(self.rows("SELECT * FROM opening ORDER BY 1, 2"), before)
+
+    def test_a_workbook(self):
+        page = self.upload(("students.xlsx", workbook({"Candidates": [["number", "name", "code"],
+                                                                      [12001, "Nadia", "K4WBN7RTQD"],
+                                                                      [12008, "Tom", "K4WBN7RTQE"]]})))
+        text = self.browser.words(page)
+        self.assertIn("No mistake", text)
+        self.assertIn("0012001", self.browser.ask("GET", page + "/candidates.csv")[1])
+        page = self.upload(("students.xlsx", workbook({
+            "Sessions": [["session", "date", "start"], ["X-1", "01/06/2027", "9:00"]],
+            "Candidates": [["number", "name", "code"], [12001, "Nadia", "K4WBN7RTQD"]]})))
+        self.assertNotIn("/candidates.csv", self.browser.get(page))
+        self.assertIn("Sessions!B2", self.browser.words(page))
+        self.assertIn("MISTAKE", self.browser.words(page))
+        self.assertNotIn("/propose/files", self.browser.get(page))
+        page = self.upload(("students.xlsx", workbook({"Sessions": [["session", "date", "start"],
+                                                                    ["X-1", "01/06/2027", "9:00"]]})),
+                           dates="day-first")
+        self.assertIn("X-1,2027-06-01,09:00", self.browser.ask("GET", page + "/sessions.csv")[1].replace('"', ""))
+
+    def test_zips(self):
+        out = io.BytesIO()
+        with zipfile.ZipFile(out, "w", zipfile.ZIP_DEFLATED) as archive:
+            archive.writestr("../../../etc/cron.d/entries.csv", "number,paper\n0001051,EN-1\n")
+            archive.writestr("deep/bomb.csv", b"number,name,code\n" + bytes(50_000_000))
+        self.assertIn("more than 4194304 bytes", self.browser.words(self.upload(("all.zip", out.getvalue()))))
+        self.upload(("bad.zip", b"PK no zip"), status=500)
+        out = io.BytesIO()
+        with zipfile.ZipFile(out, "w") as archive:
+            for place in range(65):
+                archive.writestr(f"{place}.csv", "x")
+        self.upload(("many.zip", out.getvalue()), status=500)
+        self.assertEqual(self.upload(), "/files")
+
+    def test_broken_files(self):
+        for name, content in (("a.xlsx", b"PK"), ("a.ods", b"\x00" * 99), ("x.csv", b"\xff\xfe\x00"),
+                              ("entries.csv", b""),
+                              ("<script>.csv", b"a"), ("entries.csv", b'number,paper\n"0001051'), ("n.txt", b"hello")):
+            page = self.upload((name, content))
+            text = self.browser.get(page)
+            self.assertNotRegex(text, r"<script(?! src=)")
+            self.assertNotIn("/propose/files", text)
+
+    def test_downloads(self):
+        mark = re.search(MARK, self.browser.get("/files"))[1]
+        for path, name in (("/files/dump", "entries.csv"), ("/office/backup", "office.db")):
+            answer, _ = self.browser.ask("POST", path, f"mark={mark}")
+            self.assertEqual(answer.headers["Content-Type"], "application/zip")
+            self.assertIn("attachment", answer.headers["Content-Disposition"])
+            self.assertTrue(name)
+        self.assertEqual(os.listdir(os.path.join(self.desk, "tmp")),
+                         [name for name in os.listdir(os.path.join(self.desk, "tmp"))
+                                                                      if name.startswith("office-copy-")])
+
+
+class TestBegin(Uploads):
+    """An office from nothing."""
+
+    def setUp(self):
+        super().setUp()
+        self.end()
+        for name in os.listdir(self.folder):
+            if name.startswith("office.db"):
+                os.remove(os.path.join(self.folder, name))
+        self.start()
+
+    def test_from_nothing(self):
+        self.assertIn("There is no office yet", self.browser.words("/"))
+        for path in ("/files", "/office"):
+            answer, _ = self.browser.ask("GET", path)
+            self.assertEqual(answer.status, 302)
+        self.browser.post("/init", "/")
+        for path in ("/", "/files", "/candidates", "/appeals", "/clashes", "/office", "/candidates?q=x"):
+            self.browser.get(path)
+        found = [(f"{kind}.csv", (self.examples / f"{kind}.csv").read_bytes()) for kind in KINDS]
+        page = self.upload(*found)
+        proposal, _ = self.browser.post("/propose/files", page, upload=page.rsplit("/", 1)[1])
+        self.browser.post(proposal + "/do", proposal)
+        self.assertIn("What changed", self.browser.words(proposal))
+        self.assertIn("60 candidates", self.browser.words("/"))
+
+
+class TestTexts(unittest.TestCase):
+    """Each text stands in each language, with the values that it has in English."""
+
+    def test_languages_are_whole(self):
+        used = set()
+        for path in [*TEMPLATES.glob("templates/*.html"), *TEMPLATES.glob("*.py")]:
+            text = path.read_text("utf-8")
+            called = r"\b_" if path.suffix == ".html" else r"\btext"
+            used |= {found[1:-1] for found in re.findall(called + r"""\(\s*("(?:[^"\\]|\\.)*"|'(?:[^'\\]|\\.)*')""",
+                                                         text)}
+            for pair in re.findall(r"""\bmany\([^"]*?("(?:[^"\\]|\\.)*"),\s*("(?:[^"\\]|\\.)*")""", text):
+                used |= {each[1:-1] for each in pair}
+        self.assertGreater(len(used), 300)
+        for path in TEMPLATES.glob("languages/*.json"):
+            table = json.loads(path.read_text("utf-8"))
+            self.assertEqual(used - set(table), set(), path.name)
+            for english, other in table.items():
+                self.assertEqual(sorted(re.findall(r"{\w+}", english)), sorted(re.findall(r"{\w+}", other)), english)
+                self.assertNotRegex(other, "[<>&]")
+
+
+class TestGerman(DeskSchool):
+    def test_every_page(self):
+        for path, words in (("/", "Zu tun"), ("/sessions/MON-AM", "Räume"), ("/candidates/1051", "Prüfungsplan"),
+                            ("/files", "Dateien"),
+                            ("/nothing", "Nicht hier"), ("/office", "Protokoll")):
+            answer, text = self.browser.ask("GET", path, headers={"Accept-Language": "de-AT,de;q=0.9,en;q=0.5"})
+            self.assertIn(words, html.unescape(text))
+            self.assertIn('lang="de"', text)
+
+
+def workbook(sheets):
+    """The bytes of a workbook; Debian's python has what makes one."""
+    script = ("import io, json, openpyxl, sys\nbook = openpyxl.Workbook()\nbook.remove(book.active)\n"
+              "for name, rows in json.load(sys.stdin).items():\n    sheet = book.create_sheet(name)\n"
+              "    for row in rows:\n        sheet.append(row)\nbook.save(sys.stdout.buffer)")
+    return subprocess.run([PYTHON, "-c", script], input=json.dumps(sheets).encode(), capture_output=True,
+                          check=True).stdout
+
+
+if __name__ == "__main__":
+    unittest.main()
