@@ -122,8 +122,9 @@ impl Part {
             return Ok(());
         }
         let lists = session_lists(alloc, &self.facts)?;
-        self.sessions = read_sessions(alloc, &self.facts, command)?;
+        let sessions = read_sessions(alloc, &self.facts, command)?;
         self.lists = lists;
+        self.sessions = sessions;
         self.is_listed = true;
         Ok(())
     }
