@@ -4,7 +4,7 @@ use Rattle.std.specs.Prelude.{OnErr}
 use Rattle.std.specs.Global.{Global}
 use Rattle.exam_types.specs.declared.refusal.Refusal.{Refusal}
 use Rattle.exam_rules.specs.declared.listing.SessionLists.{SessionLists}
-use Rattle.exam_rules.specs.Lists.{AreListsOf}
+use Rattle.exam_rules.specs.Lists.{AreListsOf, listed}
 use Rattle.exam_rules.specs.Relations.{Code, Relations, relations_of}
 use Rattle.exam_commands.specs.declared.command.Command.{Command}
 use Rattle.exam_commands.specs.declared.command.Command.TheVariants as command
@@ -23,8 +23,9 @@ use Rattle.exam_commands.specs.Touched.{touches}
 use Rattle.exam_laws.proofs.Making.{is_made, none_touched, plans_back}
 use Rattle.exam_changes.specs.Undoing.{restored}
 use Rattle.exam_office.specs.declared.part.Part.{Part}
-use Rattle.exam_office.specs.HeldParts.{HasLists, IsBack, IsListed, IsPartFor, IsStep, WereLists, part_state, plans_before}
-use Rattle.exam_office.specs.Relisting.{ListsBack}
+use Rattle.exam_office.specs.HeldParts.{HasLists, IsBack, IsListed, IsPartFor, IsStep, part_state, plans_before}
+use Rattle.exam_office.specs.declared.relisting.ListUndo.{ListUndo}
+use Rattle.exam_office.specs.Relisting.{ListsBack, halls_before, members_before}
 use Rattle.exam_office.proofs.LentPlans.{grant_reads}
 
 -- ---- the sessions
@@ -106,10 +107,11 @@ module _ (done : Command) (old mid new : Part) (same : part_state mid ≡ part_s
 
 -- ---- taken back
 
--- with the lists taken back they are those of the facts before the step
-pub lists_were : (old new : Part) → HasLists old → ListsBack new.undo.lists new.lists old.lists → (was : SessionLists) → WereLists new was
-    → AreListsOf (relations_of old.facts) was
-lists_were old new lists back was were = record {
+-- with a change of the lists taken back they are those of the facts before it
+pub lists_were : (r : Relations) (undo : ListUndo) (new old : SessionLists) → AreListsOf r old → ListsBack undo new old → (was : SessionLists)
+    → ((s : Code) → listed was.members.entries s ≡ members_before undo new s) × ((s : Code) → listed was.halls.entries s ≡ halls_before undo new s)
+    → AreListsOf r was
+lists_were r undo new old lists back was were = record {
   numbers = lists.numbers;
   members = λ s. were.0 s ∙ back.members s ∙ lists.members s;
   halls = λ s. were.1 s ∙ back.halls s ∙ lists.halls s;

@@ -48,7 +48,7 @@ returns-in-Ok-clause-made c =
       lists = c.in-Ok.ensures.lists;
       facts_back = c.in_ok-facts.ensures.back;
       lists_there = c.in-Ok.ensures.back.there;
-      lists_back = lists_were c.args.part.now _ c.requires.listed.lists c.in-Ok.ensures.back;
+      lists_back = lists_were part.relations _ _ c.args.part.now.lists c.requires.listed.lists c.in-Ok.ensures.back;
       plans_back = read_back done part.relations sessions exact new.relations part.seats new.seats c.in-Ok.next c.in-Ok.ensures.plans c.put_plans-plans.result c.put_plans-plans.ensures;
     }
 

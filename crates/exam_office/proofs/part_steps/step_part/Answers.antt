@@ -46,6 +46,11 @@ returns-in_err-list-clause-step c = λ office after good up agrees put.
     (refused_back c.args.today office (part_state c.args.part.now) after good up c.args.command.now e agrees
     (subst (λ (part : State). IsPutBack c.args.command.now office part after) c.list.ensures.state put) (inl c.in_err-list.ensures.memory))
 
+pub returns-in_err-list-clause-refusal : goal.returns-in_err-list-clause-refusal
+returns-in_err-list-clause-refusal c =
+    let is : c.from_residual.result ≡ Err c.in_err-list.field-0.0 = search rules in
+    subst (λ result. IfErr result (IsRefusedIn c.args.command.now c.args.today (part_state c.args.part.now))) (sym is) (inl c.in_err-list.ensures.memory)
+
 pub returns-in_err-list-clause-ready : goal.returns-in_err-list-clause-ready
 returns-in_err-list-clause-ready c =
     let is : c.from_residual.result ≡ Err c.in_err-list.field-0.0 = search rules in

@@ -10,4 +10,6 @@ returns-clause-agrees c =
     (sym (c.in_ok-facts.ensures.ok ∙ c.facts.ensures)) c.in_ok-plans.ensures.plans)
 
 pub returns-clause-ready : goal.returns-clause-ready
-returns-clause-ready c = c.new.ensures.ready c.args.command.now c.args.office.now c.show_good.ensures c.show_order.ensures (returns-clause-agrees c)
+returns-clause-ready c =
+    c.new.ensures.ready c.args.command.now c.args.office.now c.show_good.ensures c.show_order.ensures
+    (subst (Agrees c.args.command.now c.args.office.now) c.new.ensures.state (returns-clause-agrees c))
