@@ -1,7 +1,6 @@
 -- The seats of a draft: finished they are the plans put back, taken back they are those of the office.
 use Rattle.std.proofs.Common.{◌≡◌, ℕ, ◌&&◌, not, Bool, true, false, cond, IsTrue, Option, None, Some, Ok, is_some, refl, ap, sym, subst, ◌∙◌}
 use Rattle.std.specs.Option.{option_or}
-use Rattle.exam_rules.specs.declared.listing.SessionLists.{SessionLists}
 use Rattle.exam_rules.specs.Lists.{AreListsOf}
 use Rattle.exam_rules.specs.Orders.{AreInOrder, KeysRise}
 use Rattle.exam_rules.specs.Relations.{Code, Relations, has_row, relations_of, row_at, seat_cmp}

@@ -21,7 +21,6 @@ use Rattle.exam_commands.specs.Parts.{Agrees, IsMadeIn, reads}
 use Rattle.exam_commands.specs.State.{Seats, State}
 use Rattle.exam_commands.specs.Touched.{touches}
 use Rattle.exam_laws.proofs.Making.{is_made, none_touched, plans_back}
-use Rattle.exam_changes.specs.Undoing.{restored}
 use Rattle.exam_office.specs.declared.part.Part.{Part}
 use Rattle.exam_office.specs.HeldParts.{HasLists, IsBack, IsListed, IsPartFor, IsStep, part_state, plans_before}
 use Rattle.exam_office.specs.declared.relisting.ListUndo.{ListUndo}

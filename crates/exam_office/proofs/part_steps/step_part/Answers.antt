@@ -4,7 +4,6 @@ use Rattle.exam_commands.specs.Parts.{Agrees, IsPutBack, IsRefusedIn}
 use Rattle.exam_commands.specs.State.{State}
 use Rattle.exam_commands.specs.Steps.{MayStep}
 use Rattle.exam_laws.proofs.Parting.{refused_back}
-use Rattle.exam_office.specs.declared.part.Part.{Part}
 use Rattle.exam_office.specs.HeldParts.{HasLists, IsPartFor, IsStep, part_state}
 use Rattle.exam_office.proofs.SteppedParts.{lists_after, ready_after, still_part}
 use Rattle.exam_office.proofs.part_steps.step_part.Goals as goal
