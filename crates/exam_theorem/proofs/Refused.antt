@@ -1,21 +1,26 @@
--- Why no office is brought to the newest version.
-use Rattle.std.proofs.Common.{◌≡◌, ◌≤◌, ◌∷◌, ℕ, IsTrue, inl, inr, sym, subst}
+-- Why no office is brought to the newest version, or opened then.
+use Rattle.std.proofs.Common.{◌≡◌, ◌≤◌, ◌⊎◌, ◌∷◌, ℕ, IsTrue, inl, inr, sym, subst}
+use Rattle.std.specs.Prelude.{IfErr, Result, Ok, Err}
 use Rattle.sqlite_trees.specs.declared.store.Store.{Ghosts}
 use Rattle.sqlite_trees.specs.Tree.{Trees}
 use Rattle.sqlite.specs.Effect.{Database}
 use Rattle.sqlite.specs.Held.{Held, state}
 use Rattle.sqlite.specs.State.{HasCleanDisk, IsUnchanged, Survives}
 use Rattle.exam_types.specs.declared.refusal.Refusal.{Refusal}
+use Rattle.exam_types.specs.declared.refusal.Refusal.TheVariants.{Store}
 use Rattle.exam_sql.specs.Made.{ContainsMade}
 use Rattle.exam_sql.specs.Texts.{held_texts, load_office}
 use Rattle.exam_tables.specs.Loaded.{AreUnderstood, FailsThen, FailsToLoad, IsLoadRefusal}
 use Rattle.exam_tables.specs.OurTables.{office_loads}
+use Rattle.exam_tables.specs.Transactions.{Commits}
 use Rattle.exam_tables.specs.Versions.{HasVersion, IsVersion}
 use Rattle.exam_tables.proofs.Creating.{made_later}
 use Rattle.exam_tables.proofs.Leaving.{still_itself, still_then}
 use Rattle.exam_tables.proofs.Refusing.{part_failed}
-use Rattle.exam_store.specs.Found.{FailsToMigrate}
+use Rattle.exam_store.specs.Found.{FailsToMigrate, FailsToOpen}
+use Rattle.exam_store.specs.Stores.{OfficeIn}
 use Rattle.exam_store.proofs.Marking.{made_of, still_made, still_of}
+use Rattle.exam_theorem.specs.Resting.{BringsOver, FailsToCarry}
 
 module _ {S : Type 0} (g : Ghosts S) where
   -- no version was read
@@ -42,3 +47,11 @@ module _ {S : Type 0} (g : Ghosts S) where
           λ made. made_later (state g old) (state g mid) (state g new) e s clean up
               (makes (made.0, still_made (state g old) (state g mid) made.0 same made.1)),
         ))
+
+  -- it was brought there, and was not opened
+  pub not_opened : (old mid : Held S) → Commits {A = Unit {0}} {E = Refusal} (state g old) (state g mid) (Ok tt) BringsOver → (result : Result (OfficeIn S) (Refusal × Held S))
+      → IfErr result (λ e. Survives (state g mid) (state g e.1) (λ _. ⊥))
+      → IfErr result (λ e. HasCleanDisk (state g e.1) → ((e.0 ≡ Store) × IsTrue e.1.in_transaction) ⊎ FailsToOpen g mid e.1 e.0)
+      → IfErr result (λ e. HasCleanDisk (state g e.1) → FailsToCarry g old e.1 e.0)
+  not_opened old mid made (Ok new) survives fails = tt
+  not_opened old mid made (Err e) survives fails = λ clean. inr (mid, made, survives, fails clean)

@@ -4,7 +4,7 @@ use Rattle.sqlite_trees.specs.declared.store.Store.{Ghosts}
 use Rattle.sqlite_trees.specs.Tree.{Trees}
 use Rattle.sqlite.specs.Effect.{Database}
 use Rattle.sqlite.specs.Held.{Held, state}
-use Rattle.sqlite.specs.State.{State, HasCleanDisk}
+use Rattle.sqlite.specs.State.{State, HasCleanDisk, Survives}
 use Rattle.exam_types.specs.declared.refusal.Refusal.{Refusal}
 use Rattle.exam_types.specs.declared.refusal.Refusal.TheVariants.{NoMemory, Store}
 use Rattle.exam_commands.specs.Orders.{IsInOrder}
@@ -64,11 +64,13 @@ RestsOn old new = IsSound new → (office : Office) → Rests old office → Res
 abbrev pub IsFailing : Refusal → Type 0
 IsFailing e = (e ≡ NoMemory) ⊎ (e ≡ Store)
 
--- Why no office is opened: it is not brought to the newest version; or it is, in one transaction, and is not opened then.
+-- Why no office is opened: it is not brought to the newest version; or it is, in one transaction, and is not opened then,
+-- where opening commits nothing and forgets no fault of the disk.
 abbrev pub FailsToCarry : {S : Type 0} → Ghosts S → Held S → Held S → Refusal → Type 0
 FailsToCarry {S} g old new e =
     FailsToMigrate g old new e
     ⊎ ((mid : Held S) × Commits {A = Unit {0}} {E = Refusal} (state g old) (state g mid) (Ok tt) BringsOver
+    × Survives (state g mid) (state g new) (λ _. ⊥)
     × (((e ≡ Store) × IsTrue new.in_transaction) ⊎ FailsToOpen g mid new e))
 
 -- ---- an office in a store
