@@ -17,7 +17,6 @@ const LINES: &[(&str, &str, End)] = &[
     ("none.db", "export S1", (1, "", "refused 24\n")),
     ("none.db", "migrate", (1, "", "refused 24\n")),
     ("none.db", "check", (1, "bad office\n", "")),
-    ("none.db", "export s1", (2, "", "line not understood\n")),
     (
         "none.db",
         "import sessions none.csv",
@@ -51,9 +50,34 @@ const LINES: &[(&str, &str, End)] = &[
     ("folder.db", "check", (1, "", "refused 23\n")),
 ];
 
-fn words_of(alloc: Global, path: &str, command: &str) -> Result<Vec<String>, AllocError> {
+/// Days and commands that are no line. They come before the database, so nothing is opened for one.
+const NO_LINES: &[(&str, &str)] = &[
+    ("2027-02-29", "export S1"),
+    (TODAY, "decide 0000001 HA1 GRANTED ok"),
+    (TODAY, "serve 0"),
+    (TODAY, "serve 65536"),
+    (TODAY, "import marks none.csv"),
+    (TODAY, "door-list S1"),
+    (TODAY, "clashes s1"),
+    (TODAY, LONG_REASON),
+];
+
+/// A decision with a reason of 201 bytes.
+const LONG_REASON: &str = "decide 0000001 HA1 granted \
+xxxxxxxxxxxxxxxxxxxxxxxxxxxxxxxxxxxxxxxxxxxxxxxxxxxxxxxxxxxxxxxxxxx\
+xxxxxxxxxxxxxxxxxxxxxxxxxxxxxxxxxxxxxxxxxxxxxxxxxxxxxxxxxxxxxxxxxxx\
+xxxxxxxxxxxxxxxxxxxxxxxxxxxxxxxxxxxxxxxxxxxxxxxxxxxxxxxxxxxxxxxxxxx";
+
+const TODAY: &str = "2027-05-01";
+
+fn words_of(
+    alloc: Global,
+    path: &str,
+    today: &str,
+    command: &str,
+) -> Result<Vec<String>, AllocError> {
     let mut words = Vec::new(alloc);
-    for word in ["examoffice", "--db", path, "--today", "2027-05-01"] {
+    for word in ["examoffice", "--db", path, "--today", today] {
         words.push(String::from_str(alloc, word)?)?;
     }
     for word in command.split(' ') {
@@ -64,8 +88,19 @@ fn words_of(alloc: Global, path: &str, command: &str) -> Result<Vec<String>, All
 
 /// Whether a command over the database at the path ends like this.
 pub fn ends(rt: &HostRuntime, path: &str, command: &str, end: End) -> Result<bool, AllocError> {
+    ends_on(rt, path, TODAY, command, end)
+}
+
+/// Whether a command over the database at the path, on this day, ends like this.
+fn ends_on(
+    rt: &HostRuntime,
+    path: &str,
+    today: &str,
+    command: &str,
+    end: End,
+) -> Result<bool, AllocError> {
     let (status, out, err) = end;
-    let words = words_of(rt.alloc(), path, command)?;
+    let words = words_of(rt.alloc(), path, today, command)?;
     let mut printed = Vec::new(rt.alloc());
     let mut told = Vec::new(rt.alloc());
     let ended = run(rt, Ok(words), Unknown, &mut printed, &mut told);
@@ -78,6 +113,17 @@ fn expect_end(rt: &HostRuntime, path: &str, command: &str, end: End) -> Result<(
         return Ok(());
     }
     Err(Fail::new(format_args!("{path} {command}")))
+}
+
+/// What is no line is refused as such, although its database is missing.
+fn expect_no_lines(rt: &HostRuntime) -> Result<(), Fail> {
+    let end = (2, "", "line not understood\n");
+    for (today, command) in NO_LINES {
+        if !ends_on(rt, "examoffice_lines/none.db", today, command, end)? {
+            return Err(Fail::new(command));
+        }
+    }
+    Ok(())
 }
 
 /// Makes what lies in the folder before the first line.
@@ -111,6 +157,7 @@ fn lines_end_as_they_should(rt: HostRuntime) -> Result<(), Fail> {
         let path = format!(in rt.alloc(); "{FOLDER}/{database}")?;
         expect_end(&rt, path.as_str(), command, *end)?;
     }
+    expect_no_lines(&rt)?;
     expect_no_port(&rt)?;
     assert!(rt; is_private(&rt, "examoffice_lines/a.db"));
     assert!(rt; is_private(&rt, "examoffice_lines/a.db-wal"));
