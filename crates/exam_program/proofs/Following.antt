@@ -13,29 +13,18 @@ use Rattle.exam_line.specs.Lines.{Job, Said}
 use Rattle.exam_line.specs.Lines as line
 use Rattle.exam_tables.specs.Transactions.{IsSound}
 use Rattle.exam_tables.specs.Versions.{ContainsOf, IsBlank, IsVersion, marks_since, version}
-use Rattle.exam_store.specs.Kept.{Keeps, KeepsIn}
-use Rattle.exam_store.proofs.Marking.{made_of, no_older, of_newest}
+use Rattle.exam_store.specs.Kept.{KeepsIn}
+use Rattle.exam_store.proofs.Marking.{made_of, no_older}
 use Rattle.exam_job.specs.Printed.{Contents}
 use Rattle.exam_job.specs.declared.report.JobFault.{JobFault}
-use Rattle.exam_program.specs.Files.{HoldOffice, HoldOfficeIn, HoldStill, HoldsAfter, LeadsInTurn, RunInTurn}
+use Rattle.exam_program.specs.Files.{HoldOfficeIn, HoldStill, HoldsAfter, Leads, LeadsInTurn, RunInTurn}
 use Rattle.exam_program.specs.Running.{IsReady, RunsOn}
 use Rattle.exam_program.proofs.Keeping.{OneResult}
 use Rattle.exam_program.proofs.Opened.{some_made}
-use Rattle.exam_program.proofs.Ran.{runs_newest}
+use Rattle.exam_program.proofs.Ran.{in_newest, runs_newest}
 use Rattle.exam_program.proofs.Shown.{has_tables, sees}
 
 module _ {D : Type 0} (g : disk.Ghosts D) where
-  in_newest : (files : Files D) (office : Office) → HoldOffice g files office → HoldOfficeIn g version files office
-  in_newest files office held =
-      let keeps : Keeps held.db office = held.keeps in
-      record {
-        db = held.db;
-        keeps = record { all = keeps.all; contains = of_newest held.db keeps.all keeps.contains; version = keeps.version; held = keeps.held };
-        sound = held.sound;
-        seen = held.seen;
-        left = held.left;
-      }
-
   -- the files hold the office in some version
   still : (j : Job) (result : Result ℕ JobFault) (v : ℕ) (files : Files D) (office : Office) → IsVersion v → HoldStill g j result v files office
       → (u : ℕ) × IsVersion u × HoldOfficeIn g u files office
@@ -69,36 +58,27 @@ module _ {D : Type 0} (g : disk.Ghosts D) where
     ready j was v office is settled kept =
         (settled, has_tables j (file_state was).now (kept.all, (subst (λ (n : ℕ). ContainsOf n (file_state was).now kept.all) is kept.contains).0))
 
+    -- one line
+    led : (said : Said) (was : Held (FileStore D g)) (before : O) (untold : E) (result : Result ℕ JobFault) (now : Held (FileStore D g)) (after : O) (told : E) (next : Files D) (v : ℕ) (office : Office)
+        → IsVersion v → KeepsIn v (file_state was).now office → (file_state was).committed ≡ (file_state was).now → IsSound (file_state now) → AreClean g next.log next.db → (done : Option Office)
+        → RunsOn over_files contents errors said said.job was before untold result now done after told → HoldsAfter said.job was result done (Ok next)
+        → (u : ℕ) × (between : Office) × IsVersion u × Leads g said.job result v office done u between next × HoldOfficeIn g u next between
+    led said was before untold result now after told next v office is kept settled sound clean None runs holds =
+        let left = holds clean settled v is office kept in
+        let found = still said.job result v next office is left in
+        (found.0, office, found.1, (refl, left, found.2), found.2)
+    led said was before untold result now after told next v office is kept settled sound clean (Some done) runs holds =
+        let number = newest said was before untold result now done after told v office is kept runs sound in
+        let left = in_newest g next done (holds clean (ready said.job was v office number settled kept)) in
+        (version, done, inr refl, (number, refl, refl, left), left)
+
     pub lead : (lines : List Said) (first last : Files D) (v : ℕ) (office : Office) → IsVersion v → HoldOfficeIn g v first office → RunInTurn g contents errors first lines last
         → (w : ℕ) × (new : Office) × IsVersion w × LeadsInTurn g contents errors v office lines w new last
     lead [] first last v office is held same = (v, office, is, (refl, refl, subst (λ (f : Files D). HoldOfficeIn g v f office) (sym same) held))
-    lead (said ∷ rest) first last v office is held (was, before, untold, result, next, after, told, found, opened, (now, done, runs, closes, holds), clean, then) =
+    lead (said ∷ rest) first last v office is held (was, before, untold, result, next, after, told, found, opened, (now, done, runs, closes, holds), clean, more) =
         let it = sees g first was held found opened in
         let kept : KeepsIn v (file_state was).now office = subst (λ (db : Database). KeepsIn v db office) (sym it.1) held.keeps in
         let copied = closes.1 clean in
-        by done kept it.0 (copied.was_clean, copied.was_open) runs holds (λ u between isu heldu. lead rest next last u between isu heldu then)
-      where
-        Answer : Type 0
-        Answer = (w : ℕ) × (new : Office) × IsVersion w × LeadsInTurn g contents errors v office (said ∷ rest) w new last
-
-        by : (led : Option Office) → KeepsIn v (file_state was).now office → (file_state was).committed ≡ (file_state was).now → IsSound (file_state now)
-            → RunsOn over_files contents errors said said.job was before untold result now led after told → HoldsAfter said.job was result led (Ok next)
-            → ((u : ℕ) (between : Office) → IsVersion u → HoldOfficeIn g u next between → (w : ℕ) × (new : Office) × IsVersion w × LeadsInTurn g contents errors u between rest w new last) → Answer
-        by None kept settled sound runs holds on =
-            let left = holds clean settled v is office kept in
-            let at = still said.job result v next office is left in
-            let later = on at.0 office at.1 at.2 in (
-              later.0,
-              later.1,
-              later.2,
-              (was, before, untold, result, now, None, after, told, kept, runs, at.0, office, next, at.1, (refl, left, at.2), later.3),
-            )
-        by (Some led) kept settled sound runs holds on =
-            let number = newest said was before untold result now led after told v office is kept runs sound in
-            let left = in_newest next led (holds clean (ready said.job was v office number settled kept)) in
-            let later = on version led (inr refl) left in (
-              later.0,
-              later.1,
-              later.2,
-              (was, before, untold, result, now, Some led, after, told, kept, runs, version, led, next, inr refl, (number, refl, refl, left), later.3),
-            )
+        let one = led said was before untold result now after told next v office is kept it.0 (copied.was_clean, copied.was_open) clean done runs holds in
+        let later = lead rest next last one.0 one.1 one.2 one.4 more in
+        (later.0, later.1, later.2, (was, before, untold, result, now, done, after, told, kept, runs, one.0, one.1, next, one.2, one.3, later.3))

@@ -164,9 +164,9 @@ module _ {S : Type 0} (g : Ghosts S) where
     served_one_keeps old new (inr (asked, told, answers)) = answered_keeps old new asked told answers
 
     module _ {E : Type 0} (errors : Contents E) where
-      in_turn_keeps : (old new : OfficeIn S) (untold : E) (faults : List (Option HttpFault)) (told : E) → EndInTurn g errors today old untold faults new told → KeepsOn old new
+      in_turn_keeps : (old new : OfficeIn S) (untold : E) (ends : List (Result (Unit {0}) HttpFault)) (told : E) → EndInTurn g errors today old untold ends new told → KeepsOn old new
       in_turn_keeps old new untold [] told same = unchanged old new same.0
-      in_turn_keeps old new untold (fault ∷ rest) told (between, mid, one, tells, then) =
+      in_turn_keeps old new untold (end ∷ rest) told (between, mid, one, tells, then) =
           then_on old between new (served_one_keeps old between one) (in_turn_keeps between new mid rest told then)
 
       served_keeps : (old new : OfficeIn S) (untold told : E) (printed result : Result (Unit {0}) JobFault) → ServesAfter g errors today old untold printed result new told → KeepsOn old new

@@ -32,7 +32,7 @@ use Rattle.exam_job.specs.declared.report.JobFault.{JobFault}
 use Rattle.exam_job.specs.declared.report.JobFault.TheVariants.{Refused}
 use Rattle.exam_types.specs.declared.refusal.Refusal.{Refusal}
 use Rattle.exam_program.specs.Checking.{status_of}
-use Rattle.exam_program.specs.Files.{Closed, Closes, HoldOffice, HoldOfficeIn, HoldStill, HoldsAfter}
+use Rattle.exam_program.specs.Files.{Closed, Closes, Hold, HoldOffice, HoldOfficeIn, HoldStill, HoldsAfter}
 use Rattle.exam_program.specs.Opening.{OpensFor}
 use Rattle.exam_program.specs.Running.{CarriesOut, IsReady, RunsOn, RunsOpened, RunsOver}
 use Rattle.exam_program.specs.Words.{IsNotReached, IsUnopened}
@@ -95,7 +95,7 @@ pub line_kept : {S O E : Type 0} (g : Ghosts S) (one_result : OneResult) (conten
     (result : Result (Unit {0}) JobFault) (after : O) (told : E) → last.database ≡ now → OpensFor said.job (state g was) (state g first.database) first.office
     → CarriesOut g contents errors said.job said.today first before untold result last after told → IsReady said.job (state g was) → IsSound (state g now)
     → IsKept (state g first.database) first.office × IsKept (state g now) last.office
-line_kept {S} g one_result contents said was first last now before untold result after told is opens done ready sound =
+line_kept {S} g one_result contents errors said was first last now before untold result after told is opens done ready sound =
     let there = subst (λ (h : Held S). IsSound (state g h)) (sym is) sound in
     let on = carried_keeps g one_result said.today contents errors said.job first last before untold result after told done there in
     let kept = opened_kept (state g was) (state g first.database) first.office said.job opens ready on.0.0 in
@@ -113,16 +113,31 @@ not_reached contents before result after (job.Apply command) other h = h
 not_reached contents before result after (job.Serve port) other h = h
 not_reached contents before result after (job.Sheet session sheet) other h = h
 
+-- tables that keep the office keep it in the newest version
+pub in_newest : {D : Type 0} (g : disk.Ghosts D) (files : Files D) (office : Office) → HoldOffice g files office → HoldOfficeIn g version files office
+in_newest g files office held =
+    let keeps : Keeps held.db office = held.keeps in
+    record {
+      db = held.db;
+      keeps = record { all = keeps.all; contains = of_newest held.db keeps.all keeps.contains; version = keeps.version; held = keeps.held };
+      sound = held.sound;
+      seen = held.seen;
+      left = held.left;
+    }
+
 module _ {D O E : Type 0} (g : disk.Ghosts D) (contents : Contents O) (errors : Contents E) (said : Said) (was : Held (FileStore D g)) (before : O) (untold : E) (now : Held (FileStore D g)) (after : O) (told : E) where
   -- the files hold what the connection had committed
-  files_hold : (files : Files D) (office : Office) → IsLive (file_state now) → IsCopied now files → IsKept (file_state now) office → HoldOffice g files office
-  files_hold files office live copied kept = record {
+  files_hold : (IsSo : Database → Type 0) (files : Files D) → IsLive (file_state now) → IsCopied now files → IsSo (file_state now).committed → Hold g IsSo files
+  files_hold IsSo files live copied keeps = record {
     db = (file_state now).committed;
-    keeps = subst (λ (db : Database). Keeps db office) (sym kept.1) kept.0;
+    keeps = keeps;
     sound = (live copied.was_open).1;
     seen = copied.seen;
     left = copied.left;
   }
+
+  files_keep : (files : Files D) (office : Office) → IsLive (file_state now) → IsCopied now files → IsKept (file_state now) office → HoldOffice g files office
+  files_keep files office live copied kept = files_hold (λ (db : Database). Keeps db office) files live copied (subst (λ (db : Database). Keeps db office) (sym kept.1) kept.0)
 
   pub closes : (closed : Closed D g) → IfOk closed (λ files. IsTrue (g.is_usable files.log) × IsTrue (g.is_usable files.db))
       → IfOk closed (λ files. AreClean g files.log files.db → IsCopied now files)
@@ -134,30 +149,15 @@ module _ {D O E : Type 0} (g : disk.Ghosts D) (contents : Contents O) (errors : 
       (settled : (file_state was).committed ≡ (file_state was).now) where
     -- what was committed stayed
     hold_same : (file_state now).committed ≡ (file_state was).committed → HoldOfficeIn g v files office
-    hold_same same = record {
-      db = (file_state now).committed;
-      keeps = subst (λ (db : Database). KeepsIn v db office) (sym (same ∙ settled)) kept;
-      sound = (live copied.was_open).1;
-      seen = copied.seen;
-      left = copied.left;
-    }
-
-    hold_newest : Keeps (file_state now).now office → (file_state now).committed ≡ (file_state now).now → HoldOfficeIn g version files office
-    hold_newest keeps same =
-        let there : Keeps (file_state now).committed office = subst (λ (db : Database). Keeps db office) (sym same) keeps in
-        record {
-          db = (file_state now).committed;
-          keeps = record { all = there.all; contains = of_newest (file_state now).committed there.all there.contains; version = there.version; held = there.held };
-          sound = (live copied.was_open).1;
-          seen = copied.seen;
-          left = copied.left;
-        }
+    hold_same same = files_hold (λ (db : Database). KeepsIn v db office) files live copied (subst (λ (db : Database). KeepsIn v db office) (sym (same ∙ settled)) kept)
 
     migrated : (versions : ℕ × ℕ) → IsMigrated over_files was (Ok versions) now → HoldOfficeIn g version files office
     migrated versions m = by is
       where
         by : IsVersion v → HoldOfficeIn g version files office
-        by (inl older) = let turned = m.made.turned copied.was_clean in hold_newest (turned.0 v older office kept) turned.1
+        by (inl older) =
+            let turned = m.made.turned copied.was_clean in
+            in_newest g files office (files_keep files office live copied (turned.0.kept v older office kept, turned.1))
         by (inr newest) =
             let good = m.found copied.was_clean kept.all (made_of v (file_state was).now kept.all kept.contains) in
             let number : versions.0 ≡ version = one_version versions.0 v kept.all good.1 kept.version ∙ newest in
@@ -168,7 +168,7 @@ module _ {D O E : Type 0} (g : disk.Ghosts D) (contents : Contents O) (errors : 
         → TellsVersions contents answered before done after → result ≡ status_of 0 done → HoldStill g line.migrate result v files office
     by_answer (Ok versions) done (Ok status) m tells e = migrated versions m
     by_answer (Ok versions) done (Err fault) m tells e = inr (migrated versions m)
-    by_answer (Err refusal) done (Ok status) m tells e = absurd (let never : Ok status ≡ status_of 0 (Err (Refused refusal)) = e ∙ ap (status_of 0) tells.0 in cc never)
+    by_answer (Err refusal) done (Ok status) m tells e = absurd (let never = e ∙ ap (status_of 0) tells.0 in cc)
     by_answer (Err refusal) done (Err fault) m tells e = inl (hold_same (m.made.same (copied.was_clean, copied.was_open)).1)
 
     read_commit : {A F : Type 0} (answered : Result A F) → OnlyReads (file_state was) (file_state now) answered → (file_state now).committed ≡ (file_state was).committed
@@ -188,7 +188,7 @@ module _ {D O E : Type 0} (g : disk.Ghosts D) (contents : Contents O) (errors : 
       → RunsOn over_files contents errors said said.job was before untold result now office after told → HoldsAfter said.job was result office closed
   held_after result (Some office) (Ok files) live closes runs = λ clean ready.
       let copied = closes.1 clean in
-      files_hold files office live copied (runs_kept over_files contents errors said was before untold now after told said.job result office runs ready (copied.was_clean, copied.was_open))
+      files_keep files office live copied (runs_kept over_files contents errors said was before untold now after told said.job result office runs ready (copied.was_clean, copied.was_open))
   held_after result None (Ok files) live closes runs = λ clean settled v is office kept.
       hold_still files live (closes.1 clean) v is office kept settled said.job result runs
   held_after result (Some office) (Err e) live closes runs = tt

@@ -25,35 +25,29 @@ use Rattle.exam_program.specs.Opening.{HasTables, IsNotOpened, OpensFor}
 -- ---- over an open office
 
 -- what a connection leaves on standard error: nothing, or the line of its fault, or not all of that line
-abbrev pub TellsEnd : {E : Type 0} → Contents E → Option HttpFault → E → E → Type 0
-TellsEnd errors None before after = after ≡ before
-TellsEnd errors (Some fault) before after =
+abbrev pub TellsEnd : {E : Type 0} → Contents E → Result (Unit {0}) HttpFault → E → E → Type 0
+TellsEnd errors (Ok done) before after = after ≡ before
+TellsEnd errors (Err fault) before after =
     IsTold errors (connection_fault_text (http_fault_number fault)) before after
-
--- the fault, if it ended in one
-abbrev pub fault_of : Result (Unit {0}) HttpFault → Option HttpFault
-fault_of (Ok done) = None
-fault_of (Err fault) = Some fault
 
 -- A connection ended: the store changed as if at most one request had asked for it on this day, and at most one line was
 -- told.
 abbrev pub EndsOne : {S E : Type 0} → Ghosts S → Contents E → ℕ → OfficeIn S → E → OfficeIn S → E → Type 0
 EndsOne g errors today old untold new told =
-    (fault : Option HttpFault) × ServedOn g today old new × TellsEnd errors fault untold told
+    (end : Result (Unit {0}) HttpFault) × ServedOn g today old new × TellsEnd errors end untold told
 
--- Connections ended in turn, each with this fault or with none: the store changed as if at most one request had asked
--- for it on this day, and at most one line was told.
-abbrev pub EndInTurn : {S E : Type 0} → Ghosts S → Contents E → ℕ → OfficeIn S → E → List (Option HttpFault) → OfficeIn S
-    → E → Type 0
+-- connections ended so, one after the other
+abbrev pub EndInTurn : {S E : Type 0} → Ghosts S → Contents E → ℕ → OfficeIn S → E → List (Result (Unit {0}) HttpFault)
+    → OfficeIn S → E → Type 0
 EndInTurn g errors today old untold [] new told = (new ≡ old) × (told ≡ untold)
-EndInTurn {S} {E} g errors today old untold (fault ∷ rest) new told =
-    (between : OfficeIn S) × (mid : E) × ServedOn g today old between × TellsEnd errors fault untold mid
+EndInTurn {S} {E} g errors today old untold (end ∷ rest) new told =
+    (between : OfficeIn S) × (mid : E) × ServedOn g today old between × TellsEnd errors end untold mid
     × EndInTurn g errors today between mid rest new told
 
 -- some connections ended in turn, and nothing else changed the store or told anything
 abbrev pub AreEnded : {S E : Type 0} → Ghosts S → Contents E → ℕ → OfficeIn S → E → OfficeIn S → E → Type 0
 AreEnded g errors today old untold new told =
-    (faults : List (Option HttpFault)) × EndInTurn g errors today old untold faults new told
+    (ends : List (Result (Unit {0}) HttpFault)) × EndInTurn g errors today old untold ends new told
 
 -- what serving ends in after its line: nothing, unless the network failed; or the fault of that line
 abbrev pub ServesAfter : {S E : Type 0} → Ghosts S → Contents E → ℕ → OfficeIn S → E → Result (Unit {0}) JobFault

@@ -2,7 +2,7 @@
 ghost use Rattle.std.specs.Prelude.{◌≡◌, IfErr};
 ghost use Rattle.exam_http.specs.Serving.{ServedOn};
 ghost use Rattle.exam_job.specs.declared.report.JobFault.TheVariants.{Net};
-ghost use Rattle.exam_program.specs.Running.{AreEnded, EndsOne, ServesOn, TellsEnd, fault_of};
+ghost use Rattle.exam_program.specs.Running.{AreEnded, EndsOne, ServesOn, TellsEnd};
 
 use exam_http::{HttpFault, serve_one};
 use exam_job::{JobFault, connection_fault_line, print, print_error, serving_line};
@@ -138,35 +138,38 @@ fn serve_connection<S: Alter, E: Write>(
 )
     ensures { EndsOne S.Store E.contents today store.old err.old store.new err.new }
 {
-    let served = match Instant::now(rt) {
-        Ok(since) => serve_timed(rt, store, today, stream, since),
-        Err(_) => Err(HttpFault::Read),
-    };
-    tell_end(served, err);
+    let end = serve_timed(rt, store, today, stream);
+    tell_end(end, err);
     // The answer ends before the connection is closed. Closing resets a connection if not all of its bytes were read,
     // and a client that sees the reset first could lose the answer.
     let _ = stream.shutdown(Shutdown::Write);
 }
 
-/// Prints the line of the fault that a connection ended in.
-fn tell_end<E: Write>(served: Result<(), HttpFault>, err: &mut E)
-    ensures { TellsEnd E.contents (fault_of served) err.old err.new }
+/// Prints the line of the fault that a connection ended in, if it did.
+fn tell_end<E: Write>(end: Result<(), HttpFault>, err: &mut E)
+    ensures { TellsEnd E.contents end err.old err.new }
 {
-    if let Err(fault) = served {
-        // There is nowhere left to report that this was not written.
-        let _ = print_error(err, connection_fault_line(fault.number()).as_slice());
+    match end {
+        Ok(()) => {}
+        Err(fault) => {
+            // There is nowhere left to report that this was not written.
+            let _ = print_error(err, connection_fault_line(fault.number()).as_slice());
+        }
     }
 }
 
+/// Serves one request, in the time that its connection has.
 fn serve_timed<S: Alter>(
     rt: &HostRuntime,
     store: &mut Store<S>,
     today: Day,
     stream: &TcpStream,
-    since: Instant,
 ) -> Result<(), HttpFault>
     ensures { ServedOn S.Store today store.old store.new }
 {
+    let Ok(since) = Instant::now(rt) else {
+        return Err(HttpFault::Read);
+    };
     let mut reader = Timed { stream, rt, since };
     let mut writer = Timed { stream, rt, since };
     serve_one(rt.alloc(), store, today, &mut reader, &mut writer)

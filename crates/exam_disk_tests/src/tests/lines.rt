@@ -9,6 +9,9 @@ use std::test::Fail;
 
 const FOLDER: &str = "examoffice_lines";
 
+/// No line makes this database.
+const NONE: &str = "examoffice_lines/none.db";
+
 /// What a line ends with: its exit status, and what it prints on standard output and on standard error.
 pub type End = (u8, &'static str, &'static str);
 
@@ -50,16 +53,18 @@ const LINES: &[(&str, &str, End)] = &[
     ("folder.db", "check", (1, "", "refused 23\n")),
 ];
 
-/// Days and commands that are no line. They come before the database, so nothing is opened for one.
-const NO_LINES: &[(&str, &str)] = &[
-    ("2027-02-29", "export S1"),
-    (TODAY, "decide 0000001 HA1 GRANTED ok"),
-    (TODAY, "serve 0"),
-    (TODAY, "serve 65536"),
-    (TODAY, "import marks none.csv"),
-    (TODAY, "door-list S1"),
-    (TODAY, "clashes s1"),
-    (TODAY, LONG_REASON),
+/// Days and commands that are no line, and the exit status of each.
+const NO_LINES: &[(&str, &str, u8)] = &[
+    ("2027-02-29", "export S1", 2),
+    (TODAY, "decide 0000001 HA1 GRANTED ok", 2),
+    (TODAY, "serve 0", 2),
+    (TODAY, "serve 65536", 2),
+    (TODAY, "import marks none.csv", 2),
+    (TODAY, "door-list S1", 2),
+    (TODAY, "clashes s1", 2),
+    (TODAY, LONG_REASON, 2),
+    (TODAY, "--help", 0),
+    (TODAY, "--version", 0),
 ];
 
 /// A decision with a reason of 201 bytes.
@@ -86,24 +91,25 @@ fn words_of(
     Ok(words)
 }
 
-/// Whether a command over the database at the path ends like this.
-pub fn ends(rt: &HostRuntime, path: &str, command: &str, end: End) -> Result<bool, AllocError> {
-    ends_on(rt, path, TODAY, command, end)
-}
-
-/// Whether a command over the database at the path, on this day, ends like this.
-fn ends_on(
+/// The exit status of a command on a day over the database at the path. What it prints is appended.
+fn status_of(
     rt: &HostRuntime,
     path: &str,
     today: &str,
     command: &str,
-    end: End,
-) -> Result<bool, AllocError> {
-    let (status, out, err) = end;
+    printed: &mut Vec<u8>,
+    told: &mut Vec<u8>,
+) -> Result<u8, AllocError> {
     let words = words_of(rt.alloc(), path, today, command)?;
+    Ok(run(rt, Ok(words), Unknown, printed, told))
+}
+
+/// Whether a command over the database at the path ends like this.
+pub fn ends(rt: &HostRuntime, path: &str, command: &str, end: End) -> Result<bool, AllocError> {
+    let (status, out, err) = end;
     let mut printed = Vec::new(rt.alloc());
     let mut told = Vec::new(rt.alloc());
-    let ended = run(rt, Ok(words), Unknown, &mut printed, &mut told);
+    let ended = status_of(rt, path, TODAY, command, &mut printed, &mut told)?;
     Ok(ended == status && printed.as_slice() == out.as_bytes() && told.as_slice() == err.as_bytes())
 }
 
@@ -115,12 +121,14 @@ fn expect_end(rt: &HostRuntime, path: &str, command: &str, end: End) -> Result<(
     Err(Fail::new(format_args!("{path} {command}")))
 }
 
-/// What is no line is refused as such, although its database is missing.
+/// What is no line ends as such, although its database is missing: nothing is opened for it.
 fn expect_no_lines(rt: &HostRuntime) -> Result<(), Fail> {
-    let end = (2, "", "line not understood\n");
-    for (today, command) in NO_LINES {
-        if !ends_on(rt, "examoffice_lines/none.db", today, command, end)? {
-            return Err(Fail::new(command));
+    let mut printed = Vec::new(rt.alloc());
+    let mut told = Vec::new(rt.alloc());
+    for (today, command, status) in NO_LINES {
+        let ended = status_of(rt, NONE, today, command, &mut printed, &mut told)?;
+        if ended != *status {
+            return Err(Fail::new(format_args!("{today} {command}")));
         }
     }
     Ok(())
@@ -161,7 +169,7 @@ fn lines_end_as_they_should(rt: HostRuntime) -> Result<(), Fail> {
     expect_no_port(&rt)?;
     assert!(rt; is_private(&rt, "examoffice_lines/a.db"));
     assert!(rt; is_private(&rt, "examoffice_lines/a.db-wal"));
-    assert!(rt; fs::metadata(&rt, "examoffice_lines/none.db").is_err());
+    assert!(rt; fs::metadata(&rt, NONE).is_err());
     fs::remove_dir_all(&rt, FOLDER)?;
     Ok(())
 }
