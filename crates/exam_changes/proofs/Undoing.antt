@@ -22,7 +22,7 @@ use Rattle.exam_commands.specs.Changes.{with_row, with_rows}
 use Rattle.exam_commands.specs.Imports.{AreOfKind, kind_of}
 use Rattle.exam_changes.specs.declared.kept.KeptRows.{KeptRows}
 use Rattle.exam_commands.specs.Exchanges.{GoBack, put_back as put_rows_back}
-use Rattle.exam_changes.specs.Undoing.{AreNone, ChangesOnly, RowsGoBack, TakesBack, kept_of}
+use Rattle.exam_changes.specs.Undoing.{AreNone, RowsGoBack, TakesBack, kept_of}
 use Rattle.exam_commands.proofs.AppealKeys.{appeals_total}
 use Rattle.exam_commands.proofs.Repeating.{put_found, put_same}
 
@@ -104,6 +104,16 @@ rows_back kept t r back = (
 )
 
 -- ---- the table of an import
+
+-- t differs from r at most in the table of the kind
+abbrev pub ChangesOnly : Kind → Relations → Relations → Type 0
+ChangesOnly kind.Sessions r t = t ≡ record r { sessions = t.sessions }
+ChangesOnly kind.Papers r t = t ≡ record r { papers = t.papers }
+ChangesOnly kind.Halls r t = t ≡ record r { halls = t.halls }
+ChangesOnly kind.Openings r t = t ≡ record r { openings = t.openings }
+ChangesOnly kind.Candidates r t = t ≡ record r { candidates = t.candidates }
+ChangesOnly kind.Entries r t = t ≡ record r { entries = t.entries }
+ChangesOnly kind.Arrangements r t = t ≡ record r { arrangements = t.arrangements }
 
 pub only_same : (k : Kind) (r : Relations) → ChangesOnly k r r
 only_same kind.Sessions r = refl

@@ -1,11 +1,9 @@
--- How a change of the facts is taken back, and which table an import changes.
+-- How a change of the facts is taken back.
 use Rattle.std.specs.Prelude.{◌≡◌, ⊤, ℕ, Bool, IsTrue, List, [], Option, None, Some, if◌then◌else◌}
 use Rattle.std.specs.Ordering.{nat_cmp}
 use Rattle.exam_rules.specs.declared.rows.Appeal.{Appeal}
 use Rattle.exam_rules.specs.Relations.{Code, Relations, appeal_cmp, code_cmp, entry_cmp, has_row, opening_cmp, put_row, remove_row}
 use Rattle.exam_rules.specs.Tables.{Table, Sessions, Papers, Halls, Openings, Candidates, Entries, Arrangements, Appeals, Standing, KeyOf, RowOf, cmp_of, rows_of}
-use Rattle.exam_commands.specs.declared.import_row.Kind.{Kind}
-use Rattle.exam_commands.specs.declared.import_row.Kind.TheVariants as kind
 use Rattle.exam_changes.specs.declared.kept.KeptRows.{KeptRows}
 use Rattle.exam_changes.specs.declared.undo.Undo.{Undo}
 use Rattle.exam_changes.specs.declared.undo.Undo.TheVariants as undo
@@ -92,13 +90,3 @@ IsThere (undo.Openings m) r = ⊤
 -- the new facts become the old ones
 abbrev pub TakesBack : Undo → Relations → Relations → Type 0
 TakesBack u new old = IsThere u new × (restored u new ≡ old)
-
--- t differs from r at most in the table of the kind
-abbrev pub ChangesOnly : Kind → Relations → Relations → Type 0
-ChangesOnly kind.Sessions r t = t ≡ record r { sessions = t.sessions }
-ChangesOnly kind.Papers r t = t ≡ record r { papers = t.papers }
-ChangesOnly kind.Halls r t = t ≡ record r { halls = t.halls }
-ChangesOnly kind.Openings r t = t ≡ record r { openings = t.openings }
-ChangesOnly kind.Candidates r t = t ≡ record r { candidates = t.candidates }
-ChangesOnly kind.Entries r t = t ≡ record r { entries = t.entries }
-ChangesOnly kind.Arrangements r t = t ≡ record r { arrangements = t.arrangements }

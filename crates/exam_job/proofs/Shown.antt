@@ -1,8 +1,6 @@
 -- From what is shown of a session to the office.
 use Rattle.std.proofs.Common.{◌≡◌, ◌∙◌, ℕ, false, List, Option, Some, None, Result, Ok, Err, refl, sym, ap, subst, inl, inr}
-use Rattle.std.specs.Prelude.{IsErrAnd, IsTrue, is_some}
-use Rattle.std.specs.Io.KnownBytes.{Appends}
-use Rattle.exam_send.specs.Sending.{AppendsBeginning}
+use Rattle.std.specs.Prelude.{IsErrAnd, is_some}
 use Rattle.exam_types.specs.declared.refusal.Refusal.{Refusal}
 use Rattle.exam_types.specs.declared.refusal.Refusal.TheVariants.{UnknownSession}
 use Rattle.exam_rules.specs.declared.rows.Session.{Session}
@@ -14,9 +12,9 @@ use Rattle.exam_files.specs.Shortages.{shortage_text}
 use Rattle.exam_files.proofs.OfficeSheets.{attendance_is, clash_list_is, door_list_is, export_is, register_is}
 use Rattle.exam_line.specs.declared.line.Sheet.{Sheet}
 use Rattle.exam_line.specs.declared.line.Sheet.TheVariants as sheet
-use Rattle.exam_job.specs.Sheets.{IsSheetOf, IsSheetOfView, IsShortageSheet, PrintsSheet, PrintsView, Sends, SendsSheet, Streams, is_break}
+use Rattle.exam_job.specs.Sheets.{IsSheetOf, IsSheetOfView, IsShortageSheet, PrintsSheet, PrintsView}
 use Rattle.exam_job.specs.declared.report.JobFault.{JobFault}
-use Rattle.exam_job.specs.declared.report.JobFault.TheVariants.{File, Net, Refused, Write}
+use Rattle.exam_job.specs.declared.report.JobFault.TheVariants.{Refused}
 
 -- a sheet of the view is that of the office
 sheet_of_office : (office : State) (s : Code) (view : View) (which : Sheet) (text : Result (List ℕ) Refusal) → IsViewOf office s view → IsSheetOfView view which text → IsSheetOf office s which text
@@ -29,33 +27,12 @@ sheet_of_office office s view sheet.Shortage text v is =
 sheet_of_office office s view sheet.Appeals text v is = is ∙ register_is office s view v
 sheet_of_office office s view sheet.Export text v is = is ∙ export_is office s view v
 
--- what goes out at once may go out line by line
-by_lines : {W : Type 0} (contents : W → Option (List ℕ)) (text : Result (List ℕ) Refusal) (before : W)
-    (result : Result (Unit {0}) JobFault) (after : W) → Sends contents text before result after
-    → Streams (λ fault. IsTrue (is_break fault)) contents text before result after
-by_lines contents (Ok text) before (Ok done) after (bytes, is, sent) = let same : bytes ≡ text = cc in subst (Appends (contents before) (contents after)) same sent
-by_lines contents (Ok text) before (Err Write) after (bytes, is, sent) = let same : bytes ≡ text = cc in (refl, subst (AppendsBeginning (contents before) (contents after)) same sent)
-by_lines contents (Ok text) before (Err (Refused refusal)) after (is, same) = absurd cc
-by_lines contents (Err refusal) before (Ok done) after (bytes, is, sent) = absurd cc
-by_lines contents (Err refusal) before (Err Write) after (bytes, is, sent) = absurd cc
-by_lines contents (Err refusal) before (Err (Refused told)) after (is, same) = let e : told ≡ refusal = cc in (ap (λ r. Err (Refused r)) e, same)
-by_lines contents (Ok text) before (Err File) after sent = absurd sent
-by_lines contents (Ok text) before (Err Net) after sent = absurd sent
-by_lines contents (Err refusal) before (Err File) after sent = absurd sent
-by_lines contents (Err refusal) before (Err Net) after sent = absurd sent
-
-sends : {W : Type 0} (contents : W → Option (List ℕ)) (which : Sheet) (text : Result (List ℕ) Refusal) (before : W)
-    (result : Result (Unit {0}) JobFault) (after : W) → Sends contents text before result after
-    → SendsSheet contents which text before result after
-sends contents sheet.Appeals text before result after sent = by_lines contents text before result after sent
-sends contents which text before result after sent = sent
-
 -- what was printed of the view
 pub printed : {W : Type 0} (contents : W → Option (List ℕ)) (office : State) (s : Code) (view : View) (which : Sheet) (before : W) (result : Result (Unit {0}) JobFault) (after : W)
     → IsViewOf office s view → PrintsView contents view which before result after → PrintsSheet contents office s which before result after
 printed contents office s view which before result after v (inl short) = inl (ap is_some v.session, short)
 printed contents office s view which before result after v (inr sent) =
-    inr (sent.0, sheet_of_office office s view which sent.0 v sent.1, sends contents which sent.0 before result after sent.2)
+    inr (sent.0, sheet_of_office office s view which sent.0 v sent.1, sent.2)
 
 -- ---- without a view
 
@@ -82,5 +59,5 @@ unprinted {W} contents office s which before refusal (Err fault) (inl (unknown, 
     (inr (
       Err UnknownSession,
       no_sheet office s which (no_row (row_at code_cmp office.relations.sessions s) none),
-      sends contents which (Err UnknownSession) before (Err (Refused refusal)) before (ap Err (sym unknown), refl),
+      (ap Err (sym unknown), refl),
     ))

@@ -1,14 +1,12 @@
 -- The appeals of a session, as they go out line by line, are its register.
 use Rattle.std.proofs.Common.{◌≡◌, ◌∙◌, ◌⊎◌, inl, inr, ℕ, List, [], ◌++◌, true, false, Option, Some, None, Result, Ok, Err, refl, sym, ap, subst, append-nil}
-use Rattle.std.specs.Prelude.{IfErr, IsErrAnd, IsTrue, is_some}
+use Rattle.std.specs.Prelude.{IfErr, IsErrAnd, is_some}
 use Rattle.std.specs.Io.KnownBytes.{Appends}
 use Rattle.std.proofs.KnownBytes.{Appends-kept}
 use Rattle.sqlite_trees.specs.declared.store.Store.{Ghosts}
-use Rattle.sqlite.specs.Held.{state}
-use Rattle.sqlite.specs.State.{HasCleanDisk}
 use Rattle.exam_send.specs.Sending.{AppendsBeginning}
 use Rattle.exam_types.specs.declared.refusal.Refusal.{Refusal}
-use Rattle.exam_types.specs.declared.refusal.Refusal.TheVariants.{BadStore, NoMemory, Store, UnknownSession}
+use Rattle.exam_types.specs.declared.refusal.Refusal.TheVariants.{UnknownSession}
 use Rattle.exam_rules.specs.declared.rows.Session.{Session}
 use Rattle.exam_rules.specs.Relations.{Code, code_cmp, has_row, row_at}
 use Rattle.exam_commands.specs.State.{State}
@@ -19,12 +17,11 @@ use Rattle.exam_files.specs.Registers.{register_text}
 use Rattle.exam_files.specs.declared.sheet_fault.SheetFault.{SheetFault}
 use Rattle.exam_files.specs.declared.sheet_fault.SheetFault.TheVariants as faults
 use Rattle.exam_store.specs.InTurn.{FailsToRead}
-use Rattle.exam_store.specs.Kept.{Keeps}
 use Rattle.exam_store.specs.Stores.{OfficeIn}
 use Rattle.exam_job.specs.Printed.{Flushes, fault_of}
-use Rattle.exam_job.specs.Sheets.{BreaksOff, Streams, is_break}
+use Rattle.exam_job.specs.Sheets.{BreaksOff, Streams}
 use Rattle.exam_job.specs.declared.report.JobFault.{JobFault}
-use Rattle.exam_job.specs.declared.report.JobFault.TheVariants.{File, Net, Refused, Write}
+use Rattle.exam_job.specs.declared.report.JobFault.TheVariants.{Refused}
 
 module _ {S : Type 0} (g : Ghosts S) (new : OfficeIn S) where
   breaks : (fault : SheetFault) → registers.BreaksOff (FailsToRead g new) ⊥ fault → BreaksOff g new (fault_of fault)
@@ -32,22 +29,6 @@ module _ {S : Type 0} (g : Ghosts S) (new : OfficeIn S) where
   breaks (faults.Refused e) (inl short) = subst (FailsToRead g new) (sym short) tt
   breaks (faults.Refused e) (inr (inl why)) = why.1
   breaks (faults.Refused e) (inr (inr none)) = absurd none.1
-
-  -- where the tables keep the office, the fault is another one than `BadStore`
-  kept_break : HasCleanDisk (state g new.database) → Keeps (state g new.database).now new.office → (fault : JobFault) → BreaksOff g new fault → IsTrue (is_break fault)
-  kept_break clean keeps Write why = refl
-  kept_break clean keeps (Refused NoMemory) why = refl
-  kept_break clean keeps (Refused Store) why = refl
-  kept_break clean keeps (Refused BadStore) why = absurd (why clean keeps)
-  kept_break clean keeps (Refused other) why = absurd why
-  kept_break clean keeps File why = absurd why
-  kept_break clean keeps Net why = absurd why
-
-  pub kept_streams : {W : Type 0} (contents : W → Option (List ℕ)) → HasCleanDisk (state g new.database) → Keeps (state g new.database).now new.office → (text : Result (List ℕ) Refusal) (before : W)
-      (result : Result (Unit {0}) JobFault) (after : W) → Streams (BreaksOff g new) contents text before result after → Streams (λ fault. IsTrue (is_break fault)) contents text before result after
-  kept_streams contents clean keeps (Ok text) before (Ok done) after sent = sent
-  kept_streams contents clean keeps (Ok text) before (Err fault) after sent = (kept_break clean keeps fault sent.0, sent.1)
-  kept_streams contents clean keeps (Err refusal) before result after sent = sent
 
   module _ (office : State) (s : Code) {W : Type 0} (contents : W → Option (List ℕ)) (before : W) where
     abbrev register : List ℕ

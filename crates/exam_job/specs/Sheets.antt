@@ -1,9 +1,9 @@
 -- What is printed of a session's sheet.
-use Rattle.std.specs.Prelude.{◌≡◌, ◌⊎◌, ⊤, ℕ, Bool, true, false, IsTrue, List, Option, Some, None, Result, Ok, Err}
+use Rattle.std.specs.Prelude.{◌≡◌, ◌⊎◌, ⊤, ℕ, true, false, List, Option, Some, None, Result, Ok, Err}
 use Rattle.std.specs.Io.KnownBytes.{Appends}
 use Rattle.sqlite_trees.specs.declared.store.Store.{Ghosts}
 use Rattle.exam_types.specs.declared.refusal.Refusal.{Refusal}
-use Rattle.exam_types.specs.declared.refusal.Refusal.TheVariants.{NoMemory, Store, UnknownSession}
+use Rattle.exam_types.specs.declared.refusal.Refusal.TheVariants.{NoMemory, UnknownSession}
 use Rattle.exam_rules.specs.declared.rows.Session.{Session}
 use Rattle.exam_rules.specs.Relations.{Code, code_cmp, has_row, row_at}
 use Rattle.exam_commands.specs.State.{State}
@@ -73,27 +73,12 @@ Streams breaks contents (Ok text) before (Err fault) after =
     breaks fault × AppendsBeginning (contents before) (contents after) text
 Streams breaks contents (Err refusal) before result after = (result ≡ Err (Refused refusal)) × (after ≡ before)
 
--- why the appeals may break off while the tables keep the office: memory runs out, a call of the database fails, or a
--- write
-abbrev pub is_break : JobFault → Bool
-is_break (Refused NoMemory) = true
-is_break (Refused Store) = true
-is_break Write = true
-is_break _ = false
-
--- why they break off: an appeal is not read, or a write fails
+-- why the appeals break off: one is not read, or a write fails
 abbrev pub BreaksOff : {S : Type 0} → Ghosts S → OfficeIn S → JobFault → Type 0
 BreaksOff g new (Refused e) = FailsToRead g new e
 BreaksOff g new Write = ⊤
 BreaksOff g new File = ⊥
 BreaksOff g new Net = ⊥
-
--- the appeals are written line by line, each other sheet at once
-abbrev pub SendsSheet : {W : Type 0} → (W → Option (List ℕ)) → Sheet → Result (List ℕ) Refusal
-    → W → Result (Unit {0}) JobFault → W → Type 0
-SendsSheet contents sheet.Appeals text before result after =
-    Streams (λ fault. IsTrue (is_break fault)) contents text before result after
-SendsSheet contents which text before result after = Sends contents text before result after
 
 -- memory ran out, and nothing was written
 abbrev pub IsShort : {W : Type 0} → W → Result (Unit {0}) JobFault → W → Type 0
@@ -111,8 +96,7 @@ abbrev pub PrintsSheet : {W : Type 0} → (W → Option (List ℕ)) → State �
     → W → Result (Unit {0}) JobFault → W → Type 0
 PrintsSheet contents office s which before result after =
     ((has_row code_cmp office.relations.sessions s ≡ true) × IsShort before result after)
-    ⊎ ((text : Result (List ℕ) Refusal) × IsSheetOf office s which text
-    × SendsSheet contents which text before result after)
+    ⊎ ((text : Result (List ℕ) Refusal) × IsSheetOf office s which text × Sends contents text before result after)
 
 -- The appeals of a session, printed as the database shows them, are the office's. The office stays as it is, and the
 -- database is only read.

@@ -1,7 +1,6 @@
 -- The seats of a draft: finished they are the plans put back, taken back they are those of the office.
 use Rattle.std.proofs.Common.{◌≡◌, ℕ, ◌&&◌, not, Bool, true, false, cond, IsTrue, Option, None, Some, Ok, is_some, refl, ap, sym, subst, ◌∙◌}
 use Rattle.std.specs.Option.{option_or}
-use Rattle.exam_rules.specs.declared.listing.SessionLists.{SessionLists}
 use Rattle.exam_rules.specs.Lists.{AreListsOf}
 use Rattle.exam_rules.specs.Orders.{AreInOrder, KeysRise}
 use Rattle.exam_rules.specs.Relations.{Code, Relations, has_row, relations_of, row_at, seat_cmp}
@@ -17,8 +16,7 @@ use Rattle.exam_commands.specs.Limits.{within_limits}
 use Rattle.exam_commands.specs.NextPlans.{Plans, PlansBack}
 use Rattle.exam_commands.specs.Orders.{IsInOrder}
 use Rattle.exam_commands.specs.Parts.{Agrees, IsPutBack, reads}
-use Rattle.exam_office.specs.HeldParts.{HasLists, IsStep, part_state}
-use Rattle.exam_office.proofs.SteppedParts.{lists_again}
+use Rattle.exam_office.specs.HeldParts.{IsStep, part_state}
 use Rattle.exam_commands.specs.Singles.{AreSingle}
 use Rattle.exam_commands.specs.State.{Seats, State}
 use Rattle.exam_commands.specs.Steps.{Step, StepTo}
@@ -177,15 +175,15 @@ good_after done today office after told old was within step = record {
 -- carried out on the office, the command may still be taken back
 pub drafted : (done : Command) (today : ℕ) (office : State) (old part : Part) (seats : Seats) (told : Reply)
     → IsGood office → IsInOrder office → Agrees done office (part_state old) → KeysRise seat_cmp old.plans.entries → KeysRise seat_cmp part.plans.entries → AreInOrder (relations_of part.facts)
-    → HasLists old → IsStep done today old part told → seats ≡ seats_put part.undo.plans office.seats part.plans.entries
+    → IsStep done today (part_state old) part told → seats ≡ seats_put part.undo.plans office.seats part.plans.entries
     → IsDraftOf done today office part seats told
-drafted done today office old part seats told good up agrees ordered rises order lists_were is put = record {
+drafted done today office old part seats told good up agrees ordered rises order is put = record {
   draft = record {
     good = good_after done today office after told (relations_of old.facts) is.change is.limits step;
     listed_now = is.lists;
     was_good = subst IsGood (sym before) good;
-    were_lists = lists_again done today old part told is lists_were;
-    there = (is.facts_back.0, is.lists_back.there);
+    were_lists = λ was were. subst (λ (r : Relations). AreListsOf r was) (sym is.facts_back.1) (is.lists_back was were);
+    there = (is.facts_back.0, is.lists_there);
     mixed = subst (AreMixed part.undo.plans new) (sym put) (mixed_put done office (part_state old) up agrees t new rises part.undo.plans is.plans_back);
     order = (subst (StepTo done office (Ok told) after) (new_facts done today office told after step) step).3;
     was_order = subst IsInOrder (sym before) up;

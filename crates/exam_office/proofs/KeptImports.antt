@@ -29,11 +29,19 @@ use Rattle.exam_commands.specs.Changes.{rows_refusal, with_rows}
 use Rattle.exam_commands.specs.FactsMade.{WasMade}
 use Rattle.exam_commands.specs.Good.{refers}
 use Rattle.exam_commands.specs.Imports.{AreOfKind, ImportRows, kind_of}
-use Rattle.exam_office.specs.Relisting.{is_unlisted}
 use Rattle.exam_commands.specs.Touched.{row_reaches, sets_session}
-use Rattle.exam_changes.specs.Undoing.{ChangesOnly}
-use Rattle.exam_changes.proofs.Undoing.{import_only}
+use Rattle.exam_changes.proofs.Undoing.{ChangesOnly, import_only}
 use Rattle.exam_laws.proofs.Untouched.{import_spares}
+
+-- no list shows what an import of this kind changes: a candidate who is new has no entry yet
+abbrev pub is_unlisted : Kind → Bool
+is_unlisted kind.Sessions = true
+is_unlisted kind.Papers = false
+is_unlisted kind.Halls = true
+is_unlisted kind.Openings = false
+is_unlisted kind.Candidates = true
+is_unlisted kind.Entries = false
+is_unlisted kind.Arrangements = true
 
 -- elements that make nothing may be left out before
 parted : (h : ℕ → Option Entrant) (p : ℕ → Bool) → ((c : ℕ) → p c ≡ false → h c ≡ None) → (cs : List ℕ) → filter_map h cs ≡ filter_map h (filter p cs)

@@ -12,8 +12,17 @@ use Rattle.exam_commands.specs.Appeals.{appeal_at, is_retracted}
 use Rattle.exam_commands.specs.Decisions.{is_made, with_decided, with_outcome}
 use Rattle.exam_commands.specs.FactsMade.{WasMade, facts_made}
 use Rattle.exam_commands.specs.Lodgings as lodgings
-use Rattle.exam_office.specs.Relisting.{keeps_lists}
 use Rattle.exam_commands.specs.State.{State}
+
+-- the command changes only appeals, which no list shows
+abbrev pub keeps_lists : Command → Bool
+keeps_lists (command.Import import) = false
+keeps_lists (command.Withdraw c p) = false
+keeps_lists (command.Reinstate c p) = false
+keeps_lists (command.CloseHall s h) = false
+keeps_lists (command.Lodge l) = true
+keeps_lists (command.Retract c reference) = true
+keeps_lists (command.Decide d) = true
 
 abbrev Rows : Type 0
 Rows = List ((ℕ × Code) × Appeal)

@@ -1,8 +1,10 @@
 -- A step over a part: what it makes, and the part after a refusal or with its step taken back.
-use Rattle.std.proofs.Common.{◌≡◌, ◌<◌, ◌↔◌, ℕ, Bool, true, false, IsTrue, List, [], Contains, Option, None, Some, Vec, refl, ap, sym, subst, arith, ◌∙◌}
+use Rattle.std.proofs.Common.{◌≡◌, ◌<◌, ◌↔◌, ℕ, Bool, true, false, IsTrue, List, [], Contains, Option, None, Some, Result, Ok, Err, Vec, refl, ap, sym, subst, arith, ◌∙◌}
+use Rattle.std.specs.Prelude.{OnErr}
 use Rattle.std.specs.Global.{Global}
+use Rattle.exam_types.specs.declared.refusal.Refusal.{Refusal}
 use Rattle.exam_rules.specs.declared.listing.SessionLists.{SessionLists}
-use Rattle.exam_rules.specs.Lists.{AreListsOf}
+use Rattle.exam_rules.specs.Lists.{AreListsOf, listed}
 use Rattle.exam_rules.specs.Relations.{Code, Relations, relations_of}
 use Rattle.exam_commands.specs.declared.command.Command.{Command}
 use Rattle.exam_commands.specs.declared.command.Command.TheVariants as command
@@ -19,9 +21,10 @@ use Rattle.exam_commands.specs.Parts.{Agrees, IsMadeIn, reads}
 use Rattle.exam_commands.specs.State.{Seats, State}
 use Rattle.exam_commands.specs.Touched.{touches}
 use Rattle.exam_laws.proofs.Making.{is_made, none_touched, plans_back}
-use Rattle.exam_changes.specs.Undoing.{restored}
 use Rattle.exam_office.specs.declared.part.Part.{Part}
-use Rattle.exam_office.specs.HeldParts.{HasLists, IsBack, IsPartFor, IsStep, WereLists, part_state, plans_before}
+use Rattle.exam_office.specs.HeldParts.{HasLists, IsBack, IsListed, IsPartFor, IsStep, part_state, plans_before}
+use Rattle.exam_office.specs.declared.relisting.ListUndo.{ListUndo}
+use Rattle.exam_office.specs.Relisting.{ListsBack, halls_before, members_before}
 use Rattle.exam_office.proofs.LentPlans.{grant_reads}
 
 -- ---- the sessions
@@ -71,39 +74,60 @@ module _ (done : Command) (today : ℕ) (office part : State) (good : IsGood off
 
 -- ---- as before
 
--- with the facts and the plans as they were, their lists and the same sessions, it is still a part for the command
-pub still_part : (done : Command) (old new : Part) → IsPartFor done old → part_state new ≡ part_state old → AreListsOf (relations_of new.facts) new.lists
-    → new.sessions.items ≡ old.sessions.items → IsPartFor done new
-still_part done old new was same lists sessions = record {
-  office = was.office;
-  good = was.good;
-  order = was.order;
-  agrees = subst (Agrees done was.office) (sym same) was.agrees;
+-- with the facts and the plans as they were, their lists and the same sessions, what it has made is right
+pub still_listed : (done : Command) (old new : Part) → IsListed done old → part_state new ≡ part_state old → HasLists new → new.sessions.items ≡ old.sessions.items
+    → IsListed done new
+still_listed done old new was same lists sessions = record {
   lists = lists;
   sessions = λ s. subst (λ (list : List Code). Contains list s ↔ IsTrue (reads (relations_of new.facts) done s)) (sym sessions)
       (subst (λ (state : State). Contains old.sessions.items s ↔ IsTrue (reads state.relations done s)) (sym same) (was.sessions s));
 }
 
+-- with the facts and the plans as they were, and what it has made right, it is still a part for the command
+pub still_part : (done : Command) (old new : Part) → IsPartFor done old → part_state new ≡ part_state old → IsListed done new → IsPartFor done new
+still_part done old new was same listed = record {
+  office = was.office;
+  good = was.good;
+  order = was.order;
+  agrees = subst (Agrees done was.office) (sym same) was.agrees;
+  kept = λ made. listed;
+}
+
+-- so it is after a refusal of the step, and its lists are those of its facts
+module _ (done : Command) (old mid new : Part) (same : part_state mid ≡ part_state old) where
+  pub ready_after : (result : Result Reply Refusal) → IsPartFor done old → OnErr result (part_state new ≡ part_state mid) → OnErr result (IsListed done new)
+      → OnErr result (IsPartFor done new)
+  ready_after (Ok reply) was err listed = tt
+  ready_after (Err e) was err listed = still_part done old new was (err ∙ same) listed
+
+  pub lists_after : (result : Result Reply Refusal) → OnErr result (IsListed done new) → OnErr result (HasLists new)
+  lists_after (Ok reply) listed = tt
+  lists_after (Err e) listed = listed.lists
+
 -- ---- taken back
 
--- the lists before a step are those of the facts before it
-pub lists_again : (done : Command) (today : ℕ) (old part : Part) (told : Reply) → IsStep done today old part told → HasLists old
-    → (was : SessionLists) → WereLists part was → AreListsOf (restored part.undo.facts (relations_of part.facts)) was
-lists_again done today old part told is lists_were was were = subst (λ (r : Relations). AreListsOf r was) (sym is.facts_back.1) (record {
-  numbers = lists_were.numbers;
-  members = λ s. were.0 s ∙ is.lists_back.members s ∙ lists_were.members s;
-  halls = λ s. were.1 s ∙ is.lists_back.halls s ∙ lists_were.halls s;
-  rising = lists_were.rising;
-})
+-- with a change of the lists taken back they are those of the facts before it
+pub lists_were : (r : Relations) (undo : ListUndo) (new old : SessionLists) → AreListsOf r old → ListsBack undo new old → (was : SessionLists)
+    → ((s : Code) → listed was.members.entries s ≡ members_before undo new s) × ((s : Code) → listed was.halls.entries s ≡ halls_before undo new s)
+    → AreListsOf r was
+lists_were r undo new old lists back was were = record {
+  numbers = lists.numbers;
+  members = λ s. were.0 s ∙ back.members s ∙ lists.members s;
+  halls = λ s. were.1 s ∙ back.halls s ∙ lists.halls s;
+  rising = lists.rising;
+}
+
+-- so are those of a part with its step taken back
+pub lists_again : (done : Command) (today : ℕ) (old : State) (new : Part) (told : Reply) → IsStep done today old new told → (back : Part) → IsBack new back → HasLists back
+lists_again done today old new told is back is_back =
+    subst (λ (r : Relations). AreListsOf r back.lists) (sym (ap (λ (s : State). s.relations) is_back.state ∙ is.facts_back.1)) (is.lists_back back.lists is_back.lists)
 
 -- with the step taken back it is a part for the command again
-pub part_again : (done : Command) (today : ℕ) (old new : Part) (told : Reply) → IsPartFor done old → IsStep done today old new told
+pub part_again : (done : Command) (today : ℕ) (old new : Part) (told : Reply) → IsPartFor done old → IsListed done old → IsStep done today (part_state old) new told
     → new.sessions.items ≡ old.sessions.items → (back : Part) → IsBack new back → IsPartFor done back
-part_again done today old new told was is same back is_back =
+part_again done today old new told was listed is same back is_back =
     still_part done old back was state
-    (subst (λ (r : Relations). AreListsOf r back.lists) (sym (ap (λ (s : State). s.relations) is_back.state))
-    (lists_again done today old new told is was.lists back.lists is_back.lists))
-    (ap (λ (list : Vec Code Global). list.items) is_back.sessions ∙ same)
+    (still_listed done old back listed state (lists_again done today (part_state old) new told is back is_back) (ap (λ (list : Vec Code Global). list.items) is_back.sessions ∙ same))
   where
     plans : (o : Option Plans) → PlansBack done (relations_of old.facts) o new.plans.entries old.plans.entries → plans_before o new.plans.entries ≡ old.plans.entries
     plans None kept = kept.0

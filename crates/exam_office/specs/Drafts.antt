@@ -14,7 +14,7 @@ use Rattle.exam_commands.specs.State.{Seats, State}
 use Rattle.exam_commands.specs.Steps.{Step}
 use Rattle.exam_changes.specs.Undoing.{restored}
 use Rattle.exam_office.specs.declared.part.Part.{Part}
-use Rattle.exam_office.specs.HeldParts.{CanGoBack, WereLists, part_state}
+use Rattle.exam_office.specs.HeldParts.{CanGoBack, WereLists}
 
 -- the office before the command and after it, and what the command answers
 pub record DraftIn : Type 0 where

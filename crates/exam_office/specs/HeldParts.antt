@@ -1,5 +1,5 @@
 -- The part of an office that a command reads, as the program holds it, and how a step over it is taken back.
-use Rattle.std.specs.Prelude.{◌≡◌, ◌↔◌, ℕ, Contains, IsTrue, Option, None, Some}
+use Rattle.std.specs.Prelude.{◌≡◌, ◌↔◌, ℕ, true, Contains, IsTrue, Option, None, Some}
 use Rattle.exam_rules.specs.declared.listing.SessionLists.{SessionLists}
 use Rattle.exam_rules.specs.Lists.{AreListsOf, listed}
 use Rattle.exam_rules.specs.Relations.{Code, relations_of}
@@ -14,25 +14,33 @@ use Rattle.exam_commands.specs.Parts.{Agrees, IsMadeIn, reads}
 use Rattle.exam_commands.specs.State.{Seats, State}
 use Rattle.exam_changes.specs.Undoing.{IsThere, TakesBack, restored}
 use Rattle.exam_office.specs.declared.part.Part.{Part}
-use Rattle.exam_office.specs.Relisting.{HasList, ListsBack, halls_before, members_before}
+use Rattle.exam_office.specs.Relisting.{HasList, halls_before, members_before}
 
 -- its facts and its plans
 abbrev pub part_state : Part → State
 part_state part = record { relations = relations_of part.facts; seats = part.plans.entries }
 
--- The part is one for the command: it agrees with some good office, its lists are those of its facts, and its sessions
--- are those whose plans the command reads.
+-- its lists are those of its facts
+abbrev pub HasLists : Part → Type 0
+HasLists part = AreListsOf (relations_of part.facts) part.lists
+
+-- and its sessions are those whose plans the command reads
+pub record IsListed (done : Command) (part : Part) : Type 0 where
+  pub lists : HasLists part
+  pub sessions : (s : Code) → Contains part.sessions.items s ↔ IsTrue (reads (relations_of part.facts) done s)
+
+-- this is so of the lists and sessions that it has made, if it has made any
+abbrev pub IsKept : Command → Part → Type 0
+IsKept done part = part.is_listed ≡ true → IsListed done part
+
+-- The part is one for the command: it agrees with some good office on what the command reads, and what else it keeps is
+-- right. A part that is made of facts and plans keeps nothing else.
 pub record IsPartFor (done : Command) (part : Part) : Type 0 where
   pub office : State
   pub good : IsGood office
   pub order : IsInOrder office
   pub agrees : Agrees done office (part_state part)
-  pub lists : AreListsOf (relations_of part.facts) part.lists
-  pub sessions : (s : Code) → Contains part.sessions.items s ↔ IsTrue (reads (relations_of part.facts) done s)
-
--- its lists are those of its facts
-abbrev pub HasLists : Part → Type 0
-HasLists part = AreListsOf (relations_of part.facts) part.lists
+  pub kept : IsKept done part
 
 -- ---- a step taken back
 
@@ -66,13 +74,14 @@ pub record IsBack (part back : Part) : Type 0 where
 
 -- ---- a step
 
--- What an accepted command makes of a part: the new facts, which are within every limit, their lists, the new plans and
--- the reply; and what leads back to the old part.
-pub record IsStep (done : Command) (today : ℕ) (old new : Part) (reply : Reply) : Type 0 where
-  pub made : IsMadeIn done today (part_state old) (part_state new) reply
-  pub change : WasMade done (relations_of old.facts) (relations_of new.facts)
+-- What an accepted command makes of a part with these facts and plans: the new facts, which are within every limit,
+-- their lists, the new plans and the reply; and what leads back to the old facts, their lists and the old plans.
+pub record IsStep (done : Command) (today : ℕ) (old : State) (new : Part) (reply : Reply) : Type 0 where
+  pub made : IsMadeIn done today old (part_state new) reply
+  pub change : WasMade done old.relations (relations_of new.facts)
   pub limits : IsTrue (within_limits (relations_of new.facts))
-  pub lists : AreListsOf (relations_of new.facts) new.lists
-  pub facts_back : TakesBack new.undo.facts (relations_of new.facts) (relations_of old.facts)
-  pub lists_back : ListsBack new.undo.lists new.lists old.lists
-  pub plans_back : PlansBack done (relations_of old.facts) new.undo.plans new.plans.entries old.plans.entries
+  pub lists : HasLists new
+  pub facts_back : TakesBack new.undo.facts (relations_of new.facts) old.relations
+  pub lists_there : HasList new.undo.lists new.lists
+  pub lists_back : (was : SessionLists) → WereLists new was → AreListsOf old.relations was
+  pub plans_back : PlansBack done old.relations new.undo.plans new.plans.entries old.seats

@@ -1,5 +1,5 @@
 -- How the lists of members and open halls are put back as they were.
-use Rattle.std.specs.Prelude.{◌≡◌, ℕ, ⊤, Bool, true, false, IsTrue, List, None, Option, Vec, if◌then◌else◌}
+use Rattle.std.specs.Prelude.{◌≡◌, ℕ, ⊤, Bool, IsTrue, List, None, Option, Vec, if◌then◌else◌}
 use Rattle.std.specs.Global.{Global}
 use Rattle.std.specs.Option.{option_and_then, option_map_or}
 use Rattle.exam_rules.specs.declared.listing.Entrant.{Entrant}
@@ -7,9 +7,6 @@ use Rattle.exam_rules.specs.declared.listing.SessionLists.{SessionLists}
 use Rattle.exam_rules.specs.Lists.{entered_session, listed}
 use Rattle.exam_rules.specs.Orders.{AreInOrder}
 use Rattle.exam_rules.specs.Relations.{Code, Relations, code_cmp, entry_cmp, has_row, row_at, same_code}
-use Rattle.exam_commands.specs.declared.command.Command.{Command}
-use Rattle.exam_commands.specs.declared.command.Command.TheVariants as command
-use Rattle.exam_commands.specs.declared.import_row.Kind.{Kind}
 use Rattle.exam_commands.specs.declared.import_row.Kind.TheVariants as kind
 use Rattle.exam_commands.specs.declared.import_row.Row.{Row}
 use Rattle.exam_commands.specs.Changes.{rows_refusal, with_live, with_rows}
@@ -79,23 +76,3 @@ pub record EntersRows (first : Relations) (rows : List Row) (made : Relations) :
   pub kind : AreOfKind kind.Entries rows
   pub known : rows_refusal first rows ≡ None
   pub facts : made ≡ with_rows first rows
-
--- no list shows what an import of this kind changes: a candidate who is new has no entry yet
-abbrev pub is_unlisted : Kind → Bool
-is_unlisted kind.Sessions = true
-is_unlisted kind.Papers = false
-is_unlisted kind.Halls = true
-is_unlisted kind.Openings = false
-is_unlisted kind.Candidates = true
-is_unlisted kind.Entries = false
-is_unlisted kind.Arrangements = true
-
--- the command changes only appeals, which no list shows
-abbrev pub keeps_lists : Command → Bool
-keeps_lists (command.Import import) = false
-keeps_lists (command.Withdraw c p) = false
-keeps_lists (command.Reinstate c p) = false
-keeps_lists (command.CloseHall s h) = false
-keeps_lists (command.Lodge l) = true
-keeps_lists (command.Retract c reference) = true
-keeps_lists (command.Decide d) = true

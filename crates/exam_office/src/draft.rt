@@ -148,6 +148,7 @@ fn step_office(
     today: Day,
 ) -> Result<Reply, Refusal>
     requires part { held.IsPartFor command.now part.old }
+    requires lists { held.HasLists part.old }
     requires office { (office : State)
         × spec.IsOfficeOf command.now seats.old.entries (held.part_state part.old) office }
     ensures ok { IfOk result (λ reply. (office : State)

@@ -75,7 +75,7 @@ fn copy_seat(
 }
 
 /// The sessions whose plans the command reads.
-fn read_sessions(
+pub fn read_sessions(
     alloc: Global,
     facts: &Facts,
     command: &Command,

@@ -45,12 +45,37 @@ pub fn step_part(
         → spec.Agrees command.now office (held.part_state part.old)
         → spec.IsPutBack command.now office (held.part_state part.new) after
         → steps.MayStep command.now today office result after }
-    ensures made { IfOk result (held.IsStep command.now today part.old part.new) }
+    ensures made { IfOk result (held.IsStep command.now today (held.part_state part.old) part.new) }
     ensures back { OnOk result (held.CanGoBack part.new) }
     ensures again { OnOk result ((back : Held) → held.IsBack part.new back → held.IsPartFor command.now back) }
     ensures refusal { IfErr result (spec.IsRefusedIn command.now today (held.part_state part.old)) }
     ensures err { OnErr result (held.part_state part.new ≡ held.part_state part.old) }
     ensures ready { OnErr result (held.IsPartFor command.now part.new) }
+    ensures lists { held.HasLists part.old → OnErr result (held.HasLists part.new) }
+{
+    part.list(alloc, command)?;
+    step_listed(alloc, part, command, today)
+}
+
+/// Does this for a part whose lists and sessions are made.
+fn step_listed(
+    alloc: Global,
+    part: &mut Part,
+    command: &Command,
+    today: Day,
+) -> Result<Reply, Refusal>
+    requires part { held.IsPartFor command.now part.old }
+    requires listed { held.IsListed command.now part.old }
+    ensures step { (office after : State) → IsGood office → IsInOrder office
+        → spec.Agrees command.now office (held.part_state part.old)
+        → spec.IsPutBack command.now office (held.part_state part.new) after
+        → steps.MayStep command.now today office result after }
+    ensures made { IfOk result (held.IsStep command.now today (held.part_state part.old) part.new) }
+    ensures back { OnOk result (held.CanGoBack part.new) }
+    ensures again { OnOk result ((back : Held) → held.IsBack part.new back → held.IsPartFor command.now back) }
+    ensures refusal { IfErr result (spec.IsRefusedIn command.now today (held.part_state part.old)) }
+    ensures err { OnErr result (held.part_state part.new ≡ held.part_state part.old) }
+    ensures listed { OnErr result (held.IsListed command.now part.new) }
 {
     part.show_order();
     let decided = newly_decided(&part.facts, command);

@@ -13,6 +13,7 @@ mod near_limits;
 mod opening;
 mod orders;
 mod own;
+mod parts;
 mod questions;
 mod replies;
 mod seating;

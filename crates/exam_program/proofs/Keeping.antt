@@ -32,11 +32,12 @@ use Rattle.exam_request.specs.declared.choice.Choice.TheVariants as choice
 use Rattle.exam_request.specs.declared.fault.Fault.{Fault}
 use Rattle.exam_http.specs.Answering as http
 use Rattle.exam_http.specs.Answering.{choice_in}
-use Rattle.exam_http.specs.Serving.{AnsweredInTurn}
+use Rattle.exam_http.specs.Serving.{ServedOn}
+use Rattle.exam_http.specs.declared.serving.HttpFault.{HttpFault}
 use Rattle.exam_job.specs.Jobs.{Commands, Does, Imports, ImportsFile, denoted, unread, short}
 use Rattle.exam_job.specs.Printed.{Contents}
 use Rattle.exam_job.specs.declared.report.JobFault.{JobFault}
-use Rattle.exam_program.specs.Running.{CarriesOut, ServesAfter, ServesOn}
+use Rattle.exam_program.specs.Running.{CarriesOut, EndInTurn, ServesAfter, ServesOn}
 
 -- a command on a day has one result
 abbrev pub OneResult : Type 0
@@ -158,29 +159,34 @@ module _ {S : Type 0} (g : Ghosts S) where
     answered_keeps old new (Ok request) told (inl busy) = unchanged old new busy.1
     answered_keeps old new (Ok request) told (inr h) = chosen_keeps old new (choice_in old.office request) told h
 
-    in_turn_keeps : (old new : OfficeIn S) (asked : List (Result Request Fault)) → AnsweredInTurn g today old asked new → KeepsOn old new
-    in_turn_keeps old new [] same = unchanged old new same
-    in_turn_keeps old new (asked ∷ rest) (told, between, one, then) =
-        then_on old between new (answered_keeps old between asked told one) (in_turn_keeps between new rest then)
+    served_one_keeps : (old new : OfficeIn S) → ServedOn g today old new → KeepsOn old new
+    served_one_keeps old new (inl same) = unchanged old new same
+    served_one_keeps old new (inr (asked, told, answers)) = answered_keeps old new asked told answers
 
-    served_keeps : (old new : OfficeIn S) (printed result : Result (Unit {0}) JobFault) → ServesAfter g today old printed result new → KeepsOn old new
-    served_keeps old new (Ok done) result h = in_turn_keeps old new h.1.0 h.1.1
-    served_keeps old new (Err fault) result h = unchanged old new h.1
+    module _ {E : Type 0} (errors : Contents E) where
+      in_turn_keeps : (old new : OfficeIn S) (untold : E) (ends : List (Result (Unit {0}) HttpFault)) (told : E) → EndInTurn g errors today old untold ends new told → KeepsOn old new
+      in_turn_keeps old new untold [] told same = unchanged old new same.0
+      in_turn_keeps old new untold (end ∷ rest) told (between, mid, one, tells, then) =
+          then_on old between new (served_one_keeps old between one) (in_turn_keeps between new mid rest told then)
 
-    serving_keeps : {W : Type 0} (contents : Contents W) (port : ℕ) (old new : OfficeIn S) (before : W) (result : Result (Unit {0}) JobFault) (after : W)
-        → ServesOn g contents port today old before result new after → KeepsOn old new
-    serving_keeps contents port old new before result after (inl none) = unchanged old new none.1
-    serving_keeps contents port old new before result after (inr (printed, sent, h)) = served_keeps old new printed result h
+      served_keeps : (old new : OfficeIn S) (untold told : E) (printed result : Result (Unit {0}) JobFault) → ServesAfter g errors today old untold printed result new told → KeepsOn old new
+      served_keeps old new untold told (Ok done) result h = in_turn_keeps old new untold h.1.0 told h.1.1
+      served_keeps old new untold told (Err fault) result h = unchanged old new h.1
+
+      serving_keeps : {W : Type 0} (contents : Contents W) (port : ℕ) (old new : OfficeIn S) (before : W) (untold : E) (result : Result (Unit {0}) JobFault) (after : W) (told : E)
+          → ServesOn g contents errors port today old before untold result new after told → KeepsOn old new
+      serving_keeps contents port old new before untold result after told (inl none) = unchanged old new none.1
+      serving_keeps contents port old new before untold result after told (inr (printed, sent, h)) = served_keeps old new untold told printed result h
 
     -- whatever the line does
-    pub carried_keeps : {O E : Type 0} (contents : Contents O) (job : Job) (old new : OfficeIn S) (before : O) (untold : E) (result : Result (Unit {0}) JobFault) (after : O) (told : E)
-        → CarriesOut g contents job today old before untold result new after told → KeepsOn old new
-    carried_keeps contents line.init old new before untold result after told h = unchanged old new h.1
-    carried_keeps contents (line.serve port) old new before untold result after told h = serving_keeps contents port old new before result after h
-    carried_keeps contents line.migrate old new before untold result after told h = done_keeps contents today old new before result after line.migrate h.1.0 h.1.1 h.1.2
-    carried_keeps contents line.check old new before untold result after told h = done_keeps contents today old new before result after line.check h.1.0 h.1.1 h.1.2
-    carried_keeps contents (line.import kind path) old new before untold result after told h =
+    pub carried_keeps : {O E : Type 0} (contents : Contents O) (errors : Contents E) (job : Job) (old new : OfficeIn S) (before : O) (untold : E) (result : Result (Unit {0}) JobFault) (after : O) (told : E)
+        → CarriesOut g contents errors job today old before untold result new after told → KeepsOn old new
+    carried_keeps contents errors line.init old new before untold result after told h = unchanged old new h.1
+    carried_keeps contents errors (line.serve port) old new before untold result after told h = serving_keeps errors contents port old new before untold result after told h
+    carried_keeps contents errors line.migrate old new before untold result after told h = done_keeps contents today old new before result after line.migrate h.1.0 h.1.1 h.1.2
+    carried_keeps contents errors line.check old new before untold result after told h = done_keeps contents today old new before result after line.check h.1.0 h.1.1 h.1.2
+    carried_keeps contents errors (line.import kind path) old new before untold result after told h =
         done_keeps contents today old new before result after (line.import kind path) h.1.0 h.1.1 h.1.2
-    carried_keeps contents (line.apply done) old new before untold result after told h = done_keeps contents today old new before result after (line.apply done) h.1.0 h.1.1 h.1.2
-    carried_keeps contents (line.print s which) old new before untold result after told h =
+    carried_keeps contents errors (line.apply done) old new before untold result after told h = done_keeps contents today old new before result after (line.apply done) h.1.0 h.1.1 h.1.2
+    carried_keeps contents errors (line.print s which) old new before untold result after told h =
         done_keeps contents today old new before result after (line.print s which) h.1.0 h.1.1 h.1.2

@@ -1,3 +1,5 @@
+mod Ending
+mod Following
 mod Keeping
 mod OneSchema
 mod Opened

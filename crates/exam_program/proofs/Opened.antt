@@ -1,6 +1,6 @@
 -- The office that is opened for a job, and why none is.
 use Rattle.std.proofs.Common.{◌≡◌, ◌⊎◌, ◌∙◌, List, [], ◌∷◌, inl, inr, arith, refl, sym, ap, subst}
-use Rattle.std.specs.Prelude.{length, Result, Ok, Err, IfOk, IfErr, IsTrue, MatchResult}
+use Rattle.std.specs.Prelude.{Bool, true, false, length, Result, Ok, Err, IfOk, IfErr, IsTrue, MatchResult}
 use Rattle.sqlite.specs.Effect.{Database}
 use Rattle.sqlite.specs.Held.{Held, state}
 use Rattle.sqlite.specs.State.{State, HasCleanDisk, Survives}
@@ -16,7 +16,8 @@ use Rattle.exam_line.specs.Lines.{Job, job_shown}
 use Rattle.exam_line.specs.Lines as line
 use Rattle.exam_line.specs.declared.line.Job as coded
 use Rattle.exam_line.specs.declared.line.Job.TheVariants as job
-use Rattle.exam_sql.specs.Tables.{no_schema, store_schema}
+use Rattle.exam_sql.specs.Made.{made_schema}
+use Rattle.exam_sql.specs.Tables.{first_schema, no_schema, store_schema}
 use Rattle.exam_tables.specs.Inside.{IsOurs}
 use Rattle.exam_tables.specs.Loaded.{IsLeft}
 use Rattle.exam_tables.specs.Transactions.{Commits, IsSound}
@@ -42,6 +43,15 @@ blank_or_not db = is_none db.schema.tables db.schema.indexes db.schema.views
 some_tables : store_schema ≡ no_schema → ⊥
 unfolding store_schema
 some_tables is = let lengths : 11 ≡ 0 = ap (λ (s : Schema). length s.tables) is in omega (arith, lengths)
+
+some_first : first_schema ≡ no_schema → ⊥
+unfolding first_schema
+some_first is = let lengths : 10 ≡ 0 = ap (λ (s : Schema). length s.tables) is in omega (arith, lengths)
+
+-- tables of any version
+pub some_made : (marks : Bool) → made_schema marks ≡ no_schema → ⊥
+some_made true is = some_tables is
+some_made false is = some_first is
 
 ours_not_blank : (db : Database) → IsOurs db → IsBlank db → ⊥
 ours_not_blank db ours blank = some_tables (sym ours.1.schema_is ∙ blank)
@@ -74,7 +84,7 @@ module _ {S : Type 0} (g : Ghosts S) (was : Held S) where
 
   -- ---- none is opened
 
-  left_commit : (now : Held S) → IsLeft (state g was) (state g now) → IsSound (state g now) → (state g now).committed ≡ (state g was).committed
+  pub left_commit : (now : Held S) → IsLeft (state g was) (state g now) → IsSound (state g now) → (state g now).committed ≡ (state g was).committed
   left_commit now (inl same) sound = same.0.committed_is
   left_commit now (inr back) sound = (back.undone sound.1).1
 

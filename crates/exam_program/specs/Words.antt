@@ -40,12 +40,12 @@ pub record IsOver {D : Type 0} {g : disk.Ghosts D} (image : Image) (was : Held (
   pub opened : HasCleanDisk (file_state was) → IsOpened was
 
 -- what a line comes to over files that held this, before its fault is reported
-abbrev pub RunsJob : {D O E : Type 0} → disk.Ghosts D → Image → Contents O → Said → O → E → Result ℕ JobFault → O → E
-    → Type 0
-RunsJob {D} g image contents said before untold result after told =
+abbrev pub RunsJob : {D O E : Type 0} → disk.Ghosts D → Image → Contents O → Contents E → Said → O → E
+    → Result ℕ JobFault → O → E → Type 0
+RunsJob {D} g image contents errors said before untold result after told =
     (IsNotReached contents said.job before result after × (told ≡ untold))
     ⊎ ((was : Held (FileStore D g)) × IsOver image was × (closed : Closed D g)
-    × RunsDatabase g contents said was before untold result closed after told)
+    × RunsDatabase g contents errors said was before untold result closed after told)
 
 -- ---- from the words
 
@@ -58,7 +58,7 @@ Ends errors (Err fault) before ended after = Reports errors (Err fault) before e
 abbrev pub RunsLine : {D O E : Type 0} → disk.Ghosts D → Image → Contents O → Contents E → Said → O → E → ℕ → O → E
     → Type 0
 RunsLine {D} {O} {E} g image contents errors said before untold status after told =
-    (result : Result ℕ JobFault) × (mid : E) × RunsJob g image contents said before untold result after mid
+    (result : Result ℕ JobFault) × (mid : E) × RunsJob g image contents errors said before untold result after mid
     × Ends errors result mid status told
 
 -- a line is carried out; or the words say none, and that is reported

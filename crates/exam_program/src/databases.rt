@@ -34,7 +34,8 @@ pub fn run_database<D: Disk + Drop, O: Write, E: Write>(
     Result<u8, JobFault>,
     Result<Files<D>, (Error, FileStore<D>)>,
 )
-    ensures { RunsDatabase D.Disk O.contents (shown line.now) conn out.old err.old result.0 result.1 out.new err.new }
+    ensures { RunsDatabase D.Disk O.contents E.contents (shown line.now) conn out.old err.old result.0 result.1
+        out.new err.new }
 {
     let (done, conn) = run_over(rt, line, conn, out, err);
     // What was answered is already committed, so a failure here undoes nothing.
@@ -49,8 +50,8 @@ fn run_over<S: Alter, O: Write, E: Write>(
     out: &mut O,
     err: &mut E,
 ) -> (Result<u8, JobFault>, Connection<S>)
-    ensures runs { (office : Option Office) × RunsOn S.Store O.contents (shown line.now) (job_shown line.now.job)
-        conn out.old err.old result.0 result.1 office out.new err.new }
+    ensures runs { (office : Option Office) × RunsOn S.Store O.contents E.contents (shown line.now)
+        (job_shown line.now.job) conn out.old err.old result.0 result.1 office out.new err.new }
     ensures live { IsLive (state S.Store result.1) }
 {
     let (done, conn) = run_job(rt, line, conn, out, err);
@@ -68,8 +69,8 @@ fn run_job<S: Alter, O: Write, E: Write>(
     out: &mut O,
     err: &mut E,
 ) -> (Result<u8, JobFault>, Connection<S>)
-    ensures { (office : Option Office) × RunsOn S.Store O.contents (shown line.now) (job_shown line.now.job)
-        conn out.old err.old result.0 result.1 office out.new err.new }
+    ensures { (office : Option Office) × RunsOn S.Store O.contents E.contents (shown line.now)
+        (job_shown line.now.job) conn out.old err.old result.0 result.1 office out.new err.new }
 {
     match line.job {
         Job::Migrate => {
@@ -142,7 +143,7 @@ fn run_office<S: Alter, O: Write, E: Write>(
     out: &mut O,
     err: &mut E,
 ) -> (Result<(), JobFault>, Connection<S>)
-    ensures { (office : Option Office) × RunsOpened S.Store O.contents (shown line.now)
+    ensures { (office : Option Office) × RunsOpened S.Store O.contents E.contents (shown line.now)
         conn out.old err.old result.0 result.1 office out.new err.new }
 {
     // The tables keep the office that a command led to, since a command has one result.
@@ -181,8 +182,8 @@ fn carry_over<S: Alter, O: Write, E: Write>(
     out: &mut O,
     err: &mut E,
 ) -> Result<(), JobFault>
-    ensures { CarriesOut S.Store O.contents (job_shown line.now.job) line.now.today store.old out.old err.old
-        result store.new out.new err.new }
+    ensures { CarriesOut S.Store O.contents E.contents (job_shown line.now.job) line.now.today store.old
+        out.old err.old result store.new out.new err.new }
 {
     match line.job {
         Job::Import { file, .. } => {

@@ -9,6 +9,6 @@ mod running;
 mod serving;
 
 pub use databases::run_database;
-pub use laws::files_show_their_office;
+pub use laws::{files_show_their_office, lines_lead_an_office_on};
 pub use running::run;
 pub use serving::serve_each;

@@ -78,8 +78,8 @@ fn run_named<S: Start, O: Write, E: Write>(
     out: &mut O,
     err: &mut E,
 ) -> Result<u8, JobFault>
-    ensures { spec.RunsJob ⟦<FileFrom<S> as Disk>⟧ (image_at S.Start) O.contents (shown line.now) out.old err.old
-        result out.new err.new }
+    ensures { spec.RunsJob ⟦<FileFrom<S> as Disk>⟧ (image_at S.Start) O.contents E.contents (shown line.now) out.old
+        err.old result out.new err.new }
 {
     match open_named(rt, line, start) {
         Ok(conn) => {

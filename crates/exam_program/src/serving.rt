@@ -1,8 +1,8 @@
 //! The office on a port of this machine.
 ghost use Rattle.std.specs.Prelude.{◌≡◌, IfErr};
-ghost use Rattle.exam_http.specs.Serving.{AreServedOn, ServedOn};
+ghost use Rattle.exam_http.specs.Serving.{ServedOn};
 ghost use Rattle.exam_job.specs.declared.report.JobFault.TheVariants.{Net};
-ghost use Rattle.exam_program.specs.Running.{ServesOn};
+ghost use Rattle.exam_program.specs.Running.{AreEnded, EndsOne, ServesOn, TellsEnd};
 
 use exam_http::{HttpFault, serve_one};
 use exam_job::{JobFault, connection_fault_line, print, print_error, serving_line};
@@ -96,7 +96,8 @@ pub fn serve<S: Alter, O: Write, E: Write>(
     out: &mut O,
     err: &mut E,
 ) -> Result<(), JobFault>
-    ensures { ServesOn S.Store O.contents port today store.old out.old result store.new out.new }
+    ensures { ServesOn S.Store O.contents E.contents port today store.old out.old err.old result store.new
+        out.new err.new }
 {
     let address = SocketAddrV4::new(Ipv4Addr::LOCALHOST, port);
     let Ok(listener) = TcpListener::bind(rt, address) else {
@@ -116,7 +117,7 @@ pub fn serve_each<S: Alter, E: Write>(
     err: &mut E,
 ) -> Result<(), JobFault>
     ensures fault { IfErr result (λ fault. fault ≡ Net) }
-    ensures served { AreServedOn S.Store today store.old store.new }
+    ensures served { AreEnded S.Store E.contents today store.old err.old store.new err.new }
 {
     'connections: for stream in listener.incoming().take(MOST_CONNECTIONS) {
         match stream {
@@ -135,30 +136,40 @@ fn serve_connection<S: Alter, E: Write>(
     stream: &TcpStream,
     err: &mut E,
 )
-    ensures { ServedOn S.Store today store.old store.new }
+    ensures { EndsOne S.Store E.contents today store.old err.old store.new err.new }
 {
-    let served = match Instant::now(rt) {
-        Ok(since) => serve_timed(rt, store, today, stream, since),
-        Err(_) => Err(HttpFault::Read),
-    };
-    if let Err(fault) = served {
-        // There is nowhere left to report that this was not written.
-        let _ = print_error(err, connection_fault_line(fault.number()).as_slice());
-    }
+    let end = serve_timed(rt, store, today, stream);
+    tell_end(end, err);
     // The answer ends before the connection is closed. Closing resets a connection if not all of its bytes were read,
     // and a client that sees the reset first could lose the answer.
     let _ = stream.shutdown(Shutdown::Write);
 }
 
+/// Prints the line of the fault that a connection ended in, if it did.
+fn tell_end<E: Write>(end: Result<(), HttpFault>, err: &mut E)
+    ensures { TellsEnd E.contents end err.old err.new }
+{
+    match end {
+        Ok(()) => {}
+        Err(fault) => {
+            // There is nowhere left to report that this was not written.
+            let _ = print_error(err, connection_fault_line(fault.number()).as_slice());
+        }
+    }
+}
+
+/// Serves one request, in the time that its connection has.
 fn serve_timed<S: Alter>(
     rt: &HostRuntime,
     store: &mut Store<S>,
     today: Day,
     stream: &TcpStream,
-    since: Instant,
 ) -> Result<(), HttpFault>
     ensures { ServedOn S.Store today store.old store.new }
 {
+    let Ok(since) = Instant::now(rt) else {
+        return Err(HttpFault::Read);
+    };
     let mut reader = Timed { stream, rt, since };
     let mut writer = Timed { stream, rt, since };
     serve_one(rt.alloc(), store, today, &mut reader, &mut writer)

@@ -2,13 +2,14 @@
 use Rattle.std.proofs.Common.{◌≡◌, ◌⊎◌, ℕ, List, Option, None, Some, refl, sym, ap, subst, inl, inr}
 use Rattle.std.specs.Prelude.{Ok, Err, option_and_then}
 use Rattle.clap.specs.Words.{Text}
+use Rattle.sqlite_trees.specs.declared.store.Store.{Ghosts}
 use Rattle.exam_rules.specs.Relations.{Code}
-use Rattle.exam_commands.specs.State.{State}
 use Rattle.exam_line.specs.Lines.{Answers, Said, job_shown}
 use Rattle.exam_line.specs.declared.line.Line.{Line}
 use Rattle.exam_line.specs.declared.line.LineFault.{LineFault}
 use Rattle.exam_line.specs.declared.line.LineFault.TheVariants.{NoMemory}
 use Rattle.exam_line.specs.declared.line.Sheet.{Sheet}
+use Rattle.exam_store.specs.Stores.{OfficeIn}
 use Rattle.exam_theorem.specs.Following.{LineEnd}
 use Rattle.exam_theorem.specs.Orders.{line_of, sheet_asked, sheet_of}
 use Rattle.exam_theorem.specs.Printing.{PrintsAsked}
@@ -16,23 +17,23 @@ use Rattle.exam_theorem.specs.declared.orders.LineStop.TheVariants as stop
 use Rattle.exam_theorem.proofs.Reading.{line_is, no_line}
 
 -- the sheet of a line that was read
-pub asked_is : (words : List Text) (l : Line) → Answers (Ok l) words → sheet_asked words ≡ sheet_of (job_shown l.job)
+asked_is : (words : List Text) (l : Line) → Answers (Ok l) words → sheet_asked words ≡ sheet_of (job_shown l.job)
 asked_is words l h = ap (λ (o : Option Said). option_and_then (λ (s : Said). sheet_of s.job) o) (line_is words l h)
 
-module _ {W : Type 0} (contents : W → Option (List ℕ)) (office : State) (words : List Text) (before : W) where
-  pub unread : (f : LineFault) → Answers (Err f) words → PrintsAsked contents office (sheet_asked words) before (Err (stop.NoLine f)) before
+module _ {S W : Type 0} (g : Ghosts S) (contents : W → Option (List ℕ)) (it : OfficeIn S) (words : List Text) (before : W) where
+  pub unread : (f : LineFault) → Answers (Err f) words → PrintsAsked g contents it (sheet_asked words) before (Err (stop.NoLine f)) before
   unread f h = by (no_line words f h)
     where
-      short : (asked : Option (Code × Sheet)) → PrintsAsked contents office asked before (Err (stop.NoLine NoMemory)) before
+      short : (asked : Option (Code × Sheet)) → PrintsAsked g contents it asked before (Err (stop.NoLine NoMemory)) before
       short None = (NoMemory, refl, refl)
       short (Some asked) = inl (refl, refl)
 
-      by : (f ≡ NoMemory) ⊎ (line_of words ≡ None) → PrintsAsked contents office (sheet_asked words) before (Err (stop.NoLine f)) before
-      by (inl is) = subst (λ g. PrintsAsked contents office (sheet_asked words) before (Err (stop.NoLine g)) before) (sym is) (short (sheet_asked words))
+      by : (f ≡ NoMemory) ⊎ (line_of words ≡ None) → PrintsAsked g contents it (sheet_asked words) before (Err (stop.NoLine f)) before
+      by (inl is) = subst (λ f. PrintsAsked g contents it (sheet_asked words) before (Err (stop.NoLine f)) before) (sym is) (short (sheet_asked words))
       by (inr is) =
-          subst (λ asked. PrintsAsked contents office asked before (Err (stop.NoLine f)) before)
+          subst (λ asked. PrintsAsked g contents it asked before (Err (stop.NoLine f)) before)
           (sym (ap (λ (o : Option Said). option_and_then (λ (s : Said). sheet_of s.job) o) is)) (f, refl, refl)
 
-  pub printed : (l : Line) (end : LineEnd) (after : W) → Answers (Ok l) words → PrintsAsked contents office (sheet_of (job_shown l.job)) before end after
-      → PrintsAsked contents office (sheet_asked words) before end after
-  printed l end after h prints = subst (λ asked. PrintsAsked contents office asked before end after) (sym (asked_is words l h)) prints
+  pub printed : (l : Line) (end : LineEnd) (after : W) → Answers (Ok l) words → PrintsAsked g contents it (sheet_of (job_shown l.job)) before end after
+      → PrintsAsked g contents it (sheet_asked words) before end after
+  printed l end after h prints = subst (λ asked. PrintsAsked g contents it asked before end after) (sym (asked_is words l h)) prints

@@ -7,7 +7,6 @@ mod Served
 mod Sparing
 mod Listing
 mod Asked
-mod PrintedAfter
 mod Having
 mod Settling
 mod SettledOrders
@@ -18,3 +17,4 @@ mod SettledSheets
 mod Bringing
 mod Living
 mod Accepting
+mod Refused

@@ -1,26 +1,22 @@
 -- From the office that was opened to what it became.
-use Rattle.std.proofs.Common.{◌≡◌, ℕ, List, Option, subst}
+use Rattle.std.proofs.Common.{◌≡◌, List, subst}
 use Rattle.sqlite_trees.specs.declared.store.Store.{Ghosts}
 use Rattle.sqlite.specs.Effect.{Database}
 use Rattle.sqlite.specs.Held.{state}
 use Rattle.sqlite.specs.State.{State as Shown, HasCleanDisk}
-use Rattle.exam_rules.specs.Relations.{Code}
 use Rattle.exam_commands.specs.Good.{IsGood}
 use Rattle.exam_commands.specs.State.{State}
-use Rattle.exam_line.specs.declared.line.Sheet.{Sheet}
 use Rattle.exam_tables.specs.Transactions.{IsSound}
 use Rattle.exam_store.specs.Kept.{HaveSameTables, Keeps}
 use Rattle.exam_store.specs.Stores.{OfficeIn}
 use Rattle.exam_store.proofs.SameTables.{same_tables}
-use Rattle.exam_theorem.specs.Following.{AreFollowed, EndsInOne, LineEnd}
+use Rattle.exam_theorem.specs.Following.{AreFollowed, EndsInOne}
 use Rattle.exam_theorem.specs.Keeping.{KeepsIt}
 use Rattle.exam_theorem.specs.Life.{ArePassed, Lives, Stays}
 use Rattle.exam_theorem.specs.Orders.{Given}
-use Rattle.exam_theorem.specs.Printing.{PrintsAsked, RestsOnAsked}
 use Rattle.exam_theorem.specs.Resting.{HasOffice, IsAtRest, IsVersioned, Rests, RestsOn, StopsWith}
 use Rattle.exam_theorem.specs.declared.orders.Outcome.{Outcome}
 use Rattle.exam_theorem.proofs.Passing.{passed_clean, passed_rests}
-use Rattle.exam_theorem.proofs.PrintedAfter.{rests_more_asked}
 use Rattle.exam_theorem.proofs.Settling.{at_rest}
 
 -- the office that was there rests in what was opened
@@ -74,10 +70,3 @@ module _ {S : Type 0} (g : Ghosts S) (old : Shown) (start new : OfficeIn S) (ord
     pub ends_in_tables : IsSound (state g new.database) → IsVersioned old.now → (there : Database) → Keeps there new.office → HaveSameTables (state g new.database).now there
     unfolding KeepsIt
     ends_in_tables sound versioned there keeps = same_tables (state g new.database).now there new.office (ends_at_rest sound versioned).kept.0 keeps
-
-    pub sheet_printed : {W : Type 0} (contents : W → Option (List ℕ)) (asked : Option (Code × Sheet)) (before : W) (end : LineEnd) (after : W)
-        → (RestsOnAsked (IsSound (state g new.database) × KeepsIt g start) asked → PrintsAsked contents new.office asked before end after)
-        → RestsOnAsked (IsSound (state g new.database) × IsVersioned old.now) asked → PrintsAsked contents new.office asked before end after
-    sheet_printed contents asked before end after prints rested =
-        prints (rests_more_asked (IsSound (state g new.database) × IsVersioned old.now) (IsSound (state g new.database) × KeepsIt g start)
-        (λ (p : IsSound (state g new.database) × IsVersioned old.now). (p.0, (start_rests (clean_start p.0.0) p.1).kept)) asked rested)

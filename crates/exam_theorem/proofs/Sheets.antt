@@ -1,24 +1,22 @@
 -- A sheet is printed of an office, which is kept.
-use Rattle.std.proofs.Common.{◌≡◌, ℕ, true, List, Option, Some, Result, refl, ap, inr}
+use Rattle.std.proofs.Common.{◌≡◌, ℕ, true, List, Option, Some, Result, refl, sym, ap, subst, inr}
 use Rattle.std.specs.Prelude.{is_some}
-use Rattle.sqlite.specs.Held.{state}
 use Rattle.sqlite_trees.specs.declared.store.Store.{Ghosts}
 use Rattle.exam_rules.specs.Relations.{Code}
+use Rattle.exam_commands.specs.State.{State}
 use Rattle.exam_files.specs.OfficeSheets.{register_of}
 use Rattle.exam_line.specs.Lines.{Job}
 use Rattle.exam_line.specs.Lines as line
 use Rattle.exam_line.specs.declared.line.Sheet.{Sheet}
 use Rattle.exam_line.specs.declared.line.Sheet.TheVariants as sheet
-use Rattle.exam_tables.specs.Transactions.{IsSound}
 use Rattle.exam_store.specs.Stores.{OfficeIn}
 use Rattle.exam_job.specs.Jobs.{Does}
-use Rattle.exam_job.specs.Sheets.{PrintsAppeals}
+use Rattle.exam_job.specs.Sheets.{BreaksOff, PrintsAppeals, PrintsSheet, Streams}
 use Rattle.exam_job.specs.declared.report.JobFault.{JobFault}
-use Rattle.exam_job.proofs.Streaming.{kept_streams}
 use Rattle.exam_theorem.specs.Following.{told}
-use Rattle.exam_theorem.specs.Keeping.{KeepsIt, KeepsOn}
+use Rattle.exam_theorem.specs.Keeping.{KeepsOn}
 use Rattle.exam_theorem.specs.Orders.{sheet_of}
-use Rattle.exam_theorem.specs.Printing.{PrintsAsked, RestsOn, RestsOnAsked}
+use Rattle.exam_theorem.specs.Printing.{PrintsAsked}
 use Rattle.exam_theorem.proofs.KeptOffice.{read_alone, unchanged}
 
 module _ {S W : Type 0} (g : Ghosts S) (contents : W → Option (List ℕ)) (today : ℕ) (input rest : Option (List ℕ))
@@ -35,19 +33,13 @@ module _ {S W : Type 0} (g : Ghosts S) (contents : W → Option (List ℕ)) (tod
   job_keeps (line.print s which) asks h = sheet_keeps s which h
   job_keeps other asks h = absurd cc
 
-  abbrev Rested : Type 0
-  Rested = IsSound (state g new.database) × KeepsIt g old
+  printed : (s : Code) (which : Sheet) → Does g contents (line.print s which) today input rest old before result new after → PrintsAsked g contents new (Some (s, which)) before (told result) after
+  printed s sheet.Appeals h =
+      inr (result, refl, subst (λ (o : State). Streams (BreaksOff g new) contents (register_of o s) before result after) (sym h.1.read.office) h.1.sheet)
+  printed s which h = inr (result, refl, subst (λ (it : OfficeIn S). PrintsSheet contents it.office s which before result after) (sym h.1) h.2)
 
-  printed : (s : Code) (which : Sheet) → Does g contents (line.print s which) today input rest old before result new after → RestsOn Rested which
-      → PrintsAsked contents old.office (Some (s, which)) before (told result) after
-  unfolding KeepsIt
-  printed s sheet.Appeals h rested =
-      let text = register_of old.office s in
-      let kept = (appeals_kept s h.1).kept rested.0 rested.1 in
-      inr (result, refl, inr (text, refl, kept_streams g new contents rested.0.0 kept.0 text before result after h.1.sheet))
-  printed s which h rested = inr (result, refl, h.2)
-
-  pub job_printed : (job : Job) → is_some (sheet_of job) ≡ true → Does g contents job today input rest old before result new after → RestsOnAsked Rested (sheet_of job)
-      → PrintsAsked contents old.office (sheet_of job) before (told result) after
-  job_printed (line.print s which) asks h rested = printed s which h rested
-  job_printed other asks h rested = absurd cc
+  pub job_printed : (job : Job) → is_some (sheet_of job) ≡ true
+      → Does g contents job today input rest old before result new after
+      → PrintsAsked g contents new (sheet_of job) before (told result) after
+  job_printed (line.print s which) asks h = printed s which h
+  job_printed other asks h = absurd cc

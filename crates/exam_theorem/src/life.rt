@@ -9,13 +9,14 @@ ghost use Rattle.exam_commands.specs.State.{State};
 ghost use Rattle.exam_tables.specs.Faults.{is_store_refusal};
 ghost use Rattle.exam_tables.specs.Inside.{IsOurs};
 ghost use Rattle.exam_tables.specs.Transactions.{Commits, IsSound};
-ghost use Rattle.exam_store.specs.Found.{is_open_refusal};
+ghost use Rattle.exam_store.specs.Found.{FailsToMigrate, is_open_refusal};
 ghost use Rattle.exam_store.specs.Kept.{HaveSameTables, Keeps};
 ghost use Rattle.exam_theorem.specs.Following as spec;
 ghost use Rattle.exam_theorem.specs.Life.{Lives};
 ghost use Rattle.exam_theorem.specs.Orders.{sheet_asked, shown};
-ghost use Rattle.exam_theorem.specs.Printing.{PrintsAsked, RestsOnAsked};
-ghost use Rattle.exam_theorem.specs.Resting.{BringsOver, HasOffice, IsAccepted, IsAtRest, IsFailing, IsVersioned, RestsOn, StopsWith};
+ghost use Rattle.exam_theorem.specs.Printing.{PrintsAsked};
+ghost use Rattle.exam_theorem.specs.Resting.{BringsOver, FailsToCarry, HasOffice, IsAccepted, IsAtRest, IsFailing};
+ghost use Rattle.exam_theorem.specs.Resting.{IsVersioned, RestsOn, StopsWith};
 
 use crate::orders::Order;
 use crate::printing::{EndOfDay, print_after};
@@ -34,6 +35,8 @@ fn bring_over<S: Alter>(alloc: Global, conn: &mut Connection<S>) -> Result<(), R
         → ((office : State) × HasOffice (state S.Store conn.old).now office)
         ⊎ (IsOurs (state S.Store conn.old).now
         × ((state S.Store conn.new).now ≡ (state S.Store conn.old).now))) }
+    ensures why { HasCleanDisk (state S.Store conn.new)
+        → IfErr result (FailsToMigrate S.Store conn.old conn.new) }
     ensures only { HasCleanDisk (state S.Store conn.new)
         → IfErr result (λ e. IsAccepted (state S.Store conn.old).now → IsFailing e) }
     ensures told { IfErr result (λ e. IsTrue (is_store_refusal e)) }
@@ -64,6 +67,7 @@ pub fn carry_over<S: Alter>(
     ensures good { IfOk result (λ store. IsGood store.office) }
     ensures rests { IfErr result (λ e. RestsOn (state S.Store conn) (state S.Store e.1)) }
     ensures stopped { IfErr result (λ e. StopsWith (state S.Store conn) (state S.Store e.1)) }
+    ensures why { IfErr result (λ e. HasCleanDisk (state S.Store e.1) → FailsToCarry S.Store conn e.1 e.0) }
     ensures only { IfErr result (λ e. HasCleanDisk (state S.Store e.1)
         → IsAccepted (state S.Store conn).now → IsFailing e.0) }
     ensures told { IfErr result (λ e. IsTrue (is_open_refusal e.0)) }
@@ -92,10 +96,8 @@ pub fn live<S: Alter, O: Write>(
         → (first : State) → HasOffice (state S.Store conn).now first
         → Lives S.Store (map shown orders.now) (state S.Store conn) first life.1.outcomes.items life.0) }
     ensures headline { IfOk result (λ life. (s : Code) → IsSeated life.0.office s) }
-    ensures sheet { IfOk result (λ life. RestsOnAsked (IsSound (state S.Store life.0.database)
-        × IsVersioned (state S.Store conn).now) (sheet_asked (map string_bytes words.now))
-        → PrintsAsked O.contents life.0.office (sheet_asked (map string_bytes words.now)) out.old life.1.printed
-        out.new) }
+    ensures sheet { IfOk result (λ life. PrintsAsked S.Store O.contents life.0
+        (sheet_asked (map string_bytes words.now)) out.old life.1.printed out.new) }
     // The life can go on from the database that it leaves.
     ensures rests { IfOk result (λ life. IsSound (state S.Store life.0.database)
         → IsVersioned (state S.Store conn).now → IsAtRest S.Store life.0) }
@@ -107,6 +109,7 @@ pub fn live<S: Alter, O: Write>(
         → HaveSameTables (state S.Store life.0.database).now there) }
     ensures still { IfErr result (λ e. RestsOn (state S.Store conn) (state S.Store e.1)) }
     ensures stopped { IfErr result (λ e. StopsWith (state S.Store conn) (state S.Store e.1)) }
+    ensures why { IfErr result (λ e. HasCleanDisk (state S.Store e.1) → FailsToCarry S.Store conn e.1 e.0) }
     ensures only { IfErr result (λ e. HasCleanDisk (state S.Store e.1)
         → IsAccepted (state S.Store conn).now → IsFailing e.0) }
     ensures told { IfErr result (λ e. IsTrue (is_open_refusal e.0)) }

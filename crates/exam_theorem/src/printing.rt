@@ -1,17 +1,15 @@
 //! An office after orders, and a sheet of it.
 ghost use Rattle.std.specs.Prelude.{◌≡◌, map, is_some, IfOk, IfErr, OnErr, string_bytes};
-ghost use Rattle.sqlite.specs.Held.{state};
 ghost use Rattle.exam_types.specs.declared.refusal.Refusal.TheVariants.{NoMemory};
 ghost use Rattle.exam_rules.specs.Relations.{Code};
 ghost use Rattle.exam_commands.specs.Headline.{IsSeated};
 ghost use Rattle.exam_line.specs.Lines as lines;
-ghost use Rattle.exam_tables.specs.Transactions.{IsSound};
 ghost use Rattle.exam_theorem.specs.Following as spec;
 ghost use Rattle.exam_store.specs.Stores.{OfficeIn};
-ghost use Rattle.exam_theorem.specs.Keeping.{KeepsIt, KeepsOn};
+ghost use Rattle.exam_theorem.specs.Keeping.{KeepsOn};
 ghost use Rattle.exam_theorem.specs.Life.{ArePassed, Stays};
 ghost use Rattle.exam_theorem.specs.Orders.{sheet_asked, sheet_of, shown};
-ghost use Rattle.exam_theorem.specs.Printing.{PrintsAsked, RestsOnAsked};
+ghost use Rattle.exam_theorem.specs.Printing.{PrintsAsked};
 
 use crate::orders::{LineEnd, LineStop, Order, Outcome, follow_all, told};
 use exam_job::carry_out;
@@ -48,9 +46,7 @@ pub fn print_after<S: Alter, O: Write>(
         day.outcomes.items store.new.office) }
     ensures passes { IfOk result (λ day. (last : OfficeIn S) × ArePassed S.Store (map shown orders.now) store.old
         day.outcomes.items last × Stays S.Store last store.new) }
-    ensures sheet { RestsOnAsked (IsSound (state S.Store store.new.database) × KeepsIt S.Store store.old)
-        (sheet_asked (map string_bytes words.now))
-        → IfOk result (λ day. PrintsAsked O.contents store.new.office
+    ensures sheet { IfOk result (λ day. PrintsAsked S.Store O.contents store.new
         (sheet_asked (map string_bytes words.now)) out.old day.printed out.new) }
     ensures headline { (s : Code) → IsSeated store.new.office s }
     ensures kept { KeepsOn S.Store store.old store.new }
@@ -76,9 +72,8 @@ fn print_asked<S: Alter, O: Write>(
     words: &[String],
     out: &mut O,
 ) -> LineEnd
-    ensures sheet { RestsOnAsked (IsSound (state S.Store store.new.database) × KeepsIt S.Store store.old)
-        (sheet_asked (map string_bytes words.now)) → PrintsAsked O.contents store.old.office
-        (sheet_asked (map string_bytes words.now)) out.old result out.new }
+    ensures sheet { PrintsAsked S.Store O.contents store.new (sheet_asked (map string_bytes words.now)) out.old result
+        out.new }
     ensures office { store.new.office ≡ store.old.office }
     ensures stays { Stays S.Store store.old store.new }
     ensures kept { KeepsOn S.Store store.old store.new }
@@ -96,9 +91,8 @@ fn print_line<S: Alter, O: Write>(
     line: &Line<'_>,
     out: &mut O,
 ) -> LineEnd
-    ensures sheet { RestsOnAsked (IsSound (state S.Store store.new.database) × KeepsIt S.Store store.old)
-        (sheet_of (lines.job_shown line.now.job)) → PrintsAsked O.contents store.old.office
-        (sheet_of (lines.job_shown line.now.job)) out.old result out.new }
+    ensures sheet { PrintsAsked S.Store O.contents store.new (sheet_of (lines.job_shown line.now.job)) out.old result
+        out.new }
     ensures office { store.new.office ≡ store.old.office }
     ensures stays { Stays S.Store store.old store.new }
     ensures kept { KeepsOn S.Store store.old store.new }

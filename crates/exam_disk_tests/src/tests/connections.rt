@@ -4,6 +4,7 @@ use super::refusing::INIT;
 use exam_job::JobFault;
 use exam_program::serve_each;
 use exam_school::{FIRST_TAKES_A, PEOPLE, TIMETABLE, expect_same};
+use exam_scripts::answer_to;
 use exam_store::Store;
 use exam_types::Day;
 use sqlite::{Alter, Connection, Files};
@@ -55,6 +56,49 @@ The lamp above the desk flickers, and nobody could mend it in time for the exam.
 const SHOW_APPEALS: &str =
     "GET /candidates/0000001/appeals HTTP/1.1\r\nHost: 127.0.0.1\r\nExam-Code: CODE0001\r\n\r\n";
 
+/// The second candidate sits too, and lodges an appeal, which no client asks for.
+const SECOND_APPEALS: &str = r#"$ import entries f
+number,paper
+0000002,MA-1
+> added 1 changed 0 same 0
+$ POST /candidates/0000002/appeals on 2027-05-30
+{"hall":"B","kind":"hall","reason":"","ref":"HA2","session":"S1"}
+> {"state":"open"}
+"#;
+
+/// All tables, when the clients have been served: the appeal of the first candidate has come, and nothing else.
+const SERVED: &str = "\
+> 1|3|
+
+S1|2027-06-01|540|
+
+MA-1|Maths|S1|60|0|
+
+A|Hall A|1|
+B|Hall B|0|
+
+S1|A|1|720|0|
+S1|B|1|720|0|
+
+1|Bo Berg|CODE0001|
+2|Ada Lin|CODE0002|
+3|Cy Dahl|CODE0003|
+4|Di Roe|CODE0004|
+5|Ed Poe|CODE0005|
+
+1|MA-1|1|
+2|MA-1|1|
+
+
+1|HA1|S1|1|A|0|0|The lamp above the desk flickers, and nobody could mend it in time for the exam.|1|NULL|2027-05-30|
+2|HA2|S1|1|B|0|0||1|NULL|2027-05-30|
+
+
+S1|1|A|
+S1|2|B|
+
+";
+
 /// Opens the office. Over any database it is cheap to prove.
 fn opened<S: Alter + Drop>(alloc: Global, conn: Connection<S>) -> Result<Store<S>, Fail> {
     Ok(Store::open(alloc, conn).ok().ok_or("office")?)
@@ -87,8 +131,9 @@ fn client_of(
     Ok(client)
 }
 
-/// Serves each client at the connection's office, and compares what each of them gets. The listener does not wait, so
-/// serving ends after the last client, who has left before the answer. The day of each request is the one that is handed in.
+/// Serves each client at the connection's office, and compares what each of them gets, and in the end all tables. The
+/// listener does not wait, so serving ends after the last client, who has left before the answer. The day of each request is
+/// the one that is handed in.
 fn expect_served<S: Alter + Drop>(rt: &HostRuntime, conn: Connection<S>) -> Result<(), Fail> {
     let today = Day::parse(LAST_DAY.as_bytes()).ok_or("day")?;
     let mut store = opened(rt.alloc(), conn)?;
@@ -109,7 +154,8 @@ fn expect_served<S: Alter + Drop>(rt: &HostRuntime, conn: Connection<S>) -> Resu
         let answer = io::read_to_string(rt.alloc(), client)?;
         expect_same(answer.as_str(), wanted, "answer")?;
     }
-    Ok(())
+    let (_, tables) = answer_to(rt.alloc(), store.close(), "tables", b"");
+    expect_same(tables?.as_str(), SERVED, "tables")
 }
 
 /// Serves each client at the office in the files. Over files of any kind it is cheap to prove. To hand over a store in place
@@ -119,9 +165,10 @@ fn expect_served_from<D: Disk + Drop>(rt: &HostRuntime, files: Files<D>) -> Resu
     expect_served(rt, conn)
 }
 
-/// One candidate sits. Over memory, the database would be built a third time here.
+/// Two candidates sit. Over memory, the database would be built a third time here.
 #[test]
 fn each_client_is_served(rt: HostRuntime) -> Result<(), Fail> {
-    let files = files_after(rt.alloc(), &[INIT, TIMETABLE, PEOPLE, FIRST_TAKES_A])?;
+    let days = &[INIT, TIMETABLE, PEOPLE, FIRST_TAKES_A, SECOND_APPEALS];
+    let files = files_after(rt.alloc(), days)?;
     expect_served_from(&rt, files)
 }

@@ -9,6 +9,9 @@ use std::test::Fail;
 
 const FOLDER: &str = "examoffice_lines";
 
+/// No line makes this database.
+const NONE: &str = "examoffice_lines/none.db";
+
 /// What a line ends with: its exit status, and what it prints on standard output and on standard error.
 pub type End = (u8, &'static str, &'static str);
 
@@ -17,7 +20,6 @@ const LINES: &[(&str, &str, End)] = &[
     ("none.db", "export S1", (1, "", "refused 24\n")),
     ("none.db", "migrate", (1, "", "refused 24\n")),
     ("none.db", "check", (1, "bad office\n", "")),
-    ("none.db", "export s1", (2, "", "line not understood\n")),
     (
         "none.db",
         "import sessions none.csv",
@@ -51,9 +53,36 @@ const LINES: &[(&str, &str, End)] = &[
     ("folder.db", "check", (1, "", "refused 23\n")),
 ];
 
-fn words_of(alloc: Global, path: &str, command: &str) -> Result<Vec<String>, AllocError> {
+/// Days and commands that are no line, and the exit status of each.
+const NO_LINES: &[(&str, &str, u8)] = &[
+    ("2027-02-29", "export S1", 2),
+    (TODAY, "decide 0000001 HA1 GRANTED ok", 2),
+    (TODAY, "serve 0", 2),
+    (TODAY, "serve 65536", 2),
+    (TODAY, "import marks none.csv", 2),
+    (TODAY, "door-list S1", 2),
+    (TODAY, "clashes s1", 2),
+    (TODAY, LONG_REASON, 2),
+    (TODAY, "--help", 0),
+    (TODAY, "--version", 0),
+];
+
+/// A decision with a reason of 201 bytes.
+const LONG_REASON: &str = "decide 0000001 HA1 granted \
+xxxxxxxxxxxxxxxxxxxxxxxxxxxxxxxxxxxxxxxxxxxxxxxxxxxxxxxxxxxxxxxxxxx\
+xxxxxxxxxxxxxxxxxxxxxxxxxxxxxxxxxxxxxxxxxxxxxxxxxxxxxxxxxxxxxxxxxxx\
+xxxxxxxxxxxxxxxxxxxxxxxxxxxxxxxxxxxxxxxxxxxxxxxxxxxxxxxxxxxxxxxxxxx";
+
+const TODAY: &str = "2027-05-01";
+
+fn words_of(
+    alloc: Global,
+    path: &str,
+    today: &str,
+    command: &str,
+) -> Result<Vec<String>, AllocError> {
     let mut words = Vec::new(alloc);
-    for word in ["examoffice", "--db", path, "--today", "2027-05-01"] {
+    for word in ["examoffice", "--db", path, "--today", today] {
         words.push(String::from_str(alloc, word)?)?;
     }
     for word in command.split(' ') {
@@ -62,13 +91,25 @@ fn words_of(alloc: Global, path: &str, command: &str) -> Result<Vec<String>, All
     Ok(words)
 }
 
+/// The exit status of a command on a day over the database at the path. What it prints is appended.
+fn status_of(
+    rt: &HostRuntime,
+    path: &str,
+    today: &str,
+    command: &str,
+    printed: &mut Vec<u8>,
+    told: &mut Vec<u8>,
+) -> Result<u8, AllocError> {
+    let words = words_of(rt.alloc(), path, today, command)?;
+    Ok(run(rt, Ok(words), Unknown, printed, told))
+}
+
 /// Whether a command over the database at the path ends like this.
 pub fn ends(rt: &HostRuntime, path: &str, command: &str, end: End) -> Result<bool, AllocError> {
     let (status, out, err) = end;
-    let words = words_of(rt.alloc(), path, command)?;
     let mut printed = Vec::new(rt.alloc());
     let mut told = Vec::new(rt.alloc());
-    let ended = run(rt, Ok(words), Unknown, &mut printed, &mut told);
+    let ended = status_of(rt, path, TODAY, command, &mut printed, &mut told)?;
     Ok(ended == status && printed.as_slice() == out.as_bytes() && told.as_slice() == err.as_bytes())
 }
 
@@ -78,6 +119,19 @@ fn expect_end(rt: &HostRuntime, path: &str, command: &str, end: End) -> Result<(
         return Ok(());
     }
     Err(Fail::new(format_args!("{path} {command}")))
+}
+
+/// What is no line ends as such, although its database is missing: nothing is opened for it.
+fn expect_no_lines(rt: &HostRuntime) -> Result<(), Fail> {
+    let mut printed = Vec::new(rt.alloc());
+    let mut told = Vec::new(rt.alloc());
+    for (today, command, status) in NO_LINES {
+        let ended = status_of(rt, NONE, today, command, &mut printed, &mut told)?;
+        if ended != *status {
+            return Err(Fail::new(format_args!("{today} {command}")));
+        }
+    }
+    Ok(())
 }
 
 /// Makes what lies in the folder before the first line.
@@ -111,10 +165,11 @@ fn lines_end_as_they_should(rt: HostRuntime) -> Result<(), Fail> {
         let path = format!(in rt.alloc(); "{FOLDER}/{database}")?;
         expect_end(&rt, path.as_str(), command, *end)?;
     }
+    expect_no_lines(&rt)?;
     expect_no_port(&rt)?;
     assert!(rt; is_private(&rt, "examoffice_lines/a.db"));
     assert!(rt; is_private(&rt, "examoffice_lines/a.db-wal"));
-    assert!(rt; fs::metadata(&rt, "examoffice_lines/none.db").is_err());
+    assert!(rt; fs::metadata(&rt, NONE).is_err());
     fs::remove_dir_all(&rt, FOLDER)?;
     Ok(())
 }

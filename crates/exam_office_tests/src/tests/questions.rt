@@ -1,7 +1,8 @@
 //! What an office answers to a command or a question.
 use super::orders::order_of;
 use super::own::own_text;
-use exam_office::{Command, Office, Part, Reply, Seats, run, state_of, step, step_part, touched};
+use super::parts::part_text;
+use exam_office::{Command, Office, Reply, Seats, run, state_of, step, touched};
 use exam_rules::{Facts, finish};
 use exam_school::{Words, appeal_key, entry_of};
 use exam_types::{Day, Number, PaperCode, Reference, Refusal, SessionCode};
@@ -9,41 +10,12 @@ use std::alloc::Global;
 use std::test::Fail;
 
 /// An answer to a command as the texts spell it.
-fn text_of(alloc: Global, answer: &Result<Reply, Refusal>) -> Result<String, Fail> {
+pub fn text_of(alloc: Global, answer: &Result<Reply, Refusal>) -> Result<String, Fail> {
     match answer {
         Ok(reply) => Ok(format!(in alloc; "{reply:?}")?),
         Err(Refusal::PastClosing(day)) => Ok(format!(in alloc; "PastClosing {day}")?),
         Err(refusal) => Ok(format!(in alloc; "{refusal:?}")?),
     }
-}
-
-/// Whether everybody that the part seats sits in the same hall in the office.
-fn are_seated(office: &Office, part: &Part) -> bool {
-    part.plans
-        .iter()
-        .all(|(key, hall)| office.seats().get(key) == Some(hall))
-}
-
-/// An office with equal facts and seats.
-fn copy_of(alloc: Global, office: &Office) -> Result<Office, Fail> {
-    let facts = office.facts().clone()?;
-    let seats = office.seats().clone()?;
-    Ok(Office::from_parts(alloc, facts, seats)?)
-}
-
-/// What the part of an office answers that a command reads, with that part afterwards.
-fn part_reply(
-    alloc: Global,
-    office: Office,
-    command: &Command,
-    today: Day,
-) -> Result<(Part, Result<Reply, Refusal>), Refusal> {
-    let (mut part, _seats) = Part::of(alloc, office, command).map_err(|(
-        refusal,
-        _office,
-    )| refusal)?;
-    let answer = step_part(alloc, &mut part, command, today);
-    Ok((part, answer))
 }
 
 /// Takes a command. A function of its own, since what `step` promises would be carried through each branch behind it.
@@ -56,25 +28,9 @@ fn stepped(
     step(alloc, office, command, today)
 }
 
-/// What a command answers on the office. First carries it out over the part of the office that it reads, and compares
-/// that it answers the same and seats as the office does afterwards.
-fn reply_of(
-    alloc: Global,
-    office: &mut Office,
-    command: &Command,
-    today: Day,
-) -> Result<Result<Reply, Refusal>, Fail> {
-    let (part, answer) = part_reply(alloc, copy_of(alloc, office)?, command, today)?;
-    let reply = stepped(alloc, office, command, today);
-    if answer != reply || !are_seated(office, &part) {
-        return Err(Fail::new("the part answers otherwise"));
-    }
-    Ok(reply)
-}
-
 fn obeyed(alloc: Global, office: &mut Office, line: &str) -> Result<String, Fail> {
     let (command, today) = order_of(alloc, line)?;
-    let reply = reply_of(alloc, office, &command, today)?;
+    let reply = stepped(alloc, office, &command, today);
     text_of(alloc, &reply)
 }
 
@@ -167,6 +123,7 @@ fn told(alloc: Global, office: &Office, word: &str, rest: &str) -> Result<Option
         "appeals" => count_text(alloc, office.facts().appeals.len()),
         "own" => own_text(alloc, office, words.number()?),
         "touched" => touched_by(alloc, office.facts(), rest),
+        "part" => part_text(alloc, office, rest),
         _ => return Ok(None),
     };
     Ok(Some(text?))

@@ -5,8 +5,7 @@ use Rattle.exam_rules.specs.Relations.{Relations, relations_of}
 use Rattle.exam_commands.specs.declared.command.Command.{Command}
 use Rattle.exam_commands.specs.declared.command.Command.TheVariants as command
 use Rattle.exam_commands.specs.FactsMade.{WasMade}
-use Rattle.exam_office.specs.Relisting.{keeps_lists}
-use Rattle.exam_office.proofs.KeptLists.{closing_made, kept_lists}
+use Rattle.exam_office.proofs.KeptLists.{closing_made, keeps_lists, kept_lists}
 use Rattle.exam_office.proofs.relisting.relist.Goals as goal
 
 pub returns-in-Lodge-clause-ok : goal.returns-in-Lodge-clause-ok

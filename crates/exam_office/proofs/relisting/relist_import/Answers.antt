@@ -2,8 +2,7 @@ use Rattle.std.proofs.Common.{◌≡◌, true, List, ap, sym, subst, ◌∙◌, 
 use Rattle.exam_rules.specs.Relations.{relations_of}
 use Rattle.exam_commands.specs.declared.import_row.Row.{Row}
 use Rattle.exam_commands.specs.Imports.{AreOfKind}
-use Rattle.exam_office.specs.Relisting.{is_unlisted}
-use Rattle.exam_office.proofs.KeptImports.{import_opens, kept_import}
+use Rattle.exam_office.proofs.KeptImports.{import_opens, is_unlisted, kept_import}
 use Rattle.exam_office.proofs.relisting.relist_import.Goals as goal
 
 pub returns-in-Sessions-clause-ok : goal.returns-in-Sessions-clause-ok

@@ -11,5 +11,5 @@ returns-in-Check g c = rw c.in-Check.is (None, (refl, refl, c.check_database-don
 
 pub returns-in_default : goal.returns-in_default
 returns-in_default g c =
-    runs_opened g.S.Store g.O.Write.contents (shown c.args.line.now) c.args.conn c.args.out.now c.args.err.now c.run_office-done.result.1 c.run_office-done.new.out c.run_office-done.new.err
+    runs_opened g.S.Store g.O.Write.contents g.E.Write.contents (shown c.args.line.now) c.args.conn c.args.out.now c.args.err.now c.run_office-done.result.1 c.run_office-done.new.out c.run_office-done.new.err
     c.args.line.now.job c.in_default.not-Migrate c.in_default.not-Check c.run_office-done.result.0 c.with_status-in_default.result c.with_status-in_default.ensures c.run_office-done.ensures

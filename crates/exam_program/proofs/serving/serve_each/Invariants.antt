@@ -1,6 +1,6 @@
-use Rattle.exam_http.specs.Serving.{AreServedOn}
+use Rattle.exam_program.specs.Running.{AreEnded}
 use Rattle.exam_program.proofs.serving.serve_each.Given as goal
 
--- requests were answered in turn
+-- connections ended in turn
 abbrev pub invariant-connections : goal.invariant-connections
-invariant-connections g l = AreServedOn g.S.Store l.fn.today l.fn.store l.store
+invariant-connections g l = AreEnded g.S.Store g.E.Write.contents l.fn.today l.fn.store l.fn.err l.store l.err

@@ -10,6 +10,7 @@ use Rattle.exam_theorem.specs.Resting.{BringsOver, IsAccepted}
 use Rattle.exam_theorem.proofs.Accepting.{migration_failed, version_failed}
 use Rattle.exam_theorem.proofs.Bringing.{migrated, migrated_had, nothing_commits}
 use Rattle.exam_theorem.proofs.Having.{newest_brings, newest_ours}
+use Rattle.exam_theorem.proofs.Refused.{refused_later, unread}
 use Rattle.exam_theorem.proofs.life.bring_over.Goals as goal
 
 -- a transaction is open
@@ -102,3 +103,20 @@ returns-clause-had g c = λ clean versioned.
     let older : v ≢ version = search rules in
     inl (migrated_had old mid new v c.in_ok-version.ensures.reads.left c.version_of.ensures.reads.survives c.in_ok-version.ensures.reads.rows older
     c.in_ok-migrate.field-0 c.in_ok-migrate.ensures.versions.0 (λ after. omega (arith, c.in_ok-migrate.ensures.made.survives.clean, after)) c.in_ok-migrate.ensures.found clean versioned)
+
+-- why not
+
+pub returns-in_err-version-clause-why : goal.returns-in_err-version-clause-why
+returns-in_err-version-clause-why g c = λ clean.
+    let e = c.in_err-version.field-0.0 in
+    let is : c.from_residual.result ≡ Err e = search rules in
+    rw is (unread g.S.Store c.args.conn.now c.version_of.new.conn e (c.in_err-version.ensures.reads.bad clean))
+
+pub returns-in_err-migrate-clause-why : goal.returns-in_err-migrate-clause-why
+returns-in_err-migrate-clause-why g c = λ clean.
+    let mid = c.version_of.new.conn in
+    let e = c.in_err-migrate.field-0.0 in
+    let is : c.from_residual-in_err-migrate.result ≡ Err e = search rules in
+    let early : HasCleanDisk (state g.S.Store mid) = omega (arith, c.in_err-migrate.ensures.made.survives.clean, clean) in
+    rw is (refused_later g.S.Store c.args.conn.now mid c.migrate.new.conn c.version_of.ensures.reads.survives early
+    c.in_err-migrate.ensures.made.survives.counts (c.in_ok-version.ensures.reads.left early) e (c.in_err-migrate.ensures.refusal clean))

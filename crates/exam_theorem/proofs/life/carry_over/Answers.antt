@@ -1,8 +1,10 @@
+use Rattle.std.proofs.Common.{inl}
 use Rattle.std.specs.Prelude.{Err}
 use Rattle.std.proofs.lemmas.Result.{IfOk-weaker}
 use Rattle.sqlite.specs.Held.{state}
 use Rattle.exam_theorem.proofs.Accepting.{refused_only}
 use Rattle.exam_theorem.proofs.Bringing.{brought_stops, opened_had, opened_same, opened_stopped, refused_left, refused_rests, refused_stopped}
+use Rattle.exam_theorem.proofs.Refused.{not_opened}
 use Rattle.exam_theorem.proofs.life.carry_over.Goals as goal
 
 pub returns-in-Ok-clause-had : goal.returns-in-Ok-clause-had
@@ -40,3 +42,10 @@ returns-in-Err-clause-stopped g c =
 pub returns-in-Ok-clause-only : goal.returns-in-Ok-clause-only
 returns-in-Ok-clause-only g c =
     refused_only g.S.Store (state g.S.Store c.args.conn) c.bring_over.new.conn c.in-Ok.ensures.made c.open.result c.open.ensures.survives c.open.ensures.refusal
+
+pub returns-in-Ok-clause-why : goal.returns-in-Ok-clause-why
+returns-in-Ok-clause-why g c =
+    not_opened g.S.Store c.args.conn c.bring_over.new.conn c.in-Ok.ensures.made c.open.result c.open.ensures.survives c.open.ensures.refusal
+
+pub returns-in-Err-clause-why : goal.returns-in-Err-clause-why
+returns-in-Err-clause-why g c = λ clean. inl (c.in-Err.ensures.why clean)

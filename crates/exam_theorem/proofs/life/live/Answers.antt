@@ -1,7 +1,8 @@
-use Rattle.std.specs.Prelude.{map, string_bytes}
+use Rattle.std.proofs.Common.{inl, inr}
+use Rattle.std.specs.Prelude.{map}
 use Rattle.sqlite.specs.Held.{state}
-use Rattle.exam_theorem.specs.Orders.{sheet_asked, shown}
-use Rattle.exam_theorem.proofs.Living.{ended_in_one, ends_at_rest, ends_in_tables, had_first, lived, opened_rests_on, sheet_printed}
+use Rattle.exam_theorem.specs.Orders.{shown}
+use Rattle.exam_theorem.proofs.Living.{ended_in_one, ends_at_rest, ends_in_tables, had_first, lived, opened_rests_on}
 use Rattle.exam_theorem.proofs.life.live.Goals as goal
 
 pub returns-in-Ok-print_after-clause-had : goal.returns-in-Ok-print_after-clause-had
@@ -17,13 +18,6 @@ returns-in-Ok-print_after-clause-lives g c =
     (map shown c.args.orders.now) c.in-Ok-print_after.day.outcomes.items c.in-Ok-print_after.ensures.passes
     c.in-Ok.ensures.same
     c.in-Ok.ensures.stops c.in-Ok-print_after.ensures.run
-
-pub returns-in-Ok-print_after-clause-sheet : goal.returns-in-Ok-print_after-clause-sheet
-returns-in-Ok-print_after-clause-sheet g c =
-    sheet_printed g.S.Store (state g.S.Store c.args.conn) c.in-Ok.store c.print_after.new.store
-    (map shown c.args.orders.now) c.in-Ok-print_after.day.outcomes.items c.in-Ok-print_after.ensures.passes
-    c.in-Ok.ensures.same
-    c.in-Ok.ensures.had g.O.Write.contents (sheet_asked (map string_bytes c.args.words.now)) c.args.out.now c.in-Ok-print_after.day.printed c.print_after.new.out c.in-Ok-print_after.ensures.sheet
 
 pub returns-in-Ok-print_after-clause-rests : goal.returns-in-Ok-print_after-clause-rests
 returns-in-Ok-print_after-clause-rests g c =
@@ -49,3 +43,6 @@ returns-in-Ok-print_after-clause-tables g c =
 pub returns-in-Err-print_after-clause-still : goal.returns-in-Err-print_after-clause-still
 returns-in-Err-print_after-clause-still g c =
     rw (c.close.ensures, c.in-Err-print_after.ensures.same.0) (opened_rests_on g.S.Store (state g.S.Store c.args.conn) c.in-Ok.store c.in-Ok.ensures.same)
+
+pub returns-in-Err-print_after-clause-why : goal.returns-in-Err-print_after-clause-why
+returns-in-Err-print_after-clause-why g c = λ clean. inl (inr (inl (inl c.in-Err-print_after.ensures.memory)))

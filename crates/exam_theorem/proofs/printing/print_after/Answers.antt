@@ -1,21 +1,15 @@
 use Rattle.std.proofs.Common.{subst, sym}
-use Rattle.std.specs.Prelude.{map, string_bytes}
+use Rattle.std.specs.Prelude.{map}
 use Rattle.exam_commands.specs.State.{State}
 use Rattle.exam_theorem.specs.Following.{EndsInOne}
-use Rattle.exam_theorem.specs.Orders.{sheet_asked, shown}
+use Rattle.exam_theorem.specs.Orders.{shown}
 use Rattle.exam_theorem.proofs.KeptOffice.{then_on}
 use Rattle.exam_theorem.proofs.OneOffice.{ends_in_one}
-use Rattle.exam_theorem.proofs.PrintedAfter.{printed_at_end}
 use Rattle.exam_theorem.proofs.printing.print_after.Goals as goal
 
 pub returns-clause-kept : goal.returns-clause-kept
 returns-clause-kept g c =
     then_on g.S.Store c.args.store.now c.follow_all.new.store c.print_asked-printed.new.store c.follow_all.ensures.kept c.print_asked-printed.ensures.kept
-
-pub returns-clause-sheet : goal.returns-clause-sheet
-returns-clause-sheet g c =
-    printed_at_end g.S.Store c.args.store.now c.follow_all.new.store c.print_asked-printed.new.store c.follow_all.ensures.kept c.print_asked-printed.ensures.kept g.O.Write.contents
-    (sheet_asked (map string_bytes c.args.words.now)) c.args.out.now c.print_asked-printed.result c.print_asked-printed.new.out c.print_asked-printed.ensures.office c.print_asked-printed.ensures.sheet
 
 pub returns-clause-one : goal.returns-clause-one
 returns-clause-one g c =
