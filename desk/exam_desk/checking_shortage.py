@@ -30,7 +30,8 @@ def faults(reading: Reading, sheet: Shortage) -> Iterator[str]:
 
 
 def wrong_sums(sheet: Shortage, unseated: int) -> Iterator[str]:
-    sums = [("halls", sheet.hall_count, len(sheet.halls)), ("desks", sheet.desks, sum(desks for _, desks in sheet.halls)),
+    sums = [("halls", sheet.hall_count, len(sheet.halls)),
+            ("desks", sheet.desks, sum(desks for _, desks in sheet.halls)),
             ("candidates", sheet.candidate_count, len(sheet.candidates)), ("unseated", sheet.unseated, unseated)]
     yield from (f"{name}: the sheet counts {said}, and there are {there}"
                 for name, said, there in sums if said != there)

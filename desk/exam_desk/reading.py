@@ -48,8 +48,8 @@ class Reading:
 
     def __init__(self, office: Office, path: str | None = None, progress: Progress = silent,
                  kept: Kept | None = None) -> None:
-        """Reads the office, or another file of an office. Who is given as `kept` is asked in place of a `serve` over the
-        copy. Raises `Trouble` where the office cannot be read."""
+        """Reads the office, or another file of an office. Who is given as `kept` is asked in place of a `serve` over
+        the copy. Raises `Trouble` where the office cannot be read."""
         self.office = office
         self.path = path or office.path
         self.progress = progress
@@ -106,8 +106,8 @@ class Reading:
         return self.sittings[int(number)]
 
     def clashes(self, session: str, only: Collection[str] = ()) -> dict[str, list[str]]:
-        """The papers that each candidate with such papers is entered for and does not sit, by number; of all members, or
-        of some candidates."""
+        """The papers that each candidate with such papers is entered for and does not sit, by number; of all members,
+        or of some candidates."""
         asked = map(int, only) if only else (
             number for number, count in facts.entered(self.rows, session).items() if count > 1)
         several = [self.person(number) for number in asked]
@@ -192,8 +192,8 @@ class Reading:
 
 
 def of_few(office: Office, read: Callable[[Reading], Found]) -> Found:
-    """What is read of a few candidates. `keep` is asked where it serves, which opens no office anew, if this stays as it
-    was copied meanwhile: so the rows and the answers are of one moment."""
+    """What is read of a few candidates. `keep` is asked where it serves, which opens no office anew, if this stays as
+    it was copied meanwhile: so the rows and the answers are of one moment."""
     state = turns.keep_state(office)
     if state and state.get("state") == "serving":
         kept = Kept(asking.Server(state["pid"], state["place"]))

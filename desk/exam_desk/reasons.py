@@ -21,8 +21,8 @@ GRANTED_HALLS = "SELECT number, target FROM appeal WHERE session = ? AND kind = 
 
 
 def compared(reading: Reading, session: str) -> tuple[Reasons, Shortage]:
-    """The reasons and the printed shortage of a session, to be compared. Raises `Trouble` where there is no such session,
-    or the program refuses the sheet."""
+    """The reasons and the printed shortage of a session, to be compared. Raises `Trouble` where there is no such
+    session, or the program refuses the sheet."""
     session_row(reading.rows, session)
     reading.prepare()
     printed = shortage.read(reading.sheet("shortage", session))
@@ -91,8 +91,8 @@ class Reasons:
 
     def lines(self, member: Member) -> str:
         sitting, halls = member.sitting, self.of(member)
-        return (f"{member.number} {plain(member.name)} sits {sitting.paper} until {sitting.finish}, extra {sitting.extra}, "
-                f"needs {'+'.join(self.needs(member)) or '-'}\n"
+        return (f"{member.number} {plain(member.name)} sits {sitting.paper} until {sitting.finish}, "
+                f"extra {sitting.extra}, needs {'+'.join(self.needs(member)) or '-'}\n"
                 + ("".join(f"  {hall:8} {reason}\n" for hall, reason in halls) or "  no hall is open\n"))
 
     def differences(self, printed: Shortage) -> Iterator[str]:

@@ -1,4 +1,5 @@
-"""`serve` over a file that nobody else uses, as a child of this process: it ends with this process, however that ends."""
+"""`serve` over a file that nobody else uses, as a child of this process: it ends with this process, however that
+ends."""
 from __future__ import annotations
 
 import collections
@@ -78,7 +79,8 @@ class Serve:
 
 
 class Kept:
-    """Asks a server that runs already, as `keep` does. What it raises says nothing of the office: ask a `Serve` then."""
+    """Asks a server that runs already, as `keep` does. What it raises says nothing of the office: ask a `Serve`
+    then."""
 
     def __init__(self, server: asking.Server) -> None:
         self.server = server

@@ -129,11 +129,14 @@ def sittings(reading: Reading, session: str) -> dict[str, tuple[str, Sitting]]:
 
 def text(changes: Collection[Change]) -> str:
     """A line for each change, `!` before those to tell; then how many there are."""
-    lines = [f"{'!' if change.is_to_tell() else ' '} {change.session} {change.number} {plain(change.name)}: {change.what()}"
-             for change in changes]
     telling = sum(change.is_to_tell() for change in changes)
-    lines.append(f"{telling} to tell, {len(changes) - telling} with another desk only" if changes else "nothing changed")
-    return "".join(f"{line}\n" for line in lines)
+    last = f"{telling} to tell, {len(changes) - telling} with another desk only" if changes else "nothing changed"
+    return "".join(map(line, changes)) + f"{last}\n"
+
+
+def line(change: Change) -> str:
+    mark = "!" if change.is_to_tell() else " "
+    return f"{mark} {change.session} {change.number} {plain(change.name)}: {change.what()}\n"
 
 
 def csv_text(changes: Iterable[Change], titles: dict[str, str]) -> str:
@@ -145,8 +148,8 @@ def csv_row(change: Change, titles: dict[str, str]) -> list[str]:
     old, new = (shown(each) if each else [""] * 6 for each in (change.old, change.new))
     last = change.new or change.old
     codes = [last.paper, last.hall or ""] if last else ["", ""]
-    return ["yes" if change.is_to_tell() else "no", change.session, change.number, files.guarded(change.name), *old, *new,
-            *(files.guarded(titles.get(code, "")) for code in codes)]
+    return ["yes" if change.is_to_tell() else "no", change.session, change.number, files.guarded(change.name),
+            *old, *new, *(files.guarded(titles.get(code, "")) for code in codes)]
 
 
 def titles_of(*readings: Reading) -> dict[str, str]:

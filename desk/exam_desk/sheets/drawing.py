@@ -15,6 +15,7 @@ from exam_desk.shortage import Shortage
 MOST_DRAWN = 100  # a shortage of more candidates is listed, not drawn
 MOST_EXPLAINED = 30  # of those without a desk
 BAR = ("<svg class=bar viewBox='0 0 100 10' preserveAspectRatio=none role=img aria-label='{}'>{}</svg>")
+SUIT_NONE = "<div class='card out'><h3>Suit none of these candidates</h3><ul>{}</ul></div>"
 
 Part = tuple[str, int]  # of a bar: its kind and its length
 
@@ -60,7 +61,8 @@ def explanation(shortage: Shortage) -> Markup:
 
 
 def chips(title: str, kind: str, members: Iterable[Member]) -> Markup:
-    return pages.html("<div class='card {}'><h3>{}</h3><ol>{}</ol></div>", kind, title, pages.joined(map(chip, members)))
+    people = pages.joined(map(chip, members))
+    return pages.html("<div class='card {}'><h3>{}</h3><ol>{}</ol></div>", kind, title, people)
 
 
 def chip(member: Member) -> Markup:
@@ -72,14 +74,15 @@ def drawing(shortage: Shortage, unseated: Sequence[Member], openings: Sequence[O
             seated: dict[str, list[Member]]) -> Markup:
     """Each listed candidate at a desk of a listed hall, or without a desk; then the halls that suit none of them."""
     halls = [hall for hall, _ in shortage.halls]
-    cards = [chips(f"{hall}: {lists.count(len(seated[hall]), 'desk')}, all taken", "in", seated[hall]) for hall in halls]
+    cards = [chips(f"{hall}: {lists.count(len(seated[hall]), 'desk')}, all taken", "in", seated[hall])
+             for hall in halls]
     cards.append(chips(f"No desk: {shortage.unseated}", "lacking", unseated))
     others = pages.joined(
         pages.html("<li>{}: {} of {} free</li>", each.hall, each.desks - len(seated[each.hall]),
                    lists.count(each.desks, "desk"))
         for each in openings if each.hall not in halls)
     if others:
-        cards.append(pages.html("<div class='card out'><h3>Suit none of these candidates</h3><ul>{}</ul></div>", others))
+        cards.append(pages.html(SUIT_NONE, others))
     return pages.html("<div class=cards>{}</div>", pages.joined(cards))
 
 

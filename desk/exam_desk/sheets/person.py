@@ -79,4 +79,5 @@ def lodged(reading: Reading, person: Person) -> Iterator[str]:
     for appeal in sorted(reading.appeals(person.number), key=lambda appeal: (appeal.lodged, appeal.ref)):
         state = appeal.state + (", standing" if appeal.standing else "")
         yield f"  appeal {appeal.ref} of {appeal.lodged}, {appeal.session}: {appeal.kind} {appeal.subject}: {state}"
-        yield from (f"    {word}: {said}" for word, said in (("reason", appeal.reason), ("answer", appeal.answer)) if said)
+        said = {"reason": appeal.reason, "answer": appeal.answer}
+        yield from (f"    {word}: {text}" for word, text in said.items() if text)

@@ -16,8 +16,9 @@ SECTIONS = {"halls": "Halls", "shortage": "Shortage", "seats": "Who sits where",
             "appeals": "Appeals"}
 HEADER = ("<header><h1>Session {}</h1><p>{}, starts {}</p><p>{}: {} seated, {} without a desk. {} with {}, {} free.</p>"
           "<nav>{}</nav></header>")
-DOCUMENT = ("<!doctype html>\n<html lang=en><head><meta charset=utf-8><meta name=viewport content='width=device-width'>\n"
-            "<title>{}</title><style>{}</style></head>\n<body>\n{}\n{}\n</body></html>\n")
+DOCUMENT = ("<!doctype html>\n<html lang=en><head><meta charset=utf-8>"
+            "<meta name=viewport content='width=device-width'>\n<title>{}</title><style>{}</style></head>\n"
+            "<body>\n{}\n{}\n</body></html>\n")
 NONE = Markup("<p>None.</p>")
 
 
@@ -43,7 +44,8 @@ class Page:
         links = pages.joined((pages.html("<a href='#{}'>{}</a>", *each) for each in SECTIONS.items()), " ")
         return pages.html(HEADER, self.head["code"], long_day(self.head["day"]), clock(self.head["start"]),
                           lists.count(people, "candidate"), f"{taken:,}", f"{len(self.unseated):,}",
-                          lists.count(len(self.openings), "hall"), lists.count(desks, "desk"), f"{desks - taken:,}", links)
+                          lists.count(len(self.openings), "hall"), lists.count(desks, "desk"), f"{desks - taken:,}",
+                          links)
 
     def halls_part(self) -> Markup:
         widest = max((opening.desks for opening in self.openings), default=1)
