@@ -221,7 +221,7 @@ class RandomOffice:
     def doors(self, reading, session):
         tables = Cells(page := doors.page(reading, session)).tables
         halls = sorted({seat.hall for seat in self.now[session].values()} - {"-"})
-        equal([table[0][0].rsplit("|", 1)[1] for table in tables], halls, "halls", page)
+        equal([table[0][0].rsplit("|", 2)[1] for table in tables], halls, "halls", page)
         for hall, table in zip(halls, tables):
             lines = self.sheet(self.path, "door-list", session, hall)
             rows = [[*line[:25].split(), line[26:]] for line in lines[2:]]
@@ -231,6 +231,8 @@ class RandomOffice:
             equal(table[2:-1], wanted, "doors", page)
             last = max(self.now[session][number].finish for _, number, *_ in rows)
             assert f"last finish {last}" in table[0][0] and f"{len(rows)} seated" in table[0][0], table[0]
+            papers = "; ".join(f"{code} {plain(self.titles[code])}" for code in sorted({row[2] for row in rows}))
+            assert table[0][0].endswith(f"|{papers}"), table[0]
 
     def board(self, reading, session):
         seats = sorted(self.now[session].items(), key=lambda each: name_order(each[1].name, each[0]))
