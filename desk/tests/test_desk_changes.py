@@ -276,6 +276,8 @@ class TestWalk(DeskSchool):
             self.assertEqual(int(dict(promised).get("moves", "0")), moved)
             done += 1
         self.assertGreater(done, self.STEPS // 3)
+        if "WALK" in os.environ:
+            print(f"{done} changes at random")
 
 
 class TestBesideKeep(DeskSchool):
