@@ -110,8 +110,9 @@ def serve_at(office: Office, listening: socket.socket, lock: int, pretended: boo
         if desk.is_there():
             desk.start_reading()
         ready(guard.new_link(office.path, address, prefix))
-        waitress.serve(guard.Door(app, address, prefix), sockets=[listening], threads=THREADS, ident="desk",
-                       max_request_body_size=guard.MOST_UPLOAD + (1 << 20), channel_timeout=SILENCE, _quiet=True)
+        serve: Callable[..., None] = waitress.serve  # untyped where python3-typeshed is missing
+        serve(guard.Door(app, address, prefix), sockets=[listening], threads=THREADS, ident="desk",
+              max_request_body_size=guard.MOST_UPLOAD + (1 << 20), channel_timeout=SILENCE, _quiet=True)
     finally:
         os.ftruncate(lock, 0)
         guard.drop_links(office.path)
