@@ -14,6 +14,10 @@ CHANGES = """# Changes
 
 A release a paragraph.
 
+## Not released yet
+
+- what comes next
+
 ## 1.0.1 (2026-11-28)
 
 The first
@@ -66,7 +70,7 @@ class Release(unittest.TestCase):
             file.write(self.release.debian_changelog((TOP / "CHANGELOG.md").read_text("utf-8")))
             file.flush()
             done = subprocess.run(["dpkg-parsechangelog", "-l", file.name], capture_output=True, text=True, check=True)
-        newest = re.search(r"^## (\S+)", (TOP / "CHANGELOG.md").read_text("utf-8"), re.M)[1]
+        newest = re.search(r"^## ([0-9]\S+)", (TOP / "CHANGELOG.md").read_text("utf-8"), re.M)[1]
         self.assertEqual(done.stderr, "")
         self.assertIn(f"\nVersion: {newest}\n", done.stdout)
 
