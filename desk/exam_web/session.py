@@ -7,11 +7,12 @@ from collections import Counter
 from flask import Blueprint, g, redirect, render_template, request, url_for
 from werkzeug.wrappers import Response
 
-from exam_desk import appeals, facts, lastdays
+from exam_desk import appeals, facts, lastdays, notebook
 from exam_desk.facts import Opening
+from exam_desk.notebook import Rows
 from exam_desk.reading import Member
 from exam_web import counting, downloads, pictures, printing, shortages
-from exam_web.desk import missing, view
+from exam_web.desk import desk, missing, view
 from exam_web.wording import text
 
 pages = Blueprint("session", __name__)
@@ -90,20 +91,22 @@ def hall_page(code: str, hall: str) -> str:
     members = sitting_in(code, hall)
     drawn = pictures.picture(found, members, [row["code"] for row in papers(code)])
     return render_template("hall_piece.html" if "piece" in request.args else "hall.html", s=sums, opening=found,
-                           members=members, picture=drawn, orders=pictures.ORDERS, papers=papers(code),
+                           members=members, picture=drawn, running=pictures.RUNNING, papers=papers(code),
                            sitting=Counter(member.sitting.paper for member in members), desk_width=pictures.WIDTH,
                            desk_height=pictures.HEIGHT)
 
 
 @pages.post("/sessions/<code>/halls/<hall>/draw")
 def draw(code: str, hall: str) -> Response | tuple[str, int]:
-    """How a hall is drawn; nobody moves."""
+    """Keeps how the desks of a hall stand; nobody moves."""
     opening(code, hall)
-    columns, order = request.form.get("columns", ""), request.form.get("order", "")
-    if order not in pictures.ORDERS or not columns.isdecimal() or not 1 <= int(columns[:4]) <= pictures.MOST_COLUMNS:
-        g.wrong, g.given, g.asked_form = {"columns": text("a whole number from 1 to 40")}, request.form, "draw"
+    across = request.form.get("across", "")
+    rows = Rows(int(across[:4]) if across.isdecimal() else 0, request.form.get("running", ""))
+    if not notebook.can_stand(rows):
+        g.wrong = {"across": text("a whole number from {low} to {high}", low=1, high=notebook.MOST_ACROSS)}
+        g.given, g.asked_form = request.form, "draw"
         return hall_page(code, hall), 422
-    pictures.set_room(hall, int(columns), order)
+    notebook.keep_rows(desk().office, hall, rows)
     return redirect(url_for("session.page", code=code) + f"#hall-{hall}", 303)
 
 

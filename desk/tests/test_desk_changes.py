@@ -229,12 +229,32 @@ class TestPrinting(DeskSchool):
     def test_how_a_hall_is_drawn(self):
         page = "/sessions/MON-AM/halls/GYM"
         before = self.seats()
-        self.browser.post(page + "/draw", page, columns="3", order="snake")
-        self.assertIn('value="3"', self.browser.get(page))
-        for columns, order in (("0", "rows"), ("41", "rows"), ("x", "rows"), ("3", "other")):
-            self.browser.post(page + "/draw", page, 422, columns=columns, order=order)
+        self.browser.post(page + "/draw", page, across="3", running="down-and-up")
+        self.assertEqual(self.office("rows"), "GYM: rows of 3, down-and-up\n")
+        for across, running in (("0", "down"), ("101", "down"), ("x", "down"), ("", "down"), ("4", "other")):
+            self.browser.post(page + "/draw", page, 422, across=across, running=running)
+        self.assertEqual(self.office("rows"), "GYM: rows of 3, down-and-up\n")
+        self.office("rows", "GYM", "5", "across-and-back")
+        text = self.browser.get(page)
+        self.assertIn('name="across" inputmode="numeric" size="3" value="5"', text)
+        self.assertIn('value="across-and-back" selected', text)
+        drawn = self.places(text)
+        self.assertGreater(len(drawn), 5)
+        self.assertEqual(drawn, {number: self.place(number, 5) for number in range(1, len(drawn) + 1)})
         self.assertEqual(self.seats(), before)
         self.browser.get("/sessions/MON-AM/halls/NONE", 404)
+
+    @staticmethod
+    def places(text):
+        """Where the picture of a hall has each desk."""
+        found = re.findall(r'<svg x="(\d+)" y="(\d+)".*?class="no"[^>]*>(\d+)<', text)
+        return {int(number): (int(x), int(y)) for x, y, number in found}
+
+    @staticmethod
+    def place(number, across):
+        """Where a desk stands whose numbers run across and back, 83 by 43 from one to the next."""
+        row, column = divmod(number - 1, across)
+        return 2 + 83 * (across - 1 - column if row % 2 else column), 2 + 43 * row
 
 
 class TestWalk(DeskSchool):
