@@ -7,13 +7,14 @@ from collections import Counter
 from flask import Blueprint, g, redirect, render_template, request, url_for
 from werkzeug.wrappers import Response
 
-from exam_desk import appeals, facts, lastdays, notebook
+from exam_desk import appeals, facts, lastdays, notebook, printed
 from exam_desk.facts import Opening
 from exam_desk.notebook import Rows
 from exam_desk.reading import Member
+from exam_desk.sheets.chart import NotDrawn
 from exam_web import counting, downloads, pictures, printing, shortages
 from exam_web.desk import desk, missing, view
-from exam_web.wording import text
+from exam_web.wording import many, text
 
 pages = Blueprint("session", __name__)
 MOST_PEOPLE = 100  # with two papers at once, or appeals, that the page lists
@@ -43,8 +44,7 @@ def page(code: str) -> str:
         "session.html", s=sums, halls=openings(code), taken=taken(code), papers=papers(code), lodged=lodged,
         previous=codes[place - 1] if place else None, next=codes[place + 1] if place + 1 < len(codes) else None,
         closed=closed_halls(code), shortage=shortages.of(code, sums), clashes=clashes(code), most=MOST_PEOPLE,
-        printed=printing.states(code), sheets=printing.SHEETS, appeals=appeals,
-        last=lastdays.to_decide(sums.day))
+        sheets=printing.SHEETS, appeals=appeals, last=lastdays.to_decide(sums.day))
 
 
 def taken(code: str) -> dict[str, int]:
@@ -123,11 +123,35 @@ def seats_csv(code: str) -> Response:
 
 
 @pages.get("/sessions/<code>/print/<sheet>")
-def sheet(code: str, sheet: str) -> str:
+def sheet(code: str, sheet: str) -> str | Response:
     """A sheet to print, made by the function that the command line uses."""
     sums_of(code)
     if sheet not in printing.SHEETS:
         missing()
-    made = printing.made(view().reading, code, sheet)
-    printing.note(code, sheet)
-    return made
+    try:
+        return printing.made(view().reading, code, sheet)
+    except NotDrawn as trouble:
+        g.visit.said.append(("bad", text("First open the line of each of these halls, and press Draw: {halls}.",
+                                         halls=", ".join(trouble.halls))))
+        return redirect(url_for("session.page", code=code) + "#halls", 303)
+
+
+@pages.get("/sessions/<code>/printed")
+def compare_printed(code: str) -> str:
+    """Who has another desk than on paper: a piece of the session's page, or a page of its own where no script runs."""
+    return render_template("printed_piece.html" if "piece" in request.args else "printed.html", s=sums_of(code),
+                           found=printed.compared(view().reading, code), most=MOST_PEOPLE)
+
+
+@pages.post("/sessions/<code>/printed")
+def note_printed(code: str) -> Response:
+    """Notes that the sheets are printed, if the office is as the page beside them showed it."""
+    sums_of(code)
+    if request.form.get("state") == view().name:
+        noted = printed.note(view().reading, code)
+        said = ("good", many(noted.desks, "{count} desk of {session} is noted as printed.",
+                             "{count} desks of {session} are noted as printed.", session=code))
+    else:
+        said = ("bad", text("Nothing is noted: the office is another than the page showed. Print the sheets again."))
+    g.visit.said.append(said)
+    return redirect(url_for("session.page", code=code) + "#print", 303)

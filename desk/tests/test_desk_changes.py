@@ -208,16 +208,49 @@ class TestBack(DeskSchool):
 
 
 class TestPrinting(DeskSchool):
-    def test_sheets_that_are_out_of_date(self):
+    PRINTED = "/sessions/MON-AM/printed"
+
+    def test_sheets_are_those_of_the_commands(self):
+        for hall, in self.rows("SELECT hall FROM opening WHERE session = 'MON-AM'"):
+            self.office("rows", hall, "6")
         sheets = re.findall(r"/sessions/MON-AM/print/(\w+)", self.browser.get("/sessions/MON-AM"))
-        self.assertGreater(len(sheets), 4)
+        self.assertEqual(sorted(sheets), ["board", "cards", "chart", "counts", "doors", "poster", "slips"])
         for sheet in sheets:
-            self.assertIn("<style>", self.browser.get(f"/sessions/MON-AM/print/{sheet}"))
-        self.assertEqual(self.browser.words("/sessions/MON-AM").count("still right"), len(sheets))
-        self.office("withdraw", "0001051", "CS-1")
-        self.assertIn("out of date: ", self.browser.words("/sessions/MON-AM"))
-        self.assertIn("PC1", self.browser.words("/sessions/MON-AM").partition("out of date: ")[2][:20])
+            options = ["--desks"] if sheet == "slips" else []
+            self.assertEqual(self.browser.get(f"/sessions/MON-AM/print/{sheet}"),
+                             self.office(sheet, "MON-AM", *options), sheet)
         self.browser.get("/sessions/MON-AM/print/nothing", 404)
+
+    def test_a_chart_wants_to_know_how_desks_stand(self):
+        answer, _ = self.browser.ask("GET", "/sessions/MON-AM/print/chart")
+        self.assertEqual((answer.status, answer.headers["Location"].removeprefix(self.browser.prefix)),
+                         (303, "/sessions/MON-AM#halls"))
+        self.assertIn("First open the line of each of these halls, and press Draw: AULA, ",
+                      self.browser.words("/sessions/MON-AM"))
+
+    def test_what_is_printed(self):
+        self.browser.get("/sessions/MON-AM/print/doors")
+        self.assertIn("nobody noted", self.refused("printed", "MON-AM", "--look"))
+        self.assertIn("Nobody has noted yet", self.browser.words(self.PRINTED + "?piece"))
+        self.browser.post(self.PRINTED, "/sessions/MON-AM")
+        self.assertRegex(self.browser.words("/sessions/MON-AM"), r"\d+ desks of MON-AM are noted as printed")
+        self.assertEqual(self.office("printed", "MON-AM", "--look"), "the papers are up to date\n")
+        self.assertIn("still right", self.browser.words(self.PRINTED))
+        self.office("withdraw", "0001051", "CS-1")
+        *moves, halls = self.office("printed", "MON-AM", "--look").splitlines()
+        found = self.browser.words(self.PRINTED + "?piece")
+        self.assertIn("out of date: " + halls.removeprefix("to print again: ") + " ", found)
+        self.assertIn("PC1", halls)
+        self.assertIn(f"{len(moves)} candidates have another desk", found)
+        for move in moves:
+            number, _, was = re.match(r"(\d{7}) (.*): .*, was (.*)", move).groups()
+            self.assertRegex(found, rf"{number} {was.replace(' ', ' desk ')} ")
+
+    def test_printed_from_an_old_page(self):
+        self.browser.post(self.PRINTED, "/sessions/MON-AM", state="0" * 64)
+        self.assertIn("Nothing is noted", self.browser.words("/sessions/MON-AM"))
+        self.assertIn("nobody noted", self.refused("printed", "MON-AM", "--look"))
+        self.browser.post("/sessions/NONE/printed", "/sessions/MON-AM", 404)
 
     def test_a_slip(self):
         _, text = self.browser.post("/candidates/1051/slip", "/candidates/1051", 200)
