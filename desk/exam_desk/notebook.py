@@ -106,9 +106,13 @@ def bad_note(row: files.Record, known: set[str]) -> str:
     number, text = row.fields
     if not files.is_number(number) or number.decode() not in known:
         return f"the office has no candidate {files.shown(number)}; a number has seven digits"
-    if len(text) > MOST_NOTE_BYTES or files.CONTROL.search(text) or not files.is_utf_8(text):
+    if not is_note(text):
         return f"a text has at most {MOST_NOTE_BYTES} bytes of UTF-8 and no control characters"
     return ""
+
+
+def is_note(text: bytes) -> bool:
+    return len(text) <= MOST_NOTE_BYTES and not files.CONTROL.search(text) and files.is_utf_8(text)
 
 
 def rows_of_halls(office: Office) -> dict[str, Rows]:

@@ -1,5 +1,6 @@
 """Changes at the desk in a browser: what is rehearsed is what is done, once, and from the state that was shown."""
 import concurrent.futures
+import html
 import http.client
 import os
 import pathlib
@@ -258,6 +259,20 @@ class TestPrinting(DeskSchool):
         self.assertNotIn(sample.CODE, text)
         _, text = self.browser.post("/candidates/1051/slip", "/candidates/1051", 200, codes="1")
         self.assertIn(sample.CODE, text)
+
+    def test_notes(self):
+        note = 'rest "breaks", <b>café</b>'
+        self.browser.post("/candidates/1051/note", "/candidates/1051", note=f" {note} ")
+        self.assertIn(f' value="{note}"', html.unescape(self.browser.get("/candidates/1051")))
+        self.assertEqual(self.office("notes"), f"0001051 Di Berg: {note}\n")
+        self.assertEqual(self.browser.get("/candidates/notes"), self.office("notes"))
+        for wrong in ("é" * 101, "a\nb", "a\x7f"):
+            _, text = self.browser.post("/candidates/1051/note", "/candidates/1051", 422, note=wrong)
+            self.assertRegex(text, 'name="note"[^>]*aria-invalid="true"')
+        self.assertEqual(self.office("notes"), f"0001051 Di Berg: {note}\n")
+        self.browser.post("/candidates/1051/note", "/candidates/1051", note="")
+        self.assertEqual((self.office("notes"), self.browser.get("/candidates/notes")), ("", ""))
+        self.browser.post("/candidates/9999999/note", "/candidates/1051", 404, note="x")
 
     def test_how_a_hall_is_drawn(self):
         page = "/sessions/MON-AM/halls/GYM"
