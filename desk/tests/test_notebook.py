@@ -96,6 +96,7 @@ class Notebook(unittest.TestCase):
         self.assertEqual(notebook.moved(desks, now), ["0000001", "0000002", "0000004"])
         self.assertEqual(notebook.out_of_date(desks, now), ["A", "C"])
         self.assertEqual((notebook.moved(desks, desks), notebook.out_of_date(desks, desks)), ([], []))
+        self.assertEqual(notebook.out_of_date({"0000001": Desk("A", 1)}, {"0000001": Desk("B", 1)}), ["A", "B"])
 
     def test_absent(self):
         self.assertEqual(notebook.keep_absent(self.office, "S1", ["0000002", "0000001"], []), {"0000001", "0000002"})
