@@ -2,23 +2,30 @@
 from __future__ import annotations
 
 from collections.abc import Callable
+from typing import NamedTuple
 
 from flask import g
 
 from exam_desk.reading import Reading
 from exam_desk.sheets import board, cards, chart, counts, doors, poster, slips
 
-SHEETS = {"doors": "Invigilators' sheets to sign", "poster": "Posters for doors", "cards": "Desk cards",
-          "chart": "Seating charts", "slips": "Slips for candidates", "board": "Notice board by name",
-          "counts": "Copies of each paper"}
+
+class Sheet(NamedTuple):
+    """A paper of a session, and the function that makes it."""
+    title: str
+    page: Callable[[Reading, str], str]
 
 
-def made(reading: Reading, code: str, sheet: str) -> str:
-    makers: dict[str, Callable[[Reading, str], str]] = {
-        "doors": doors.page, "poster": poster.page, "cards": cards.page, "chart": chart.page, "board": board.page,
-        "counts": counts.page,
-        "slips": lambda reading, code: slips.page(reading, slips.Choice(sessions=[code], desks=True))}
-    return styled(makers[sheet](reading, code))
+def slips_of(reading: Reading, session: str) -> str:
+    return slips.page(reading, slips.Choice(sessions=[session], desks=True))
+
+
+SHEETS = {
+    "doors": Sheet("Invigilators' sheets to sign", doors.page), "poster": Sheet("Posters for doors", poster.page),
+    "cards": Sheet("Desk cards", cards.page), "chart": Sheet("Seating charts", chart.page),
+    "slips": Sheet("Slips for candidates", slips_of), "board": Sheet("Notice board by name", board.page),
+    "counts": Sheet("Copies of each paper", counts.page),
+}
 
 
 def slip(reading: Reading, number: str, with_code: bool) -> str:

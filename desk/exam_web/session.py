@@ -17,7 +17,7 @@ from exam_web.desk import desk, missing, view
 from exam_web.wording import many, text
 
 pages = Blueprint("session", __name__)
-MOST_PEOPLE = 100  # with two papers at once, or appeals, that the page lists
+MOST_PEOPLE = 100  # that a page lists for one reason
 
 
 def sums_of(code: str) -> counting.Sums:
@@ -129,7 +129,7 @@ def sheet(code: str, sheet: str) -> str | Response:
     if sheet not in printing.SHEETS:
         missing()
     try:
-        return printing.made(view().reading, code, sheet)
+        return printing.styled(printing.SHEETS[sheet].page(view().reading, code))
     except NotDrawn as trouble:
         g.visit.said.append(("bad", text("First open the line of each of these halls, and press Draw: {halls}.",
                                          halls=", ".join(trouble.halls))))
