@@ -46,6 +46,11 @@ def hall_titles(rows: Rows) -> dict[str, str]:
     return {code: title for code, title in rows.execute("SELECT code, title FROM hall")}
 
 
+def candidate_names(rows: Rows) -> dict[str, str]:
+    """The name of each candidate, by number."""
+    return {f"{number:07}": name for number, name in rows.execute("SELECT number, name FROM candidate")}
+
+
 def entered(rows: Rows, session: str) -> dict[int, int]:
     """The numbers of all who have an entry in a session, a withdrawn one too, each with the count of these."""
     rows.index_entries()

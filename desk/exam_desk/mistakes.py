@@ -34,10 +34,17 @@ RIGHT = {column: right for kind, header in files.HEADERS.items() for column, rig
 LOST_ZEROS = re.compile(rb"([0-9]{1,7})(\.0+)?").fullmatch
 
 
+class Cure(NamedTuple):
+    """What to do about a wrong value."""
+    text: str
+    write: str = ""  # the value to write in its place, where that is clear
+
+
 class Mistake(NamedTuple):
     line: int
     what: str  # the column and its value, or `file` or `row`
     text: str
+    write: str = ""  # as in `Cure`
 
 
 class Found:
@@ -59,11 +66,11 @@ class Found:
         if self.is_shown(column):
             self.shown.append(Mistake(line, column, text))
 
-    def add_value(self, line: int, column: str, field: bytes, text: str | Callable[[str, bytes], str]) -> None:
-        """As `add`, with the value; a text that is long to make is made only where it is shown."""
+    def add_value(self, line: int, column: str, field: bytes, cure: Cure | Callable[[str, bytes], Cure]) -> None:
+        """As `add`, with the value; a cure that is long to make is made only where it is shown."""
         if self.is_shown(column):
-            text = text if isinstance(text, str) else text(column, field)
-            self.shown.append(Mistake(line, f"{column} {files.shown(field)}", text))
+            found = cure if isinstance(cure, Cure) else cure(column, field)
+            self.shown.append(Mistake(line, f"{column} {files.shown(field)}", found.text, found.write))
 
     def is_shown(self, column: str) -> bool:
         """Counts one more on a column, and says whether it is to be shown."""
@@ -132,25 +139,25 @@ class Known:
         return None
 
 
-def cure(column: str, field: bytes) -> str:
-    """What to write in place of a wrong value."""
+def cure(column: str, field: bytes) -> Cure:
     if column in ("name", "title"):
-        return name_cure(field)
+        return Cure(name_cure(field))
     if column == "code" and not field:
-        return "`office codes` fills the codes that are empty, in a new file"
-    if (number := with_zeros(field)) != field and column == "number":
-        return f"leading zeros lost? {number.decode('ascii')} ({CURES[column]})"
+        return Cure("`office codes` fills the codes that are empty, in a new file")
+    if column == "number" and (number := with_zeros(field)) != field:
+        return Cure(f"leading zeros lost? {number.decode('ascii')} ({CURES[column]})", number.decode("ascii"))
     if len(field) > MOST_TO_MEND:
-        return CURES[column]
+        return Cure(CURES[column])
     text = field.decode("utf-8", "replace").strip(" %'")
     time = re.sub("(:[0-9]{2}):00$", r"\1", text).zfill(5)
     for better in (text, text.upper(), text.lower(), time, date_in_order(text)):
         if better and RIGHT[column](better.encode()):
-            return f"write {better} ({CURES[column]})"
+            return Cure(f"write {better} ({CURES[column]})", better)
     parts = text.split("+")
     if CURES[column] == FEATURES_CURE and set(parts) <= set(words.FEATURES):
-        return "write " + "+".join(name for name in words.FEATURES if name in parts) + " (this order, each once)"
-    return CURES[column]
+        ordered = "+".join(name for name in words.FEATURES if name in parts)
+        return Cure(f"write {ordered} (this order, each once)", ordered)
+    return Cure(CURES[column])
 
 
 def date_in_order(text: str) -> str:
@@ -269,9 +276,9 @@ class File:
                 self.wrong.add_value(record.line, column, field, cure)
                 continue
             if table and field not in (self.known.keys[table] or {field}):
-                self.wrong.add_value(record.line, column, field, f"is not among the {table}")
+                self.wrong.add_value(record.line, column, field, Cure(f"is not among the {table}"))
             for note in notes(field):
-                self.notes.add_value(record.line, column, field, note)
+                self.notes.add_value(record.line, column, field, Cure(note))
 
     def mended(self, record: files.Record) -> files.Record:
         """A row with the zeros that its number has lost: what refers to the number is right once the number is."""
@@ -313,16 +320,16 @@ class File:
     def note_shared_codes(self) -> None:
         names = {record.fields[0]: record.fields[1] for record in self.first.values()}
 
-        def text(_: str, number: bytes) -> str:
+        def sharers(_: str, number: bytes) -> Cure:
             others = [other for other in heapq.nsmallest(4, sharing) if other != number][:3]
             twins = any(names.get(other) == names[number] for other in sharing if other != number)
-            return (", ".join(files.shown(other)[1:-1] for other in others) + " has the same access code"
-                    + (" and the same name: one candidate under two numbers?" if twins else ""))
+            return Cure(", ".join(files.shown(other)[1:-1] for other in others) + " has the same access code"
+                        + (" and the same name: one candidate under two numbers?" if twins else ""))
         for record in self.first.values():
             number, _, code = record.fields
             sharing = self.known.codes[code] if code else ()
             if len(sharing) > 1:
-                self.notes.add_value(record.line, "number", number, text)
+                self.notes.add_value(record.line, "number", number, sharers)
 
     def note_withdrawn(self) -> None:
         for record in self.first.values():

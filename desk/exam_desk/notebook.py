@@ -24,6 +24,7 @@ RUNNING = ["across", "across-and-back", "down", "down-and-up"]  # how the number
 NEW = ".new"  # the end of the name of a file that is being written
 HEADER = ["number", "text"]
 MOST_NOTE_BYTES = 200
+MOST_ACROSS = 100  # desks in a row
 Value = TypeVar("Value")
 
 
@@ -105,9 +106,13 @@ def bad_note(row: files.Record, known: set[str]) -> str:
     number, text = row.fields
     if not files.is_number(number) or number.decode() not in known:
         return f"the office has no candidate {files.shown(number)}; a number has seven digits"
-    if len(text) > MOST_NOTE_BYTES or files.CONTROL.search(text) or not files.is_utf_8(text):
+    if not is_note(text):
         return f"a text has at most {MOST_NOTE_BYTES} bytes of UTF-8 and no control characters"
     return ""
+
+
+def is_note(text: bytes) -> bool:
+    return len(text) <= MOST_NOTE_BYTES and not files.CONTROL.search(text) and files.is_utf_8(text)
 
 
 def rows_of_halls(office: Office) -> dict[str, Rows]:
@@ -118,6 +123,9 @@ def rows_of_halls(office: Office) -> dict[str, Rows]:
 
 
 def keep_rows(office: Office, hall: str, rows: Rows) -> None:
+    """Raises `Trouble` where no desks stand so."""
+    if not can_stand(rows):
+        raise Trouble(f"a row has 1 to {MOST_ACROSS} desks, and their numbers run {', '.join(RUNNING)}")
     with alone(office):
         write(office, ROWS, {**rows_of_halls(office), hall: rows})
 
@@ -176,8 +184,11 @@ def is_desk(value: object) -> bool:
 
 
 def is_rows(value: object) -> bool:
-    return (isinstance(value, list) and len(value) == 2 and isinstance(value[0], int) and value[0] > 0
-            and value[1] in RUNNING)
+    return isinstance(value, list) and len(value) == 2 and isinstance(value[0], int) and can_stand(Rows(*value))
+
+
+def can_stand(rows: Rows) -> bool:
+    return 1 <= rows.across <= MOST_ACROSS and rows.running in RUNNING
 
 
 @contextlib.contextmanager

@@ -1,21 +1,23 @@
-"""Candidates: the search, and the page of one with timetable, arrangement, appeals and access code."""
+"""Candidates: the search, their notes, and the page of one with timetable, arrangement, appeals and access code."""
 from __future__ import annotations
 
 import sqlite3
 
-from flask import Blueprint, redirect, render_template, request, url_for
-from werkzeug.wrappers import Response
+from flask import Blueprint, Response, g, redirect, render_template, request, url_for
+from werkzeug.wrappers import Response as Answer
 
-from exam_desk import appeals, facts, names
-from exam_web import printing
-from exam_web.desk import View, missing, view
+from exam_desk import appeals, facts, names, notebook
+from exam_desk.sheets import notes
+from exam_web import printing, proposals
+from exam_web.desk import View, desk, missing, view
+from exam_web.wording import text
 
 pages = Blueprint("candidates", __name__)
 MOST_FOUND, MOST_ASKED = 100, 80
 
 
 @pages.get("/candidates")
-def find() -> str | Response:
+def find() -> str | Answer:
     asked = request.args.get("q", "").strip()[:MOST_ASKED]
     found = search(asked) if asked else []
     if len(found) == 1:
@@ -60,6 +62,7 @@ def page(number: int, code: str = "") -> str:
     return render_template("candidate.html", who=who, entries=entries, sittings=view().reading.all_of(f"{number:07}"),
                            lodged=lodged, standing=standing, others=others, code=code, appeals=appeals,
                            hall_titles=facts.hall_titles(view().reading.rows),
+                           note=notebook.notes(desk().office).get(f"{number:07}", ""),
                            arrangement=view().row("SELECT needs, extra FROM arrangement WHERE number = ?", [number]))
 
 
@@ -68,6 +71,24 @@ def code(number: int) -> str:
     """The access code, for who asks: a POST, so that it is in no history and is never fetched ahead."""
     row = view().row("SELECT code FROM candidate WHERE number = ?", [number]) or missing()
     return page(number, row["code"])
+
+
+@pages.post("/candidates/<int:number>/note")
+def note(number: int) -> Answer | tuple[str, int]:
+    """Keeps the note on a candidate, or takes it away; no seat depends on it."""
+    candidate_row(number)
+    given = request.form.get("note", "").strip()
+    if not notebook.is_note(given.encode("utf-8", "surrogateescape")):
+        wrong = text("at most {most} bytes in one line", most=notebook.MOST_NOTE_BYTES)
+        return proposals.wrong_page(proposals.Wrong(("candidates.page", {"number": number}), note=wrong), "note")
+    notebook.take_notes(desk().office, {f"{number:07}": given})
+    g.visit.said.append(("good", text("The note is kept.") if given else text("There is no note on this candidate.")))
+    return redirect(url_for("candidates.page", number=number) + "#note", 303)
+
+
+@pages.get("/candidates/notes")
+def all_notes() -> Response:
+    return Response(notes.text(desk().office, view().reading.rows), mimetype="text/plain")
 
 
 @pages.post("/candidates/<int:number>/slip")

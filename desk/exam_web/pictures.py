@@ -1,21 +1,23 @@
-"""Halls as grids of desks, for SVG. Where a desk stands is how the officer draws the hall: no fact of the office."""
+"""Halls as grids of desks, for SVG: they stand as the notebook says, or as in most halls where it says nothing."""
 from __future__ import annotations
 
 import math
 from collections.abc import Sequence
 from typing import NamedTuple
 
+from exam_desk import notebook
 from exam_desk.facts import Opening
+from exam_desk.notebook import Rows
 from exam_desk.reading import Member
+from exam_desk.sheets.chart import numbered
 from exam_desk.words import plain
-from exam_web import remembered
 from exam_web.desk import desk
 
 WIDTH, HEIGHT, GAP = 78, 38, 5  # of a desk, and from one to the next
 SHADES = 8  # papers that look different
-ORDERS = {"columns": "down the columns", "rows": "along the rows", "snake": "down and up"}
-ROOMS = "rooms.json"
-MOST_COLUMNS, MOST_LETTERS = 40, 10
+RUNNING = dict(zip(notebook.RUNNING, ("along the rows", "along and back", "down the columns", "down and up")))
+MOST_LETTERS = 10
+MOST_SUPPOSED = 14  # desks in a row, where nobody said how many
 
 
 class Cell(NamedTuple):
@@ -30,50 +32,32 @@ class Cell(NamedTuple):
 
 
 class Picture(NamedTuple):
-    cells: list[Cell]
+    cells: list[Cell]  # by desk
     wide: int
     deep: int
-    columns: int
-    order: str  # one of ORDERS
+    rows: Rows
 
 
-def set_room(hall: str, columns: int, order: str) -> None:
-    path = desk().office.path
-    remembered.write(path, ROOMS, {**remembered.read(path, ROOMS), hall: {"columns": columns, "order": order}})
-
-
-def room(hall: str, desks: int) -> tuple[int, str]:
-    """The columns of a hall and the order of its desks, as the officer drew it or as most halls are."""
-    drawn = remembered.read(desk().office.path, ROOMS).get(hall)
-    drawn = drawn if isinstance(drawn, dict) else {}
-    columns, order = drawn.get("columns"), drawn.get("order")
-    if not isinstance(columns, int) or not 1 <= columns <= MOST_COLUMNS:
-        columns = min(14, max(1, math.ceil(math.sqrt(desks * 1.7))))
-    return min(columns, desks), order if order in ORDERS else "columns"
-
-
-def place_of(number: int, desks: int, columns: int, order: str) -> tuple[int, int]:
-    """The column and the row of a desk, from 0."""
-    if order == "rows":
-        return (number - 1) % columns, (number - 1) // columns
-    deep = math.ceil(desks / columns)
-    column, row = divmod(number - 1, deep)
-    return column, deep - 1 - row if order == "snake" and column % 2 else row
+def rows_of(opening: Opening) -> Rows:
+    supposed = Rows(min(MOST_SUPPOSED, math.ceil(math.sqrt(opening.desks * 1.7))), "down")
+    return notebook.rows_of_halls(desk().office).get(opening.hall, supposed)
 
 
 def picture(opening: Opening, members: Sequence[Member], papers: Sequence[str]) -> Picture:
     """A hall with those who sit in it; `papers` are those of the session, for the shades."""
-    columns, order = room(opening.hall, opening.desks)
+    rows = rows_of(opening)
     sitting = {member.sitting.desk: member for member in members}
-    cells = []
-    for number in range(1, opening.desks + 1):
-        column, row = place_of(number, opening.desks, columns, order)
-        member = sitting.get(number)
-        cells.append(Cell(number, column * (WIDTH + GAP) + 2, row * (HEIGHT + GAP) + 2, member,
-                          papers.index(member.sitting.paper) % SHADES if member else 0,
-                          short_name(member.name) if member else "", marks(member) if member else ""))
-    wide, deep = max(cell.x for cell in cells) + WIDTH + 2, max(cell.y for cell in cells) + HEIGHT + 2
-    return Picture(cells, wide, deep, columns, order)
+    cells = sorted(cell(number, column, row, sitting.get(number), papers)
+                   for row, line in enumerate(numbered(opening.desks, rows))
+                   for column, number in enumerate(line) if number is not None)
+    wide, deep = max(each.x for each in cells) + WIDTH + 2, max(each.y for each in cells) + HEIGHT + 2
+    return Picture(cells, wide, deep, rows)
+
+
+def cell(number: int, column: int, row: int, member: Member | None, papers: Sequence[str]) -> Cell:
+    shade = papers.index(member.sitting.paper) % SHADES if member else 0
+    return Cell(number, column * (WIDTH + GAP) + 2, row * (HEIGHT + GAP) + 2, member, shade,
+                short_name(member.name) if member else "", marks(member) if member else "")
 
 
 def short_name(name: str) -> str:

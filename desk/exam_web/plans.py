@@ -60,7 +60,7 @@ def reason(form: Form, page: Page) -> str:
     """A reason, which is private: it is posted, and reaches the program as the value of a step alone."""
     found = form.get("reason", "").strip()
     if len(found.encode("utf-8", "surrogateescape")) > MOST_REASON or re.search(r"[\x00-\x1f\x7f]", found):
-        raise Wrong(page, reason=text("at most 200 bytes in one line"))
+        raise Wrong(page, reason=text("at most {most} bytes in one line", most=MOST_REASON))
     return found
 
 

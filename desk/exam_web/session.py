@@ -7,15 +7,17 @@ from collections import Counter
 from flask import Blueprint, g, redirect, render_template, request, url_for
 from werkzeug.wrappers import Response
 
-from exam_desk import appeals, facts, lastdays
+from exam_desk import appeals, facts, lastdays, notebook, printed
 from exam_desk.facts import Opening
+from exam_desk.notebook import Rows
 from exam_desk.reading import Member
+from exam_desk.sheets.chart import NotDrawn
 from exam_web import counting, downloads, pictures, printing, shortages
-from exam_web.desk import missing, view
-from exam_web.wording import text
+from exam_web.desk import desk, missing, view
+from exam_web.wording import many, text
 
 pages = Blueprint("session", __name__)
-MOST_PEOPLE = 100  # with two papers at once, or appeals, that the page lists
+MOST_PEOPLE = 100  # that a page lists for one reason
 
 
 def sums_of(code: str) -> counting.Sums:
@@ -42,8 +44,7 @@ def page(code: str) -> str:
         "session.html", s=sums, halls=openings(code), taken=taken(code), papers=papers(code), lodged=lodged,
         previous=codes[place - 1] if place else None, next=codes[place + 1] if place + 1 < len(codes) else None,
         closed=closed_halls(code), shortage=shortages.of(code, sums), clashes=clashes(code), most=MOST_PEOPLE,
-        printed=printing.states(code), sheets=printing.SHEETS, appeals=appeals,
-        last=lastdays.to_decide(sums.day))
+        sheets=printing.SHEETS, appeals=appeals, last=lastdays.to_decide(sums.day))
 
 
 def taken(code: str) -> dict[str, int]:
@@ -90,20 +91,22 @@ def hall_page(code: str, hall: str) -> str:
     members = sitting_in(code, hall)
     drawn = pictures.picture(found, members, [row["code"] for row in papers(code)])
     return render_template("hall_piece.html" if "piece" in request.args else "hall.html", s=sums, opening=found,
-                           members=members, picture=drawn, orders=pictures.ORDERS, papers=papers(code),
+                           members=members, picture=drawn, running=pictures.RUNNING, papers=papers(code),
                            sitting=Counter(member.sitting.paper for member in members), desk_width=pictures.WIDTH,
                            desk_height=pictures.HEIGHT)
 
 
 @pages.post("/sessions/<code>/halls/<hall>/draw")
 def draw(code: str, hall: str) -> Response | tuple[str, int]:
-    """How a hall is drawn; nobody moves."""
+    """Keeps how the desks of a hall stand; nobody moves."""
     opening(code, hall)
-    columns, order = request.form.get("columns", ""), request.form.get("order", "")
-    if order not in pictures.ORDERS or not columns.isdecimal() or not 1 <= int(columns[:4]) <= pictures.MOST_COLUMNS:
-        g.wrong, g.given, g.asked_form = {"columns": text("a whole number from 1 to 40")}, request.form, "draw"
+    across = request.form.get("across", "")
+    rows = Rows(int(across[:4]) if across.isdecimal() else 0, request.form.get("running", ""))
+    if not notebook.can_stand(rows):
+        g.wrong = {"across": text("a whole number from {low} to {high}", low=1, high=notebook.MOST_ACROSS)}
+        g.given, g.asked_form = request.form, "draw"
         return hall_page(code, hall), 422
-    pictures.set_room(hall, int(columns), order)
+    notebook.keep_rows(desk().office, hall, rows)
     return redirect(url_for("session.page", code=code) + f"#hall-{hall}", 303)
 
 
@@ -120,11 +123,35 @@ def seats_csv(code: str) -> Response:
 
 
 @pages.get("/sessions/<code>/print/<sheet>")
-def sheet(code: str, sheet: str) -> str:
+def sheet(code: str, sheet: str) -> str | Response:
     """A sheet to print, made by the function that the command line uses."""
     sums_of(code)
     if sheet not in printing.SHEETS:
         missing()
-    made = printing.made(view().reading, code, sheet)
-    printing.note(code, sheet)
-    return made
+    try:
+        return printing.styled(printing.SHEETS[sheet].page(view().reading, code))
+    except NotDrawn as trouble:
+        g.visit.said.append(("bad", text("First open the line of each of these halls, and press Draw: {halls}.",
+                                         halls=", ".join(trouble.halls))))
+        return redirect(url_for("session.page", code=code) + "#halls", 303)
+
+
+@pages.get("/sessions/<code>/printed")
+def compare_printed(code: str) -> str:
+    """Who has another desk than on paper: a piece of the session's page, or a page of its own where no script runs."""
+    return render_template("printed_piece.html" if "piece" in request.args else "printed.html", s=sums_of(code),
+                           found=printed.compared(view().reading, code), most=MOST_PEOPLE)
+
+
+@pages.post("/sessions/<code>/printed")
+def note_printed(code: str) -> Response:
+    """Notes that the sheets are printed, if the office is as the page beside them showed it."""
+    sums_of(code)
+    if request.form.get("state") == view().name:
+        noted = printed.note(view().reading, code)
+        said = ("good", many(noted.desks, "{count} desk of {session} is noted as printed.",
+                             "{count} desks of {session} are noted as printed.", session=code))
+    else:
+        said = ("bad", text("Nothing is noted: the office is another than the page showed. Print the sheets again."))
+    g.visit.said.append(said)
+    return redirect(url_for("session.page", code=code) + "#print", 303)

@@ -35,7 +35,6 @@ MOST_SHOWN = 40  # mistakes of a file on the page
 MOST_CURED = 20_000  # of a file that one press of a button can mend
 MOST_VALUE = 400  # letters of a value that is typed
 BOOKS = (".xlsx", ".xlsm", ".ods")
-CURE = re.compile(r"(?:write |leading zeros lost\? )(\S+) \(")  # what a cure says is to be written
 NEW_CODE = "a new code"
 UNREADABLE = (zipfile.BadZipFile, zipfile.LargeZipFile, zlib.error, RuntimeError, EOFError, OSError, ValueError)
 
@@ -179,8 +178,7 @@ def fault(kind: str, mistake: mistakes.Mistake, records: Mapping[int, files.Reco
         return Fault(mistake.line, column, value, mistake.text, "", fields, None)
     if column == "code" and not fields[place]:
         return Fault(mistake.line, column, value, "empty: a new code can be made", NEW_CODE, fields, place)
-    clear = CURE.search(mistake.text)
-    return Fault(mistake.line, column, value, mistake.text, clear[1] if clear else "", fields, place)
+    return Fault(mistake.line, column, value, mistake.text, mistake.write, fields, place)
 
 
 Corrections = dict[int, dict[int, str]]  # by line and place; an empty dict takes the row out

@@ -171,6 +171,15 @@ class Words(unittest.TestCase):
             "write 13:30 (a time as 09:00; format the column as text)",
             "a date as 2027-06-07, from 2000-01-11; format the column as text"])
 
+    def test_what_to_write_instead(self):
+        for column, value, write in (
+                ("number", b"1051", "0001051"), ("number", b"1051.0", "0001051"), ("number", b"12345678", ""),
+                ("number", b"\xff", ""), ("date", b"7. 6. 2027", "2027-06-07"), ("start", b"9:00:00", "09:00"),
+                ("paper", b" ma-1 ", "MA-1"), ("extra", b"25 %", "25"), ("reserved", b"YES", "yes"),
+                ("needs", b"reader+screen", "screen+reader"), ("needs", b"bed", ""), ("name", b"", ""),
+                ("code", b"", "")):
+            self.assertEqual(mistakes.cure(column, value).write, write, (column, value))
+
     def test_empty_codes_are_named_with_their_cure_and_are_not_compared(self):
         text = b"number,name,code\n0001000,Ada Lin,\n0001017,Ada Lin,\n"
         self.assertEqual(self.mistakes_in("candidates", text),

@@ -207,36 +207,6 @@ class TestBack(DeskSchool):
         self.assertEqual(self.rows("SELECT * FROM appeal"), [])
 
 
-class TestPrinting(DeskSchool):
-    def test_sheets_that_are_out_of_date(self):
-        sheets = re.findall(r"/sessions/MON-AM/print/(\w+)", self.browser.get("/sessions/MON-AM"))
-        self.assertGreater(len(sheets), 4)
-        for sheet in sheets:
-            self.assertIn("<style>", self.browser.get(f"/sessions/MON-AM/print/{sheet}"))
-        self.assertEqual(self.browser.words("/sessions/MON-AM").count("still right"), len(sheets))
-        self.office("withdraw", "0001051", "CS-1")
-        self.assertIn("out of date: ", self.browser.words("/sessions/MON-AM"))
-        self.assertIn("PC1", self.browser.words("/sessions/MON-AM").partition("out of date: ")[2][:20])
-        self.browser.get("/sessions/MON-AM/print/nothing", 404)
-
-    def test_a_slip(self):
-        _, text = self.browser.post("/candidates/1051/slip", "/candidates/1051", 200)
-        self.assertIn("Di Berg", text)
-        self.assertNotIn(sample.CODE, text)
-        _, text = self.browser.post("/candidates/1051/slip", "/candidates/1051", 200, codes="1")
-        self.assertIn(sample.CODE, text)
-
-    def test_how_a_hall_is_drawn(self):
-        page = "/sessions/MON-AM/halls/GYM"
-        before = self.seats()
-        self.browser.post(page + "/draw", page, columns="3", order="snake")
-        self.assertIn('value="3"', self.browser.get(page))
-        for columns, order in (("0", "rows"), ("41", "rows"), ("x", "rows"), ("3", "other")):
-            self.browser.post(page + "/draw", page, 422, columns=columns, order=order)
-        self.assertEqual(self.seats(), before)
-        self.browser.get("/sessions/MON-AM/halls/NONE", 404)
-
-
 class TestWalk(DeskSchool):
     """At random: what a rehearsal promises is what comes."""
 

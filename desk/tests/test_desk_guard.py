@@ -19,9 +19,8 @@ OPEN = {"/enter", "/static/desk.css"}  # without a visit
 VALUES = {"number": "1051", "code": "MON-AM", "hall": "PC1", "ref": "D1", "key": "nothing", "what": "withdraw",
           "sheet": "doors",
           "kind": "entries", "filename": "desk.css"}
-SCREENS = ["/", "/sessions/MON-AM", "/sessions/MON-AM/halls/PC1", "/candidates", "/candidates/1051", "/appeals",
-           "/clashes", "/files",
-           "/office"]
+SCREENS = ["/", "/sessions/MON-AM", "/sessions/MON-AM/halls/PC1", "/sessions/MON-AM/printed", "/candidates",
+           "/candidates/1051", "/appeals", "/clashes", "/files", "/office"]
 MAKE = """
 import datetime, json, sys
 sys.path.insert(0, sys.argv[1])
@@ -181,14 +180,23 @@ class TestPages(DeskSchool):
         self.office("import", "entries", self.write("entries.csv", "number,paper\n" + "".join(
             f"000105{place},CS-1\n" for place in range(len(names)))))
         self.office("lodge", "0001050", "MON-AM", "arrangement", "quiet", "0", "<b onclick=1>\u202e</b>")
+        note = 'number,text\n0001051,"<script>x</script>"">\u202e<b onclick=1>"\n'
+        self.office("notes", self.write("notes.csv", note))
+        self.office("printed", "MON-AM")
+        self.office("withdraw", "0001051", "CS-1")
         for path in (*SCREENS, *(f"/candidates/105{place}" for place in range(len(names))),
                      "/candidates?q=%3Cscript%3E+nobody",
                      "/appeals/1050/D1", "/appeals/1050/D1/if-granted", "/sessions/MON-AM/print/board"):
             text = self.browser.get(path)
             self.assertNotRegex(text, r"<script(?! src=)|<img|<b on|\u202e|\u2066", path)
             self.assertNotIn("{49", text)
+        self.assertIn("another desk than on paper", self.browser.words("/sessions/MON-AM/printed"))
         _, text = self.browser.ask("GET", "/sessions/MON-AM/seats.csv")
         self.assertNotIn('"=HYPER', text)
+        answer, text = self.browser.ask("GET", "/candidates/notes")
+        self.assertEqual(answer.headers["Content-Type"], "text/plain; charset=utf-8")
+        self.assertIn("<script>x</script>", text)
+        self.assertNotIn("\u202e", text)
 
     def test_codes_are_shown_to_who_asks_alone(self):
         for path in SCREENS:

@@ -13,7 +13,7 @@ import sample
 
 sys.path.insert(0, str(pathlib.Path(__file__).resolve().parents[1]))
 from exam_desk import beside, copies, notebook  # noqa: E402
-from exam_desk.notebook import Desk  # noqa: E402
+from exam_desk.notebook import Desk, Rows  # noqa: E402
 from exam_desk.office import Office  # noqa: E402
 from exam_desk.trouble import Trouble  # noqa: E402
 
@@ -96,6 +96,13 @@ class Notebook(unittest.TestCase):
         self.assertEqual(notebook.moved(desks, now), ["0000001", "0000002", "0000004"])
         self.assertEqual(notebook.out_of_date(desks, now), ["A", "C"])
         self.assertEqual((notebook.moved(desks, desks), notebook.out_of_date(desks, desks)), ([], []))
+        self.assertEqual(notebook.out_of_date({"0000001": Desk("A", 1)}, {"0000001": Desk("B", 1)}), ["A", "B"])
+
+    def test_rows(self):
+        notebook.keep_rows(self.office, "A", Rows(100, "down"))
+        for wrong in (Rows(0, "down"), Rows(101, "down"), Rows(3, "up")):
+            self.assertRaisesRegex(Trouble, "a row has 1 to 100 desks", notebook.keep_rows, self.office, "A", wrong)
+        self.assertEqual(notebook.rows_of_halls(self.office), {"A": Rows(100, "down")})
 
     def test_absent(self):
         self.assertEqual(notebook.keep_absent(self.office, "S1", ["0000002", "0000001"], []), {"0000001", "0000002"})

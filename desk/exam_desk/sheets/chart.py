@@ -22,9 +22,18 @@ HALL = ("<div class=sheet><h1>{} ({})</h1>\n<p>{}{}. Front of the hall above. {}
         "<table class=chart><tbody>\n{}</tbody></table></div>\n")
 
 
+class NotDrawn(Trouble):
+    """Nobody has said how the desks of halls stand."""
+
+    def __init__(self, halls: list[str]) -> None:
+        super().__init__(f"say once how the desks stand in {', '.join(halls)}: `office rows {halls[0]} 8` for rows of "
+                         "8 desks")
+        self.halls = halls
+
+
 def page(reading: Reading, session: str, asked: Collection[str] = ()) -> str:
     """The charts of the halls that are asked for, or of all in which somebody sits. Raises `Trouble` where nobody sits
-    in one that is asked for, or nobody has said how its desks stand."""
+    in one that is asked for, and `NotDrawn`."""
     head = session_row(reading.rows, session)
     members, rows = reading.members(session), notebook.rows_of_halls(reading.office)
     school = beside.school(reading.office, ". ")
@@ -33,8 +42,7 @@ def page(reading: Reading, session: str, asked: Collection[str] = ()) -> str:
     for code in set(asked) - {opening.hall for opening, _ in halls}:
         raise Trouble(f"nobody sits in {code} in {session}")
     if unknown := [opening.hall for opening, _ in halls if opening.hall not in rows]:
-        raise Trouble(f"say once how the desks stand in {', '.join(unknown)}: `office rows {unknown[0]} 8` for rows of "
-                      "8 desks")
+        raise NotDrawn(unknown)
     charts = [chart(head, school, opening, there, rows[opening.hall]) for opening, there in halls]
     body = pages.joined(charts) or Markup("<p>Nobody has a desk.</p>\n")
     return pages.document(f"Seating charts {session}", body, STYLE)

@@ -280,7 +280,7 @@ def read_field(job: Job, table: Table, row: int, name: str, here: Row) -> tuple[
         return text, True
     if not mistakes.RIGHT[name](text.encode("utf-8", "surrogatepass")):
         said = text.encode("utf-8", "replace")
-        cure = f"{name} {files.shown(said)}: {mistakes.cure(name, said)}"
+        cure = f"{name} {files.shown(said)}: {mistakes.cure(name, said).text}"
         job.report.mistake(table.sheet, row, places[0], cure, name)
         return text, True
     return text, False

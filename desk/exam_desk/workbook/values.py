@@ -30,7 +30,7 @@ def read_value(column: str, cell: Cell | None, way: Way) -> Value:
     value = READERS[column](column, cell, way)
     may_be_empty = column == "code" and not value.text
     if not mistakes.RIGHT[column](value.text.encode("utf-8", "surrogatepass")) and not may_be_empty:
-        raise Wrong("is missing" if cell is None else mistakes.cure(column, value.text.encode("utf-8", "replace")))
+        raise Wrong("is missing" if cell is None else mistakes.cure(column, value.text.encode("utf-8", "replace")).text)
     if not value.why and value.text != ((cell.shown or None) if cell is not None else ""):
         value = value._replace(why=" ")
     return value

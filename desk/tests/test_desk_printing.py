@@ -1,0 +1,108 @@
+"""Papers at the desk in a browser, and what it keeps beside the office: each is that of the commands."""
+import html
+import re
+import unittest
+
+import sample
+from desk_client import DeskSchool
+
+
+class TestPrinting(DeskSchool):
+    PRINTED = "/sessions/MON-AM/printed"
+
+    def test_sheets_are_those_of_the_commands(self):
+        for hall, in self.rows("SELECT hall FROM opening WHERE session = 'MON-AM'"):
+            self.office("rows", hall, "6")
+        sheets = re.findall(r"/sessions/MON-AM/print/(\w+)", self.browser.get("/sessions/MON-AM"))
+        self.assertEqual(sorted(sheets), ["board", "cards", "chart", "counts", "doors", "poster", "slips"])
+        for sheet in sheets:
+            options = ["--desks"] if sheet == "slips" else []
+            self.assertEqual(self.browser.get(f"/sessions/MON-AM/print/{sheet}"),
+                             self.office(sheet, "MON-AM", *options), sheet)
+        self.browser.get("/sessions/MON-AM/print/nothing", 404)
+
+    def test_a_chart_wants_to_know_how_desks_stand(self):
+        answer, _ = self.browser.ask("GET", "/sessions/MON-AM/print/chart")
+        self.assertEqual((answer.status, answer.headers["Location"].removeprefix(self.browser.prefix)),
+                         (303, "/sessions/MON-AM#halls"))
+        self.assertIn("First open the line of each of these halls, and press Draw: AULA, ",
+                      self.browser.words("/sessions/MON-AM"))
+
+    def test_what_is_printed(self):
+        self.browser.get("/sessions/MON-AM/print/doors")
+        self.assertIn("nobody noted", self.refused("printed", "MON-AM", "--look"))
+        self.assertIn("Nobody has noted yet", self.browser.words(self.PRINTED + "?piece"))
+        self.browser.post(self.PRINTED, "/sessions/MON-AM")
+        self.assertRegex(self.browser.words("/sessions/MON-AM"), r"\d+ desks of MON-AM are noted as printed")
+        self.assertEqual(self.office("printed", "MON-AM", "--look"), "the papers are up to date\n")
+        self.assertIn("still right", self.browser.words(self.PRINTED))
+        self.office("withdraw", "0001051", "CS-1")
+        *moves, halls = self.office("printed", "MON-AM", "--look").splitlines()
+        found = self.browser.words(self.PRINTED + "?piece")
+        self.assertIn("out of date: " + halls.removeprefix("to print again: ") + " ", found)
+        self.assertIn("PC1", halls)
+        self.assertIn(f"{len(moves)} candidates have another desk", found)
+        for move in moves:
+            number, _, was = re.match(r"(\d{7}) (.*): .*, was (.*)", move).groups()
+            self.assertRegex(found, rf"{number} {was.replace(' ', ' desk ')} ")
+
+    def test_printed_from_an_old_page(self):
+        self.browser.post(self.PRINTED, "/sessions/MON-AM", state="0" * 64)
+        self.assertIn("Nothing is noted", self.browser.words("/sessions/MON-AM"))
+        self.assertIn("nobody noted", self.refused("printed", "MON-AM", "--look"))
+        self.browser.post("/sessions/NONE/printed", "/sessions/MON-AM", 404)
+
+    def test_a_slip(self):
+        _, text = self.browser.post("/candidates/1051/slip", "/candidates/1051", 200)
+        self.assertIn("Di Berg", text)
+        self.assertNotIn(sample.CODE, text)
+        _, text = self.browser.post("/candidates/1051/slip", "/candidates/1051", 200, codes="1")
+        self.assertIn(sample.CODE, text)
+
+    def test_notes(self):
+        note = 'rest "breaks", <b>café</b>'
+        self.browser.post("/candidates/1051/note", "/candidates/1051", note=f" {note} ")
+        self.assertIn(f' value="{note}"', html.unescape(self.browser.get("/candidates/1051")))
+        self.assertEqual(self.office("notes"), f"0001051 Di Berg: {note}\n")
+        self.assertEqual(self.browser.get("/candidates/notes"), self.office("notes"))
+        for wrong in ("é" * 101, "a\nb", "a\x7f"):
+            _, text = self.browser.post("/candidates/1051/note", "/candidates/1051", 422, note=wrong)
+            self.assertRegex(text, 'name="note"[^>]*aria-invalid="true"')
+        self.assertEqual(self.office("notes"), f"0001051 Di Berg: {note}\n")
+        self.browser.post("/candidates/1051/note", "/candidates/1051", note="")
+        self.assertEqual((self.office("notes"), self.browser.get("/candidates/notes")), ("", ""))
+        self.browser.post("/candidates/9999999/note", "/candidates/1051", 404, note="x")
+
+    def test_how_a_hall_is_drawn(self):
+        page = "/sessions/MON-AM/halls/GYM"
+        before = self.seats()
+        self.browser.post(page + "/draw", page, across="3", running="down-and-up")
+        self.assertEqual(self.office("rows"), "GYM: rows of 3, down-and-up\n")
+        for across, running in (("0", "down"), ("101", "down"), ("x", "down"), ("", "down"), ("4", "other")):
+            self.browser.post(page + "/draw", page, 422, across=across, running=running)
+        self.assertEqual(self.office("rows"), "GYM: rows of 3, down-and-up\n")
+        self.office("rows", "GYM", "5", "across-and-back")
+        text = self.browser.get(page)
+        self.assertIn('name="across" inputmode="numeric" size="3" value="5"', text)
+        self.assertIn('value="across-and-back" selected', text)
+        drawn = self.places(text)
+        self.assertGreater(len(drawn), 5)
+        self.assertEqual(drawn, {number: self.place(number, 5) for number in range(1, len(drawn) + 1)})
+        self.assertEqual(self.seats(), before)
+        self.browser.get("/sessions/MON-AM/halls/NONE", 404)
+
+    @staticmethod
+    def places(text):
+        """Where the picture of a hall has each desk."""
+        found = re.findall(r'<svg x="(\d+)" y="(\d+)".*?class="no"[^>]*>(\d+)<', text)
+        return {int(number): (int(x), int(y)) for x, y, number in found}
+
+    @staticmethod
+    def place(number, across):
+        """Where a desk stands whose numbers run across and back, 83 by 43 from one to the next."""
+        row, column = divmod(number - 1, across)
+        return 2 + 83 * (across - 1 - column if row % 2 else column), 2 + 43 * row
+
+
+if __name__ == "__main__":
+    unittest.main()
