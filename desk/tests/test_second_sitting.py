@@ -1,4 +1,5 @@
 """A second sitting for a candidate with two papers at once: whole or not at all, and taken back."""
+import collections
 import contextlib
 import csv
 import io
@@ -195,6 +196,26 @@ class Back(SecondSitting):
         self.refuses("the office has no paper ", "0000003", "", "--undo")
         self.office("reinstate", "0000003", "MA-1")
         self.refuses("0000003 has no second sitting of MA-1", "0000003", "MA-1", "--undo")
+
+
+class Pairs(SecondSitting):
+    def test_names_and_how_many_share_a_pair(self):
+        pairs = re.findall(r"(?m)^(\d{7}) sits (\S+) +clash (\S+)$", self.office("clashes", "MON-AM"))
+        counts = collections.Counter((sat, missed) for _, sat, missed in pairs)
+        said = self.office("look", "--clashes", "MON-AM").split("\n")
+        self.assertEqual(said[0], f"MON-AM: {len({number for number, *_ in pairs})} candidates with two papers or more")
+        heads = [re.fullmatch(r"  (\S+) is sat, (\S+) is missed: (\d+) candidates?", line) for line in said]
+        self.assertEqual({(head[1], head[2]): int(head[3]) for head in heads if head}, counts)
+        self.assertEqual([int(head[3]) for head in heads if head], sorted(counts.values(), reverse=True))
+        place = said.index(f"  LAT is sat, MA-1 is missed: {counts['LAT', 'MA-1']} candidates")
+        self.assertIn("    0000003 ?Bo, =1+1", said[place + 1:place + 1 + counts["LAT", "MA-1"]])
+
+    def test_sessions(self):
+        self.assertIn(self.office("look", "--clashes", "MON-AM"), self.office("look", "--clashes"))
+        self.enter("sessions", "session,date,start\nX,2027-06-20,09:00\n")
+        self.assertEqual(self.office("look", "--clashes", "X"), "nobody has two papers at once\n")
+        self.assertIn("there is no session Y", self.refused("look", "--clashes", "Y"))
+        self.assertEqual(self.run_office("look").returncode, 2)
 
 
 class Killed(SecondSitting):
