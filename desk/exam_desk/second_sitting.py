@@ -240,8 +240,8 @@ def refuse_overlaps(after: Reading, second: Member) -> None:
     """Raises `Trouble` where the candidate would be in two sessions at one time."""
     for other in after.all_of(second.number).values():
         if other.session != second.sitting.session and overlap(other, second.sitting):
-            raise Trouble(f"{second.number} sits {other.paper} in {other.session} from {other.start} to {other.finish}, "
-                          f"and would sit {second.sitting.paper} from {second.sitting.start} to "
+            raise Trouble(f"{second.number} sits {other.paper} in {other.session} from {other.start} to "
+                          f"{other.finish}, and would sit {second.sitting.paper} from {second.sitting.start} to "
                           f"{second.sitting.finish}; nothing is changed")
 
 
@@ -258,9 +258,8 @@ def others_there(after: Reading, second: Sitting) -> list[str]:
 def lines_back(planned: Plan, after: Reading) -> list[str]:
     first = member(after, planned.first, planned.number)
     missed = after.clashes(planned.first, [planned.number]).get(planned.number, [])
-    [others] = after.rows.execute("SELECT count(*) FROM entry JOIN paper ON code = paper WHERE session = ? AND live = 1",
-                                  [planned.session]).fetchone()
-    stay = f"with {lists.count(others, 'entry') if others == 1 else f'{others:,} entries'}" if others else "empty"
+    others = len(after.members(planned.session))
+    stay = f"with {lists.count(others, 'candidate')}" if others else "empty"
     return [f"{first.number} {plain(first.name)} sits {first.sitting.paper} again"
             + (f", and misses {', '.join(missed)}" if missed else ""),
             f"session {planned.session} and paper {planned.paper} stay, {stay}"]

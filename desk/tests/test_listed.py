@@ -1,4 +1,4 @@
-"""Lists of withdrawals and of their way back: a refusal leaves the other rows, and others have the office in between."""
+"""Lists of withdrawals and of their way back: a refusal leaves the other rows, and others have their turns."""
 import contextlib
 import os
 import subprocess
@@ -34,8 +34,8 @@ class Listed(test_changing.Changing):
         self.assertEqual(done.stdout, "line 2: withdraw 0001000 MA-1: withdrawn\n"
                                       "line 3: withdraw 0001017 MA-1: withdrawn\n"
                                       "2 of 2 rows are done; `office back 1` takes them back\n")
-        self.assertEqual(self.log(), [["withdraw 0001000 MA-1", "begins", ""], ["withdraw 0001000 MA-1", "0", "withdrawn"],
-                                      ["withdraw 0001017 MA-1", "begins", ""], ["withdraw 0001017 MA-1", "0", "withdrawn"]])
+        self.assertEqual(self.log(), [line for number in ("0001000", "0001017") for line in (
+            [f"withdraw {number} MA-1", "begins", ""], [f"withdraw {number} MA-1", "0", "withdrawn"])])
         [copy] = self.kept()
         self.assertTrue(copy.endswith(" withdraw --list leave_ __1+1__csv"), copy)
         withdrawn = self.state()
@@ -47,11 +47,11 @@ class Listed(test_changing.Changing):
 
     def test_a_refusal_in_the_middle(self):
         self.office("withdraw", "0001000", "MA-1")
-        done = self.run_list("\ufeffnumber,paper\r\n\"0001000\",MA-1\r\n\r\n0001017,CS-1\r\n0001017,MA-1\r\n0001017,MA-1\r\n")
+        done = self.run_list("\ufeffnumber,paper\r\n\"0001000\",MA-1\r\n\r\n0001017,CS-1\r\n" + "0001017,MA-1\r\n" * 2)
         self.assertEqual(done.returncode, 1)
         self.assertEqual(done.stderr, "line 2: withdraw 0001000 MA-1: refused 9\n  the entry is withdrawn already\n"
-                                      "line 4: withdraw 0001017 CS-1: refused 8\n  the candidate is not entered for this "
-                                      "paper; import the entry or reinstate it, or decide `refused`\n"
+                                      "line 4: withdraw 0001017 CS-1: refused 8\n  the candidate is not entered for "
+                                      "this paper; import the entry or reinstate it, or decide `refused`\n"
                                       "line 6: withdraw 0001017 MA-1: refused 9\n  the entry is withdrawn already\n")
         self.assertEqual(done.stdout, "line 5: withdraw 0001017 MA-1: withdrawn\n"
                                       "1 of 4 rows are done; `office back 1` takes them back\n")
@@ -65,7 +65,8 @@ class Listed(test_changing.Changing):
     def test_all_rows_are_looked_through_first(self):
         for text, *said in (
                 (GOOD + "0009999,MA-1\n0001000,XX-1\n", "line 4: number '0009999': ", "line 5: paper 'XX-1': "),
-                (GOOD + "1000,MA-1\n", "line 4: number '1000': "), (GOOD + "=1+1,<b>\u202e\n", "line 4: number '=1+1': "),
+                (GOOD + "1000,MA-1\n", "line 4: number '1000': "),
+                (GOOD + "=1+1,<b>\u202e\n", "line 4: number '=1+1': ", "line 4: paper '<b>?': "),
                 (GOOD + "0001000\n", "line 4: row: 1 fields"), (GOOD + '"0001000,MA-1\n', "a quote is not closed"),
                 ("paper,number\nMA-1,0001000\n", "the first line must be number,paper"), ("", "the file is empty"),
                 (GOOD.replace(",", ";"), "semicolons"), (b"number,paper\n\xff\x00,MA-1\n", "line 2: number ")):
@@ -86,10 +87,11 @@ class Listed(test_changing.Changing):
 
     def test_turns(self):
         for seconds, turns in ((listed.TURN, 1), (0, 2)):
+            kept = len(self.kept())
             with mock.patch.object(listed, "TURN", seconds), \
                     mock.patch("exam_desk.changing.turn", wraps=listed.changing.turn) as turn:
                 self.carried(GOOD)
-            self.assertEqual(turn.call_count, turns)
+            self.assertEqual((turn.call_count, len(self.kept())), (turns, kept + 1))
             self.office("back", "1", "--yes")
         self.assertLess(listed.TURN, 9)
 

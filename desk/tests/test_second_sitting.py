@@ -89,8 +89,9 @@ class There(SecondSitting):
         self.assertIn("paper MA-1-3 (new)", self.second("0000002", *ONE[1:]))
 
     def test_codes_are_cut_and_free(self):
-        self.enter("papers", f'paper,title,session,minutes,requires\nMATHEMATICS1,"{TITLE.replace(chr(34), chr(34) * 2)}",'
-                             "MON-AM,60,screen\nMATHEMATIC-2,Other,MON-AM,60,-\n")
+        title = TITLE.replace('"', '""')
+        self.enter("papers", f'paper,title,session,minutes,requires\nMATHEMATICS1,"{title}",MON-AM,60,screen\n'
+                             "MATHEMATIC-2,Other,MON-AM,60,-\n")
         self.enter("entries", "number,paper\n0000003,MATHEMATICS1\n")
         said = self.second("0000003", "MATHEMATICS1", "10:30", "PC1")
         self.assertIn("paper MATHEMATIC-3 (new)", said)
@@ -180,7 +181,7 @@ class Back(SecondSitting):
         self.second("0000002", *ONE[1:])
         said = self.second("0000003", "MA-1", "--undo")
         self.assertIn("0000003 ?Bo, =1+1 sits LAT again, and misses MA-1\nsession MON-AM-2 and paper MA-1-2 stay, "
-                      "with 1 entry\n", said)
+                      "with 1 candidate\n", said)
         self.assertIn("stay, empty\n", self.second("0000002", "MA-1", "--undo"))
         self.assertEqual(self.seats("MON-AM-2"), {})
         self.assertEqual(len(re.findall("000000[23] sits LAT +clash MA-1\n", self.office("clashes", "MON-AM"))), 2)
@@ -229,7 +230,7 @@ class Killed(SecondSitting):
             self.assertRegex(said, "^office: `second-sitting 0000003 MA-1 10:30 R14` of .* was broken off")
             self.assertEqual(self.state() == self.before, place == 0, step)
             if place:
-                self.assertRegex(said, "`office back` lists the copy of .*, before second-sitting .*, and puts it back\n")
+                self.assertRegex(said, "`office back` lists the copy of .*, before second-sitting .* puts it back\n")
                 self.office("back", "1", "--yes")
             self.assertEqual(self.state(), self.before)
 
