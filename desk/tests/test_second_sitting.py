@@ -6,8 +6,10 @@ import io
 import re
 import signal
 import sqlite3
+import subprocess
 import unittest
 
+import sample
 import test_changing
 from exam_desk import second_sitting
 
@@ -166,6 +168,25 @@ class Refused(SecondSitting):
         self.enter("entries", "number,paper\n0000003,MA-2\n")
         self.second(*ONE)
         self.refuses("0000003 sits MA-1-2 in MON-AM-2", "0000003", "MA-2", *ONE[2:])
+
+    def test_a_change_while_it_asks(self):
+        with subprocess.Popen([sample.DESK / "office", "second-sitting", *ONE], env=self.environment, text=True,
+                              stdin=subprocess.PIPE, stdout=subprocess.PIPE, stderr=subprocess.PIPE) as process:
+            said = ""
+            while not said.endswith("do this? [y/N] ") and (letter := process.stdout.read(1)):
+                said += letter
+            self.office("withdraw", "0001000", "MA-1")
+            now, copies = self.state(), len(self.kept())
+            _, complaint = process.communicate("y\n")
+        self.assertIn("the office has changed since you looked at it, so nothing is changed: look again", complaint)
+        self.assertEqual((process.returncode, self.state(), len(self.kept())), (1, now, copies))
+
+    def test_a_step_that_is_refused_in_the_rehearsal(self):
+        program = self.program('[ "$5 $6" = "import sessions" ] && echo refused 20 >&2 && exit 1')
+        self.assertEqual(self.refused("second-sitting", *ONE, "--yes", EXAMOFFICE=program), (
+            "import sessions: refused 20\n  a limit would be passed, or the file is too long; the handbook lists the "
+            "limits\noffice: nothing is changed\n"))
+        self.assertEqual((self.state(), len(self.kept())), (self.before, self.copies_before))
 
     def test_a_step_that_is_refused_takes_all_back(self):
         """The rehearsal goes well, and then the program refuses the last step over the office."""
