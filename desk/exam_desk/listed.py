@@ -6,7 +6,7 @@ import time
 from collections.abc import Callable, Iterator
 from typing import NamedTuple
 
-from exam_desk import changing, checking, copies, files, logbook, mistakes, refusals, running
+from exam_desk import changing, checking, copies, files, logbook, mistakes, refusals
 from exam_desk.changing import Answered, Step
 from exam_desk.office import Office
 from exam_desk.trouble import NoOffice, Trouble
@@ -48,7 +48,7 @@ def rows_of(office: Office, command: str, path: str) -> tuple[list[Row], list[st
 def carry_out(office: Office, title: str, rows: list[Row], tell: Tell) -> list[Answered]:
     """Carries out each row by itself, so that one that is refused leaves the others; what is said of the rows. It stops
     where the office itself cannot be used. The copy from before stays where something may be done. Raises `Trouble`
-    where a turn or the disk is not to be had; the rows that are told are done then."""
+    where a turn, the disk or the program is not to be had; the rows before are done then."""
     answers: list[Answered] = []
     copy = ""
     left = iter(rows)
@@ -60,9 +60,11 @@ def carry_out(office: Office, title: str, rows: list[Row], tell: Tell) -> list[A
                     answers.append(answered)
                     tell(row.line, answered)
             time.sleep(BETWEEN)
-    except (changing.NotBegun, running.NotStarted):
+    except Trouble as fault:
         drop_needless(office, answers, copy)
-        raise
+        if not answers:
+            raise
+        raise Trouble(f"the rows from line {rows[len(answers)].line} on are not carried out: {fault}") from fault
     drop_needless(office, answers, copy)
     return answers
 

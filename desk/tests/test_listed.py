@@ -10,6 +10,8 @@ from unittest import mock
 import sample
 import test_changing
 from exam_desk import listed
+from exam_desk.office import Office
+from exam_desk.trouble import Trouble
 
 GOOD = "number,paper\n0001000,MA-1\n0001017,MA-1\n"
 NAME = 'leave, "=1+1".csv'
@@ -118,6 +120,17 @@ class Listed(test_changing.Changing):
         self.assertIn("line 3: withdraw 0001017 MA-1: refused 22\n", done.stderr)
         self.assertIn("1 of 3 rows are done; ", done.stdout)
         self.assertNotIn("line 4", done.stdout + done.stderr)
+        self.assertEqual(len(self.kept()), 1)
+
+    def test_a_program_that_does_not_start_in_the_middle(self):
+        program = self.program("")
+        value = Office(self.path, program, self.value.today, "tester")
+        rows, _ = listed.rows_of(value, "withdraw", self.write(NAME, GOOD))
+        with self.assertRaisesRegex(Trouble, "^the rows from line 3 on are not carried out: there is no program "):
+            listed.carry_out(value, "withdraw --list x", rows, lambda line, answered: os.remove(program))
+        self.assertEqual((len(self.kept()), self.log()[1]), (1, ["withdraw 0001000 MA-1", "0", "withdrawn"]))
+        with self.assertRaisesRegex(Trouble, "^there is no program "):
+            listed.carry_out(value, "withdraw --list x", rows, lambda line, answered: None)
         self.assertEqual(len(self.kept()), 1)
 
     def test_whoever_reads_may_go(self):
