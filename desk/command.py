@@ -72,6 +72,11 @@ def say(text: str) -> None:
     sys.stdout.flush()
 
 
+def is_wanted(question: str) -> bool:
+    say(f"{question} [y/N] ")
+    return sys.stdin.readline().strip().lower() in ("y", "yes")
+
+
 def progress(text: str, part: float | None = None) -> None:
     """Shows on a terminal how far a command is: a text, behind a bar where the part that is done is known, from 0 to 1.
     An empty text takes the line away."""

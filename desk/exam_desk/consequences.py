@@ -25,8 +25,13 @@ def of(rehearsal: Rehearsal, most: int | None, progress: Progress) -> list[str]:
     seat yet, nobody can lose or change one."""
     with (Reading(rehearsal.office, rehearsal.before, progress) as before,
           Reading(rehearsal.office, rehearsal.after, progress) as after):
-        found = lines(telling.differences(before, after), most) if has_seats(before) else []
-        return found + session_lines(before, after)
+        return between(before, after, most)
+
+
+def between(before: Reading, after: Reading, most: int | None) -> list[str]:
+    """As `of`, from two readings."""
+    found = lines(telling.differences(before, after), most) if has_seats(before) else []
+    return found + session_lines(before, after)
 
 
 def kind_of(change: Change) -> str:

@@ -250,7 +250,7 @@ class File:
     def look_at(self, rows: Iterator[files.Record]) -> bool:
         """Looks at all rows; false where it gives up, since too many are wrong."""
         for record in rows:
-            if self.is_whole(record) and self.is_new(self.mended(record)):
+            if self.is_whole(record) and (self.is_new(mended := self.mended(record)) or mended != record):
                 self.look_at_values(record)
             if self.wrong.count >= MOST_COUNTED:
                 self.wrong.add(record.line, "file", f"{MOST_COUNTED:,} mistakes; what is behind them is not looked at")

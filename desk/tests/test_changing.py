@@ -53,6 +53,12 @@ class Changing(sample.SampleSchool):
                 file.write((self.examples / f"{kind}.csv").read_text("utf-8") + MORE.get(kind, ""))
         return folder
 
+    def program(self, text):
+        """A program that does this before the real one, which is called with the words."""
+        path = self.write("program", f"#!/bin/sh\n{text}\nexec {sample.built_program()} \"$@\"\n")
+        os.chmod(path, 0o700)
+        return path
+
 
 class Lists(Changing):
     def test_it_is_carried_out_as_it_was_tried_with_one_copy(self):
@@ -226,12 +232,6 @@ def fill(folder):
 
 
 class Killed(Changing):
-    def program(self, text):
-        """A program that does this before the real one, which is called with the words."""
-        path = self.write("program", f"#!/bin/sh\n{text}\nexec {sample.built_program()} \"$@\"\n")
-        os.chmod(path, 0o700)
-        return path
-
     def test_each_step(self):
         """`take` is killed as a step begins: the next change says it, once, and how to put back what was before."""
         facts, before = self.facts(), self.state()
@@ -261,38 +261,38 @@ class Killed(Changing):
         self.assertIn("has no end in the log: it is there whole or not at all; look", done.stderr)
 
     def test_at_any_time(self):
-        self.assertEqual(kill_often(self, self.facts(), KILLS, SEED).total(), KILLS)
+        self.assertEqual(kill_often(self, ["take", self.facts(), "--yes"], KILLS, SEED).total(), KILLS)
 
 
-def kill_often(school, facts, count, seed):
-    """Kills `take` so many times, at random; counts how often the office was as before, whole, or was put back."""
+def kill_often(school, words, count, seed):
+    """Kills a command so many times, at random; counts how often the office was as before, whole, or was put back."""
     chance, before = random.Random(seed), school.state()
-    with begun(school, facts) as process:
+    with begun(school, words) as process:
         began = time.monotonic()
         process.wait()
         length, after = time.monotonic() - began, school.state()
     school.office("back", "1", "--yes")
     counts = collections.Counter()
     for _ in range(count):
-        counts[what_a_kill_leaves(school, facts, chance.uniform(0, 1.1) * length, before, after)] += 1
+        counts[what_a_kill_leaves(school, words, chance.uniform(0, 1.1) * length, before, after)] += 1
     del counts["bad"]
     return counts
 
 
 @contextlib.contextmanager
-def begun(school, facts):
-    """A `take` from the moment in which the log has its first line."""
+def begun(school, words):
+    """A command from the moment in which the log has its first line."""
     lines = len(school.log())
-    with subprocess.Popen([sample.DESK / "office", "take", facts, "--yes"], env=school.environment,
+    with subprocess.Popen([sample.DESK / "office", *words], env=school.environment,
                           stdout=subprocess.DEVNULL, stderr=subprocess.DEVNULL) as process:
         sample.until(lambda: len(school.log()) > lines)
         yield process
 
 
-def what_a_kill_leaves(school, facts, seconds, before, after):
-    """Kills a `take` some seconds after its first line in the log; what it left, in a word. The office is as before
+def what_a_kill_leaves(school, words, seconds, before, after):
+    """Kills a command some seconds after its first line in the log; what it left, in a word. The office is as before
     then, and good."""
-    with begun(school, facts) as process:
+    with begun(school, words) as process:
         time.sleep(seconds)
         process.kill()
     said = school.run_office("reinstate", "0001000", "MA-1").stderr

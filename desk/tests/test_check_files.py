@@ -153,6 +153,11 @@ class Words(unittest.TestCase):
             "semicolons part the columns: save it with commas", "write WK3DEGZDPC (8 to 16 of A-Z and 0-9)",
             "leading zeros lost? 0001000 (seven digits; format the column as text)", "1 to 80 bytes; it has 0"])
 
+    def test_lost_zeros_are_told_of_a_row_that_is_there_with_them(self):
+        found, notes = self.mistakes_in("entries", b"number,paper\n0001000,MA-1\n1000,MA-1\n0001000,MA-1\n")
+        self.assertEqual(found, ["leading zeros lost? 0001000 (seven digits; format the column as text)"])
+        self.assertEqual(notes.count("the same as line 2; it counts once"), 2)
+
     def test_a_missing_column_is_named_and_hides_no_other_mistake(self):
         text = b"number;name\n1000;Ada Lin\n0001017;\n0001034\n"
         self.assertEqual(self.mistakes_in("candidates", text), ([

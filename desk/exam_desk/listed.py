@@ -1,0 +1,90 @@
+"""Withdraws or reinstates the entries of a file one by one, with one copy from before them and the office in turns."""
+from __future__ import annotations
+
+import os
+import time
+from collections.abc import Callable, Iterator
+from typing import NamedTuple
+
+from exam_desk import changing, checking, copies, files, logbook, mistakes, refusals
+from exam_desk.changing import Answered, Step
+from exam_desk.office import Office
+from exam_desk.trouble import NoOffice, Trouble
+
+OF_THE_OFFICE = [22, 23, 24, 27]  # refusals
+TURN = 8  # seconds after which `keep`, and whoever waits, has the office before the next row
+BETWEEN = 0.1  # seconds between two turns, in which another command that waits looks several times
+
+
+class Row(NamedTuple):
+    """A row of the file, and the command that it means."""
+    line: int
+    step: Step
+
+
+Tell = Callable[[int, Answered], None]  # hears what became of the row that begins in a line
+
+
+def rows_of(office: Office, command: str, path: str) -> tuple[list[Row], list[str]]:
+    """The rows of a file with the header of entries, and a line for each mistake in it, an unknown number or paper
+    among them. Raises `Trouble` where there is no office or no such file, or no row in it."""
+    if not os.path.isfile(office.path):
+        raise NoOffice(office.path)
+    try:
+        text = files.read(path)
+    except OSError as fault:
+        raise Trouble(f"{fault.strerror}; nothing is changed", path) from fault
+    wrong, _ = mistakes.looked_through("entries", text, checking.office_knows(office))
+    if wrong:
+        return [], list(checking.lines_on(os.path.basename(path), wrong, ""))
+    found = files.records(text)
+    next(found)  # the header
+    rows = [Row(record.line, Step((command, *(field.decode() for field in record.fields)))) for record in found]
+    if not rows:
+        raise Trouble("there is no row; nothing is changed", path)
+    return rows, []
+
+
+def carry_out(office: Office, title: str, rows: list[Row], tell: Tell) -> list[Answered]:
+    """Carries out each row by itself, so that one that is refused leaves the others; what is said of the rows. It stops
+    where the office itself cannot be used. The copy from before stays where something may be done. Raises `Trouble`
+    where a turn, the disk or the program is not to be had; the rows before are done then."""
+    answers: list[Answered] = []
+    copy = ""
+    left = iter(rows)
+    try:
+        while len(answers) < len(rows) and not is_hopeless(answers):
+            with changing.turn(office, title) as taken:
+                copy = copy or changing.kept_copy(office, title)
+                for row, answered in in_one_turn(taken, left):
+                    answers.append(answered)
+                    tell(row.line, answered)
+            time.sleep(BETWEEN)
+    except Trouble as fault:
+        drop_needless(office, answers, copy)
+        if not answers:
+            raise
+        raise Trouble(f"the rows from line {rows[len(answers)].line} on are not carried out: {fault}") from fault
+    drop_needless(office, answers, copy)
+    return answers
+
+
+def in_one_turn(taken: changing.Turn, left: Iterator[Row]) -> Iterator[tuple[Row, Answered]]:
+    """The next rows with what is said of them, until the time of the turn is over or the office cannot be used."""
+    until = time.monotonic() + TURN
+    for row in left:
+        answered = taken.carried(row.step, row.step.words, logbook.BEGINS)
+        yield row, answered
+        if time.monotonic() >= until or is_hopeless([answered]):
+            return
+
+
+def is_hopeless(answers: list[Answered]) -> bool:
+    """Whether the last refusal is about the office, so that it would be that of each further row."""
+    return bool(answers) and refusals.number_of(answers[-1].ran.complaint) in OF_THE_OFFICE
+
+
+def drop_needless(office: Office, answers: list[Answered], copy: str) -> None:
+    """Removes the copy from before where nothing was done."""
+    if copy and all(changing.has_done_nothing(office, answered, copy) for answered in answers):
+        copies.drop(copy)

@@ -1,0 +1,265 @@
+"""A second sitting for a candidate with two papers at once: a later session of the same day, with a paper of its own.
+
+A plan is a list of steps for `changing.carry_out`. What the candidate sits, where and until when, the program says:
+before the steps and after a rehearsal of them. The codes of the second session and paper are those of the first with
+`-2`, `-3` and so on; by them and by the title the second paper is found again.
+"""
+from __future__ import annotations
+
+import itertools
+import sqlite3
+from collections import Counter
+from collections.abc import Container
+from typing import NamedTuple
+
+from exam_desk import files, lists
+from exam_desk.answers import Sitting
+from exam_desk.changing import Step
+from exam_desk.mistakes import RIGHT
+from exam_desk.reading import Member, Reading
+from exam_desk.reasons import Reasons
+from exam_desk.snapshot import Rows, session_row
+from exam_desk.trouble import Trouble
+from exam_desk.words import clock, feature_text, plain
+
+MOST_LETTERS = 12  # of the code of a session or a paper
+END_OF_DAY = "24:00"
+SESSIONS_THEN = ("SELECT session.code FROM session JOIN opening ON session = code "
+                 "WHERE day = ? AND start = ? AND hall = ? ORDER BY code")
+SEATED_THAT_DAY = "SELECT session, number FROM seat JOIN session ON session = code WHERE day = ? AND hall = ?"
+
+
+class Asked(NamedTuple):
+    """What is asked for a candidate: to sit this paper later on the same day."""
+    number: str
+    paper: str
+    start: str  # as 13:00
+    hall: str
+
+
+class Plan(NamedTuple):
+    """The steps, and what they are about."""
+    title: str
+    steps: list[Step]
+    number: str
+    first: str  # the session in which the candidate has two papers
+    session: str  # the second session
+    paper: str  # the second paper
+    hall: str = ""  # none where a second sitting is taken back
+    made: str = ""  # what the steps make or join, in words
+
+
+def plan(reading: Reading, asked: Asked) -> Plan:
+    """The steps to a second sitting. Raises `Trouble` where a value has a wrong form or is not known, or where the
+    candidate has no two papers in the session of the paper."""
+    for name, value in asked._asdict().items():
+        if not RIGHT[name](value.encode("utf-8", "surrogateescape")):
+            raise Trouble(f"{name} is {value}: that has the wrong form; nothing is changed")
+    rows = reading.rows
+    first = paper_row(rows, asked.paper)
+    refuse_without_clash(reading, asked, first["session"])
+    if rows.execute("SELECT 1 FROM hall WHERE code = ?", [asked.hall]).fetchone() is None:
+        raise Trouble(f"the office has no hall {asked.hall}; nothing is changed")
+    day = session_row(rows, first["session"])["day"]
+    there = session_then(rows, first["session"], day, asked)
+    session = there or free_code(first["session"], codes(rows, "session"))
+    paper = paper_there(rows, first, session)
+    code = paper or free_code(asked.paper, codes(rows, "paper"))
+    steps = [] if there else [imported("sessions", session, day, asked.start)]
+    if not paper:
+        steps.append(imported("papers", code, first["title"], session, first["minutes"],
+                              feature_text(first["requires"])))
+    desks, opening = desk_steps(rows, session, asked.hall)
+    steps += [*opening, *entry_steps(rows, asked.number, code), Step(("withdraw", asked.number, asked.paper))]
+    made = (f"session {session}{'' if there else ' (new)'} at {asked.start}, paper {code}{'' if paper else ' (new)'}, "
+            f"hall {asked.hall} with {lists.count(desks, 'desk')}")
+    return Plan(" ".join(["second-sitting", *asked]), steps, asked.number, first["session"], session, code, asked.hall,
+                made)
+
+
+def paper_row(rows: Rows, code: str) -> sqlite3.Row:
+    found: sqlite3.Row | None = rows.execute("SELECT code, title, session, minutes, requires FROM paper WHERE code = ?",
+                                             [code]).fetchone()
+    if found is None:
+        raise Trouble(f"the office has no paper {code}; nothing is changed")
+    return found
+
+
+def refuse_without_clash(reading: Reading, asked: Asked, session: str) -> None:
+    """Raises `Trouble` where the candidate is not entered for the paper, or for no other one in its session."""
+    if not reading.knows(asked.number):
+        raise Trouble(f"the office has no candidate {asked.number}; `office look NAME` finds the number")
+    member = reading.member(session, asked.number)
+    missed = reading.clashes(session, [asked.number]).get(asked.number, [])
+    if member is None or asked.paper not in (member.sitting.paper, *missed):
+        raise Trouble(f"{asked.number} is not entered for {asked.paper}, or the entry is withdrawn; nothing is changed")
+    if not missed:
+        raise Trouble(f"{asked.number} has no other paper in {session}, so no second sitting is needed; nothing is "
+                      "changed")
+
+
+def codes(rows: Rows, table: str) -> set[str]:
+    return {code for code, in rows.execute(f"SELECT code FROM {table}")}
+
+
+def numbered(code: str, place: int) -> str:
+    """The code with a number behind it, cut to the letters that a code may have."""
+    ending = f"-{place}"
+    return code[:MOST_LETTERS - len(ending)] + ending
+
+
+def is_numbered(code: str, first: str) -> bool:
+    """Whether a code is another one with a number from 2 behind it."""
+    place = code.rpartition("-")[2]
+    return place.isdecimal() and int(place) >= 2 and code == numbered(first, int(place))
+
+
+def free_code(code: str, taken: Container[str]) -> str:
+    return next(found for place in itertools.count(2) if (found := numbered(code, place)) not in taken)
+
+
+def session_then(rows: Rows, first: str, day: str, asked: Asked) -> str | None:
+    """The second session of that start in that hall, where there is one."""
+    hours, minutes = asked.start.split(":")
+    found = rows.execute(SESSIONS_THEN, [day, int(hours) * 60 + int(minutes), asked.hall])
+    return next((code for code, in found if is_numbered(code, first)), None)
+
+
+def second_papers(rows: Rows, first: sqlite3.Row) -> list[sqlite3.Row]:
+    """The papers that were made of a paper for second sittings."""
+    found = rows.execute("SELECT code, session, minutes, requires FROM paper WHERE title = ? ORDER BY code",
+                         [first["title"]])
+    return [row for row in found
+            if is_numbered(row["code"], first["code"]) and is_numbered(row["session"], first["session"])]
+
+
+def paper_there(rows: Rows, first: sqlite3.Row, session: str) -> str | None:
+    """The second paper in a session, where one is there that lasts as long and requires as much."""
+    return next((row["code"] for row in second_papers(rows, first) if row["session"] == session
+                 and (row["minutes"], row["requires"]) == (first["minutes"], first["requires"])), None)
+
+
+def imported(kind: str, *values: object) -> Step:
+    """The import of a row."""
+    return Step(("import", kind, f"{kind}.csv"), files.written([files.HEADERS[kind], values]).encode())
+
+
+def desk_steps(rows: Rows, session: str, hall: str) -> tuple[int, list[Step]]:
+    """How many desks the hall has in the second session then, and the import where there must be one more."""
+    opening = rows.execute("SELECT desks, until, reserved FROM opening WHERE session = ? AND hall = ?",
+                           [session, hall]).fetchone()
+    if opening is None:
+        return 1, [imported("openings", session, hall, 1, END_OF_DAY, "no")]
+    [taken] = rows.execute("SELECT count(*) FROM seat WHERE session = ? AND hall = ?", [session, hall]).fetchone()
+    if taken < opening["desks"]:
+        return opening["desks"], []
+    desks = opening["desks"] + 1
+    return desks, [imported("openings", session, hall, desks, clock(opening["until"]),
+                            "yes" if opening["reserved"] else "no")]
+
+
+def is_live(rows: Rows, number: str, paper: str) -> bool | None:
+    """Whether an entry counts; None where there is none."""
+    found = rows.execute("SELECT live = 1 FROM entry WHERE number = ? AND paper = ?", [int(number), paper]).fetchone()
+    return None if found is None else bool(found[0])
+
+
+def entry_steps(rows: Rows, number: str, paper: str) -> list[Step]:
+    """What makes the candidate entered: nothing, the import, or the way back of a withdrawal."""
+    live = is_live(rows, number, paper)
+    if live is None:
+        return [imported("entries", number, paper)]
+    return [] if live else [Step(("reinstate", number, paper))]
+
+
+def plan_back(reading: Reading, number: str, paper: str) -> Plan:
+    """The steps that take a second sitting back. Raises `Trouble` where the candidate has none of this paper."""
+    first = paper_row(reading.rows, paper)
+    if not files.is_number(number.encode("utf-8", "surrogateescape")) or not reading.knows(number):
+        raise Trouble(f"the office has no candidate {number}; a number has seven digits, `office look NAME` finds it")
+    found = [row for row in second_papers(reading.rows, first) if is_live(reading.rows, number, row["code"])]
+    if not found or is_live(reading.rows, number, paper) is not False:
+        raise Trouble(f"{number} has no second sitting of {paper}; nothing is changed")
+    if len(found) > 1:
+        raise Trouble(f"{number} has second sittings of {paper} as {', '.join(row['code'] for row in found)}: withdraw "
+                      f"one, and reinstate {paper}; nothing is changed")
+    second = found[0]["code"]
+    steps = [Step(("withdraw", number, second)), Step(("reinstate", number, paper))]
+    return Plan(f"second-sitting {number} {paper} --undo", steps, number, first["session"], found[0]["session"], second)
+
+
+def lines(planned: Plan, before: Reading, after: Reading) -> list[str]:
+    """What a rehearsed plan does for the candidate. Raises `Trouble` where they would not sit as was asked."""
+    return lines_there(planned, before, after) if planned.hall else lines_back(planned, after)
+
+
+def lines_there(planned: Plan, before: Reading, after: Reading) -> list[str]:
+    first, second = member(after, planned.first, planned.number), member(after, planned.session, planned.number)
+    refuse_early(first, second)
+    refuse_elsewhere(planned, after, second)
+    refuse_overlaps(after, second)
+    found = [planned.made, f"{second.number} {plain(second.name)} sits {first.sitting.paper} until "
+             f"{first.sitting.finish}, and {second.sitting.paper} from {second.sitting.start} to "
+             f"{second.sitting.finish} in {second.sitting.hall}, desk {second.sitting.desk}"]
+    was = lists.allowance(member(before, planned.first, planned.number).sitting)
+    if was != lists.allowance(second.sitting):
+        found.append(f"NOTE: the arrangement is {was or 'none'} in {planned.first}, and "
+                     f"{lists.allowance(second.sitting) or 'none'} in {planned.session}")
+    return found + others_there(after, second.sitting)
+
+
+def member(reading: Reading, session: str, number: str) -> Member:
+    """Raises `Trouble` where the candidate sits nothing in the session."""
+    found = reading.member(session, number)
+    if found is None:
+        raise Trouble(f"{number} would sit nothing in {session}; nothing is changed")
+    return found
+
+
+def refuse_early(first: Member, second: Member) -> None:
+    if second.sitting.start < first.sitting.finish:
+        raise Trouble(f"{first.number} sits {first.sitting.paper} until {first.sitting.finish}: begin then, or later; "
+                      "nothing is changed")
+
+
+def refuse_elsewhere(planned: Plan, after: Reading, second: Member) -> None:
+    """Raises `Trouble` where another paper or hall would be sat."""
+    if second.sitting.paper != planned.paper:
+        raise Trouble(f"{second.number} sits {second.sitting.paper} in {planned.session}: take another start or hall; "
+                      "nothing is changed")
+    if second.sitting.hall != planned.hall:
+        reason = dict(Reasons(after, planned.session).of(second)).get(planned.hall)
+        raise Trouble(f"{second.number} would have no desk in {planned.hall} ({reason}); nothing is changed")
+
+
+def overlap(one: Sitting, other: Sitting) -> bool:
+    return one.date == other.date and one.start < other.finish and other.start < one.finish
+
+
+def refuse_overlaps(after: Reading, second: Member) -> None:
+    """Raises `Trouble` where the candidate would be in two sessions at one time."""
+    for other in after.all_of(second.number).values():
+        if other.session != second.sitting.session and overlap(other, second.sitting):
+            raise Trouble(f"{second.number} sits {other.paper} in {other.session} from {other.start} to "
+                          f"{other.finish}, and would sit {second.sitting.paper} from {second.sitting.start} to "
+                          f"{second.sitting.finish}; nothing is changed")
+
+
+def others_there(after: Reading, second: Sitting) -> list[str]:
+    """A note for each other session of which somebody is in the hall at that time."""
+    rows = after.rows.execute(SEATED_THAT_DAY, [second.date, second.hall]).fetchall()
+    seated = [(session, f"{number:07}") for session, number in rows if session != second.session]
+    after.ask(after.person(int(number)) for _, number in seated)
+    counts = Counter(session for session, number in seated if overlap(after.all_of(number)[session], second))
+    return [f"NOTE: {lists.count(count, 'candidate')} of {session} would be in {second.hall} at that time, by other "
+            "lists of desks" for session, count in sorted(counts.items())]
+
+
+def lines_back(planned: Plan, after: Reading) -> list[str]:
+    first = member(after, planned.first, planned.number)
+    missed = after.clashes(planned.first, [planned.number]).get(planned.number, [])
+    others = len(after.members(planned.session))
+    stay = f"with {lists.count(others, 'candidate')}" if others else "empty"
+    return [f"{first.number} {plain(first.name)} sits {first.sitting.paper} again"
+            + (f", and misses {', '.join(missed)}" if missed else ""),
+            f"session {planned.session} and paper {planned.paper} stay, {stay}"]

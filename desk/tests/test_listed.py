@@ -1,0 +1,177 @@
+"""Lists of withdrawals and of their way back: a refusal leaves the other rows, and others have their turns."""
+import contextlib
+import os
+import subprocess
+import threading
+import time
+import unittest
+from unittest import mock
+
+import sample
+import test_changing
+from exam_desk import listed
+from exam_desk.office import Office
+from exam_desk.trouble import Trouble
+
+GOOD = "number,paper\n0001000,MA-1\n0001017,MA-1\n"
+NAME = 'leave, "=1+1".csv'
+
+
+class Listed(test_changing.Changing):
+    def setUp(self):
+        super().setUp()
+        self.before = self.state()
+
+    def run_list(self, text, name="withdraw", **environment):
+        return self.run_office(name, "--list", self.write(NAME, text), **environment)
+
+    def carried(self, text, tell=lambda line, answered: None):
+        rows, wrong = listed.rows_of(self.value, "withdraw", self.write(NAME, text))
+        self.assertEqual(wrong, [])
+        return [answered.first_line() for answered in listed.carry_out(self.value, "withdraw --list x", rows, tell)]
+
+    def test_there_and_back_again(self):
+        done = self.run_list(GOOD)
+        self.assertEqual((done.returncode, done.stderr), (0, ""))
+        self.assertEqual(done.stdout, "line 2: withdraw 0001000 MA-1: withdrawn\n"
+                                      "line 3: withdraw 0001017 MA-1: withdrawn\n"
+                                      "2 of 2 rows are done; `office back 1` takes them back\n")
+        self.assertEqual(self.log(), [line for number in ("0001000", "0001017") for line in (
+            [f"withdraw {number} MA-1", "begins", ""], [f"withdraw {number} MA-1", "0", "withdrawn"])])
+        [copy] = self.kept()
+        self.assertTrue(copy.endswith(" withdraw --list leave_ __1+1__csv"), copy)
+        withdrawn = self.state()
+        self.assertIn("line 3: reinstate 0001017 MA-1: reinstated\n", self.run_list(GOOD, "reinstate").stdout)
+        self.assertNotEqual(self.state(), withdrawn)
+        self.assertEqual(len(self.kept()), 2)
+        self.office("back", "2", "--yes")
+        self.assertEqual(self.state(), self.before)
+
+    def test_a_refusal_in_the_middle(self):
+        self.office("withdraw", "0001000", "MA-1")
+        done = self.run_list("\ufeffnumber,paper\r\n\"0001000\",MA-1\r\n\r\n0001017,CS-1\r\n" + "0001017,MA-1\r\n" * 2)
+        self.assertEqual(done.returncode, 1)
+        self.assertEqual(done.stderr, "line 2: withdraw 0001000 MA-1: refused 9\n  the entry is withdrawn already\n"
+                                      "line 4: withdraw 0001017 CS-1: refused 8\n  the candidate is not entered for "
+                                      "this paper; import the entry or reinstate it, or decide `refused`\n"
+                                      "line 6: withdraw 0001017 MA-1: refused 9\n  the entry is withdrawn already\n")
+        self.assertEqual(done.stdout, "line 5: withdraw 0001017 MA-1: withdrawn\n"
+                                      "1 of 4 rows are done; `office back 1` takes them back\n")
+        self.assertEqual(len(self.kept()), 2)
+
+    def test_where_nothing_is_done_no_copy_stays(self):
+        done = self.run_list(GOOD, "reinstate")
+        self.assertEqual((done.returncode, done.stdout), (1, "0 of 2 rows are done\n"))
+        self.assertEqual((self.state(), self.kept()), (self.before, []))
+
+    def test_all_rows_are_looked_through_first(self):
+        for text, *said in (
+                (GOOD + "0009999,MA-1\n0001000,XX-1\n", "line 4: number '0009999': ", "line 5: paper 'XX-1': "),
+                (GOOD + "1000,MA-1\n", "line 4: number '1000': "),
+                (GOOD + "=1+1,<b>\u202e\n", "line 4: number '=1+1': ", "line 4: paper '<b>?': "),
+                (GOOD + "0001000\n", "line 4: row: 1 fields"), (GOOD + '"0001000,MA-1\n', "a quote is not closed"),
+                ("paper,number\nMA-1,0001000\n", "the first line must be number,paper"), ("", "the file is empty"),
+                (GOOD.replace(",", ";"), "semicolons"), (b"number,paper\n\xff\x00,MA-1\n", "line 2: number ")):
+            done = self.run_list(text)
+            self.assertEqual((done.returncode, done.stdout), (1, ""), text)
+            for words in (*said, "office: nothing is changed\n"):
+                self.assertIn(words, done.stderr)
+        self.assertIn("there is no row; nothing is changed", self.run_list("number,paper\n").stderr)
+        self.assertIn("No such file or directory; nothing is changed", self.refused("withdraw", "--list", "none.csv"))
+        self.assertIn("Is a directory; nothing is changed", self.refused("withdraw", "--list", self.folder))
+        self.assertIn("there is no office here", self.run_list(GOOD, OFFICE=self.path + ".none").stderr)
+        self.assertEqual((self.state(), self.kept(), self.log()), (self.before, [], []))
+
+    def test_words(self):
+        self.assertEqual(self.run_office("withdraw", "--list").returncode, 2)
+        self.assertEqual(self.run_office("withdraw", "--list", "a", "b").returncode, 2)
+        self.assertIn("office reinstate --list FILE.csv\n", self.office("reinstate", "--help"))
+
+    def test_turns(self):
+        for seconds, turns in ((listed.TURN, 1), (0, 2)):
+            kept = len(self.kept())
+            with mock.patch.object(listed, "TURN", seconds), \
+                    mock.patch("exam_desk.changing.turn", wraps=listed.changing.turn) as turn:
+                self.carried(GOOD)
+            self.assertEqual((turn.call_count, len(self.kept())), (turns, kept + 1))
+            self.office("back", "1", "--yes")
+        self.assertLess(listed.TURN, 9)
+
+    def test_others_have_the_office_between_two_turns(self):
+        """Another officer's command waits after the first row, and is done before the second."""
+        others = []
+
+        def tell(line, _):
+            if line == 2:
+                others.append(subprocess.Popen([sample.DESK / "office", "withdraw", "0001034", "FR"],
+                                               env=self.environment, stdout=subprocess.DEVNULL))
+                sample.until(lambda: waits(others[0].pid))
+        with mock.patch.object(listed, "TURN", 0):
+            self.assertEqual(self.carried(GOOD, tell), ["withdrawn", "withdrawn"])
+        self.assertEqual(others[0].wait(sample.PATIENCE), 0)
+        self.assertEqual([what for what, status, _ in self.log() if status == "0"],
+                         ["withdraw 0001000 MA-1", "withdraw 0001034 FR", "withdraw 0001017 MA-1"])
+
+    def test_an_office_that_cannot_be_used(self):
+        """The program is out of memory from the second row on: it is not asked again, and the first row stays."""
+        program = self.program('[ "$5 $6" = "withdraw 0001017" ] && echo refused 22 >&2 && exit 1')
+        done = self.run_list(GOOD + "0001034,FR\n", EXAMOFFICE=program)
+        self.assertEqual(done.returncode, 1)
+        self.assertIn("line 3: withdraw 0001017 MA-1: refused 22\n", done.stderr)
+        self.assertIn("1 of 3 rows are done; ", done.stdout)
+        self.assertNotIn("line 4", done.stdout + done.stderr)
+        self.assertEqual(len(self.kept()), 1)
+
+    def test_a_program_that_does_not_start_in_the_middle(self):
+        program = self.program("")
+        value = Office(self.path, program, self.value.today, "tester")
+        rows, _ = listed.rows_of(value, "withdraw", self.write(NAME, GOOD))
+        with self.assertRaisesRegex(Trouble, "^the rows from line 3 on are not carried out: there is no program "):
+            listed.carry_out(value, "withdraw --list x", rows, lambda line, answered: os.remove(program))
+        self.assertEqual((len(self.kept()), self.log()[1]), (1, ["withdraw 0001000 MA-1", "0", "withdrawn"]))
+        with self.assertRaisesRegex(Trouble, "^there is no program "):
+            listed.carry_out(value, "withdraw --list x", rows, lambda line, answered: None)
+        self.assertEqual(len(self.kept()), 1)
+
+    def test_whoever_reads_may_go(self):
+        """The output cannot be written, and all rows are done."""
+        path = self.write(NAME, GOOD)
+        with open("/dev/full", "w", encoding="utf-8") as full:
+            done = subprocess.run([sample.DESK / "office", "withdraw", "--list", path],
+                                                 env=self.environment, stdout=full, check=False)
+        self.assertEqual(done.returncode, 1)
+        self.assertEqual([answer for _, _, answer in self.log() if answer], ["withdrawn", "withdrawn"])
+
+
+def waits(process):
+    """Whether a command has come to the locks."""
+    folder = f"/proc/{process}/fd"
+    with contextlib.suppress(OSError):
+        return any(os.readlink(f"{folder}/{name}").endswith("want.lock") for name in os.listdir(folder))
+    return False
+
+
+class Served(sample.KeptSchool):
+    def test_keep_has_the_office_between_two_turns(self):
+        rows = [listed.Row(line, listed.Step(("withdraw" if line % 2 else "reinstate", "0001000", "MA-1")))
+                for line in range(1, 5)]
+        asked = []
+
+        def tell(line, _):
+            """A candidate comes while the first row has the office: they need not wait for the last one."""
+            if line == 1:
+                asked.append(threading.Thread(target=lambda: asked.append((self.ask()[0], len(told)))))
+                asked[0].start()
+                time.sleep(0.5)
+            told.append(line)
+        told = []
+        with mock.patch.object(listed, "TURN", 0):
+            answers = listed.carry_out(self.value, "withdraw --list x", rows, tell)
+        self.assertEqual([answer.ran.status for answer in answers], [0] * 4)
+        asked[0].join()
+        self.assertEqual(asked[1][0], 200)
+        self.assertLess(asked[1][1], 4)
+
+
+if __name__ == "__main__":
+    unittest.main()

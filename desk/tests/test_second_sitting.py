@@ -1,0 +1,263 @@
+"""A second sitting for a candidate with two papers at once: whole or not at all, and taken back."""
+import collections
+import contextlib
+import csv
+import io
+import re
+import signal
+import sqlite3
+import subprocess
+import unittest
+
+import sample
+import test_changing
+from exam_desk import second_sitting
+
+KILLS, SEED = 5, 20271129
+STEPS = ["import sessions", "import papers", "import openings", "import entries", "withdraw 0000003"]
+TITLE = '=1+1, "Maths" <b>\u202e\u0085'
+ENTERED = "number,paper\n0000002,MA-1\n0000002,LAT\n0000003,MA-1\n0000003,LAT\n"
+ONE = ("0000003", "MA-1", "10:30", "R14")
+
+
+class SecondSitting(test_changing.Changing):
+    """Two candidates are entered for LAT (09:00 to 10:30) and MA-1 (two hours) of MON-AM, and sit LAT."""
+
+    def setUp(self):
+        super().setUp()
+        self.enter("candidates", "number,name,code\n0000002,<b>Ann,AAAAAAAA\n0000003,\"\u202eBo, =1+1\",BBBBBBBB\n")
+        self.enter("entries", ENTERED)
+        self.before, self.copies_before = self.state(), len(self.kept())
+
+    def enter(self, kind, text):
+        self.office("import", kind, self.write(f"{kind}.csv", text))
+
+    def second(self, *words):
+        return self.office("second-sitting", *words, "--yes")
+
+    def seats(self, session):
+        """Of each member of a session the paper, the hall and the desk."""
+        rows = csv.DictReader(io.StringIO(self.office("export", session)))
+        return {row["number"]: (row["paper"], row["hall"], row["desk"]) for row in rows}
+
+    def rows(self, statement):
+        with contextlib.closing(sqlite3.connect(self.path)) as file:
+            return file.execute(statement).fetchall()
+
+    def refuses(self, said, *words):
+        """A refusal says this, and changes nothing."""
+        now, copies = self.state(), len(self.kept())
+        self.assertRegex(self.refused("second-sitting", *words, "--yes"), said)
+        self.assertEqual((self.state(), len(self.kept())), (now, copies))
+
+
+class There(SecondSitting):
+    def test_the_first_makes_a_session_and_a_paper(self):
+        said = self.second(*ONE)
+        self.assertEqual(said.split("\n")[:4], [
+            "session MON-AM-2 (new) at 10:30, paper MA-1-2 (new), hall R14 with 1 desk",
+            "0000003 ?Bo, =1+1 sits LAT until 10:30, and MA-1-2 from 10:30 to 12:30 in R14, desk 1",
+            "1 joins a session", "session MON-AM-2: 1 candidates, 0 without a desk"])
+        self.assertEqual(self.seats("MON-AM-2"), {"0000003": ("MA-1-2", "R14", "1")})
+        self.assertEqual(self.seats("MON-AM")["0000003"][0], "LAT")
+        self.assertNotIn("0000003", self.office("clashes", "MON-AM"))
+        self.assertEqual(len(self.kept()), self.copies_before + 1)
+        self.assertIn(["second-sitting 0000003 MA-1 10:30 R14", "0", "5 steps"], self.log())
+        self.office("back", "1", "--yes")
+        self.assertEqual(self.state(), self.before)
+
+    def test_the_paper_that_was_sat_so_far(self):
+        said = self.second("0000003", "LAT", "11:00", "R14")
+        self.assertIn("sits MA-1 until 11:00, and LAT-2 from 11:00 to 12:30 in R14, desk 1\n", said)
+        self.assertIn("1 sits another paper or time\n", said)
+
+    def test_a_second_candidate_joins(self):
+        self.second(*ONE)
+        said = self.second("0000002", *ONE[1:])
+        self.assertIn("session MON-AM-2 at 10:30, paper MA-1-2, hall R14 with 2 desks\n", said)
+        self.assertEqual(self.seats("MON-AM-2"), {"0000002": ("MA-1-2", "R14", "1"), "0000003": ("MA-1-2", "R14", "2")})
+
+    def test_another_paper_joins_the_session_and_another_hall_does_not(self):
+        self.second("0000003", "MA-1", "11:00", "R14")
+        self.second("0000002", "LAT", "11:00", "R14")
+        self.assertEqual(self.seats("MON-AM-2"), {"0000002": ("LAT-2", "R14", "1"), "0000003": ("MA-1-2", "R14", "2")})
+        self.second("0000002", "LAT", "--undo")
+        said = self.second("0000002", "LAT", "11:00", "R12")
+        self.assertIn("session MON-AM-3 (new) at 11:00, paper LAT-3 (new), hall R12 with 1 desk\n", said)
+
+    def test_a_paper_that_lasts_longer_by_now_is_another(self):
+        self.second(*ONE)
+        self.enter("papers", "paper,title,session,minutes,requires\nMA-1,Mathematics 1,MON-AM,90,-\n")
+        self.assertIn("paper MA-1-3 (new)", self.second("0000002", *ONE[1:]))
+
+    def test_codes_are_cut_and_free(self):
+        title = TITLE.replace('"', '""')
+        self.enter("papers", f'paper,title,session,minutes,requires\nMATHEMATICS1,"{title}",MON-AM,60,screen\n'
+                             "MATHEMATIC-2,Other,MON-AM,60,-\n")
+        self.enter("entries", "number,paper\n0000003,MATHEMATICS1\n")
+        said = self.second("0000003", "MATHEMATICS1", "10:30", "PC1")
+        self.assertIn("paper MATHEMATIC-3 (new)", said)
+        self.assertEqual(self.rows("SELECT title, session, minutes, requires FROM paper WHERE code = 'MATHEMATIC-3'"),
+                         [(TITLE, "MON-AM-2", 60, 2)])
+
+    def test_forms_of_codes(self):
+        self.assertEqual([second_sitting.numbered("ABCDEFGHIJKL", place) for place in (2, 10)],
+                         ["ABCDEFGHIJ-2", "ABCDEFGHI-10"])
+        for code, first, is_one in (("S-2", "S", True), ("S-1", "S", False), ("S-02", "S", False), ("S-12", "S", True),
+                                    ("S-2-2", "S-2", True), ("S-X", "S", False), ("T-2", "S", False), ("S", "S", False),
+                                    ("ABCDEFGHIJ-2", "ABCDEFGHIJKL", True), ("-2", "-", False)):
+            self.assertIs(second_sitting.is_numbered(code, first), is_one, code)
+
+    def test_it_asks(self):
+        done = self.run_office("second-sitting", *ONE, stdin="n\n")
+        self.assertEqual((done.returncode, done.stderr), (1, "office: nothing is changed\n"))
+        self.assertTrue(done.stdout.endswith("do this? [y/N] "), done.stdout)
+        self.assertEqual((self.state(), len(self.kept())), (self.before, self.copies_before))
+        self.assertIn("done; ", self.office("second-sitting", *ONE, stdin="y\n"))
+
+    def test_an_arrangement_that_holds_in_one_session_alone_is_noted(self):
+        with contextlib.closing(sqlite3.connect(self.path)) as file:
+            file.execute("INSERT INTO appeal VALUES (3, 'A1', 'MON-AM', 3, '', 0, 25, '', 2, '', '2027-05-01')")
+            file.commit()
+        said = self.second("0000003", "MA-1", "11:00", "R14")
+        self.assertIn("NOTE: the arrangement is 25 % extra time in MON-AM, and none in MON-AM-2\n", said)
+
+    def test_others_in_the_hall_are_noted(self):
+        there = sum(hall == "GYM" for _, hall, _ in self.seats("MON-PM").values())
+        notes = [line for line in self.second("0000003", "MA-1", "12:30", "GYM").split("\n") if "NOTE" in line]
+        self.assertEqual(notes, [f"NOTE: {there} candidates of MON-PM would be in GYM at that time, by other lists of "
+                                 "desks"])
+
+
+class Refused(SecondSitting):
+    def test_values(self):
+        self.refuses("number is 3: that has the wrong form", "3", *ONE[1:])
+        self.refuses(r"start is 9:30: that has the wrong form", *ONE[:2], "9:30", "R14")
+        self.refuses(r"start is 24:00: ", *ONE[:2], "24:00", "R14")
+        self.refuses(r"hall is \?r: that has the wrong form", *ONE[:3], "\u202er")
+        self.refuses("paper is <b>: that has the wrong form", "0000003", "<b>", *ONE[2:])
+        self.refuses("the office has no candidate 0000009", "0000009", *ONE[1:])
+        self.refuses("the office has no paper XX-1", "0000003", "XX-1", *ONE[2:])
+        self.refuses("the office has no hall R99", *ONE[:3], "R99")
+        for words in (ONE[:3], ONE[:2], ("0000003", "--undo"), (*ONE, "--undo")):
+            self.assertEqual(self.run_office("second-sitting", *words).returncode, 2, words)
+        self.assertIn("there is no office here", self.refused("second-sitting", *ONE, OFFICE=self.path + ".none"))
+
+    def test_who_has_no_two_papers(self):
+        self.refuses("0000003 is not entered for CS-1", "0000003", "CS-1", *ONE[2:])
+        self.office("withdraw", "0000003", "LAT")
+        self.refuses("0000003 has no other paper in MON-AM", *ONE)
+        self.refuses("0000003 is not entered for LAT, or the entry is withdrawn", "0000003", "LAT", *ONE[2:])
+
+    def test_times(self):
+        self.refuses("0000003 sits LAT until 10:30: begin then, or later", *ONE[:2], "10:29", "R14")
+        self.refuses("0000003 sits MA-1 until 11:00: begin then, or later", "0000003", "LAT", "10:59", "R14")
+        self.refuses("0000003 sits LAT until 10:30: begin then, or later", *ONE[:2], "00:00", "R14")
+        self.enter("entries", "number,paper\n0000003,EN-1\n")
+        self.refuses("0000003 sits EN-1 in MON-PM from 13:30 to 15:00, and would sit MA-1-2 from 11:31 to 13:31",
+                     *ONE[:2], "11:31", "R14")
+        self.refuses("0000003 sits EN-1 in MON-PM", *ONE[:2], "14:59", "R14")
+        self.second(*ONE[:2], "11:30", "R14")
+
+    def test_a_hall_that_does_not_suit(self):
+        self.refuses(r"0000003 would have no desk in R14 \(closes 24:00\)", *ONE[:2], "22:01", "R14")
+        self.enter("arrangements", "number,needs,extra\n0000003,reader,0\n")
+        self.refuses(r"0000003 would have no desk in R14 \(no reader\)", *ONE)
+
+    def test_a_third_paper_at_the_time_of_the_second(self):
+        self.enter("entries", "number,paper\n0000003,MA-2\n")
+        self.second(*ONE)
+        self.refuses("0000003 sits MA-1-2 in MON-AM-2", "0000003", "MA-2", *ONE[2:])
+
+    def test_a_change_while_it_asks(self):
+        with subprocess.Popen([sample.DESK / "office", "second-sitting", *ONE], env=self.environment, text=True,
+                              stdin=subprocess.PIPE, stdout=subprocess.PIPE, stderr=subprocess.PIPE) as process:
+            said = ""
+            while not said.endswith("do this? [y/N] ") and (letter := process.stdout.read(1)):
+                said += letter
+            self.office("withdraw", "0001000", "MA-1")
+            now, copies = self.state(), len(self.kept())
+            _, complaint = process.communicate("y\n")
+        self.assertIn("the office has changed since you looked at it, so nothing is changed: look again", complaint)
+        self.assertEqual((process.returncode, self.state(), len(self.kept())), (1, now, copies))
+
+    def test_a_step_that_is_refused_in_the_rehearsal(self):
+        program = self.program('[ "$5 $6" = "import sessions" ] && echo refused 20 >&2 && exit 1')
+        self.assertEqual(self.refused("second-sitting", *ONE, "--yes", EXAMOFFICE=program), (
+            "import sessions: refused 20\n  a limit would be passed, or the file is too long; the handbook lists the "
+            "limits\noffice: nothing is changed\n"))
+        self.assertEqual((self.state(), len(self.kept())), (self.before, self.copies_before))
+
+    def test_a_step_that_is_refused_takes_all_back(self):
+        """The rehearsal goes well, and then the program refuses the last step over the office."""
+        program = self.program(f'[ "$2 $5" = "{self.path} withdraw" ] && echo refused 22 >&2 && exit 1')
+        done = self.run_office("second-sitting", *ONE, "--yes", EXAMOFFICE=program)
+        self.assertIn("withdraw 0000003 MA-1: refused 22\n", done.stderr)
+        self.assertEqual((done.returncode, self.state(), len(self.kept())), (1, self.before, self.copies_before))
+
+
+class Back(SecondSitting):
+    def test_it_is_taken_back_and_the_session_stays(self):
+        self.second(*ONE)
+        self.second("0000002", *ONE[1:])
+        said = self.second("0000003", "MA-1", "--undo")
+        self.assertIn("0000003 ?Bo, =1+1 sits LAT again, and misses MA-1\nsession MON-AM-2 and paper MA-1-2 stay, "
+                      "with 1 candidate\n", said)
+        self.assertIn("stay, empty\n", self.second("0000002", "MA-1", "--undo"))
+        self.assertEqual(self.seats("MON-AM-2"), {})
+        self.assertEqual(len(re.findall("000000[23] sits LAT +clash MA-1\n", self.office("clashes", "MON-AM"))), 2)
+        self.assertIn("session MON-AM-2 at 10:30, paper MA-1-2, hall R14 with 2 desks\n", self.second(*ONE))
+        self.assertEqual(self.seats("MON-AM-2"), {"0000003": ("MA-1-2", "R14", "1")})
+
+    def test_who_has_none(self):
+        self.refuses("0000003 has no second sitting of MA-1", "0000003", "MA-1", "--undo")
+        self.second(*ONE)
+        self.refuses("0000002 has no second sitting of MA-1", "0000002", "MA-1", "--undo")
+        self.refuses("0000003 has no second sitting of LAT", "0000003", "LAT", "--undo")
+        self.refuses("the office has no candidate x", "x", "MA-1", "--undo")
+        self.refuses("the office has no paper ", "0000003", "", "--undo")
+        self.office("reinstate", "0000003", "MA-1")
+        self.refuses("0000003 has no second sitting of MA-1", "0000003", "MA-1", "--undo")
+
+
+class Pairs(SecondSitting):
+    def test_names_and_how_many_share_a_pair(self):
+        pairs = re.findall(r"(?m)^(\d{7}) sits (\S+) +clash (\S+)$", self.office("clashes", "MON-AM"))
+        counts = collections.Counter((sat, missed) for _, sat, missed in pairs)
+        said = self.office("look", "--clashes", "MON-AM").split("\n")
+        self.assertEqual(said[0], f"MON-AM: {len({number for number, *_ in pairs})} candidates with two papers or more")
+        heads = [re.fullmatch(r"  (\S+) is sat, (\S+) is missed: (\d+) candidates?", line) for line in said]
+        self.assertEqual({(head[1], head[2]): int(head[3]) for head in heads if head}, counts)
+        self.assertEqual([int(head[3]) for head in heads if head], sorted(counts.values(), reverse=True))
+        place = said.index(f"  LAT is sat, MA-1 is missed: {counts['LAT', 'MA-1']} candidates")
+        self.assertIn("    0000003 ?Bo, =1+1", said[place + 1:place + 1 + counts["LAT", "MA-1"]])
+
+    def test_sessions(self):
+        self.assertIn(self.office("look", "--clashes", "MON-AM"), self.office("look", "--clashes"))
+        self.enter("sessions", "session,date,start\nX,2027-06-20,09:00\n")
+        self.assertEqual(self.office("look", "--clashes", "X"), "nobody has two papers at once\n")
+        self.assertIn("there is no session Y", self.refused("look", "--clashes", "Y"))
+        self.assertEqual(self.run_office("look").returncode, 2)
+
+
+class Killed(SecondSitting):
+    def test_each_step(self):
+        """It is killed as a step begins: the next change says it, and how to put back what was before."""
+        for place, step in enumerate(STEPS):
+            program = self.program(f'[ "$2 $5 $6" = "{self.path} {step}" ] && kill -9 $PPID && exit 9')
+            done = self.run_office("second-sitting", *ONE, "--yes", EXAMOFFICE=program)
+            self.assertEqual(done.returncode, -signal.SIGKILL, step)
+            said = self.run_office("reinstate", "0001000", "MA-1").stderr
+            self.assertRegex(said, "^office: `second-sitting 0000003 MA-1 10:30 R14` of .* was broken off")
+            self.assertEqual(self.state() == self.before, place == 0, step)
+            if place:
+                self.assertRegex(said, "`office back` lists the copy of .*, before second-sitting .* puts it back\n")
+                self.office("back", "1", "--yes")
+            self.assertEqual(self.state(), self.before)
+
+    def test_at_any_time(self):
+        self.assertEqual(test_changing.kill_often(self, ["second-sitting", *ONE, "--yes"], KILLS, SEED).total(), KILLS)
+
+
+if __name__ == "__main__":
+    unittest.main()
