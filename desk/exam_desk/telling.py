@@ -27,9 +27,21 @@ TOUCHED = {
     "opening": "SELECT session FROM different",
     "seat": "SELECT session FROM different",
     "entry": "SELECT session FROM {moment}.paper WHERE code IN (SELECT paper FROM different)",
+    "candidate": SESSIONS_OF.replace("{numbers}", "SELECT number FROM different"),
     "arrangement": SESSIONS_OF.replace("{numbers}", "SELECT number FROM different"),
     "appeal": SESSIONS_OF.replace("{numbers}", "SELECT number FROM different"),
     "standing": SESSIONS_OF.replace("{numbers}", "SELECT number FROM different"),
+}
+
+
+KINDS = {  # the gravest first; what one does and what several do
+    "loses": ("loses the desk", "lose their desks"),
+    "lacks": ("joins a session without a desk", "join a session without a desk"),
+    "paper": ("sits another paper", "sit other papers"), "moves": ("moves to another hall", "move to other halls"),
+    "time": ("sits at another time", "sit at other times"), "name": ("has another name", "have other names"),
+    "gets": ("gets a desk", "get desks"), "leaves": ("leaves a session", "leave a session"),
+    "joins": ("joins a session", "join a session"),
+    "desk": ("has another desk in the same hall", "have other desks in the same hall"),
 }
 
 
@@ -40,10 +52,24 @@ class Change(NamedTuple):
     name: str
     old: Sitting | None
     new: Sitting | None
+    old_name: str
 
     def is_to_tell(self) -> bool:
         """Whether more is another than the desk."""
-        return self.old is None or self.new is None or shown(self.old)[:-1] != shown(self.new)[:-1]
+        return self.kind() != "desk"
+
+    def kind(self) -> str:
+        """The gravest of KINDS that it is."""
+        old, new = self.old, self.new
+        if old is None or new is None:
+            return "leaves" if new is None else "joins" if new.hall else "lacks"
+        if old.hall and not new.hall:
+            return "loses"
+        if old.paper != new.paper:
+            return "paper"
+        if old.hall != new.hall:
+            return "moves" if old.hall else "gets"
+        return "time" if time(old) != time(new) else "name" if self.name != self.old_name else "desk"
 
     def what(self) -> str:
         """The change in words."""
@@ -51,6 +77,7 @@ class Change(NamedTuple):
             word, sitting = ("joined", self.new) if self.old is None else ("left", self.old)
             return f"{word}: {sitting.paper}, {time(sitting)}, {place(sitting)}" if sitting else ""
         pairs = [(part(self.old), part(self.new)) for part in (place, paper, time)]
+        pairs.append((plain(self.old_name), plain(self.name)))
         return ", ".join(f"{old} -> {new}" for old, new in pairs if old != new)
 
 
@@ -110,14 +137,16 @@ def touched_by(both: sqlite3.Connection, table: str, query: str) -> set[str]:
 
 def of_session(before: Reading, after: Reading, session: str) -> list[Change]:
     old, new = sittings(before, session), sittings(after, session)
-    names = {**old, **new}
-    found = [Change(session, number, names[number][0], *(side.get(number, (None, None))[1] for side in (old, new)))
-             for number in names]
+    none: tuple[str, None] = ("", None)
+    pairs = {number: (old.get(number, none), new.get(number, none)) for number in {**old, **new}}
+    found = [Change(session, number, after[0] or before[0], before[1], after[1], before[0] or after[0])
+             for number, (before, after) in pairs.items()]
     return sorted(filter(is_change, found), key=lambda change: name_order(change.name, change.number))
 
 
 def is_change(change: Change) -> bool:
-    return change.old is None or change.new is None or shown(change.old) != shown(change.new)
+    return (change.old is None or change.new is None or shown(change.old) != shown(change.new)
+            or change.old_name != change.name)
 
 
 def sittings(reading: Reading, session: str) -> dict[str, tuple[str, Sitting]]:
