@@ -15,8 +15,11 @@ from exam_desk.telling import Change
 from exam_desk.trouble import Trouble
 from exam_desk.words import plain
 
-CLASHES = ("has a new clash", "have new clashes")
-BEHIND = "lacks"  # new clashes come behind this kind of change
+CLASHES = "clashes"
+KINDS = {  # those of changes, and new clashes behind who has no desk
+    **{kind: telling.KINDS[kind] for kind in ("loses", "lacks")}, CLASHES: ("has a new clash", "have new clashes"),
+    **telling.KINDS,
+}
 GRAVEST = 4  # groups that have a line of their own in a short answer
 MOST_NAMED = 3  # candidates in such a line, or sessions
 DESK_ALONE = "desk"  # candidates of this kind are counted, and never named
@@ -35,22 +38,19 @@ class Met(NamedTuple):
 
 class Group(NamedTuple):
     """Those whom a change meets in one way."""
-    title: str
+    kind: str  # of KINDS
     people: list[Met]  # by session and name
-    is_named: bool
 
-
-class Found(NamedTuple):
-    """What a change does to candidates, the gravest first, and the command that lists them."""
-    groups: list[Group]
-    listing: str
+    def title(self) -> str:
+        return f"{len(self.people):,} {KINDS[self.kind][len(self.people) > 1]}"
 
 
 def of(rehearsal: Rehearsal, at_most: int | None, progress: Progress) -> list[str]:
     """What the steps of a rehearsal would do, of those who are named at most so many in each way."""
     with (Reading(rehearsal.office, rehearsal.before, progress) as before,
           Reading(rehearsal.office, rehearsal.after, progress) as after):
-        return lines(found(before, after, "changes"), at_most) + session_lines(before, after)
+        met = groups(before, after)
+        return (lines(met, at_most) if met or has_seats(before) else []) + session_lines(before, after)
 
 
 def done(office: Office, copy: str, progress: Progress) -> list[str]:
@@ -61,23 +61,20 @@ def done(office: Office, copy: str, progress: Progress) -> list[str]:
               Reading(office, None, progress) as after):
             if copies.listed(office)[:1] != [copy]:
                 raise Trouble("the office has changed again meanwhile")
-            return short_at_first(before, after) + brief(found(before, after, "changes 1"))
+            met = groups(before, after)
+            return short_at_first(before, after) + brief(met, copies.listed(office).index(copy) + 1)
     except (Trouble, OSError, sqlite3.Error, MemoryError) as fault:
         reason = plain(str(fault)) or "there is no memory"
         return [f"the change is done, but nobody can say what it did to candidates: {reason}"]
 
 
-def found(before: Reading, after: Reading, changes: str) -> Found:
-    """Where nobody has a seat yet, nobody can lose or change one."""
-    touched = telling.touched_sessions(before, after)
-    sessions = [code for code in telling.all_sessions(before, after) if code in touched]
-    different = []
-    if sessions and has_seats(before):
-        for reading in (before, after):  # both open their copies at once
-            reading.prepare()
-        different = telling.differences(before, after)
+def groups(before: Reading, after: Reading) -> list[Group]:
+    """Those whom a change meets in each way, the gravest first. Where nobody has a seat yet, nobody can lose
+    or change one."""
+    sessions = telling.touched_sessions(before, after)
+    different = telling.of_sessions(before, after, sessions) if has_seats(before) else []
     clashing = [met for code in sessions for met in new_clashes(before, after, code)]
-    return Found(groups(different, clashing), changes if different or not clashing else f"clashes {clashing[0].session}")
+    return grouped(different, clashing)
 
 
 def new_clashes(before: Reading, after: Reading, session: str) -> list[Met]:
@@ -99,17 +96,11 @@ def short_at_first(before: Reading, after: Reading) -> list[str]:
     return [f"{short.total():,} without a desk: {most(short)}; `office summary` has all sessions"]
 
 
-def groups(changes: list[Change], clashing: list[Met]) -> list[Group]:
-    """Those whom a change meets in each way, the gravest first."""
-    people: dict[str, list[Met]] = {}
+def grouped(changes: list[Change], clashing: list[Met]) -> list[Group]:
+    people = {CLASHES: clashing}
     for change in one_for_each_name(changes):
         people.setdefault(change.kind(), []).append(Met(change.session, change.number, change.name, change.what()))
-    several = []
-    for kind, titles in telling.KINDS.items():
-        several.append(group(titles, people.get(kind, []), kind != DESK_ALONE))
-        if kind == BEHIND:
-            several.append(group(CLASHES, clashing, True))
-    return [each for each in several if each.people]
+    return [Group(kind, people[kind]) for kind in KINDS if people.get(kind)]
 
 
 def one_for_each_name(changes: list[Change]) -> list[Change]:
@@ -119,36 +110,44 @@ def one_for_each_name(changes: list[Change]) -> list[Change]:
             if change.kind() != "name" or first.setdefault(change.number, change) is change]
 
 
-def group(titles: tuple[str, str], people: list[Met], is_named: bool) -> Group:
-    return Group(f"{len(people):,} {titles[len(people) > 1]}", people, is_named)
-
-
-def lines(consequences: Found, at_most: int | None) -> list[str]:
+def lines(met: list[Group], at_most: int | None) -> list[str]:
     """A line for each way in which candidates are met, and below it who they are, at most so many."""
-    shown = [line for each in consequences.groups for line in (each.title, *(named(each, at_most) if each.is_named else []))]
+    shown = [line for each in met for line in (each.title(), *named(each, at_most))]
     return shown or ["nobody sits otherwise"]
 
 
 def named(met: Group, at_most: int | None) -> list[str]:
+    if met.kind == DESK_ALONE:
+        return []
     shown = [f"  {each.who()}: {each.what}" for each in met.people[:at_most]]
     rest = len(met.people) - len(shown)
     return shown + ([f"  .. and {rest:,} more"] if rest else [])
 
 
-def brief(consequences: Found) -> list[str]:
-    """At most six lines, the gravest first; none where nobody is met."""
-    first, others = consequences.groups[:GRAVEST], consequences.groups[GRAVEST:]
-    shown = [f"{each.title}: {who_or_where(each)}" if each.is_named else each.title for each in first]
+def brief(met: list[Group], copy: int) -> list[str]:
+    """At most six lines, the gravest first, then how to list them from the copy with this number; none where nobody is
+    met."""
+    first, others = met[:GRAVEST], met[GRAVEST:]
+    shown = [f"{each.title()}{who_or_where(each)}" for each in first]
     if others:
-        shown.append(", ".join(each.title for each in others))
-    return shown and [*shown, f"`office {consequences.listing}` lists them"]
+        shown.append(", ".join(each.title() for each in others))
+    listing = f"changes {copy}"
+    if all(each.kind == CLASHES for each in met):
+        listing = "; office ".join(f"clashes {code}" for code in sessions_of(met)[:MOST_NAMED])
+    return shown and [*shown, f"`office {listing}` lists them"]
+
+
+def sessions_of(met: list[Group]) -> list[str]:
+    return list(dict.fromkeys(each.session for group in met for each in group.people))
 
 
 def who_or_where(met: Group) -> str:
-    """A few by their names, and many by the sessions in which they are most."""
+    """A few by their names, and many by the sessions in which they are most; nobody who has another desk alone."""
+    if met.kind == DESK_ALONE:
+        return ""
     if len(met.people) <= MOST_NAMED:
-        return "; ".join(each.who() for each in met.people)
-    return most(Counter(each.session for each in met.people))
+        return ": " + "; ".join(each.who() for each in met.people)
+    return ": " + most(Counter(each.session for each in met.people))
 
 
 def most(counts: Counter[str]) -> str:

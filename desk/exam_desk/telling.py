@@ -105,11 +105,7 @@ def differences(before: Reading, after: Reading, asked: Collection[str] = ()) ->
     for code in asked:
         if code not in sessions:
             raise Trouble(f"there is no session {code}; the office has {', '.join(sessions[:20])}")
-    touched = touched_sessions(before, after)
-    chosen = [code for code in sessions if code in touched and (not asked or code in asked)]
-    for reading in (before, after):
-        reading.ask_sessions(chosen)
-    return [change for code in chosen for change in of_session(before, after, code)]
+    return of_sessions(before, after, [code for code in touched_sessions(before, after) if not asked or code in asked])
 
 
 def all_sessions(before: Reading, after: Reading) -> list[str]:
@@ -117,13 +113,14 @@ def all_sessions(before: Reading, after: Reading) -> list[str]:
     return list(dict.fromkeys(head["code"] for reading in (after, before) for head in facts.sessions(reading.rows)))
 
 
-def touched_sessions(before: Reading, after: Reading) -> set[str]:
-    """The sessions that some row which is in one of the readings alone may have changed."""
+def touched_sessions(before: Reading, after: Reading) -> list[str]:
+    """The sessions that some row which is in one of the readings alone may have changed, in order."""
     with contextlib.closing(sqlite3.connect(":memory:")) as both:
         both.execute("PRAGMA temp_store = MEMORY")  # reasons of appeals are in no file of others
         both.execute("ATTACH ? AS before", [before.copy])
         both.execute("ATTACH ? AS after", [after.copy])
-        return {code for table, query in TOUCHED.items() for code in touched_by(both, table, query)}
+        found = {code for table, query in TOUCHED.items() for code in touched_by(both, table, query)}
+    return [code for code in all_sessions(before, after) if code in found]
 
 
 def touched_by(both: sqlite3.Connection, table: str, query: str) -> set[str]:
@@ -133,6 +130,16 @@ def touched_by(both: sqlite3.Connection, table: str, query: str) -> set[str]:
         both.execute(f"CREATE TEMP TABLE different AS SELECT * FROM {one}.{table} EXCEPT SELECT * FROM {other}.{table}")
         found.update(code for code, in both.execute(query.format(moment=one)))
     return found
+
+
+def of_sessions(before: Reading, after: Reading, sessions: Collection[str]) -> list[Change]:
+    """The changes in these sessions; the program is asked of all their members at once."""
+    for reading in (before, after):  # both open their copies at once
+        if sessions:
+            reading.prepare()
+    for reading in (before, after):
+        reading.ask_sessions(sessions)
+    return [change for code in sessions for change in of_session(before, after, code)]
 
 
 def of_session(before: Reading, after: Reading, session: str) -> list[Change]:
