@@ -11,7 +11,7 @@ from exam_desk.names import name_order
 from exam_desk.office import Office
 from exam_desk.reading import Reading
 from exam_desk.serving import Progress
-from exam_desk.telling import Change
+from exam_desk.telling import Change, counted
 from exam_desk.trouble import Trouble
 from exam_desk.words import plain
 
@@ -42,7 +42,7 @@ class Group(NamedTuple):
     people: list[Met]  # by session and name
 
     def title(self) -> str:
-        return f"{len(self.people):,} {KINDS[self.kind][len(self.people) > 1]}"
+        return counted(KINDS[self.kind], len(self.people))
 
 
 def of(rehearsal: Rehearsal, at_most: int | None, progress: Progress) -> list[str]:

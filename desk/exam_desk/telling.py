@@ -15,7 +15,7 @@ from exam_desk.words import plain
 
 HEADER = ["tell", "session", "number", "name",
           "old date", "old start", "old finish", "old paper", "old hall", "old desk",
-          "date", "start", "finish", "paper", "hall", "desk", "paper title", "hall title"]
+          "date", "start", "finish", "paper", "hall", "desk", "paper title", "hall title", "old name"]
 SESSIONS_OF = ("SELECT DISTINCT session FROM {moment}.paper JOIN {moment}.entry ON entry.paper = paper.code "
                "WHERE entry.number IN ({numbers})")
 # By table: which sessions a row that is another can change, as a query over the rows in `different`.
@@ -163,11 +163,24 @@ def sittings(reading: Reading, session: str) -> dict[str, tuple[str, Sitting]]:
     return {member.number: (member.name, member.sitting) for member in reading.members(session)}
 
 
-def text(changes: Collection[Change]) -> str:
-    """A line for each change, `!` before those to tell; then how many there are."""
+def text(changes: Collection[Change], tells_alone: bool = False) -> str:
+    """A line for each change, the gravest kind first, `!` before those to tell; then how many there are. Without the
+    desks alone where only those to tell are wanted."""
     telling = sum(change.is_to_tell() for change in changes)
     last = f"{telling} to tell, {len(changes) - telling} with another desk only" if changes else "nothing changed"
-    return "".join(map(line, changes)) + f"{last}\n"
+    shown = [each for kind in KINDS for each in of_kind(changes, kind) if not tells_alone or kind != "desk"]
+    return "".join(shown) + f"{last}\n"
+
+
+def of_kind(changes: Collection[Change], kind: str) -> list[str]:
+    """The lines of the changes of a kind, below how many these are."""
+    found = [change for change in changes if change.kind() == kind]
+    return [f"{counted(KINDS[kind], len(found))}:\n", *map(line, found)] if found else []
+
+
+def counted(words: tuple[str, str], count: int) -> str:
+    """How many there are, and what one does or several do."""
+    return f"{count:,} {words[count > 1]}"
 
 
 def line(change: Change) -> str:
@@ -185,7 +198,7 @@ def csv_row(change: Change, titles: dict[str, str]) -> list[str]:
     last = change.new or change.old
     codes = [last.paper, last.hall or ""] if last else ["", ""]
     return ["yes" if change.is_to_tell() else "no", change.session, change.number, files.guarded(change.name),
-            *old, *new, *(files.guarded(titles.get(code, "")) for code in codes)]
+            *old, *new, *(files.guarded(titles.get(code, "")) for code in codes), files.guarded(change.old_name)]
 
 
 def titles_of(*readings: Reading) -> dict[str, str]:
