@@ -23,6 +23,7 @@ KINDS = {  # those of changes, and new clashes behind who has no desk
 GRAVEST = 4  # groups that have a line of their own in a short answer
 MOST_NAMED = 3  # candidates in such a line, or sessions
 DESK_ALONE = "desk"  # candidates of this kind are counted, and never named
+COUNTED = ["gets", "leaves", "joins", DESK_ALONE]  # so are these where the others are listed with what becomes of them
 
 
 class Met(NamedTuple):
@@ -117,7 +118,7 @@ def lines(met: list[Group], at_most: int | None) -> list[str]:
 
 
 def named(met: Group, at_most: int | None) -> list[str]:
-    if met.kind == DESK_ALONE:
+    if met.kind in COUNTED:
         return []
     shown = [f"  {each.who()}: {each.what}" for each in met.people[:at_most]]
     rest = len(met.people) - len(shown)

@@ -21,7 +21,7 @@ from exam_desk.office import Office  # noqa: E402
 KINDS = ["sessions", "papers", "halls", "openings", "candidates", "arrangements", "entries"]
 TODAY = "2027-05-01"
 NUMBER, CODE = "0001051", "VMGNZGEDP9"
-CHANGES = ["import", "withdraw", "reinstate", "close-hall", "decide", "name", "back"]
+CHANGES = {"import", "withdraw", "reinstate", "close-hall", "decide", "name", "back"}
 TOLD = r"([0-9].*\n){0,6}(`office .*` lists them\n)?"  # what `office` says of a change, on standard error
 PATIENCE = 60  # seconds; long, since a busy machine is no fault
 
@@ -81,7 +81,7 @@ class SampleSchool(unittest.TestCase):
         """What a command prints; it must end with status 0 and complain of nothing. What a change does to candidates is
         no complaint."""
         done = self.run_office(*words, **options)
-        told = TOLD if words[0] in CHANGES else ""
+        told = TOLD if CHANGES.intersection(words[:1]) else ""
         self.assertRegex(done.stderr, rf"\A{told}\Z", words)
         self.assertEqual(done.returncode, 0, words)
         return done.stdout
