@@ -87,7 +87,9 @@ def tell_consequences(copy: str | None) -> None:
     """Says on standard error what a change did to candidates that is done, from the copy of before it."""
     if copy is not None:
         from exam_desk import consequences  # here, since a command without it begins sooner
+        progress("it is done; who sits otherwise now?")
         lines = consequences.done(office(), copy, show_asked)
+        progress("")
         with contextlib.suppress(OSError):  # whoever reads no more has what the program said
             sys.stderr.write("".join(f"{line}\n" for line in lines))
             sys.stderr.flush()
