@@ -66,8 +66,8 @@ def move_in(office: Office, path: str) -> None:
 
 
 def put_back(office: Office, copy: str) -> str | None:
-    """Puts a copy in the place of the office, with the office alone; both are on the disk at each moment. Gives the copy
-    of what was there; None where nothing was. Raises `Trouble` where the copy is no good office."""
+    """Puts a copy in the place of the office, with the office alone; both are on the disk at each moment. Gives the
+    copy of what was there; None where nothing was. Raises `Trouble` where the copy is no good office."""
     with ready(office, copy) as path:
         check(office, path)
         is_there = os.path.exists(os.path.realpath(office.path))
