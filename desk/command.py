@@ -6,6 +6,7 @@ exam_desk reads none of these: a command hands an `Office` on.
 from __future__ import annotations
 
 import argparse
+import contextlib
 import datetime
 import os
 import pathlib
@@ -85,6 +86,18 @@ def progress(text: str, part: float | None = None) -> None:
         bar = "" if part is None else f"[{'#' * full}{' ' * (BAR - full)}] "
         sys.stderr.write(f"{CLEAR}{bar}{plain(text)}" if text else CLEAR)
         sys.stderr.flush()
+
+
+def tell_consequences(copy: str | None) -> None:
+    """Says on standard error what a change did to candidates that is done, from the copy of before it."""
+    if copy is not None:
+        from exam_desk import consequences  # here, since a command without it begins sooner
+        progress("it is done; who sits otherwise now?")
+        lines = consequences.done(office(), copy, show_asked)
+        progress("")
+        with contextlib.suppress(OSError):  # whoever reads no more has what the program said
+            sys.stderr.write("".join(f"{line}\n" for line in lines))
+            sys.stderr.flush()
 
 
 def arguments(name: str, doc: str | None) -> argparse.ArgumentParser:

@@ -64,6 +64,13 @@ class Carried(NamedTuple):
         return refused_of(self.answers)
 
 
+class Back(NamedTuple):
+    """What became of a copy that was to be put back."""
+    is_done: bool
+    lines: list[str]  # for each appeal and decision that this takes away
+    copy: str | None  # the path of the copy of what was there
+
+
 @dataclass
 class Rehearsal:
     """A list of steps carried out on a private copy. Close it, or use it as a context: then the copies go."""
@@ -305,21 +312,21 @@ def prepared(office: Office, copy: str) -> Iterator[str]:
 
 
 def go_back(office: Office, words: Sequence[str], copy: str, may_go: Callable[[list[str]], bool],
-            made_from: str | None = None) -> tuple[bool, list[str]]:
+            made_from: str | None = None) -> Back:
     """Puts a copy in the place of the office, in one turn, where `may_go` agrees to the appeals and decisions that this
-    takes away: whether it did, and a line for each of these. Raises as `turn`, and `Trouble` where the copy is gone or
+    takes away. Raises as `turn`, and `Trouble` where the copy is gone or
     no good office."""
     with turn(office, " ".join(words), made_from):
         if not os.path.isdir(copy):
             raise Trouble("this copy is gone by now: `office back` lists what is there; nothing is changed")
         lines = undo.taken_away(office, copy)
         if not may_go(lines):
-            return False, lines
+            return Back(False, lines, None)
         when, _ = copies.when_and_what(copy)
         with logged(office, words) as outcome:
-            undo.put_back(office, copy)
+            kept = undo.put_back(office, copy)
             outcome.status, outcome.answer = 0, "; ".join([f"as it was on {when}", *lines])
-    return True, lines
+    return Back(True, lines, kept)
 
 
 def restore(office: Office, ready: str, copy: str) -> None:

@@ -15,7 +15,7 @@ from exam_desk.words import plain
 
 HEADER = ["tell", "session", "number", "name",
           "old date", "old start", "old finish", "old paper", "old hall", "old desk",
-          "date", "start", "finish", "paper", "hall", "desk", "paper title", "hall title"]
+          "date", "start", "finish", "paper", "hall", "desk", "paper title", "hall title", "old name"]
 SESSIONS_OF = ("SELECT DISTINCT session FROM {moment}.paper JOIN {moment}.entry ON entry.paper = paper.code "
                "WHERE entry.number IN ({numbers})")
 # By table: which sessions a row that is another can change, as a query over the rows in `different`.
@@ -27,9 +27,21 @@ TOUCHED = {
     "opening": "SELECT session FROM different",
     "seat": "SELECT session FROM different",
     "entry": "SELECT session FROM {moment}.paper WHERE code IN (SELECT paper FROM different)",
+    "candidate": SESSIONS_OF.replace("{numbers}", "SELECT number FROM different"),
     "arrangement": SESSIONS_OF.replace("{numbers}", "SELECT number FROM different"),
     "appeal": SESSIONS_OF.replace("{numbers}", "SELECT number FROM different"),
     "standing": SESSIONS_OF.replace("{numbers}", "SELECT number FROM different"),
+}
+
+
+KINDS = {  # the gravest first; what one does and what several do
+    "loses": ("loses the desk", "lose their desks"),
+    "lacks": ("joins a session without a desk", "join a session without a desk"),
+    "paper": ("sits another paper", "sit other papers"), "moves": ("moves to another hall", "move to other halls"),
+    "time": ("sits at another time", "sit at other times"), "name": ("has another name", "have other names"),
+    "gets": ("gets a desk", "get desks"), "leaves": ("leaves a session", "leave a session"),
+    "joins": ("joins a session", "join a session"),
+    "desk": ("has another desk in the same hall", "have other desks in the same hall"),
 }
 
 
@@ -40,10 +52,24 @@ class Change(NamedTuple):
     name: str
     old: Sitting | None
     new: Sitting | None
+    old_name: str
 
     def is_to_tell(self) -> bool:
         """Whether more is another than the desk."""
-        return self.old is None or self.new is None or shown(self.old)[:-1] != shown(self.new)[:-1]
+        return self.kind() != "desk"
+
+    def kind(self) -> str:
+        """The gravest of KINDS that it is."""
+        old, new = self.old, self.new
+        if old is None or new is None:
+            return "leaves" if new is None else "joins" if new.hall else "lacks"
+        if old.hall and not new.hall:
+            return "loses"
+        if old.paper != new.paper:
+            return "paper"
+        if old.hall != new.hall:
+            return "moves" if old.hall else "gets"
+        return "time" if time(old) != time(new) else "name" if self.name != self.old_name else "desk"
 
     def what(self) -> str:
         """The change in words."""
@@ -51,6 +77,7 @@ class Change(NamedTuple):
             word, sitting = ("joined", self.new) if self.old is None else ("left", self.old)
             return f"{word}: {sitting.paper}, {time(sitting)}, {place(sitting)}" if sitting else ""
         pairs = [(part(self.old), part(self.new)) for part in (place, paper, time)]
+        pairs.append((plain(self.old_name), plain(self.name)))
         return ", ".join(f"{old} -> {new}" for old, new in pairs if old != new)
 
 
@@ -78,11 +105,7 @@ def differences(before: Reading, after: Reading, asked: Collection[str] = ()) ->
     for code in asked:
         if code not in sessions:
             raise Trouble(f"there is no session {code}; the office has {', '.join(sessions[:20])}")
-    touched = touched_sessions(before, after)
-    chosen = [code for code in sessions if code in touched and (not asked or code in asked)]
-    for reading in (before, after):
-        reading.ask_sessions(chosen)
-    return [change for code in chosen for change in of_session(before, after, code)]
+    return of_sessions(before, after, [code for code in touched_sessions(before, after) if not asked or code in asked])
 
 
 def all_sessions(before: Reading, after: Reading) -> list[str]:
@@ -90,13 +113,14 @@ def all_sessions(before: Reading, after: Reading) -> list[str]:
     return list(dict.fromkeys(head["code"] for reading in (after, before) for head in facts.sessions(reading.rows)))
 
 
-def touched_sessions(before: Reading, after: Reading) -> set[str]:
-    """The sessions that some row which is in one of the readings alone may have changed."""
+def touched_sessions(before: Reading, after: Reading) -> list[str]:
+    """The sessions that some row which is in one of the readings alone may have changed, in order."""
     with contextlib.closing(sqlite3.connect(":memory:")) as both:
         both.execute("PRAGMA temp_store = MEMORY")  # reasons of appeals are in no file of others
         both.execute("ATTACH ? AS before", [before.copy])
         both.execute("ATTACH ? AS after", [after.copy])
-        return {code for table, query in TOUCHED.items() for code in touched_by(both, table, query)}
+        found = {code for table, query in TOUCHED.items() for code in touched_by(both, table, query)}
+    return [code for code in all_sessions(before, after) if code in found]
 
 
 def touched_by(both: sqlite3.Connection, table: str, query: str) -> set[str]:
@@ -108,16 +132,28 @@ def touched_by(both: sqlite3.Connection, table: str, query: str) -> set[str]:
     return found
 
 
+def of_sessions(before: Reading, after: Reading, sessions: Collection[str]) -> list[Change]:
+    """The changes in these sessions; the program is asked of all their members at once."""
+    for reading in (before, after):  # both open their copies at once
+        if sessions:
+            reading.prepare()
+    for reading in (before, after):
+        reading.ask_sessions(sessions)
+    return [change for code in sessions for change in of_session(before, after, code)]
+
+
 def of_session(before: Reading, after: Reading, session: str) -> list[Change]:
     old, new = sittings(before, session), sittings(after, session)
-    names = {**old, **new}
-    found = [Change(session, number, names[number][0], *(side.get(number, (None, None))[1] for side in (old, new)))
-             for number in names]
+    none: tuple[str, None] = ("", None)
+    pairs = {number: (old.get(number, none), new.get(number, none)) for number in {**old, **new}}
+    found = [Change(session, number, after[0] or before[0], before[1], after[1], before[0] or after[0])
+             for number, (before, after) in pairs.items()]
     return sorted(filter(is_change, found), key=lambda change: name_order(change.name, change.number))
 
 
 def is_change(change: Change) -> bool:
-    return change.old is None or change.new is None or shown(change.old) != shown(change.new)
+    return (change.old is None or change.new is None or shown(change.old) != shown(change.new)
+            or change.old_name != change.name)
 
 
 def sittings(reading: Reading, session: str) -> dict[str, tuple[str, Sitting]]:
@@ -127,11 +163,24 @@ def sittings(reading: Reading, session: str) -> dict[str, tuple[str, Sitting]]:
     return {member.number: (member.name, member.sitting) for member in reading.members(session)}
 
 
-def text(changes: Collection[Change]) -> str:
-    """A line for each change, `!` before those to tell; then how many there are."""
+def text(changes: Collection[Change], tells_alone: bool = False) -> str:
+    """A line for each change, the gravest kind first, `!` before those to tell; then how many there are. Without the
+    desks alone where only those to tell are wanted."""
     telling = sum(change.is_to_tell() for change in changes)
     last = f"{telling} to tell, {len(changes) - telling} with another desk only" if changes else "nothing changed"
-    return "".join(map(line, changes)) + f"{last}\n"
+    shown = [each for kind in KINDS for each in of_kind(changes, kind) if not tells_alone or kind != "desk"]
+    return "".join(shown) + f"{last}\n"
+
+
+def of_kind(changes: Collection[Change], kind: str) -> list[str]:
+    """The lines of the changes of a kind, below how many these are."""
+    found = [change for change in changes if change.kind() == kind]
+    return [f"{counted(KINDS[kind], len(found))}:\n", *map(line, found)] if found else []
+
+
+def counted(words: tuple[str, str], count: int) -> str:
+    """How many there are, and what one does or several do."""
+    return f"{count:,} {words[count > 1]}"
 
 
 def line(change: Change) -> str:
@@ -149,7 +198,7 @@ def csv_row(change: Change, titles: dict[str, str]) -> list[str]:
     last = change.new or change.old
     codes = [last.paper, last.hall or ""] if last else ["", ""]
     return ["yes" if change.is_to_tell() else "no", change.session, change.number, files.guarded(change.name),
-            *old, *new, *(files.guarded(titles.get(code, "")) for code in codes)]
+            *old, *new, *(files.guarded(titles.get(code, "")) for code in codes), files.guarded(change.old_name)]
 
 
 def titles_of(*readings: Reading) -> dict[str, str]:

@@ -65,11 +65,12 @@ def move_in(office: Office, path: str) -> None:
     beside.sync(os.path.dirname(place))
 
 
-def put_back(office: Office, copy: str) -> None:
-    """Puts a copy in the place of the office, with the office alone; both are on the disk at each moment. Raises
-    `Trouble` where the copy is no good office."""
+def put_back(office: Office, copy: str) -> str | None:
+    """Puts a copy in the place of the office, with the office alone; both are on the disk at each moment. Gives the
+    copy of what was there; None where nothing was. Raises `Trouble` where the copy is no good office."""
     with ready(office, copy) as path:
         check(office, path)
-        if os.path.exists(os.path.realpath(office.path)):
-            copies.keep_copy(office, "back")
+        is_there = os.path.exists(os.path.realpath(office.path))
+        kept = copies.keep_copy(office, "back") if is_there else None
         move_in(office, path)
+    return kept

@@ -6,7 +6,7 @@ import sqlite3
 from flask import Blueprint, render_template, request
 
 from exam_desk import appeals, changing, facts, lastdays
-from exam_desk.consequences import kind_of
+from exam_desk.telling import Change
 from exam_web import plans, proposals
 from exam_web.desk import desk, missing, view
 from exam_web.wording import days_until
@@ -53,4 +53,4 @@ def if_granted(number: int, ref: str) -> str:
         refusal = rehearsal.refused.first_line() if rehearsal.refused else ""
         found = None if refusal else proposals.compared(desk(), rehearsal)[0]
     return render_template("if_granted.html" if "piece" in request.args else "if_granted_page.html", row=row, e=found,
-                           refusal=proposals.worded(refusal), most=12, kind_of=kind_of)
+                           refusal=proposals.worded(refusal), most=12, kind_of=Change.kind)

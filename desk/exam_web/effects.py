@@ -5,16 +5,19 @@ from collections import Counter
 from dataclasses import dataclass
 
 from exam_desk import telling
-from exam_desk.consequences import has_seats, kind_of
+from exam_desk.consequences import has_seats
 from exam_desk.telling import Change
 from exam_web import counting
 from exam_web.desk import View
 
 KINDS = {  # the gravest first: in words before the change, and after it
     "loses": ("would lose the desk", "lost the desk"),
+    "lacks": ("would join a session without a desk", "joined a session without a desk"),
+    "paper": ("would have another paper", "have another paper"),
     "moves": ("would move to another hall", "moved to another hall"),
+    "time": ("would have another time", "have another time"),
+    "name": ("would have another name", "have another name"),
     "gets": ("would get a desk", "got a desk"),
-    "other": ("would have another paper or time", "have another paper or time"),
     "leaves": ("would leave a session", "left a session"),
     "joins": ("would join a session", "joined a session"),
     "desk": ("would have another desk number only", "have another desk number only"),
@@ -35,12 +38,12 @@ class Effects:
     """The changes of people, the gravest first, and of sessions."""
 
     def __init__(self, changes: list[Change], sessions: list[SessionChange], titles: dict[str, str]) -> None:
-        self.changes = sorted(changes, key=lambda each: ORDER.index(kind_of(each)))
+        self.changes = sorted(changes, key=lambda each: ORDER.index(each.kind()))
         self.sessions, self.titles = sessions, titles
         self.to_tell = [each for each in self.changes if each.is_to_tell()]
         self.people = len({each.number for each in self.to_tell})
-        self.counts = Counter(map(kind_of, self.changes))
-        self.desk_only = Counter(each.session for each in self.changes if kind_of(each) == "desk")  # by session
+        self.counts = Counter(map(Change.kind, self.changes))
+        self.desk_only = Counter(each.session for each in self.changes if each.kind() == "desk")  # by session
 
     def csv(self) -> str:
         return telling.csv_text(self.changes, self.titles)

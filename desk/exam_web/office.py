@@ -11,7 +11,7 @@ from flask import Blueprint, Response, abort, g, redirect, render_template, requ
 from werkzeug.wrappers import Response as Answer
 
 from exam_desk import changing, copies, kept, logbook, private, turns, undo
-from exam_desk.consequences import kind_of
+from exam_desk.telling import Change
 from exam_desk.trouble import Stale
 from exam_web import downloads, effects, proposals
 from exam_web.desk import View, desk, missing, office, view
@@ -52,7 +52,7 @@ def copy(key: str) -> str:
     path = copy_of(key)
     when, what = copies.when_and_what(path)
     return render_template("copy.html", key=key, when=when, what=what, e=since(path), kinds=effects.KINDS,
-                           kind_of=kind_of, most=proposals.MOST_ROWS, lost=undo.taken_away(desk().office, path),
+                           kind_of=Change.kind, most=proposals.MOST_ROWS, lost=undo.taken_away(desk().office, path),
                            log=[line for line in log_since(when) if line[3] not in (logbook.BEGINS, logbook.STEP)])
 
 
@@ -78,7 +78,7 @@ def back(key: str) -> Answer | tuple[str, int]:
     ticked = set(request.form.getlist("lost"))
     try:
         with desk().rehearsing:
-            is_back, _ = changing.go_back(who, ["back"], path, lambda lost: ticked.issuperset(lost),
+            is_back, *_ = changing.go_back(who, ["back"], path, lambda lost: ticked.issuperset(lost),
                                           request.form.get("state", ""))
     except Stale:
         said = text("Nothing is changed: the office is another than the page showed. This is how it stands now.")

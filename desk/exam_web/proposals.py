@@ -18,7 +18,7 @@ from werkzeug.wrappers import Response
 
 from exam_desk import changing, lodging, logbook, private, refusals
 from exam_desk.changing import Step
-from exam_desk.consequences import kind_of
+from exam_desk.telling import Change
 from exam_desk.office import Office
 from exam_desk.trouble import Stale, Trouble
 from exam_web import downloads, effects
@@ -225,7 +225,7 @@ def page(key: str) -> str:
         return render_template("working.html", p=proposal, seconds=int(time.monotonic() - proposal.began))
     elsewhere = proposal.came_from and proposal.made_from and proposal.came_from != proposal.made_from
     return render_template("proposal.html", p=proposal, plan=plan, e=proposal.effects, kinds=effects.KINDS,
-                           kind_of=kind_of, most=MOST_ROWS, back=url_for(plan.page[0], **plan.page[1]),
+                           kind_of=Change.kind, most=MOST_ROWS, back=url_for(plan.page[0], **plan.page[1]),
                            refusal=worded(proposal.refusal), elsewhere=elsewhere and not proposal.is_done,
                            next_appeal=next_appeal(proposal), rows=imported(proposal), copy_page=copy_page(proposal))
 

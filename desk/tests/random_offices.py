@@ -335,14 +335,15 @@ class RandomOffice:
 
     def summary(self, reading):
         for line in summary.text(reading).split("\n")[1:-1]:
-            session, _, _, members, seated, short, desks, free, waiting = line.split()
+            session, _, _, members, seated, short, desks, free, clashing, waiting = line.split()
             seats = self.now[session]
             there = sum(seat.hall != "-" for seat in seats.values())
             appeals = [line[37:47].strip() for line in self.sheet(self.path, "appeals", session)[2:]]
             [all_desks] = reading.rows.execute("SELECT coalesce(sum(desks), 0) FROM opening WHERE session = ?",
                                                [session]).fetchone()
-            wanted = [len(seats), there, len(seats) - there, all_desks, all_desks - there, appeals.count("open")]
-            equal([members, seated, short, desks, free, waiting], [*map(str, wanted)], "summary", line)
+            wanted = [len(seats), there, len(seats) - there, all_desks, all_desks - there,
+                      len({number for number, *_ in self.clashes(session)}), appeals.count("open")]
+            equal([members, seated, short, desks, free, clashing, waiting], [*map(str, wanted)], "summary", line)
 
     def persons(self, reading):
         for number in self.chance.sample(sorted(self.codes), 3):

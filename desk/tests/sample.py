@@ -21,6 +21,9 @@ from exam_desk.office import Office  # noqa: E402
 KINDS = ["sessions", "papers", "halls", "openings", "candidates", "arrangements", "entries"]
 TODAY = "2027-05-01"
 NUMBER, CODE = "0001051", "VMGNZGEDP9"
+CHANGES = {"import", "withdraw", "reinstate", "close-hall", "decide", "name", "back"}
+TOLD = r"([0-9].*\n){0,6}(`office .*` lists them\n)?"  # what `office` says of a change, on standard error
+UNTOLD = "the change is done, but nobody can say what it did to candidates: .*\n"
 PATIENCE = 60  # seconds; long, since a busy machine is no fault
 
 
@@ -76,9 +79,14 @@ class SampleSchool(unittest.TestCase):
                               cwd=self.folder, capture_output=True, encoding="utf-8", check=False)
 
     def office(self, *words, **options):
-        """What a command prints; it must end with status 0 and complain of nothing."""
+        """What a command prints; it must end with status 0 and complain of nothing. What a change does to candidates is
+        no complaint."""
         done = self.run_office(*words, **options)
-        self.assertEqual((done.stderr, done.returncode), ("", 0), words)
+        told = TOLD if CHANGES.intersection(words[:1]) else ""
+        if words[:1] == ("back",):  # what it puts away, or back, may be what nobody can read
+            told = f"{told}|{UNTOLD}"
+        self.assertRegex(done.stderr, rf"\A({told})\Z", words)
+        self.assertEqual(done.returncode, 0, words)
         return done.stdout
 
     def refused(self, *words, **options):

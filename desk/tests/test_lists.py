@@ -52,6 +52,9 @@ class Lists(sample.SampleSchool):
                       "2027-06-07 09:00 to 10:30 -> 2027-06-07 09:00 to 11:30", lines)
         self.assertIn("  MON-AM 0001068 Ed Costa: AULA desk 6 -> AULA desk 5", lines)
         self.assertEqual(self.office("changes", "1"), "\n".join(lines))
+        self.assertEqual([line for line in lines if line.endswith(":")],
+                         ["1 sits another paper:", "13 have other desks in the same hall:"])
+        self.assertEqual(self.office("changes", "1", "--tell").split("\n"), [*lines[:2], *lines[-2:]])
         self.assertEqual(self.office("changes", os.path.join(before, "office.db"), "TUE-AM"), "nothing changed\n")
         self.office("close-hall", "MON-AM", "R12")
         self.assertIn("! MON-AM 0001748 Tomas Costa: R12 desk 2 -> no desk\n", self.office("changes", "1"))
@@ -66,10 +69,14 @@ class Lists(sample.SampleSchool):
         rows = list(csv.reader(self.office("changes", before, "--csv").split("\n")[:-1]))
         self.assertEqual(rows[1:], [
             ["yes", "MON-AM", "0001748", "'=1+1", "2027-06-07", "09:00", "11:12", "MA-1", "R12", "2", "2027-06-07",
-             "09:00", "11:12", "MA-1", "", "", "Mathematics 1", ""],
+             "09:00", "11:12", "MA-1", "", "", "Mathematics 1", "", "Tomas Costa"],
             ["yes", "MON-AM", "0001289", "Rosa Tanaka", "2027-06-07", "09:00", "11:30", "MA-1", "R12", "1",
-             "2027-06-07", "09:00", "11:30", "MA-1", "", "", "Mathematics 1", ""]])
-        self.assertEqual({len(row) for row in rows}, {18})
+             "2027-06-07", "09:00", "11:30", "MA-1", "", "", "Mathematics 1", "", "Rosa Tanaka"],
+            *[["yes", session, "0001748", "'=1+1", *2 * sitting, *titles, "Tomas Costa"]
+              for session, sitting, titles in (
+                ("MON-PM", ["2027-06-07", "13:30", "15:26", "FR", "R12", "2"], ["French", "Room 12"]),
+                ("TUE-AM", ["2027-06-08", "09:00", "11:12", "CH-1", "R12", "2"], ["Chemistry", "Room 12"]))]])
+        self.assertEqual({len(row) for row in rows}, {19})
 
     def test_no_spreadsheet_finds_a_formula(self):
         before = self.copy()
@@ -131,9 +138,9 @@ class Lists(sample.SampleSchool):
     def test_summary(self):
         self.change(APPEAL, [1051, "HA1", "MON-AM", 1, "PC1", 0, 0, "", 1, None, "2027-05-02"])
         rows = [line.split() for line in self.office("summary").split("\n")[1:-1]]
-        self.assertEqual(rows, [["MON-AM", "2027-06-07", "09:00", "60", "58", "2", "58", "0", "1"],
-                                ["MON-PM", "2027-06-07", "13:30", "60", "58", "2", "58", "0", "0"],
-                                ["TUE-AM", "2027-06-08", "09:00", "48", "46", "2", "56", "10", "0"]])
+        self.assertEqual(rows, [["MON-AM", "2027-06-07", "09:00", "60", "58", "2", "58", "0", "4", "1"],
+                                ["MON-PM", "2027-06-07", "13:30", "60", "58", "2", "58", "0", "0", "0"],
+                                ["TUE-AM", "2027-06-08", "09:00", "48", "46", "2", "56", "10", "0", "0"]])
 
     def test_open_appeals(self):
         self.assertEqual(self.office("appeals-open"), "no appeal is open\n")

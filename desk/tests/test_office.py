@@ -176,7 +176,7 @@ class Back(sample.SampleSchool):
             file.commit()
         self.assertIn("`office migrate` carries it over", self.refused("shortage", "MON-AM"))
         self.assertEqual(self.office("migrate"), "migrated 2 to 3\n")
-        self.office("back", "1", "--yes")
+        self.assertIn("an earlier version of the program made", self.untold("back", "1", "--yes"))
         self.assertTrue(self.refused("check").startswith("refused 27\n"))
         self.assertEqual(self.office("migrate"), "migrated 2 to 3\n")
 
@@ -184,8 +184,15 @@ class Back(sample.SampleSchool):
         before = self.facts()
         self.office("withdraw", "0001000", "MA-1")
         self.write("office.db", b"rubbish" * 1000)
-        self.office("back", "1", "--yes")
+        self.assertIn("holds no office", self.untold("back", "1", "--yes"))
         self.assertEqual(self.facts(), before)
+
+    def untold(self, *words):
+        """Why nobody can say what a change did, which is done."""
+        done = self.run_office(*words)
+        self.assertEqual(done.returncode, 0, done.stderr)
+        self.assertRegex(done.stderr, rf"\A{sample.UNTOLD}\Z")
+        return done.stderr
 
     def test_the_last_fifty_stay(self):
         made = [copies.keep_copy(self.value, f"withdraw {place}") for place in range(copies.MOST_COPIES + 2)]
@@ -202,7 +209,7 @@ class Back(sample.SampleSchool):
             pairs = [(number, file.execute(query, [int(number)]).fetchone()[0]) for number in numbers]
         started = [subprocess.Popen([sample.DESK / "office", "withdraw", *pair], env=self.environment,
                                     stdout=subprocess.PIPE, stderr=subprocess.PIPE) for pair in pairs]
-        self.assertEqual([process.communicate() for process in started], [(b"withdrawn\n", b"")] * len(pairs))
+        self.assertEqual([process.communicate() for process in started], [(b"withdrawn\n", mock.ANY)] * len(pairs))
         self.assertEqual(self.office("check"), "good\n")
 
     def test_a_killed_command_leaves_no_lock(self):
@@ -214,7 +221,7 @@ class Back(sample.SampleSchool):
         done = self.run_office("withdraw", "0001000", "MA-1")
         self.assertEqual((done.stdout, done.returncode), ("withdrawn\n", 0))
         self.assertRegex(done.stderr, "^office: `import entries /dev/stdin` of .* has no end in the log: "
-                                      "it is there whole or not at all; look\n$")
+                                      "it is there whole or not at all; look\n1 leaves a session: ")
         self.assertEqual(self.office("reinstate", "0001000", "MA-1"), "reinstated\n")
 
 

@@ -1,4 +1,5 @@
-"""A line for each session: members, seated, short, desks, free desks and open appeals."""
+"""A line for each session: members, seated, short, desks, free desks, candidates with a clash and open
+appeals."""
 from __future__ import annotations
 
 import sqlite3
@@ -8,8 +9,8 @@ from exam_desk import appeals, facts
 from exam_desk.reading import Reading
 from exam_desk.words import clock
 
-LINE = "{:12} {:10} {:5} {:>7} {:>6} {:>5} {:>6} {:>6} {:>12}\n"
-HEADS = ["session", "date", "start", "members", "seated", "short", "desks", "free", "open appeals"]
+LINE = "{:12} {:10} {:5} {:>7} {:>6} {:>5} {:>6} {:>6} {:>7} {:>12}\n"
+HEADS = ["session", "date", "start", "members", "seated", "short", "desks", "free", "clashes", "open appeals"]
 
 
 def text(reading: Reading, sessions: Collection[str] = ()) -> str:
@@ -24,4 +25,5 @@ def line(reading: Reading, head: sqlite3.Row) -> str:
     seated = sum(member.sitting.hall is not None for member in members)
     desks = sum(opening.desks for opening in facts.openings(reading.rows, head["code"]))
     return LINE.format(head["code"], head["day"], clock(head["start"]), len(members), seated, len(members) - seated,
-                       desks, desks - seated, appeals.open_count(reading.rows, head["code"]))
+                       desks, desks - seated, len(reading.clashes(head["code"])),
+                       appeals.open_count(reading.rows, head["code"]))

@@ -1,0 +1,149 @@
+"""What `office` says of a change behind it, on standard error."""
+import os
+import re
+import unittest
+
+import sample
+from exam_desk import changing, consequences, copies, telling
+from exam_desk.answers import Sitting
+
+SITTING = Sitting("S1", "2027-06-01", "09:00", "MA-1", "10:00", (), 0, "A", 1)
+LAST = "`office changes 1` lists them"
+
+
+def change(old=SITTING, new=SITTING, number="0000001", session="S1", name="Ada", old_name=None):
+    return telling.Change(session, number, name, old, new, name if old_name is None else old_name)
+
+
+def brief(changes, clashing=()):
+    return consequences.brief(consequences.grouped(list(changes), list(clashing)), 1)
+
+
+class Kinds(unittest.TestCase):
+    def test_the_gravest_counts(self):
+        other = SITTING._replace(paper="SP-1")
+        for new, kind in ((SITTING._replace(hall=None, desk=None), "loses"),
+                          (other._replace(hall=None, desk=None), "loses"), (other._replace(hall="B"), "paper"),
+                          (SITTING._replace(hall="B", finish="10:15"), "moves"),
+                          (SITTING._replace(start="09:10"), "time"), (SITTING._replace(date="2027-06-02"), "time"),
+                          (SITTING._replace(finish="10:15", desk=2), "time"),
+                          (SITTING._replace(desk=2), "desk"), (None, "leaves")):
+            self.assertEqual(change(new=new).kind(), kind, new)
+            self.assertEqual(change(new=new).is_to_tell(), kind != "desk")
+        nowhere = SITTING._replace(hall=None, desk=None)
+        self.assertEqual(change(old=None).kind(), "joins")
+        self.assertEqual(change(old=None, new=nowhere).kind(), "lacks")
+        self.assertEqual(change(old=nowhere).kind(), "gets")
+        self.assertEqual(change(old_name="Eda").kind(), "name")
+        self.assertEqual(change(old_name="Eda").what(), "Eda -> Ada")
+
+    def test_at_most_six_lines_the_gravest_first(self):
+        news = [SITTING._replace(desk=2), SITTING._replace(start="09:10"), SITTING._replace(hall="B"),
+                SITTING._replace(paper="SP-1"), SITTING._replace(hall=None, desk=None), None]
+        changes = [change(new=new, number=f"{place:07}") for place, new in enumerate(news)]
+        clash = consequences.Met("S1", "0000003", "Ada", "does not sit MA-1")
+        self.assertEqual(brief(changes, [clash]), [
+            "1 loses the desk: S1 0000004 Ada", "1 has a new clash: S1 0000003 Ada",
+            "1 sits another paper: S1 0000003 Ada", "1 moves to another hall: S1 0000002 Ada",
+            "1 sits at another time, 1 leaves a session, 1 has another desk in the same hall", LAST])
+        self.assertEqual(brief([]), [])
+
+    def test_many_are_counted_by_session(self):
+        new = SITTING._replace(hall=None, desk=None)
+        changes = [change(new=new, number=f"{place:07}", session=f"S{place % 7 % 4}") for place in range(1004)]
+        self.assertEqual(brief(changes), ["1,004 lose their desks: 287 in S0, 287 in S1, 287 in S2, ..", LAST])
+
+    def test_another_name_is_one_candidate(self):
+        changes = [change(old_name="Eda", session=session) for session in ("S1", "S2", "S3")]
+        self.assertEqual(brief(changes), ["1 has another name: S1 0000001 Ada", LAST])
+
+    def test_what_hides_in_a_name_is_shown(self):
+        self.assertEqual(brief([change(new=None, name="\u202eA\u009b2J\nda")])[0],
+                         "1 leaves a session: S1 0000001 ?A?2J?da")
+
+
+class Told(sample.SampleSchool):
+    def told(self, *words, status=0):
+        done = self.run_office(*words)
+        self.assertEqual(done.returncode, status, done.stderr)
+        return done.stderr.split("\n")[:-1]
+
+    def test_a_hall_is_closed(self):
+        lines = self.told("close-hall", "MON-AM", "GYM")
+        changes = self.office("changes", "1").split("\n")
+        lost = [line for line in changes if line.endswith(" -> no desk")]
+        self.assertEqual(lines[0], f"{len(lost)} lose their desks: {len(lost)} in MON-AM")
+        self.assertEqual(lines[-1], LAST)
+        back = self.told("back", "1", "--yes")
+        self.assertIn(f"{len(lost)} get desks", "\n".join(back))
+
+    def test_a_late_entry_makes_a_candidate_miss_a_paper(self):
+        """0001000 sits MA-1; LAT comes first by its code."""
+        lines = self.told("import", "entries", self.write("e.csv", "number,paper\n0001000,LAT\n"))
+        self.assertIn("1 has a new clash: MON-AM 0001000 Ada Lin", lines[:2])
+        self.assertIn("1 sits another paper: MON-AM 0001000 Ada Lin", lines[:3])
+        self.assertRegex(self.office("clashes", "MON-AM"), "0001000 sits LAT +clash MA-1")
+
+    def test_a_clash_where_nobody_sits_otherwise(self):
+        """MA-2 comes behind MA-1."""
+        lines = self.told("import", "entries", self.write("e.csv", "number,paper\n0001000,MA-2\n"))
+        self.assertEqual(lines, ["1 has a new clash: MON-AM 0001000 Ada Lin", "`office clashes MON-AM` lists them"])
+
+    def test_who_is_not_touched_is_not_spoken_of(self):
+        same = str(self.examples / "entries.csv")
+        hall = self.write("h.csv", "hall,title,features\nXX,Cellar,-\n")
+        for words in (["import", "entries", same], ["import", "halls", hall]):
+            self.assertEqual(self.told(*words), [])
+        self.assertEqual(len(self.told("withdraw", "0001000", "XX-1", status=1)), 2)  # the refusal alone
+
+    def test_the_first_desks(self):
+        with open(self.examples / "openings.csv", encoding="utf-8") as file:
+            rows = file.read()
+        os.remove(self.path)
+        self.office("init")
+        for kind in sample.KINDS:
+            text = rows if kind == "openings" else (self.examples / f"{kind}.csv").read_text("utf-8")
+            lines = self.told("import", kind, self.write(f"{kind}.csv", text))
+            if kind != "entries":
+                self.assertEqual(lines, [], kind)
+        self.assertEqual(lines, ["6 without a desk: 2 in MON-AM, 2 in MON-PM, 2 in TUE-AM; "
+                                 "`office summary` has all sessions",
+                                 "4 have new clashes: 4 in MON-AM", "`office clashes MON-AM` lists them"])
+
+    def test_what_if_says_the_same_before(self):
+        words = ["close-hall", "MON-AM", "GYM"]
+        would = [line for line in self.office("what-if", *words).split("\n") if re.match("[0-9]", line)]
+        self.assertEqual([line.partition(":")[0] for line in self.told(*words)[:-1]], would)
+
+    def test_another_change_meanwhile(self):
+        carried = changing.carry_out(self.value, [changing.Step(("withdraw", "0001000", "MA-1"))])
+        self.office("withdraw", "0001306", "LAT")
+        self.assertEqual(consequences.done(self.value, carried.copy, lambda *_: None),
+                         ["the change is done, but nobody can say what it did to candidates: the office has changed "
+                          "again meanwhile"])
+        newest = copies.listed(self.value)[0]
+        lines = consequences.done(self.value, newest, lambda *_: None)
+        self.assertTrue(lines[0].startswith("1 sits another paper: MON-AM 0001306 "), lines)
+
+    def test_the_status_stays_where_nobody_can_say(self):
+        """A program that serves nothing."""
+        program = self.write("program", f'#!/bin/sh\n[ "$5" = serve ] && exit 1\nexec {sample.built_program()} "$@"\n')
+        os.chmod(program, 0o700)
+        done = self.run_office("withdraw", "0001000", "MA-1", EXAMOFFICE=program)
+        self.assertEqual((done.returncode, done.stdout), (0, "withdrawn\n"))
+        self.assertRegex(done.stderr, r"\Athe change is done, but nobody can say what it did to candidates: .*\n\Z")
+
+    def test_nobody_waits_for_it(self):
+        """The office is let go before the program is asked: another command changes it meanwhile."""
+        other = f"EXAMOFFICE={sample.built_program()} {sample.DESK}/office withdraw 0001306 LAT >other 2>&1"
+        program = self.write("program", f'#!/bin/sh\nif [ "$5" = serve ]; then\n{other}\nfi\n'
+                                        f'exec {sample.built_program()} "$@"\n')
+        os.chmod(program, 0o700)
+        done = self.run_office("withdraw", "0001000", "MA-1", EXAMOFFICE=program)
+        self.assertIn("1 leaves a session: MON-AM 0001000 Ada Lin\n", done.stderr)
+        self.assertIn("`office changes 2` lists them\n", done.stderr)
+        self.assertRegex(self.office("back"), "before withdraw 0001306 LAT\n.*before withdraw 0001000 MA-1\n")
+
+
+if __name__ == "__main__":
+    unittest.main()
