@@ -5,7 +5,7 @@ import sqlite3
 from collections import Counter
 from typing import NamedTuple
 
-from exam_desk import copies, facts, telling
+from exam_desk import copies, facts, lists, telling
 from exam_desk.changing import Rehearsal
 from exam_desk.names import name_order
 from exam_desk.office import Office
@@ -165,7 +165,7 @@ def most(counts: Counter[str]) -> str:
 def session_lines(before: Reading, after: Reading) -> list[str]:
     """A line for each session whose candidates or seats are other ones: how many they are, counted by their rows."""
     was = figures(before)
-    return [f"session {code}: {people:,} candidates, {people - seats:,} without a desk"
+    return [f"session {code}: {lists.count(people, 'candidate')}, {people - seats:,} without a desk"
             + (f" (before: {was[code][0]:,} and {was[code][0] - was[code][1]:,})" if code in was else "")
             for code, (people, seats) in figures(after).items() if was.get(code) != (people, seats)]
 

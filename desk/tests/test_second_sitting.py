@@ -57,7 +57,7 @@ class There(SecondSitting):
         self.assertEqual(said.split("\n")[:4], [
             "session MON-AM-2 (new) at 10:30, paper MA-1-2 (new), hall R14 with 1 desk",
             "0000003 ?Bo, =1+1 sits LAT until 10:30, and MA-1-2 from 10:30 to 12:30 in R14, desk 1",
-            "1 joins a session", "session MON-AM-2: 1 candidates, 0 without a desk"])
+            "1 joins a session", "session MON-AM-2: 1 candidate, 0 without a desk"])
         self.assertEqual(self.seats("MON-AM-2"), {"0000003": ("MA-1-2", "R14", "1")})
         self.assertEqual(self.seats("MON-AM")["0000003"][0], "LAT")
         self.assertNotIn("0000003", self.office("clashes", "MON-AM"))
@@ -69,7 +69,7 @@ class There(SecondSitting):
     def test_the_paper_that_was_sat_so_far(self):
         said = self.second("0000003", "LAT", "11:00", "R14")
         self.assertIn("sits MA-1 until 11:00, and LAT-2 from 11:00 to 12:30 in R14, desk 1\n", said)
-        self.assertIn("1 sits another paper or time\n", said)
+        self.assertIn("1 sits another paper\n", said)
 
     def test_a_second_candidate_joins(self):
         self.second(*ONE)
