@@ -2,6 +2,7 @@
 import os
 import re
 import unittest
+from unittest import mock
 
 import sample
 from exam_desk import changing, consequences, copies, telling
@@ -124,6 +125,12 @@ class Told(sample.SampleSchool):
         newest = copies.listed(self.value)[0]
         lines = consequences.done(self.value, newest, lambda *_: None)
         self.assertTrue(lines[0].startswith("1 sits another paper: MON-AM 0001306 "), lines)
+
+    def test_no_memory(self):
+        carried = changing.carry_out(self.value, [changing.Step(("withdraw", "0001000", "MA-1"))])
+        with mock.patch("exam_desk.consequences.groups", side_effect=MemoryError):
+            [line] = consequences.done(self.value, carried.copy, lambda *_: None)
+        self.assertTrue(line.endswith(": there is no memory"), line)
 
     def test_the_status_stays_where_nobody_can_say(self):
         """A program that serves nothing."""
