@@ -90,6 +90,7 @@ class Desk:
                     return
                 if self.has_current(self.wanted):  # asked for while it was read
                     self.wanted = self.read_until
+                    self.changed.notify_all()
                     continue
             self.read()
 
@@ -134,7 +135,7 @@ class Desk:
             if not self.has_current(asked):
                 self.wanted = asked
                 self.changed.notify_all()
-                self.changed.wait_for(lambda: self.read_until >= asked, PATIENCE)
+                self.changed.wait_for(lambda: self.read_until >= asked or self.has_current(asked), PATIENCE)
                 if self.read_until >= asked and self.fault:
                     raise self.fault
             if not self.has_current(asked):
