@@ -14,6 +14,7 @@ from exam_desk.trouble import Trouble
 from exam_desk.words import clock, feature_text
 
 MOST_SHOWN = 10  # of more only names and numbers
+CANDIDATES = "SELECT number, name, code FROM candidate"
 ENTRIES = ("SELECT session.code AS session, day, start, paper.code AS paper, title, live = 1 AS live FROM entry "
            "JOIN paper ON paper.code = paper JOIN session ON session.code = session WHERE number = ? "
            "ORDER BY day, start, session.code, paper.code")
@@ -21,12 +22,15 @@ ENTRIES = ("SELECT session.code AS session, day, start, paper.code AS paper, tit
 
 def find(rows: Rows, asked: str) -> list[Person]:
     """The candidates with this number, or with this in their names, by name."""
-    everybody = (Person(f"{number:07}", name, code)
-                 for number, name, code in rows.execute("SELECT number, name, code FROM candidate"))
     if re.fullmatch("[0-9]{1,7}", asked):
-        return [person for person in everybody if int(person.number) == int(asked)]
-    found = [person for person in everybody if fold(asked) in fold(person.name)]
+        return [person_of(row) for row in rows.execute(f"{CANDIDATES} WHERE number = ?", [int(asked)])]
+    wanted = fold(asked)
+    found = [person_of(row) for row in rows.execute(CANDIDATES) if wanted in fold(row["name"])]
     return sorted(found, key=lambda person: name_order(person.name, person.number))
+
+
+def person_of(row: sqlite3.Row) -> Person:
+    return Person(f"{row['number']:07}", row["name"], row["code"])
 
 
 def asked_lines(reading: Reading, asked: str, codes: bool) -> list[str]:
