@@ -186,6 +186,12 @@ def of_plant(found: dict[str, Found], plant: Plant) -> Found:
     return whole
 
 
+def kind_of(goal: str) -> tuple[str, str]:
+    """Where a goal stands and its clause, without the names of the branches, which a mistake can change."""
+    place, _, clause = goal.partition("-clause-")
+    return place.split("-")[0], clause
+
+
 def judged(found: Found, bare: Found, stands: Found) -> tuple[str, list[str]]:
     """What refuses a plant, and the goals: by the check with its proof, by one without the written answers, and by that
     of the function as it stands without them."""
@@ -196,7 +202,8 @@ def judged(found: Found, bare: Found, stands: Found) -> tuple[str, list[str]]:
         return ("false", false) if false else ("answer", found.answers)
     if "could not tell" in (found.verdict, bare.verdict):
         return "limit", []
-    fresh = [name for name in bare.goals if name not in stands.goals] if not bare.gone else []
+    kinds = {kind_of(name) for name in stands.goals}
+    fresh = [name for name in bare.goals if kind_of(name) not in kinds] if not bare.gone else []
     return ("open", fresh) if fresh else ("names", [])
 
 

@@ -98,6 +98,8 @@ class TestJudged(unittest.TestCase):
                 ("answer", ["a"], (answer, open_goal, open_goal)),
                 ("open", ["g"], (open_goal, open_goal, Found())),
                 ("names", [], (refused, open_goal, open_goal)),
+                ("names", [], (refused, Found("not proved", {"returns-then-a": False}), Found("", {"returns-b": False}))),
+                ("open", ["f-clause-a"], (refused, Found("", {"f-clause-a": False}), Found("", {"f-clause-b": False}))),
                 ("limit", [], (Found("could not tell"), Found("could not tell"), Found()))):
             with self.subTest(says):
                 self.assertEqual((says, goals), judged(*checks))
