@@ -20,7 +20,7 @@ SPOILED = {  # a change that spoils each table
     "opening": "UPDATE opening SET desks = 0", "appeal": APPEAL.replace("'PC1'", "'<b>'"),
     "arrangement": "DELETE FROM candidate", "standing": "INSERT INTO standing VALUES (1, 'A')",
     "candidate": "UPDATE candidate SET code = 'A' || char(0)", "seat": "UPDATE seat SET hall = 'NONE'",
-    "entry": "UPDATE entry SET paper = 'NONE' WHERE number = 1000",
+    "entry": "UPDATE entry SET paper = 'X' || paper WHERE number = 1000",
 }
 READER = """import sys; sys.path.insert(0, sys.argv[1])
 from exam_desk import private
