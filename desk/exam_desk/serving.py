@@ -40,8 +40,7 @@ class Serve:
         found: list[bytes] = []
         for _ in range(TRIES):
             with contextlib.suppress(OSError):
-                ask_all(self.started(), requests, found, progress)
-                return found
+                return ask_all(self.started(), requests, found, progress)
             self.close()
         raise Trouble(f"the program ended {TRIES} times while it was asked; nothing is printed")
 
@@ -87,22 +86,8 @@ class Serve:
         self.child = self.server = None
 
 
-class Kept:
-    """Asks a server that runs already, as `keep` does. What it raises says nothing of the office: ask a `Serve`
-    then."""
-
-    def __init__(self, server: asking.Server) -> None:
-        self.server = server
-
-    def bodies(self, requests: Sequence[bytes], progress: Progress) -> list[bytes]:
-        """The bodies of the answers. Raises OSError where no whole one comes, `Trouble` where one is no 200."""
-        found: list[bytes] = []
-        ask_all(self.server, requests, found, progress)
-        return found
-
-
-def ask_all(server: asking.Server, requests: Sequence[bytes], found: list[bytes], progress: Progress) -> None:
-    """Adds the body of each answer to those that are found already. Raises OSError where no whole one comes, and
+def ask_all(server: asking.Server, requests: Sequence[bytes], found: list[bytes], progress: Progress) -> list[bytes]:
+    """The body of each answer, added to those that are found already. Raises OSError where no whole one comes, and
     `Trouble` where one has another status than 200."""
     waiting: collections.deque[socket.socket] = collections.deque()
     try:
@@ -114,6 +99,7 @@ def ask_all(server: asking.Server, requests: Sequence[bytes], found: list[bytes]
         while waiting:
             take_body(waiting.popleft(), found)
             progress(len(found), len(requests))
+        return found
     finally:
         for connection in waiting:
             connection.close()
