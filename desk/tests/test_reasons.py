@@ -4,7 +4,7 @@ import itertools
 import re
 import unittest
 
-import sample  # noqa: F401  (finds the package)
+import sample
 from exam_desk.answers import Sitting
 from exam_desk.facts import Opening
 from exam_desk.reading import Member
@@ -17,7 +17,7 @@ NEEDS = [needs for count in range(7) for needs in itertools.combinations(FEATURE
 
 def member(place, needs, finish):
     return Member(f"{place:07}", f"Name {place}",
-                  Sitting("S", "2027-06-07", "09:00", "MA-1", finish, needs, 25 if needs else 0, None, None))
+                  Sitting("S", sample.TODAY, "09:00", "MA-1", finish, needs, 25 if needs else 0, None, None))
 
 
 def found(members, openings):
