@@ -4,10 +4,11 @@ from __future__ import annotations
 import datetime
 import os
 from collections.abc import Callable
-from typing import NamedTuple
+from dataclasses import dataclass
 
 
-class Office(NamedTuple):
+@dataclass(frozen=True)
+class Office:
     """An office, the program that has it, the day, and who works."""
     path: str  # of its file, as the user named it
     program: str  # the path of examoffice

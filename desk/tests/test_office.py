@@ -71,7 +71,7 @@ class Words(sample.SampleSchool):
         done = subprocess.run(line, env=self.environment, capture_output=True, text=True, check=True)
         names = [line.rpartition("|")[2].strip() for line in done.stderr.split("\n")]
         self.assertIn("exam_desk.reading", names)  # in the process of `office`
-        self.assertFalse({"asyncio", "ctypes", "inspect", "exam_desk.changing", "exam_desk.refusals"} & {*names})
+        self.assertFalse({"asyncio", "ctypes", "exam_desk.changing", "exam_desk.refusals"} & {*names})
 
     def test_why(self):
         text = self.office("why", "TUE-AM")

@@ -1,6 +1,7 @@
 """Five programs that answer one thing otherwise: each page and list shows their answer, so none reckons by itself."""
 import contextlib
 import csv
+import dataclasses
 import io
 import json
 import os
@@ -79,7 +80,7 @@ class StandIns(sample.SampleSchool):
         with contextlib.ExitStack() as stack:
             stack.enter_context(mock.patch.dict(os.environ, environment))
             before = stack.enter_context(Reading(self.value, os.path.join(self.made, "office.db")))
-            return Pages(stack.enter_context(Reading(self.value._replace(program=STAND_IN))), before)
+            return Pages(stack.enter_context(Reading(dataclasses.replace(self.value, program=STAND_IN))), before)
 
     def test_the_real_program(self):
         pages = self.pages()
