@@ -14,11 +14,11 @@ from collections.abc import Callable, Collection, Iterable, Sequence
 from types import TracebackType
 from typing import NamedTuple, TypeVar
 
-from exam_desk import answers, asking, facts, private, running, snapshot, turns
+from exam_desk import answers, asking, bad_rows, facts, private, running, snapshot, turns
 from exam_desk.answers import Appeal, Sitting
 from exam_desk.office import Office
-from exam_desk.serving import Kept, Progress, Serve
-from exam_desk.trouble import Trouble
+from exam_desk.serving import Progress, Serve, ask_all
+from exam_desk.trouble import BadRows, Trouble
 
 Found = TypeVar("Found")
 
@@ -47,14 +47,15 @@ class Reading:
     """A context. Several threads may use it; the first that asks must live as long as it."""
 
     def __init__(self, office: Office, path: str | None = None, progress: Progress = silent,
-                 kept: Kept | None = None) -> None:
+                 kept: asking.Server | None = None) -> None:
         """Reads the office, or another file of an office. Who is given as `kept` is asked in place of a `serve` over
         the copy. Raises `Trouble` where the office cannot be read."""
         self.office = office
         self.path = path or office.path
         self.progress = progress
         self.asking, self.printing = threading.Lock(), threading.Lock()
-        self.serve: Serve | Kept | None = kept
+        self.kept = kept
+        self.serve: Serve | None = None
         self.sittings: dict[int, dict[str, Sitting]] = {}  # what the program said, by number and session
         self.missed: dict[int, list[answers.Clash]] = {}
         self.read_at = time.time_ns()
@@ -152,20 +153,22 @@ class Reading:
     def bodies(self, people: Sequence[Person], what: str) -> list[bytes]:
         """The answers to one question about each. Call it with the lock of those who ask."""
         requests = [request(person, what) for person in people]
+        if self.kept:
+            return ask_all(self.kept, requests, [], self.progress)
         return self.begun().bodies(requests, self.progress) if requests else []
 
-    def begun(self) -> Serve | Kept:
-        """Who is asked. Call it with the lock of those who ask."""
+    def begun(self) -> Serve:
+        """The `serve` over the copy. Call it with the lock of those who ask."""
         if self.serve is None:
-            self.serve = serve = Serve(self.office, self.second_copy())
+            self.serve = serve = Serve(self.office, self.second_copy(), self.refuse_rows)
             self.stack.callback(serve.close)
         return self.serve
 
     def prepare(self) -> None:
         """Lets `serve` open the office while something else is done, such as a sheet."""
         with self.asking:
-            if isinstance(serve := self.begun(), Serve):
-                serve.begin()
+            if self.kept is None:
+                self.begun().begin()
 
     def second_copy(self) -> str:
         """The path of the files for `serve`: while it has them open nobody else can print a sheet of them."""
@@ -187,8 +190,18 @@ class Reading:
             done = running.run_over(self.office, self.copy, name, "--", *values)
         if done.status != 0:
             complaint = done.complaint.split("\n")[0] or f"status {done.status}"
+            self.refuse_rows(complaint)
             raise Trouble(f"no {name} {' '.join(values)}: {complaint}; nothing is printed")
         return done.answer
+
+    def refuse_rows(self, complaint: str) -> None:
+        """Raises `BadRows` where the program refuses the rows; it names the table, or else `check` does."""
+        if complaint == "refused 24":
+            bad_rows.refuse(self.rows, self.path, bad_rows.LARGE)
+            with self.printing:
+                said = running.run_over(self.office, self.copy, "check").answer
+            if said.startswith("bad "):
+                raise BadRows(self.path, said.removeprefix("bad ").strip())
 
 
 def of_few(office: Office, read: Callable[[Reading], Found]) -> Found:
@@ -196,7 +209,7 @@ def of_few(office: Office, read: Callable[[Reading], Found]) -> Found:
     it was copied meanwhile: so the rows and the answers are of one moment."""
     state = turns.keep_state(office)
     if state and state.get("state") == "serving":
-        kept = Kept(asking.Server(state["pid"], state["place"]))
+        kept = asking.Server(state["pid"], state["place"])
         with contextlib.suppress(OSError, Trouble), Reading(office, kept=kept) as reading:
             found = read(reading)
             if reading.is_current():

@@ -27,8 +27,9 @@ class Serve:
     The thread that asks first must live as long: the system ends `serve` with that thread.
     """
 
-    def __init__(self, office: Office, path: str) -> None:
-        self.office, self.path = office, path
+    def __init__(self, office: Office, path: str, explain: Callable[[str], None]) -> None:
+        """Over a file of an office. `explain` hears a refusal, and may raise what it knows better."""
+        self.office, self.path, self.explain = office, path, explain
         self.child: subprocess.Popen[bytes] | None = None
         self.port = 0
         self.server: asking.Server | None = None  # once it has said that it serves
@@ -39,8 +40,7 @@ class Serve:
         found: list[bytes] = []
         for _ in range(TRIES):
             with contextlib.suppress(OSError):
-                ask_all(self.started(), requests, found, progress)
-                return found
+                return ask_all(self.started(), requests, found, progress)
             self.close()
         raise Trouble(f"the program ended {TRIES} times while it was asked; nothing is printed")
 
@@ -63,9 +63,17 @@ class Serve:
             child = self.begin()
             assert child.stdout and child.stderr
             if not child.stdout.readline().startswith(b"serving"):
-                refuse(child.stderr.readline().decode("utf-8", "replace").strip())
+                self.refuse(child.stderr.readline().decode("utf-8", "replace").strip())
             self.server = asking.Server(child.pid, str(self.port))
         return self.server
+
+    def refuse(self, complaint: str) -> None:
+        """Raises `Trouble`, or OSError where another try may do: its port was taken, or a signal ended it."""
+        if complaint in ("", "net fault"):
+            raise OSError("serve does not listen")
+        self.explain(complaint)
+        raise Trouble(f"the program does not read the office ({complaint}); `office check` says more; nothing is "
+                      "printed")
 
     def close(self) -> None:
         """Ends `serve`, which has nothing to save."""
@@ -78,29 +86,8 @@ class Serve:
         self.child = self.server = None
 
 
-class Kept:
-    """Asks a server that runs already, as `keep` does. What it raises says nothing of the office: ask a `Serve`
-    then."""
-
-    def __init__(self, server: asking.Server) -> None:
-        self.server = server
-
-    def bodies(self, requests: Sequence[bytes], progress: Progress) -> list[bytes]:
-        """The bodies of the answers. Raises OSError where no whole one comes, `Trouble` where one is no 200."""
-        found: list[bytes] = []
-        ask_all(self.server, requests, found, progress)
-        return found
-
-
-def refuse(complaint: str) -> None:
-    """Raises `Trouble`, or OSError where another try may do: its port was taken, or a signal ended it."""
-    if complaint in ("", "net fault"):
-        raise OSError("serve does not listen")
-    raise Trouble(f"the program does not read the office ({complaint}); `office check` says more; nothing is printed")
-
-
-def ask_all(server: asking.Server, requests: Sequence[bytes], found: list[bytes], progress: Progress) -> None:
-    """Adds the body of each answer to those that are found already. Raises OSError where no whole one comes, and
+def ask_all(server: asking.Server, requests: Sequence[bytes], found: list[bytes], progress: Progress) -> list[bytes]:
+    """The body of each answer, added to those that are found already. Raises OSError where no whole one comes, and
     `Trouble` where one has another status than 200."""
     waiting: collections.deque[socket.socket] = collections.deque()
     try:
@@ -112,6 +99,7 @@ def ask_all(server: asking.Server, requests: Sequence[bytes], found: list[bytes]
         while waiting:
             take_body(waiting.popleft(), found)
             progress(len(found), len(requests))
+        return found
     finally:
         for connection in waiting:
             connection.close()

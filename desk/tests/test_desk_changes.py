@@ -160,8 +160,10 @@ class TestAppeals(DeskSchool):
                         seen.add(line)
         with concurrent.futures.ThreadPoolExecutor(1) as threads:
             threads.submit(watch)
-            self.lodged()
-            stop.set_result(None)
+            try:
+                self.lodged()
+            finally:  # else who watches would go on for ever
+                stop.set_result(None)
         self.assertEqual(seen, set())
         self.assertIn("lodge 0001051 MON-AM hall PC1", self.log())
         self.end()

@@ -66,6 +66,13 @@ class Words(sample.SampleSchool):
         self.assertRegex(text, r"^refused 24\n  .*other\.db: there is no office here; go to its folder")
         self.assertEqual(os.listdir(self.folder), before)
 
+    def test_a_command_begins_without_what_it_does_not_need(self):
+        line = [sys.executable, "-S", "-X", "importtime", sample.DESK / "office", "look", "--help"]
+        done = subprocess.run(line, env=self.environment, capture_output=True, text=True, check=True)
+        names = [line.rpartition("|")[2].strip() for line in done.stderr.split("\n")]
+        self.assertIn("exam_desk.reading", names)  # in the process of `office`
+        self.assertFalse({"asyncio", "ctypes", "exam_desk.changing", "exam_desk.refusals"} & {*names})
+
     def test_why(self):
         text = self.office("why", "TUE-AM")
         self.assertIn("sits BI-1 until", text)
