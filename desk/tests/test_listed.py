@@ -28,7 +28,8 @@ class Listed(test_changing.Changing):
     def carried(self, text, tell=lambda line, answered: None):
         rows, wrong = listed.rows_of(self.value, "withdraw", self.write(NAME, text))
         self.assertEqual(wrong, [])
-        return [answered.first_line() for answered in listed.carry_out(self.value, "withdraw --list x", rows, tell)]
+        return [answered.first_line() for answered
+                in listed.carry_out(self.value, "withdraw --list x", rows, tell).answers]
 
     def test_there_and_back_again(self):
         done = self.run_list(GOOD)
@@ -166,7 +167,7 @@ class Served(sample.KeptSchool):
             told.append(line)
         told = []
         with mock.patch.object(listed, "TURN", 0):
-            answers = listed.carry_out(self.value, "withdraw --list x", rows, tell)
+            answers = listed.carry_out(self.value, "withdraw --list x", rows, tell).answers
         self.assertEqual([answer.ran.status for answer in answers], [0] * 4)
         asked[0].join()
         self.assertEqual(asked[1][0], 200)
