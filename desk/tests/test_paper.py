@@ -39,7 +39,8 @@ class Papers(sample.SampleSchool):
         self.assertIn("no session S9", self.refused("slips", "S9"))
 
     def test_slips_by_group(self):
-        path = self.write("forms.csv", 'number,group\n0001051,10B\n0001000,"<i>=10A"\n0001017,10B\n9999999,10A\n0001034,\n')
+        path = self.write("forms.csv", 'number,group\n0001051,10B\n0001000,"<i>=10A"\n0001017,10B\n9999999,10A\n'
+                                       "0001034,\n")
         done = self.run_office("slips", "--order", path)
         self.assertEqual(done.stderr, "office: 1 number of the file are no candidates of the office\n"
                                       "office: 57 candidates in no group: their slips come last\n")
@@ -47,10 +48,11 @@ class Papers(sample.SampleSchool):
         self.assertEqual([text.partition("</bdi>")[0] for text in groups], ["10B", "&lt;i&gt;=10A", "in no group"])
         slips = [re.findall(r"<span>(\d{7})</span>", text) for text in groups]
         self.assertEqual((slips[:2], len(slips[2])), ([["0001051", "0001017"], ["0001000"]], 57))
-        rows = list(csv.DictReader(io.StringIO(self.office("slips", "--csv", "--only", "0001051", "--order", path)[1:])))
-        self.assertEqual([(row["session"], row["finish"], row["not sat"], row["group"], row["desk"], row["code"])
-                          for row in rows], [("MON-AM", "11:00", "LAT", "10B", "", ""),
-                                             ("MON-PM", "15:00", "", "10B", "", ""), ("TUE-AM", "11:00", "", "10B", "", "")])
+        text = self.office("slips", "--csv", "--only", "0001051", "--order", path)
+        rows = list(csv.DictReader(io.StringIO(text.removeprefix("\ufeff"))))
+        self.assertEqual([(row["session"], row["finish"], row["not sat"], row["group"], row["desk"] + row["code"])
+                          for row in rows], [("MON-AM", "11:00", "LAT", "10B", ""), ("MON-PM", "15:00", "", "10B", ""),
+                                             ("TUE-AM", "11:00", "", "10B", "")])
         self.assertIn('"VMGNZGEDP9"\n', self.office("slips", "--csv", "--codes", "--only", "0001051"))
         for text, said in (("number,form\n", "line 1 must be: number,group"),
                            ("number,group\n1051,10B\n", "line 2: '1051' is no number of seven digits"),
@@ -62,8 +64,9 @@ class Papers(sample.SampleSchool):
         self.make_hostile()
         before = self.write("before.db", b"")
         shutil.copy2(self.path, before)
-        self.run_office("close-hall", "MON-AM", "R12")
-        self.run_office("name", "0001748", "<b>New</b>")
+        for words in (["close-hall", "MON-AM", "R12"], ["name", "0001748", "<b>New</b>"],
+                      ["withdraw", "0001306", "LAT"]):
+            self.assertEqual(self.run_office(*words).returncode, 0)
         text = self.office("changes", before, "--paper", "--tell")
         page = Cells(text)
         self.assertEqual((page.strange, "size: A4" in text), (set(), True))
@@ -72,6 +75,7 @@ class Papers(sample.SampleSchool):
         self.assertEqual([row[1] for row in lost], told)
         self.assertIn("<b>New</b>|before: Tomas Costa", {row[2] for row in page.rows if len(row) == 6})
         self.assertNotIn("other desks in the same hall", text)
+        self.assertIn("other desks in the same hall", self.office("changes", before, "--paper"))
 
     def test_board(self):
         self.change("UPDATE candidate SET name = 'ada LIN' WHERE number = 1017")

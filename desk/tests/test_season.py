@@ -1,5 +1,5 @@
-"""A season over the sample school: at each event the first line on standard error is what a person must know. The season
-of a school of 1,000 is `bench/season`."""
+"""A season over the sample school: at each event the first line on standard error is what a person must know.
+`bench/season` has one of a school of 1,000."""
 import re
 import unittest
 
