@@ -35,7 +35,7 @@ class Listed(test_changing.Changing):
     def test_there_and_back_again(self):
         done = self.run_list(GOOD)
         self.assertEqual(done.returncode, 0)
-        self.assertIn("2 leave a session: MON-AM 0001000 Ada Lin; MON-AM 0001017 Bo Ito\n", done.stderr)
+        self.assertIn("2 leave a session: MON-AM 0001017 Bo Ito; MON-AM 0001000 Ada Lin\n", done.stderr)
         self.assertTrue(done.stderr.endswith("`office changes 1` lists them\n"), done.stderr)
         self.assertEqual(done.stdout, "line 2: withdraw 0001000 MA-1: withdrawn\n"
                                       "line 3: withdraw 0001017 MA-1: withdrawn\n"
