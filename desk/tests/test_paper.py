@@ -95,7 +95,7 @@ class Papers(sample.SampleSchool):
         rows = self.rows("doors", "MON-AM", "LIB")
         self.assertEqual(rows[:3], [
             ["Monday, 7 June 2027, 09:00 (MON-AM)|open until 14:00, last finish 12:08|6 desks, 6 candidates expected"
-             "Library|LIB, page 1 of 1|LAT Latin: 3|MA-1 Mathematics 1: 1|MA-2 Mathematics 2: 2"],
+             "Library|LIB, page 1 of 1|LAT Latin: 1|MA-1 Mathematics 1: 3|MA-2 Mathematics 2: 2"],
             ["Desk", "Number", "Name", "Paper", "Finish", "Arrangement", "Signature"],
             ["1", "0001153", "Jana Roe", "LAT", "10:53", "25 % extra time, screen", ""]])
         self.assertEqual((len(rows), rows[-1][0][:18]), (9, "Present: ________ "))
