@@ -15,7 +15,7 @@ FILES = {
 EVENTS = [  # a command, and what it says first; `{}` stands for a number
     ("import entries late.csv", "1 has a new clash: MON-AM 0001000 Ada Lin"),
     ("import papers moved.csv", "{} have new clashes: {} in MON-AM"),
-    ("back 1 --yes", "{} sit other papers: {} in MON-AM"),
+    ("back 1 --yes", "2 lose their desks: .."),  # who had one while the paper was moved
     ("import openings fewer.csv", "{} lose their desks: {} in MON-PM"),
     ("back 1 --yes", "{} get desks: {} in MON-PM"),
     ("import candidates people.csv", ""),
@@ -23,7 +23,7 @@ EVENTS = [  # a command, and what it says first; `{}` stands for a number
     ("name 0001051 Berg", "1 has another name: MON-AM 0001051 Berg"),
     ("import arrangements need.csv", "{} sit at other times: MON-AM 0001000 Ada Lin; MON-PM 0001000 Ada Lin"),
     ("lodge 0001051 MON-PM arrangement - 10 plaster", ""),
-    ("decide 0001051 D1 standing once", "{} sit at other times: MON-PM 0001051 Berg; TUE-AM 0001051 Berg"),
+    ("decide 0001051 D1 standing once", "3 sit at other times: .."),
     ("close-hall TUE-AM GYM", "{} lose their desks: {} in TUE-AM"),
     ("withdraw --list leave.csv", "1 gets a desk: .."),
 ]
