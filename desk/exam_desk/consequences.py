@@ -33,8 +33,12 @@ COUNTED = ["gets", "leaves", "joins", DESK_ALONE]  # so are these where the othe
 class Met(NamedTuple):
     """Whom a change meets, and how, in words."""
     session: str
-    who: str  # in a list
+    person: str  # in words
     what: str
+
+    @property
+    def who(self) -> str:
+        return f"{self.session} {self.person}"
 
 
 class Group(NamedTuple):
@@ -42,8 +46,12 @@ class Group(NamedTuple):
     kind: str  # of KINDS
     people: list[Met]  # by session and name
 
+    def is_one(self) -> bool:
+        """Whether all are one candidate in several sessions."""
+        return len({each.person for each in self.people}) == 1
+
     def title(self) -> str:
-        return counted(KINDS[self.kind], len(self.people))
+        return counted(KINDS[self.kind], 1 if self.is_one() else len(self.people))
 
 
 def of(rehearsal: Rehearsal, at_most: int | None, progress: Progress) -> list[str]:
@@ -113,13 +121,13 @@ def new_overlaps(before: Reading, after: Reading, sessions: list[str]) -> dict[s
         was = old.get(each[:2], each._replace(candidates=[], halls=[]))
         found[TWICE] += [candidate(each.late, person.number, person.name, f"sits in {each.early} then")
                          for person in by_name(after, {*each.candidates} - {*was.candidates})]
-        found[HALLS] += [Met(each.late, f"{hall} in {each.early} and {each.late}", "both number their desks from 1")
+        found[HALLS] += [Met(each.early, f"and {each.late} in {hall}", "both number their desks from 1")
                          for hall in each.halls if hall not in was.halls]
     return found
 
 
 def candidate(session: str, number: str, name: str, what: str) -> Met:
-    return Met(session, f"{session} {number} {plain(name)}", what)
+    return Met(session, f"{number} {plain(name)}", what)
 
 
 def short_at_first(before: Reading, after: Reading) -> list[str]:
@@ -182,6 +190,8 @@ def who_or_where(met: Group) -> str:
     """A few by their names, and many by the sessions in which they are most; nobody who has another desk alone."""
     if met.kind == DESK_ALONE:
         return ""
+    if met.is_one() and len(met.people) > 1:
+        return f": {met.people[0].person} in {len(met.people)} sessions"
     if len(met.people) <= MOST_NAMED:
         return ": " + "; ".join(each.who for each in met.people)
     return ": " + most(Counter(each.session for each in met.people))

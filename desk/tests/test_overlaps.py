@@ -35,7 +35,7 @@ class Overlaps(sample.SampleSchool):
         told = self.run_office("import", "entries", "entries.csv").stderr.split("\n")
         self.assertEqual(told[1:3], [
             "2 are in two sessions at one time: T2 0001034 Cy Ferrari; NX 0001000 Ada Lin",
-            "1 hall has candidates of two sessions at one time: AULA in MON-AM and HL"], told)
+            "1 hall has candidates of two sessions at one time: MON-AM and HL in AULA"], told)
         lines = self.office("summary").split("\n")
         counts = {line.split()[0]: line.split()[9] for line in lines[1:-1] if not line.startswith("NOTE")}
         self.assertEqual(counts, {"MON-AM": "2", "HL": "1", "T1": "0", "HM": "0", "T2": "1", "MON-PM": "0", "LT": "1",

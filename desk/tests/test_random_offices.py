@@ -18,7 +18,7 @@ class RandomOffices(unittest.TestCase):
                 counts += random_offices.look_at(folder, seed)
         for what in ("members", "without a desk", "arrangements", "clashes", "appeals", "granted", "standing",
                      "changes", "overlaps"):
-            self.assertGreater(counts[what], 10, what)
+            self.assertGreater(counts[what], 10 if what != "overlaps" else 2, what)
 
 
 if __name__ == "__main__":

@@ -21,9 +21,9 @@ EVENTS = [  # a command, and what it says first; `{}` stands for a number
     ("import candidates people.csv", ""),
     ("import entries people.csv", "refused 2"),
     ("name 0001051 Berg", "1 has another name: MON-AM 0001051 Berg"),
-    ("import arrangements need.csv", "{} sit at other times: MON-AM 0001000 Ada Lin; MON-PM 0001000 Ada Lin"),
+    ("import arrangements need.csv", "1 sits at another time: 0001000 Ada Lin in 2 sessions"),
     ("lodge 0001051 MON-PM arrangement - 10 plaster", ""),
-    ("decide 0001051 D1 standing once", "3 sit at other times: .."),
+    ("decide 0001051 D1 standing once", "1 sits at another time: 0001051 Berg in 3 sessions"),
     ("close-hall TUE-AM GYM", "{} lose their desks: {} in TUE-AM"),
     ("withdraw --list leave.csv", "1 gets a desk: .."),
 ]

@@ -125,7 +125,7 @@ class There(SecondSitting):
     def test_others_in_the_hall_are_noted(self):
         said = self.second("0000003", "MA-1", "12:30", "GYM")
         self.assertIn("1 hall has candidates of two sessions at one time\n"
-                      "  GYM in MON-AM-2 and MON-PM: both number their desks from 1\n", said)
+                      "  MON-AM-2 and MON-PM in GYM: both number their desks from 1\n", said)
         self.assertNotIn("NOTE", said)
 
 
