@@ -33,7 +33,7 @@ TODAY = datetime.date(2027, 5, 1)
 NAMES = ["Ada Lin", "=1+1", "<script>alert(1)</script>", "\"quotes\" & 'more'", "C1 \u009b2J \u0085 end",
          "left \u202eright",
          "line\u2028end", "</bdi></td></table>", "W" * 80, "é" * 40, " ", "Zoë Ømer"]
-STARTS = ["09:00", "09:00", "10:00", "22:45"]
+STARTS = ["09:00", "09:00", "13:30", "22:45"]
 DAYS = ["2027-06-07", "2027-06-07", "2027-06-08", "2027-06-10"]
 
 
