@@ -5,7 +5,7 @@ import zipfile
 
 from exam_desk.trouble import Trouble
 from exam_desk.workbook.cells import MOST_COLUMN, MOST_MERGED, MOST_ROW, MOST_SHEETS, Book, Budget, Cell, Sheet
-from exam_desk.workbook.looking import Parts, local
+from exam_desk.workbook.looking import Parts
 from exam_desk.workbook.numberformats import number_cell
 
 ASIDE = ("annotation", "tracked-changes", "shapes", "dde-links", "frame", "custom-shape", "forms", "control",
@@ -19,7 +19,7 @@ def read_ods(archive: zipfile.ZipFile) -> Book:
     """The workbook of a zip; raises `Trouble` where it cannot be read whole."""
     parts = Parts(archive)
     if "META-INF/manifest.xml" in parts.names:
-        parts.read("META-INF/manifest.xml", refuse_secret)
+        parts.read("META-INF/manifest.xml", refuse_secret, lambda name: None)
     reader = OdsReader(Budget())
     for name in ("styles.xml", "content.xml"):
         if name in parts.names:
@@ -63,7 +63,7 @@ class OdsReader:
                 self.budget.keep("")
                 self.sheet.comments.append((self.row + 1, self.column + 1))
             return
-        given = local(attributes)
+        given = {key.rpartition(" ")[2]: value for key, value in attributes.items()}
         if name == "spreadsheet":
             self.spreadsheet = True
         elif name == "table" and self.spreadsheet:
