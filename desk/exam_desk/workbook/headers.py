@@ -76,6 +76,10 @@ def all_words() -> frozenset[str]:
                      for word in words_of(kind, column))
 
 
+def names_people(text: str) -> bool:
+    return folded(text) in {*words_of("candidates", "name"), *FIRST_NAME, *LAST_NAME}
+
+
 def seen(cell: Cell | None) -> Cell | None:
     """A cell, or none where it holds only what no eye sees."""
     if cell is None or cell.kind != "text" or cell.text.isascii() and not cell.text.isspace():

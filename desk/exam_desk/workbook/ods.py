@@ -12,6 +12,8 @@ ASIDE = ("annotation", "tracked-changes", "shapes", "dde-links", "frame", "custo
          "ruby-text", "note")  # what stands in a sheet and is no cell
 SPACES = {"s": "\0", "tab": "\1", "line-break": "\2"}  # what stands in letters as an element
 HIDDEN = ("collapse", "filter")
+FAMILIES = {"p": "paragraph", "span": "text", "a": "text"}  # of the styles of what stands in a cell
+Style = tuple[str, str | None]  # a family and a name, none of what all of the family have
 NUMBERS = {"float": "General", "currency": "General", "percentage": "0%"}
 
 
@@ -42,9 +44,11 @@ class OdsReader:
         self.budget = budget
         self.sheets: list[Sheet] = []
         self.sheet: Sheet | None = None
-        self.struck: set[str] = set()  # the styles that strike out
-        self.invisible: set[str] = set()  # the styles of hidden sheets
-        self.style = ""
+        self.style: Style = ("", None)
+        self.parents: dict[Style, str | None] = {}
+        self.struck: dict[Style, bool] = {}  # of the styles that say so whether they strike out
+        self.invisible: set[str | None] = set()  # the styles of hidden sheets
+        self.groups: list[bool] = []  # of rows, and whether they are hidden
         self.aside = 0  # how deep inside of what is no cell
         self.spreadsheet = False
         self.row = self.column = self.columns = 0
@@ -72,6 +76,8 @@ class OdsReader:
             self.begin_style(name, given)
         elif name == "table-column":
             self.begin_columns(given)
+        elif name == "table-row-group":
+            self.groups.append(given.get("display") == "false")
         elif name == "table-row":
             self.begin_row(given)
         elif name in ("table-cell", "covered-table-cell"):
@@ -81,17 +87,21 @@ class OdsReader:
 
     def begin_style(self, name: str, given: dict[str, str]) -> None:
         if name == "style" or name.endswith("-style"):
-            self.style = given.get("name", "")
-            if given.get("parent-style-name") in self.struck:
-                self.struck.add(self.style)
+            self.style = given.get("family", name), given.get("name")
+            self.parents[self.style] = given.get("parent-style-name")
         elif name == "text-properties":
-            lines = [given[key] for key in ("text-line-through-style", "text-line-through-type") if key in given]
-            if any(line != "none" for line in lines):
-                self.struck.add(self.style)
-            elif lines:
-                self.struck.discard(self.style)
+            if lines := [given[key] for key in ("text-line-through-style", "text-line-through-type") if key in given]:
+                self.struck[self.style] = any(line != "none" for line in lines)
         elif name == "table-properties" and given.get("display") == "false":
-            self.invisible.add(self.style)
+            self.invisible.add(self.style[1])
+
+    def is_struck(self, name: str | None, family: str = "table-cell") -> bool:
+        """Whether a style, one that it is made from, or the one of all cells strikes out."""
+        seen = set()
+        while (family, name) not in self.struck and name not in seen and name is not None:
+            seen.add(name)
+            name = self.parents.get((family, name))
+        return self.struck.setdefault((family, name), False)
 
     def begin_sheet(self, given: dict[str, str]) -> None:
         if self.sheet is not None:
@@ -101,7 +111,7 @@ class OdsReader:
         if len(self.sheets) > MOST_SHEETS:
             raise Trouble(f"it has more than {MOST_SHEETS} sheets")
         self.row = self.column = self.columns = 0
-        self.cell, self.struck_columns = None, []
+        self.cell, self.struck_columns, self.groups = None, [], []
 
     def begin_columns(self, given: dict[str, str]) -> None:
         assert self.sheet is not None
@@ -109,16 +119,16 @@ class OdsReader:
         reach = (self.columns + 1, self.columns + count)
         if given.get("visibility") in HIDDEN:
             self.sheet.hidden_columns.append(reach)
-        if given.get("default-cell-style-name") in self.struck:
+        if self.is_struck(given.get("default-cell-style-name")):
             self.struck_columns.append(reach)
         self.columns += count
 
     def begin_row(self, given: dict[str, str]) -> None:
         assert self.sheet is not None
         self.repeat = int(given.get("number-rows-repeated", 1))
-        if given.get("visibility") in HIDDEN:
+        if given.get("visibility") in HIDDEN or any(self.groups):
             self.sheet.hidden_rows.append((self.row + 1, self.row + self.repeat))
-        self.row_struck = given.get("default-cell-style-name") in self.struck
+        self.row_struck = self.is_struck(given.get("default-cell-style-name"))
         self.column, self.found = 0, {}
 
     def begin_cell(self, given: dict[str, str]) -> None:
@@ -135,7 +145,7 @@ class OdsReader:
             self.paragraphs.append([])
         elif self.paragraphs and name in SPACES:
             self.paragraphs[-1].append(SPACES[name] * max(0, min(int(given.get("c", 1)), 1000)))
-        if name in ("p", "span", "a") and given.get("style-name") in self.struck:
+        if name in FAMILIES and "style-name" in given and self.is_struck(given["style-name"], FAMILIES[name]):
             self.partly = True
 
     def letters(self, text: str) -> None:
@@ -151,6 +161,8 @@ class OdsReader:
             self.end_cell(self.sheet, self.cell)
         elif name == "table-row":
             self.end_row(self.sheet)
+        elif name == "table-row-group":
+            self.groups.pop()
         elif name == "table":
             self.sheet = None
 
@@ -179,7 +191,7 @@ class OdsReader:
     def read_cell(self, given: dict[str, str]) -> Cell | None:
         shown, formula = "\n".join(map(spaced, self.paragraphs)), "formula" in given
         kind, style = given.get("value-type"), given.get("style-name")
-        struck = self.partly or style in self.struck or style is None and (self.row_struck or any(
+        struck = self.partly or self.is_struck(style) or style is None and (self.row_struck or any(
             first <= self.column + 1 <= last for first, last in self.struck_columns))
         if kind == "error" or formula and re.match(r"Err:[0-9]+$|#[A-Z/0]+[!?]?$", shown):
             return Cell("error", shown or "#VALUE!", shown, formula)

@@ -80,7 +80,7 @@ def unescaped(text: str) -> str:
     if "_x" not in text:
         return text
     turned = re.sub("_x([0-9A-Fa-f]{4})_", lambda match: chr(int(match[1], 16)), text)
-    return turned.encode("utf-16", "surrogatepass").decode("utf-16", "replace")  # two halves make one letter
+    return turned.encode("utf-16", "surrogatepass").decode("utf-16", "surrogatepass")  # two halves are one letter
 
 
 def letters_of(element: Any) -> SharedText:
