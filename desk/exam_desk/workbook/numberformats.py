@@ -15,6 +15,7 @@ MACHINE_DATE = "m/d/yy?"  # the date that each machine shows in its own way
 BUILT_IN = {  # formats by number, beside those that openpyxl knows
             14: MACHINE_DATE, 22: MACHINE_DATE + " h:mm", 32: "h:mm", 33: "h:mm",
             **{number: MACHINE_DATE for number in (*range(27, 32), *range(34, 37), *range(50, 59))}}
+NUMBER = re.compile(r"\s*[+-]?([0-9]+\.?[0-9]*|\.[0-9]+)([eE][+-]?[0-9]+)?\s*")
 TOKEN = re.compile(r'"[^"]*"|\\.|_.|\*.|\[[^\]]*\]|General|[0#?]+(?:[0#?,.]*[0#?])?,*|.', re.I)
 DATE_TOKEN = re.compile(r'\[[^\]]*\]|yy\?|AM/PM|([ymdhs])\1*|[\\_*].|"[^"]*"|.', re.I)
 LOCALE = re.compile(r"\[\$[^\]-]*-([0-9A-F]+)\]", re.I)  # a language in the last ten bits, digits in the first
@@ -23,13 +24,13 @@ DIGITS = re.compile(r"(?P<group>#,)?#*(?P<zeros>0*)(?:\.(?P<places>0+))?")
 
 @functools.lru_cache(1 << 16)
 def number_cell(raw: str, form: str, epoch: datetime.datetime = WINDOWS) -> Cell | None:
-    """The cell of a number that is stored as `raw`; none where it is 0 and the format shows nothing for 0."""
-    try:
-        number = decimal.Decimal(raw)
-    except decimal.InvalidOperation:
-        return Cell("number", raw[:40], raw[:40])
-    if not number.is_finite() or abs(number) > MOST_NUMBER:
-        return Cell("number", raw[:40], raw[:40])
+    """The cell of a number that is stored as `raw`; none where it is 0 and the format shows nothing for 0. Raises
+    ValueError where it is none."""
+    if not NUMBER.fullmatch(raw):  # python would take 1_7, nan, and digits of other scripts too
+        raise ValueError(f"{raw[:40]!r} is no number")
+    number = decimal.Decimal(raw)
+    if abs(number) > MOST_NUMBER:
+        return Cell("number", f"{number:.5E}", f"{number:.5E}")
     tidy = tidied(number)
     plain = format(tidy, "f") if tidy else "0"
     marks = format_marks(form)

@@ -7,7 +7,7 @@ from exam_desk import files, mistakes
 from exam_desk.trouble import Trouble
 from exam_desk.workbook.cells import MOST_MERGED, Cell, Sheet, letters_of, place_name
 from exam_desk.workbook.days import AS_TEXT, NO_DAY
-from exam_desk.workbook.headers import KINDS, MARKED, all_words, folded, match_header, seen, text_cells
+from exam_desk.workbook.headers import KINDS, MARKED, folded, is_header_word, match_header, seen
 from exam_desk.workbook.tables import Job, Table
 from exam_desk.workbook.texts import Value, Wrong, bare, shown_of
 from exam_desk.workbook.values import is_mark
@@ -176,8 +176,7 @@ def is_example(here: Row) -> bool:
 def begins_other(job: Job, sheet: Sheet, row: int) -> bool:
     """Whether a second table begins here, which ends the reading."""
     cells = sheet.rows[row]
-    words = [text for text in text_cells(cells).values() if text.lstrip()[:1].isalpha()]
-    if len(words) < 2 or sum(folded(text) in all_words() for text in words) < 2:
+    if sum(cell.kind == "text" and is_header_word(cell.text) for cell in cells.values()) < 2:
         return False
     for kind in KINDS:
         have = set(match_header(kind, row, cells, {}).columns)

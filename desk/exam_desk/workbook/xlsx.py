@@ -8,6 +8,7 @@ import warnings
 import zipfile
 from collections.abc import Callable, Iterator
 from typing import Any
+from xml.etree.ElementTree import iterparse
 
 import openpyxl.styles.numbers
 from openpyxl.cell import Cell as StyledCell
@@ -15,7 +16,7 @@ from openpyxl.packaging import relationship
 from openpyxl.reader.excel import ExcelReader
 from openpyxl.styles import stylesheet
 from openpyxl.worksheet import _reader as sheets_reader
-from openpyxl.xml import functions
+from openpyxl.xml.constants import SHEET_MAIN_NS
 
 from exam_desk.trouble import Trouble
 from exam_desk.workbook.cells import (MOST_COLUMN, MOST_MERGED, MOST_ROW, MOST_SHEETS, Book, Budget, Cell, Sheet,
@@ -25,7 +26,6 @@ from exam_desk.workbook.numberformats import BUILT_IN, MACINTOSH, WINDOWS, numbe
 
 COMMENTS = "http://schemas.openxmlformats.org/officeDocument/2006/relationships/comments"
 STYLES = "xl/styles.xml"  # the only place where openpyxl looks for them
-NUMBER = re.compile(r"[+-]?([0-9]+\.?[0-9]*|\.[0-9]+)([eE][+-]?[0-9]+)?")
 TYPES = ("n", "s", "str", "b", "e", "d", "inlineStr")  # of cells
 openpyxl.styles.numbers.BUILTIN_FORMATS.update(BUILT_IN)
 apply_styles: Callable[[zipfile.ZipFile, Any], object] = stylesheet.apply_stylesheet
@@ -37,7 +37,8 @@ Style = tuple[str, bool]  # a number format, and whether the font is struck out
 def read_xlsx(archive: zipfile.ZipFile) -> Book:
     """The workbook of a zip; raises `Trouble` where it cannot be read whole."""
     warnings.simplefilter("ignore")  # on what is lost when openpyxl saves
-    sheets_reader._cast_number = digits_of
+    sheets_reader._cast_number = str  # numbers as they are stored
+    sheets_reader.iterparse = iterparse  # the parser in C: each part has been looked at for entities
     parts = Parts(archive)
     roots = {name: parts.read(name) for name in sorted(parts.names) if re.search(r"\.(xml|rels)$", name, re.I)}
     try:
@@ -46,13 +47,6 @@ def read_xlsx(archive: zipfile.ZipFile) -> Book:
         raise
     except Exception as fault:  # openpyxl raises whatever its code comes upon
         raise Trouble(f"a part of it is broken ({type(fault).__name__}: {fault}): {OPEN_AND_SAVE}") from fault
-
-
-def digits_of(text: str) -> str:
-    """The digits of a number as they are stored; python would take 1_7 and digits of other scripts too."""
-    if not NUMBER.fullmatch(text.strip()):
-        raise ValueError(f"{text[:40]!r} is no number")
-    return text.strip()
 
 
 class SharedText(str):
@@ -121,7 +115,7 @@ class Reader:
         """The elements of a name in parts."""
         for part in parts:
             with self.archive.open(part) as stream:
-                for _, element in functions.iterparse(stream):
+                for _, element in iterparse(stream):
                     if local(element) == name:
                         yield element
                         element.clear()
@@ -142,7 +136,7 @@ class Reader:
             space, _, root = self.roots[part]
             if root != "worksheet":
                 notes.append(f"the sheet {named.name} is no table ({root}); it is not read")
-            elif space != functions.SHEET_MAIN_NS:
+            elif space != SHEET_MAIN_NS:
                 raise Trouble(f"openpyxl cannot read the sheet {named.name}: save it as an .xlsx of the usual form, not "
                               "as Strict Open XML")
             else:
