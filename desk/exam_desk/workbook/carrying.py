@@ -1,6 +1,7 @@
 """A workbook as lines of JSON: so the process that reads it hands it over to the one that asked."""
 import json
 from collections.abc import Iterable, Iterator
+from typing import Any
 
 from exam_desk.trouble import Trouble
 from exam_desk.workbook.cells import Book, Cell, Sheet
@@ -42,8 +43,8 @@ def unpacked(lines: Iterable[str]) -> Book:
             raise Trouble(found["refused"])
         elif "sheet" in found:
             hidden, *places = found["more"]
-            rows, columns, merged, comments = ([tuple(place) for place in several] for several in places)
-            book.sheets.append(Sheet(found["sheet"], hidden, {}, rows, columns, merged, comments))
+            spans: list[list[Any]] = [[tuple(place) for place in several] for several in places]
+            book.sheets.append(Sheet(found["sheet"], hidden, {}, *spans))
         else:
             book = Book(found["form"], [], found["notes"])
     return book

@@ -16,7 +16,8 @@ def usable_sheets(job: Job, book: Book) -> list[Sheet]:
     for name in [*(wanted or []), *leave, *said]:
         if name not in names and (name not in said or folded(name) not in map(folded, names)):
             job.report.mistake(None, None, None, f"there is no sheet {name}; there are: {', '.join(names)}")
-    usable, hidden = [], []
+    usable: list[Sheet] = []
+    hidden: list[Sheet] = []
     for sheet in book.sheets:
         if wanted is not None and sheet.name not in wanted or sheet.name in leave:
             job.report.note(sheet, None, None, "is not read, as you said")

@@ -204,7 +204,7 @@ def painted(form: str, when: datetime.datetime) -> str:
         later = next((other for other in words[place + 1:] if other[0] in "hsdy"), "")
         if word in ("m", "mm") and (after_hour or later in ("s", "ss")):
             word = word.replace("m", "n")
-        text = "" if word[0] == "[" else known.get(word, literal(word))
+        text = "" if word[0] == "[" else known[word] if word in known else literal(word)
         if text is None:
             return ""
         out += text

@@ -15,7 +15,7 @@ from openpyxl.cell import Cell as StyledCell
 from openpyxl.packaging import relationship
 from openpyxl.reader.excel import ExcelReader
 from openpyxl.styles import stylesheet
-from openpyxl.worksheet import _reader as sheets_reader
+from openpyxl.worksheet import _reader
 from openpyxl.xml.constants import SHEET_MAIN_NS
 
 from exam_desk.trouble import Trouble
@@ -31,6 +31,7 @@ openpyxl.styles.numbers.BUILTIN_FORMATS.update(BUILT_IN)
 apply_styles: Callable[[zipfile.ZipFile, Any], object] = stylesheet.apply_stylesheet
 links_beside: Callable[[str], str] = relationship.get_rels_path
 links_of: Callable[[zipfile.ZipFile, str], Any] = relationship.get_dependents
+sheets_reader: Any = _reader
 Style = tuple[str, bool]  # a number format, and whether the font is struck out
 
 

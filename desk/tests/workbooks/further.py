@@ -2,7 +2,7 @@
 digits of other scripts, styles of .ods, files of columns, exports. A case is as in `cases`."""
 from typing import Any
 
-from cases import (ADA, ADA_LINE, ARRANGEMENTS, BO, BO_LINE, CANDIDATES, ENTRIES, HALLS, OPENINGS, PAPERS, SESSIONS,
+from cases import (ADA, ADA_LINE, ARRANGEMENTS, BO, BO_LINE, CANDIDATES, HALLS, OPENINGS, PAPERS, SESSIONS,
                    candidates, sheet)
 from harder import TWO_LINES, TWO_PAPERS, own_sheet, row_xml
 from rawbook import DATE, TIME, ods, ods_row, xlsx, zipped
