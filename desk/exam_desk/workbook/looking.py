@@ -1,11 +1,12 @@
-"""A look at the XML of a workbook: limits, whatever reads it then.
+"""A look at the XML of a workbook before anything reads it: limits. Then its elements, one after the other.
 
 A document type is refused, so no entity exists. Nothing is unpacked to the disk, no other file is opened.
 """
 import xml.parsers.expat
 import zipfile
-from collections.abc import Callable
+from collections.abc import Iterator
 from typing import IO
+from xml.etree.ElementTree import Element, iterparse
 
 from exam_desk.trouble import Trouble
 from exam_desk.workbook.cells import MOST_UNPACKED
@@ -14,7 +15,6 @@ MOST_DEPTH, MOST_QUIET = 256, 4 << 20  # elements in each other, bytes without a
 MOST_TAGS = 8_000_000  # in all parts
 PIECE = 1 << 16
 OPEN_AND_SAVE = "open it in a spreadsheet and save it again"
-Begin = Callable[[str, dict[str, str]], object]
 
 
 class Parts:
@@ -30,46 +30,40 @@ class Parts:
         if any(part.flag_bits & 1 for part in archive.infolist()):
             raise Trouble("it has a password: save it without one")
 
-    def read(self, name: str, begin: Begin = lambda name, given: None, end: Callable[[str], object] | None = None,
-             letters: Callable[[str], object] | None = None) -> str:
-        """Reads a part, and gives the name of its first element, with its namespace. The handlers, if there are three,
-        get local names."""
+    def elements(self, name: str, *events: str) -> Iterator[tuple[str, str, Element]]:
+        """The elements of a part that was looked at, with their events and their names without namespaces."""
+        with self.archive.open(name) as stream:
+            for event, element in iterparse(stream, events):
+                yield event, local(element), element
+
+    def look(self, name: str) -> str:
+        """Looks through a part, and gives the name of its first element, behind its namespace."""
         try:
             with self.archive.open(name) as stream:
-                return self.parse(stream, begin, end, letters)
-        except KeyError as fault:
-            raise Trouble(f"its part {name} is missing: {OPEN_AND_SAVE}") from fault
+                return self.parse(stream)
         except (zipfile.BadZipFile, OSError, EOFError, NotImplementedError) as fault:
             raise Trouble(f"its part {name} is broken: {fault}") from fault
         except (xml.parsers.expat.ExpatError, ValueError, LookupError, ArithmeticError) as fault:
             raise Trouble(f"a part of it is broken ({fault}): {OPEN_AND_SAVE}") from fault
 
-    def parse(self, stream: IO[bytes], begin: Begin, end: Callable[[str], object] | None,
-              letters: Callable[[str], object] | None) -> str:
+    def parse(self, stream: IO[bytes]) -> str:
         parser = xml.parsers.expat.ParserCreate(namespace_separator=" ")
-        parser.buffer_text, parser.buffer_size = True, PIECE
         depth = tags = before = quiet = 0
         root = ""
 
-        def start(name: str, given: dict[str, str]) -> None:
+        def start(name: str, _: dict[str, str]) -> None:
             nonlocal depth, tags, root
             depth += 1
             tags += 1
+            root = root or name
             if depth > MOST_DEPTH:
                 raise Trouble("its XML is nested too deep: it is no workbook of a school")
-            if end is not None:
-                begin(name.rpartition(" ")[2], given)
-            root = root or name
 
-        def stop(name: str) -> None:
+        def stop(_: str) -> None:
             nonlocal depth
             depth -= 1
-            if end is not None:
-                end(name.rpartition(" ")[2])
         parser.StartDoctypeDeclHandler = refuse_type
         parser.StartElementHandler, parser.EndElementHandler = start, stop
-        if letters is not None:
-            parser.CharacterDataHandler = letters
         while piece := stream.read(PIECE):
             parser.Parse(piece)
             quiet, before = quiet + len(piece) if tags == before else 0, tags
@@ -84,3 +78,8 @@ class Parts:
 
 def refuse_type(*_: object) -> None:
     raise Trouble("it holds a document type, which no spreadsheet writes")
+
+
+def local(element: Element) -> str:
+    """The name of an element without its namespace."""
+    return element.tag.rpartition("}")[2]

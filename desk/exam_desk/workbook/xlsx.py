@@ -8,7 +8,7 @@ import warnings
 import zipfile
 from collections.abc import Callable, Iterator
 from typing import Any
-from xml.etree.ElementTree import iterparse
+from xml.etree.ElementTree import Element, iterparse
 
 import openpyxl.styles.numbers
 from openpyxl.cell import Cell as StyledCell
@@ -21,7 +21,7 @@ from openpyxl.xml.constants import SHEET_MAIN_NS
 from exam_desk.trouble import Trouble
 from exam_desk.workbook.cells import (MOST_COLUMN, MOST_MERGED, MOST_ROW, MOST_SHEETS, Book, Budget, Cell, Sheet,
                                       area_of, place_name, place_of)
-from exam_desk.workbook.looking import OPEN_AND_SAVE, Parts
+from exam_desk.workbook.looking import OPEN_AND_SAVE, Parts, local
 from exam_desk.workbook.numberformats import BUILT_IN, MACINTOSH, WINDOWS, number_cell, shown_text
 
 COMMENTS = "http://schemas.openxmlformats.org/officeDocument/2006/relationships/comments"
@@ -41,9 +41,9 @@ def read_xlsx(archive: zipfile.ZipFile) -> Book:
     sheets_reader._cast_number = str  # numbers as they are stored
     sheets_reader.iterparse = iterparse  # the parser in C: each part has been looked at for entities
     parts = Parts(archive)
-    roots = {name: parts.read(name) for name in sorted(parts.names) if re.search(r"\.(xml|rels)$", name, re.I)}
+    roots = {name: parts.look(name) for name in sorted(parts.names) if re.search(r"\.(xml|rels)$", name, re.I)}
     try:
-        return Reader(archive, roots).book()
+        return Reader(parts, roots).book()
     except (Trouble, MemoryError):
         raise
     except Exception as fault:  # openpyxl raises whatever its code comes upon
@@ -65,11 +65,6 @@ class SharedTexts(list[SharedText]):
         return super().__getitem__(place)
 
 
-def local(element: Any) -> str:
-    """The name of an element without its namespace."""
-    return str(element.tag).rpartition("}")[2]
-
-
 def unescaped(text: str) -> str:
     """A text in which _x000D_ stands for the letter of this number."""
     if "_x" not in text:
@@ -78,7 +73,7 @@ def unescaped(text: str) -> str:
     return turned.encode("utf-16", "surrogatepass").decode("utf-16", "surrogatepass")  # two halves are one letter
 
 
-def letters_of(element: Any) -> SharedText:
+def letters_of(element: Element | tuple[()]) -> SharedText:
     """The text of an element <si> or <is>, without the <rPh> that say how it is spoken."""
     said = [part for child in element if local(child) != "rPh" for part in child.iter()]
     text = SharedText(unescaped("".join(part.text or "" for part in said if local(part) == "t")))
@@ -89,15 +84,15 @@ def letters_of(element: Any) -> SharedText:
 class Reader:
     """Reads the sheets of one workbook, whose parts have these first elements."""
 
-    def __init__(self, archive: zipfile.ZipFile, roots: dict[str, str]) -> None:
-        self.archive, self.budget = archive, Budget()
+    def __init__(self, parts: Parts, roots: dict[str, str]) -> None:
+        self.parts, self.archive, self.budget = parts, parts.archive, Budget()
         self.roots = {name: root.rpartition(" ") for name, root in roots.items()}
         if styles := [name for name in self.of_root("styleSheet") if name != STYLES]:
             raise Trouble(f"its styles stand in an unusual part, {styles[0]}: {OPEN_AND_SAVE}")
-        reader = ExcelReader(archive.fp, keep_links=False)
+        reader = ExcelReader(self.archive.fp, keep_links=False)
         reader.read_manifest()
         reader.read_workbook()
-        apply_styles(archive, reader.wb)
+        apply_styles(self.archive, reader.wb)
         self.reader = reader
         self.epoch = MACINTOSH if reader.wb.epoch.year == 1904 else WINDOWS
         self.texts = SharedTexts()
@@ -112,14 +107,13 @@ class Reader:
         """The parts with a first element."""
         return [name for name, (_, _, found) in self.roots.items() if found == root]
 
-    def elements(self, parts: list[str], name: str) -> Iterator[Any]:
+    def elements(self, parts: list[str], name: str) -> Iterator[Element]:
         """The elements of a name in parts."""
         for part in parts:
-            with self.archive.open(part) as stream:
-                for _, element in iterparse(stream):
-                    if local(element) == name:
-                        yield element
-                        element.clear()
+            for _, found, element in self.parts.elements(part, "end"):
+                if found == name:
+                    yield element
+                    element.clear()
 
     def book(self) -> Book:
         notes = []
