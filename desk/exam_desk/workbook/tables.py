@@ -174,17 +174,8 @@ def tell_unread(job: Job, table: Table) -> None:
 
 def first_rows(sheet: Sheet, header: int) -> dict[int, int]:
     """Of each column that has values below the header the first row with one."""
-    there: dict[int, int] = {}
-    for row, cells in sheet.rows.items():
-        if row > header:
-            add_first(there, row, cells)
-    return there
-
-
-def add_first(there: dict[int, int], row: int, cells: Mapping[int, Cell]) -> None:
-    for place, cell in cells.items():
-        if place not in there and seen(cell):
-            there[place] = row
+    below = sorted((row for row in sheet.rows if row > header), reverse=True)
+    return {place: row for row in below for place, cell in sheet.rows[row].items() if seen(cell)}
 
 
 def first_crosses(sheet: Sheet, header: int) -> dict[int, int]:
@@ -192,11 +183,8 @@ def first_crosses(sheet: Sheet, header: int) -> dict[int, int]:
     nothing else than 1 and 0."""
     found: dict[int, int] = {}
     others: set[int] = set()
-    for row, cells in sheet.rows.items():
-        if row > header:
-            marks = {place: is_mark(cell) for place, cell in cells.items()}
-            others |= {place for place, mark in marks.items() if mark is None}
-            for place in [place for place, mark in marks.items() if mark and place not in found]:
-                found[place] = row
-    counts = {place for place, row in found.items() if sheet.rows[row][place].kind == "number" and place in others}
-    return {place: row for place, row in found.items() if place not in counts}
+    for row in sorted(row for row in sheet.rows if row > header):
+        marks = {place: is_mark(cell) for place, cell in sheet.rows[row].items()}
+        others |= {place for place, mark in marks.items() if mark is None}
+        found = {place: row for place, mark in marks.items() if mark} | found
+    return {place: row for place, row in found.items() if place not in others or sheet.rows[row][place].kind != "number"}

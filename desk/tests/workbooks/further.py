@@ -337,3 +337,5 @@ case("dates-by-odd-formats", xlsx(sheet("Sessions", SESSIONS, ["S1", ("n", "4653
      files={"sessions": ["S1,2027-06-01,09:00", "S2,2027-06-02,09:00", "S3,2027-06-03,09:00"]},
      told=[["Sessions!B2", "a true date", "Tuesday"], ["Sessions!B3", "a true date"], ["Sessions!B4", "a true date"],
            ["Sessions!C3", "9:00 AM became 09:00"], ["Sessions!C4", "9 Uhr became 09:00"]])
+case("marks-of-no-width", xlsx(candidates(["0000001", "Ada\u2063 Lin\u180e", "CODE\u20650001"])), files=A,
+     told=[["Candidates!B2", "invisible"], ["Candidates!C2", "invisible"]])
