@@ -30,11 +30,14 @@ def read_workbook(path: str, known: mistakes.Known, way: Way, given: Mapping[str
                   encoding: str | None = None, progress: Progress = lambda text: None) -> Reading:
     """Reads a workbook or a CSV export beside what the office has; raises `Trouble` where it cannot be read."""
     progress("opening")
+    return read_book(opened(path, encoding), Job(known, way, given, choices), progress)
+
+
+def opened(path: str, encoding: str | None) -> Book:
     try:
-        book = open_book(path, encoding)
+        return open_book(path, encoding)
     except Trouble as trouble:
         raise Trouble(f"{path} cannot be read: {trouble.sentence}") from trouble
-    return read_book(book, Job(known, way, given, choices), progress)
 
 
 def mend_folder(folder: str, known: mistakes.Known, way: Way, encoding: str | None = None,
@@ -44,10 +47,7 @@ def mend_folder(folder: str, known: mistakes.Known, way: Way, encoding: str | No
     for name in sorted(os.listdir(folder), key=lambda name: (len(name), name)):
         match = re.fullmatch(rf"({'|'.join(KINDS)})(-[0-9]+)?\.csv", name)
         if match:
-            try:
-                found = open_book(os.path.join(folder, name), encoding)
-            except Trouble as trouble:
-                raise Trouble(f"{os.path.join(folder, name)} cannot be read: {trouble.sentence}") from trouble
+            found = opened(os.path.join(folder, name), encoding)
             book.sheets.extend(found.sheets)
             book.notes.extend(f"{name}: {note}" for note in found.notes)
             together.append(match[1])
@@ -55,8 +55,7 @@ def mend_folder(folder: str, known: mistakes.Known, way: Way, encoding: str | No
             book.notes.append(f"{name} is none of the seven files; it is not read")
     if not book.sheets:
         raise Trouble("none of the seven files is there", folder)
-    given: dict[str, Given] = {}
-    return read_book(book, Job(known, way, given, Choices(together=together)), progress)
+    return read_book(book, Job(known, way, choices=Choices(together=together)), progress)
 
 
 def read_book(book: Book, job: Job, progress: Progress) -> Reading:

@@ -58,11 +58,10 @@ def read_table(job: Job, table: Table, progress: Progress) -> list[Record]:
 def look_at_hidden(job: Job, table: Table) -> None:
     """Hidden rows are a mistake until the officer says what becomes of them."""
     sheet, report = table.sheet, job.report
-    single = {first for first, last in sheet.hidden_rows if first == last}
-    spans = [span for span in sheet.hidden_rows if span[0] != span[1]]
-    lines = sorted(row for row, cells in sheet.rows.items() if row > table.header.row
-                   and (row in single or any(first <= row <= last for first, last in spans))
-                   and any(map(seen, cells.values())))
+    last_row = max(sheet.rows)
+    hidden = {row for first, last in sheet.hidden_rows for row in range(first, min(last, last_row) + 1)}
+    lines = sorted(row for row in hidden & sheet.rows.keys() if row > table.header.row
+                   and any(map(seen, sheet.rows[row].values())))
     if not lines:
         return
     count = f"row {lines[0]} is" if len(lines) == 1 else f"{len(lines)} rows between {lines[0]} and {lines[-1]} are"
