@@ -52,8 +52,8 @@ def time_of_number(text: str) -> Value:
     number = decimal.Decimal(text)
     minutes = number * 1440
     if 0 < number < 1 and abs(minutes - round(minutes)) < decimal.Decimal("1e-6"):
-        raise Wrong(f"a number without the format of a time: if {clock_of(str(round(minutes) * 60))} is meant, give the "
-                    "column the format time")
+        raise Wrong("a number without the format of a time: if "
+                    f"{clock_of(str(round(minutes) * 60))} is meant, give the column the format time")
     raise Wrong(mistakes.TIME_CURE)
 
 

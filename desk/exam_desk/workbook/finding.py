@@ -161,8 +161,8 @@ def find_entries(job: Job, rest: list[Sheet], tables: list[Table]) -> list[Table
 
 def tell_no_entries(job: Job, sheet: Sheet) -> None:
     cure = "" if job.papers else "; no papers are known: put them into the workbook, or import them first"
-    job.report.mistake(sheet, min(sheet.rows), None, "neither a header number, paper nor one of number and the codes of "
-                                                     f"papers is found{cure}")
+    job.report.mistake(sheet, min(sheet.rows), None,
+                       f"neither a header number, paper nor one of number and the codes of papers is found{cure}")
 
 
 def list_table(job: Job, sheet: Sheet, header: Header, marks: dict[int, str], code: str) -> Table:
@@ -195,7 +195,8 @@ def paper_columns(job: Job, sheet: Sheet, header: Header) -> dict[int, str]:
     crosses = first_crosses(sheet, header.row) if marks else {}
     names = {place for place, text in text_cells(head).items() if names_people(text)}
     for place in sorted(set(crosses) - set(marks) - set(header.columns["number"]) - names):
-        what = f"{head[place].text.strip()!r} is no paper that is known" if place in head else "the column has no header"
+        what = f"{head[place].text.strip()!r} is no paper that is known" if place in head else \
+            "the column has no header"
         where = place_name(sheet, crosses[place], place)
         job.report.mistake(sheet, header.row, place, f"{what}, and has crosses ({where}): correct the code, or delete "
                                                      "the column")

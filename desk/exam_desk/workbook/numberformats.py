@@ -197,8 +197,8 @@ def painted(form: str, when: datetime.datetime) -> str:
                "d": when.day, "m": when.month}
     known = {word: text for letter, number in numbers.items()
              for word, text in ((letter, f"{number}"), (2 * letter, f"{number:02}"))}
-    known |= {"yyyy": f"{when.year}", "yy": f"{when:%y}", "mmm": f"{when:%b}", "mmmm": f"{when:%B}", "ddd": f"{when:%a}",
-              "dddd": f"{when:%A}", "am/pm": f"{when:%p}", ".": ".", ",": ","}
+    known |= {"yyyy": f"{when.year}", "yy": f"{when:%y}", "mmm": f"{when:%b}", "mmmm": f"{when:%B}",
+              "ddd": f"{when:%a}", "dddd": f"{when:%A}", "am/pm": f"{when:%p}", ".": ".", ",": ","}
     out, after_hour = "", False
     for place, word in enumerate(words):
         later = next((other for other in words[place + 1:] if other[0] in "hsdy"), "")

@@ -11,7 +11,7 @@ from exam_desk.workbook.looking import OPEN_AND_SAVE, Parts, local
 from exam_desk.workbook.numberformats import number_cell
 
 ASIDE = ("tracked-changes", "shapes", "dde-links", "forms")  # what stands among sheets and rows, and has no cells
-IN_LETTERS = ("annotation", "frame", "custom-shape", "control", "ruby-text", "note")  # what stands in letters, and is none
+IN_LETTERS = ("annotation", "frame", "custom-shape", "control", "ruby-text", "note")  # in letters, and none of them
 SPACES = {"s": "\0", "tab": "\1", "line-break": "\2"}  # what stands in letters as an element
 FAMILIES = {"p": "paragraph", "span": "text", "a": "text"}  # of the styles of what stands in a cell
 NUMBERS = {"float": "General", "currency": "General", "percentage": "0%"}
@@ -162,7 +162,8 @@ class OdsReader:
         paragraphs = [inside for inside in part if local(inside) == "p"]
         shown, formula, kind = "\n".join(map(letters, paragraphs)), "formula" in given, given.get("value-type")
         unseen = bool(paragraphs) and not shown
-        struck = struck or any(self.is_struck(style, family) for text in paragraphs for family, style in styles_in(text))
+        struck = struck or any(self.is_struck(style, family)
+                               for text in paragraphs for family, style in styles_in(text))
         if kind == "error" or formula and re.match(r"Err:[0-9]+$|#[A-Z/0]+[!?]?$", shown):
             return Cell("error", shown or "#VALUE!", shown, formula)
         if kind in NUMBERS:

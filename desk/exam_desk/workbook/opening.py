@@ -109,8 +109,9 @@ def read_csv(data: bytes, name: str, encoding: str | None = None) -> Book:
         text = text.replace(lines[0], "", 1)
     else:
         bare = [re.sub('"[^"]*"', "", line) for line in lines]
-        comma = max(",;\t|", key=lambda mark: max(
-            ((often, count) for count, often in Counter(line.count(mark) for line in bare).items() if count), default=(0, 0)))
+        counts = {mark: Counter(line.count(mark) for line in bare if mark in line) for mark in ",;\t|"}
+        comma = max(counts, key=lambda mark: max(((often, many) for many, often in counts[mark].items()),
+                                                 default=(0, 0)))
     if comma != ",":
         notes.append(f"its columns are parted by {'tabs' if comma == chr(9) else comma}")
     sheet, budget = Sheet(name), Budget()

@@ -187,4 +187,5 @@ def first_crosses(sheet: Sheet, header: int) -> dict[int, int]:
         marks = {place: is_mark(cell) for place, cell in sheet.rows[row].items()}
         others |= {place for place, mark in marks.items() if mark is None}
         found = {place: row for place, mark in marks.items() if mark} | found
-    return {place: row for place, row in found.items() if place not in others or sheet.rows[row][place].kind != "number"}
+    return {place: row for place, row in found.items()
+            if place not in others or sheet.rows[row][place].kind != "number"}

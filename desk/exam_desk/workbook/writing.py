@@ -23,7 +23,7 @@ def refuse_there(target: str) -> None:
 
 @contextlib.contextmanager
 def new_folder(target: str) -> Iterator[str]:
-    """A folder for its owner alone, which gets its name when all is in it. Raises `Trouble` where something has the name."""
+    """A folder for its owner alone, which gets its name when all is in it. Raises `Trouble` where that is there."""
     refuse_there(target)
     making = tempfile.mkdtemp(prefix=".making-", dir=os.path.dirname(os.path.abspath(target)))
     try:

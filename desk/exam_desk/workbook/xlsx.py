@@ -26,7 +26,6 @@ from exam_desk.workbook.numberformats import BUILT_IN, MACINTOSH, WINDOWS, numbe
 
 COMMENTS = "http://schemas.openxmlformats.org/officeDocument/2006/relationships/comments"
 STYLES = "xl/styles.xml"  # the only place where openpyxl looks for them
-TYPES = ("n", "s", "str", "b", "e", "d", "inlineStr")  # of cells
 openpyxl.styles.numbers.BUILTIN_FORMATS.update(BUILT_IN)
 apply_styles: Callable[[zipfile.ZipFile, Any], object] = stylesheet.apply_stylesheet
 links_beside: Callable[[str], str] = relationship.get_rels_path
@@ -67,10 +66,7 @@ class SharedTexts(list[SharedText]):
 
 def unescaped(text: str) -> str:
     """A text in which _x000D_ stands for the letter of this number."""
-    if "_x" not in text:
-        return text
-    turned = re.sub("_x([0-9A-Fa-f]{4})_", lambda match: chr(int(match[1], 16)), text)
-    return turned.encode("utf-16", "surrogatepass").decode("utf-16", "surrogatepass")  # two halves are one letter
+    return re.sub("_x([0-9A-Fa-f]{4})_", lambda match: chr(int(match[1], 16)), text) if "_x" in text else text
 
 
 def letters_of(element: Element | tuple[()]) -> SharedText:
@@ -132,8 +128,8 @@ class Reader:
             if root != "worksheet":
                 notes.append(f"the sheet {named.name} is no table ({root}); it is not read")
             elif space != SHEET_MAIN_NS:
-                raise Trouble(f"openpyxl cannot read the sheet {named.name}: save it as an .xlsx of the usual form, not "
-                              "as Strict Open XML")
+                raise Trouble(f"openpyxl cannot read the sheet {named.name}: save it as an .xlsx of the usual form, "
+                              "not as Strict Open XML")
             else:
                 sheets.append(self.sheet(named, part))
         return Book("xlsx", sheets, notes)
@@ -150,21 +146,21 @@ class Reader:
             sheet.merged = [area_of(merged.ref) for merged in parser.merged_cells.mergeCell]
         if len(sheet.merged) > MOST_MERGED:
             raise Trouble(f"it has more than {MOST_MERGED:,} merged cells")
-        sheet.hidden_rows = [(int(row), int(row)) for row, look in parser.row_dimensions.items() if is_hidden(look, "ht")]
+        sheet.hidden_rows = [(int(row), int(row)) for row, look in parser.row_dimensions.items()
+                             if is_hidden(look, "ht")]
         sheet.hidden_columns = [(int(look["min"]), int(look["max"])) for look in parser.column_dimensions.values()
                                 if is_hidden(look, "width")]
         sheet.comments = [place_of(ref.partition(":")[0]) for ref in self.comments(part)]
         return sheet
 
     def keep(self, sheet: Sheet, element: Any, parse: Callable[[Any], dict[str, Any]], parser: Any) -> None:
-        """Puts a cell into the sheet as openpyxl's parser finds it: no day is computed, a formula is its last result."""
+        """Puts a cell into the sheet as openpyxl's parser finds it: no day is computed, a formula is its last
+        result."""
         text = None
         if element.get("t") == "inlineStr":
             text = letters_of(element.find(sheets_reader.INLINE_STRING) or ())
             element.set("t", "n")  # the parser would make a tree of objects of it
         try:
-            if element.get("t", "n") not in TYPES:
-                raise Trouble(f"is of a kind {element.get('t')[:20]!r} that no spreadsheet writes")
             found = parse(element)
         except Trouble as trouble:
             place = place_name(sheet, parser.row_counter, parser.col_counter)

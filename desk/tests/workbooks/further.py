@@ -1,5 +1,5 @@
-"""Workbooks on which the reader was wrong at first, or a rule had no case: codes as their cells show them, hidden sheets,
-digits of other scripts, styles of .ods, files of columns, exports. A case is as in `cases`."""
+"""Workbooks on which the reader was wrong once, or that no other case has: codes as their cells show them, hidden
+sheets, digits of other scripts, styles of .ods, files of columns, exports. A case is as in `cases`."""
 from typing import Any
 
 from cases import (ADA, ADA_LINE, ARRANGEMENTS, BO, BO_LINE, CANDIDATES, HALLS, OPENINGS, PAPERS, SESSIONS,
@@ -243,28 +243,29 @@ case("header-formula", xlsx(sheet("Candidates", [("f", '"num"&"ber"', "number"),
      files={"candidates": [ADA_LINE]})
 in_candidates("group-hidden", '<table:table-row-group table:display="false">'+ods_row(*ADA)+'</table:table-row-group>'+
      ods_row(*BO), status=1, only=True, mistakes=[["Candidates!2", "hidden"]])
-in_candidates("covered", '<table:table-row>'+cell('office:value-type="string" table:number-rows-spanned="2"', '0000001')+
-     cell('office:value-type="string"', 'Ada Lin')+cell('office:value-type="string"', 'CODE0001')+
+in_candidates("covered",  '<table:table-row>'+cell('office:value-type="string" table:number-rows-spanned="2"',
+     '0000001')+ cell('office:value-type="string"',  'Ada Lin')+cell('office:value-type="string"',  'CODE0001')+
      '</table:table-row><table:table-row><table:covered-table-cell '
      'office:value-type="string"><text:p>0000009</text:p></table:covered-table-cell>'+
-     cell('office:value-type="string"', 'Bo')+cell('office:value-type="string"', 'CODE0002')+'</table:table-row>',
-     status=1, only=True, mistakes=[["Candidates!A3", "0000009"]])
+     cell('office:value-type="string"',  'Bo')+cell('office:value-type="string"',  'CODE0002')+'</table:table-row>',
+     status=1,  only=True,  mistakes=[["Candidates!A3",  "0000009"]])
 in_candidates("columns-repeated", '<table:table-row>'+cell('office:value-type="string"', '0000001')+
      cell('office:value-type="string"', 'Ada Lin')+
      cell('office:value-type="string" table:number-columns-repeated="3"', 'CODE0001')+'</table:table-row>', files=A,
      told=[["Candidates!D2", "no header"]])
-in_candidates("currency", ods_row(cell('office:value-type="currency" office:currency="EUR" office:value="17"', '17,00 €'),
-     "Ada Lin", "CODE0001"), files={"candidates": ["0000017,Ada Lin,CODE0001"]}, told=[["Candidates!A2", "17,00"]])
+in_candidates("currency",  ods_row(cell('office:value-type="currency" office:currency="EUR" office:value="17"',
+     '17,00 €'),  "Ada Lin",  "CODE0001"),  files={"candidates": ["0000017,Ada Lin,CODE0001"]},
+     told=[["Candidates!A2",  "17,00"]])
 in_candidates("german-thousands", ods_row(cell('office:value-type="float" office:value="12345"', '12.345'), "Ada Lin",
      "CODE0001"), files={"candidates": ["0012345,Ada Lin,CODE0001"]}, told=[["Candidates!A2", "12.345"]])
-in_candidates("power", ods_row(cell('office:value-type="float" office:value="100000"', '1E+05'), "Ada Lin", "CODE0001"),
-     status=1, only=True, mistakes=[["Candidates!A2"]])
-in_candidates("hashes", ods_row(cell('office:value-type="float" office:value="17"', '###'), "Ada Lin", "CODE0001"), status=1,
-     only=True, mistakes=[["Candidates!A2"]])
+in_candidates("power",  ods_row(cell('office:value-type="float" office:value="100000"',  '1E+05'),  "Ada Lin",
+     "CODE0001"),  status=1,  only=True,  mistakes=[["Candidates!A2"]])
+in_candidates("hashes",  ods_row(cell('office:value-type="float" office:value="17"',  '###'),  "Ada Lin",
+     "CODE0001"),  status=1,  only=True,  mistakes=[["Candidates!A2"]])
 in_candidates("bad-date", ods_row("0000001", cell('office:value-type="date" office:date-value="2027-6-1"', '1.6.27'),
      "CODE0001"), status=1, only=True, mistakes=[["Candidates!B2"]])
-in_sessions("dates-bad", ods_row("S1", cell('office:value-type="date" office:date-value="2027-6-1"', '1.6.27'), "09:00"),
-     ods_row("S2", "13/06/2027", "09:00"), status=1, mistakes=[["Sessions!B2"]])
+in_sessions("dates-bad",  ods_row("S1",  cell('office:value-type="date" office:date-value="2027-6-1"',  '1.6.27'),
+     "09:00"),  ods_row("S2",  "13/06/2027",  "09:00"),  status=1,  mistakes=[["Sessions!B2"]])
 in_sessions("dates-year", ods_row("S1", cell('office:value-type="date" office:date-value="12027-06-01"', '1.6.12027'),
      "09:00"), status=1, only=True, mistakes=[["Sessions!B2"]])
 in_sessions("times", ods_row("S1", "2027-06-01", cell('office:value-type="time" office:time-value="PT9H"', '9:00')),
@@ -274,13 +275,15 @@ in_sessions("times", ods_row("S1", "2027-06-01", cell('office:value-type="time" 
      status=1, only=True, mistakes=[["Sessions!C3"], ["Sessions!C4", "seconds"], ["Sessions!C5"]])
 in_openings("bool-as-number", "S1", "A", "10", "12:00", cell('office:value-type="float" office:value="1"', 'WAHR'),
      files={"openings":["S1,A,10,12:00,yes"]})
-in_candidates("error-german", ods_row("0000001", cell('table:formula="of:=1/0" office:value-type="float" office:value="0"',
-     '#DIV/0!'), "CODE0001"), status=1, only=True, mistakes=[["Candidates!B2", "#DIV/0!"]])
-in_candidates("struck-child-first", ods_row(cell('table:style-name="a" office:value-type="string"', '0000001'), "Ada Lin",
-     "CODE0001"), styles='<style:style style:name="a" style:family="table-cell" style:parent-style-name="b"/>'
+in_candidates("error-german",  ods_row("0000001",
+     cell('table:formula="of:=1/0" office:value-type="float" office:value="0"',  '#DIV/0!'),  "CODE0001"),  status=1,
+     only=True,  mistakes=[["Candidates!B2",  "#DIV/0!"]])
+in_candidates("struck-child-first",  ods_row(cell('table:style-name="a" office:value-type="string"',  '0000001'),
+     "Ada Lin",  "CODE0001"),
+     styles='<style:style style:name="a" style:family="table-cell" style:parent-style-name="b"/>'
      '<style:style style:name="b" style:family="table-cell"><style:text-properties '
-     'style:text-line-through-style="solid"/></style:style>', status=1, only=True, mistakes=[["Candidates!A2",
-     "struck"]])
+     'style:text-line-through-style="solid"/></style:style>',
+     status=1,  only=True,  mistakes=[["Candidates!A2",  "struck"]])
 in_candidates("struck-undone", ods_row(cell('table:style-name="a" office:value-type="string"', '0000001'), "Ada Lin",
      "CODE0001"), styles='<style:style style:name="b" style:family="table-cell"><style:text-properties '
      'style:text-line-through-style="solid"/></style:style><style:style style:name="a" '
@@ -291,16 +294,18 @@ in_candidates("struck-span", ods_row("0000001", cell('office:value-type="string"
      styles='<style:style style:name="T1" style:family="text"><style:text-properties '
      'style:text-line-through-style="solid"/></style:style>', status=1, only=True, mistakes=[["Candidates!B2",
      "struck"]])
-in_candidates("struck-same-name-other-family", ods_row(cell('table:style-name="x" office:value-type="string"', '0000001'),
-     "Ada Lin", "CODE0001"), styles='<style:style style:name="x" style:family="text"><style:text-properties '
-     'style:text-line-through-style="solid"/></style:style><style:style style:name="x" '
-     'style:family="table-cell"/>', files=A, quiet=True)
-in_candidates("two-paragraphs", ods_row("0000001", cell('office:value-type="string"', 'Ada', 'Lin'), "CODE0001"), status=1,
-     only=True, mistakes=[["Candidates!B2", "line end"]])
-case("ods-hidden-sheet", ods(table("Candidates", ods_row(*CANDIDATES), ods_row(*ADA))+table("Sessions", ods_row(*SESSIONS),
-     ods_row("S1", "2027-06-01", "09:00"), more=' table:style-name="ta"'),
+in_candidates("struck-same-name-other-family",  ods_row(cell('table:style-name="x" office:value-type="string"',
+     '0000001'),  "Ada Lin",  "CODE0001"),
+     styles='<style:style style:name="x" style:family="text"><style:text-properties '
+     'style:text-line-through-style="solid"/></style:style><style:style style:name="x" ' 'style:family="table-cell"/>',
+     files=A,  quiet=True)
+in_candidates("two-paragraphs",  ods_row("0000001",  cell('office:value-type="string"',  'Ada',  'Lin'),  "CODE0001"),
+     status=1,  only=True,  mistakes=[["Candidates!B2",  "line end"]])
+case("ods-hidden-sheet",  ods(table("Candidates",  ods_row(*CANDIDATES),  ods_row(*ADA))+table("Sessions",
+     ods_row(*SESSIONS),  ods_row("S1",  "2027-06-01",  "09:00"),  more=' table:style-name="ta"'),
      '<style:style style:name="ta" style:family="table"><style:table-properties '
-     'table:display="false"/></style:style>'), 1, suffix="ods", only=True, mistakes=[["Sessions", "hidden"]])
+     'table:display="false"/></style:style>'),
+     1,  suffix="ods",  only=True,  mistakes=[["Sessions",  "hidden"]])
 case("path-in-zip", xlsx(candidates(ADA), parts={"../../evil.xml":"<x/>", "/abs.xml":"<x/>"}), files=A)
 case("password-flag", (lambda d: d.replace(b"PK\x03\x04\x14\x00\x00\x00",
      b"PK\x03\x04\x14\x00\x01\x00").replace(b"PK\x01\x02\x14\x03\x14\x00\x00\x00",
@@ -329,13 +334,13 @@ in_candidates("struck-column", ods_row(*ADA), columns='<table:table-column table
      styles='<style:style style:name="gone" style:family="table-cell"><style:text-properties '
      'style:text-line-through-type="double"/></style:style>', status=1,
      mistakes=[["Candidates!A2", "struck"]])
-case("text-not-there-is-named", xlsx(candidates(["0000001", ("raw", '<c r="{ref}" t="s"><v>999</v></c>'), "CODE0001"])),
-     1, stderr=["Candidates!B2 refers to a text that is not there"])
-case("dates-by-odd-formats", xlsx(sheet("Sessions", SESSIONS, ["S1", ("n", "46539", "mmmmm"), ("n", "0.375", "h:mm a/p")],
-     ["S2", ("n", "46540", "[$-407]d. mmmm yyyy"), ("n", "0.375", "h:mm am/pm")],
-     ["S3", ("n", "46541", "[$-D07041E]d/m/yyyy"), ("n", "0.375", 'h" Uhr"')])),
-     files={"sessions": ["S1,2027-06-01,09:00", "S2,2027-06-02,09:00", "S3,2027-06-03,09:00"]},
-     told=[["Sessions!B2", "a true date", "Tuesday"], ["Sessions!B3", "a true date"], ["Sessions!B4", "a true date"],
-           ["Sessions!C3", "9:00 AM became 09:00"], ["Sessions!C4", "9 Uhr became 09:00"]])
+case("text-not-there-is-named",  xlsx(candidates(["0000001",  ("raw",  '<c r="{ref}" t="s"><v>999</v></c>'),
+     "CODE0001"])),  1,  stderr=["Candidates!B2 refers to a text that is not there"])
+case("dates-by-odd-formats",  xlsx(sheet("Sessions",  SESSIONS,  ["S1",  ("n",  "46539",  "mmmmm"),  ("n",  "0.375",
+     "h:mm a/p")],  ["S2",  ("n",  "46540",  "[$-407]d. mmmm yyyy"),  ("n",  "0.375",  "h:mm am/pm")],  ["S3",  ("n",
+     "46541",  "[$-D07041E]d/m/yyyy"),  ("n",  "0.375",  'h" Uhr"')])),  files={"sessions": ["S1,2027-06-01,09:00",
+     "S2,2027-06-02,09:00",  "S3,2027-06-03,09:00"]},  told=[["Sessions!C2",  "a true time"],  ["Sessions!B2",
+     "a true date",  "Tuesday"],  ["Sessions!B3",  "a true date"],  ["Sessions!B4",  "a true date"],  ["Sessions!C3",
+     "9:00 AM became 09:00"],  ["Sessions!C4",  "9 Uhr became 09:00"]])
 case("marks-of-no-width", xlsx(candidates(["0000001", "Ada\u2063 Lin\u180e", "CODE\u20650001"])), files=A,
      told=[["Candidates!B2", "invisible"], ["Candidates!C2", "invisible"]])
