@@ -9,10 +9,11 @@ from typing import IO
 from xml.etree.ElementTree import Element, iterparse
 
 from exam_desk.trouble import Trouble
-from exam_desk.workbook.cells import MOST_UNPACKED
+from exam_desk.workbook.cells import MOST_CELLS, MOST_UNPACKED, Budget
 
 MOST_DEPTH, MOST_QUIET = 256, 4 << 20  # elements in each other, bytes without a tag
 MOST_TAGS = 8_000_000  # in all parts
+CELL = "http://schemas.openxmlformats.org/spreadsheetml/2006/main c"
 PIECE = 1 << 16
 OPEN_AND_SAVE = "open it in a spreadsheet and save it again"
 
@@ -48,13 +49,14 @@ class Parts:
 
     def parse(self, stream: IO[bytes]) -> str:
         parser = xml.parsers.expat.ParserCreate(namespace_separator=" ")
-        depth = tags = before = quiet = 0
+        depth = tags = cells = before = quiet = 0
         root = ""
 
         def start(name: str, _: dict[str, str]) -> None:
-            nonlocal depth, tags, root
+            nonlocal depth, tags, cells, root
             depth += 1
             tags += 1
+            cells += name == CELL
             root = root or name
             if depth > MOST_DEPTH:
                 raise Trouble("its XML is nested too deep: it is no workbook of a school")
@@ -69,6 +71,8 @@ class Parts:
             quiet, before = quiet + len(piece) if tags == before else 0, tags
             if quiet > MOST_QUIET:
                 raise Trouble("a piece of its XML has no end: it is no workbook of a school")
+            if cells > MOST_CELLS:
+                Budget().keep("", cells)
             if tags > self.tags:
                 raise Trouble(f"it has more than {MOST_TAGS:,} elements: it is no workbook of a school")
         parser.Parse(b"", True)
