@@ -12,7 +12,7 @@ from exam_desk.trouble import Trouble
 from exam_desk.workbook.cells import MOST_CELLS, MOST_UNPACKED, Budget
 
 MOST_DEPTH, MOST_QUIET = 256, 4 << 20  # elements in each other, bytes without a tag
-MOST_TAGS = 8_000_000  # in all parts
+MOST_TAGS = 6_000_000  # in all parts
 CELL = "http://schemas.openxmlformats.org/spreadsheetml/2006/main c"
 PIECE = 1 << 16
 OPEN_AND_SAVE = "open it in a spreadsheet and save it again"
