@@ -344,3 +344,6 @@ case("dates-by-odd-formats",  xlsx(sheet("Sessions",  SESSIONS,  ["S1",  ("n",  
      "9:00 AM became 09:00"],  ["Sessions!C4",  "9 Uhr became 09:00"]])
 case("marks-of-no-width", xlsx(candidates(["0000001", "Ada\u2063 Lin\u180e", "CODE\u20650001"])), files=A,
      told=[["Candidates!B2", "invisible"], ["Candidates!C2", "invisible"]])
+case("ods-links-to-other-programs", ods(table("Candidates", ods_row(*CANDIDATES), ods_row(*ADA))
+     + f'<table:dde-links><table:dde-link>{table("kept", ods_row(*CANDIDATES), ods_row(*BO))}</table:dde-link>'
+     "</table:dde-links>"), files=A, suffix="ods", quiet=True)
