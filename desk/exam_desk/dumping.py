@@ -3,16 +3,13 @@ from __future__ import annotations
 
 import contextlib
 import os
-import shutil
 import sqlite3
-import tempfile
 from collections.abc import Callable, Iterator
 
 from exam_desk import files, snapshot
 from exam_desk.office import Office
-from exam_desk.trouble import Trouble
 from exam_desk.words import clock, feature_text
-from exam_desk.workbook.writing import put_workbook
+from exam_desk.workbook.writing import new_folder, put_workbook, write_kind
 
 QUERIES = {
     "sessions": "SELECT code, day, start AS clock FROM session ORDER BY day, start, code",
@@ -35,31 +32,9 @@ def rows_of(connection: sqlite3.Connection, kind: str) -> Iterator[list[str]]:
         yield [turn(value) for turn, value in zip(turned, row)]
 
 
-def parts(records: list[bytes], header: bytes) -> Iterator[bytes]:
-    """The records in files of a length that an import takes, each with the header."""
-    part = [header]
-    size = len(header)
-    for record in records:
-        if size + len(record) > files.MOST_BYTES:
-            yield b"".join(part)
-            part, size = [header], len(header)
-        part.append(record)
-        size += len(record)
-    yield b"".join(part)
-
-
-def write_kind(connection: sqlite3.Connection, folder: str, kind: str) -> int:
-    """Writes the rows of a kind, and gives their count."""
-    records = [files.written([row]).encode() for row in rows_of(connection, kind)]
-    header = files.BOM + files.written([files.HEADERS[kind]]).encode()
-    for place, text in enumerate(parts(records, header), 1):
-        files.put(os.path.join(folder, f"{kind}.csv" if place == 1 else f"{kind}-{place}.csv"), text)
-    return len(records)
-
-
 def write_all(connection: sqlite3.Connection, folder: str) -> list[str]:
     """Writes the files and gives the lines that say what is there."""
-    said = [f"{kind}: {write_kind(connection, folder, kind)}" for kind in QUERIES]
+    said = [f"{kind}: {write_kind(folder, kind, rows_of(connection, kind))}" for kind in QUERIES]
     withdrawn = [f"{number:07} {paper}\n" for number, paper in connection.execute(
         "SELECT number, paper FROM entry WHERE live = 0 ORDER BY number, paper")]
     if withdrawn:
@@ -76,18 +51,8 @@ def appeals_left_out(connection: sqlite3.Connection, where: str) -> list[str]:
 def write_folder(office: Office, folder: str) -> list[str]:
     """Makes a folder with the files, whole or not at all, and gives the lines that say what is there. Raises `Trouble`
     where it is there already."""
-    target = os.path.abspath(folder)
-    if os.path.lexists(target):
-        raise Trouble(f"{folder} is there already; name a new folder")
-    making = tempfile.mkdtemp(prefix=".dump-", dir=os.path.dirname(target))
-    try:
-        with contextlib.closing(snapshot.rows(office)) as connection:
-            said = write_all(connection, making)
-        os.rename(making, target)
-    except BaseException:
-        shutil.rmtree(making, ignore_errors=True)
-        raise
-    return said
+    with new_folder(folder) as making, contextlib.closing(snapshot.rows(office)) as connection:
+        return write_all(connection, making)
 
 
 def write_workbook(office: Office, path: str) -> list[str]:

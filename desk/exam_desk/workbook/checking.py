@@ -78,10 +78,4 @@ def file_parts(kind: str, rows: Iterable[list[str]]) -> Iterator[tuple[bytes, in
 
 
 def file_line(fields: list[str]) -> bytes:
-    """A record of CSV."""
-    text = ",".join(map(quoted, fields)) if len(fields) > 1 or fields[0] else '""'
-    return f"{text}\n".encode("utf-8", "surrogatepass")
-
-
-def quoted(field: str) -> str:
-    return '"' + field.replace('"', '""') + '"' if re.search('[",\r\n]', field) else field
+    return files.written([fields]).encode("utf-8", "surrogatepass")

@@ -17,8 +17,8 @@ MEANS = {
     "code": "The access code for the web page. Leave it empty, and `office codes` makes one",
     "session": "The code of the session", "date": "The day of the session", "start": "When the session begins",
     "paper": "The code of the paper", "title": "What people call it", "minutes": "How long the paper lasts",
-    "requires": "What the hall must have for this paper", "hall": "The code of the hall", "features": "What the hall has",
-    "desks": "How many desks", "until": "How long the hall is open",
+    "requires": "What the hall must have for this paper", "hall": "The code of the hall",
+    "features": "What the hall has", "desks": "How many desks", "until": "How long the hall is open",
     "reserved": "yes: only for candidates with needs or extra time", "needs": "What the candidate needs of a hall",
     "extra": "Extra time in percent"}
 WIDTHS = {"title": 32, "name": 32, "requires": 30, "features": 30, "needs": 30}

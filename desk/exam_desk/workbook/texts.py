@@ -11,9 +11,9 @@ from exam_desk.workbook.cells import Cell
 from exam_desk.workbook.numberformats import clock_text
 from exam_desk.words import plain
 
-INVISIBLE = dict.fromkeys([0x200b, 0x2060, 0xfeff, 0xad, 0x200e, 0x200f, 0x61c, *range(0x202a, 0x202f),
-                           *range(0x2066, 0x206a)])
-SPACES = re.compile(r"[\u00a0\u2007\u202f\u2000-\u200a\u3000\u205f]")
+INVISIBLE = dict.fromkeys([0xad, 0x61c, 0x180e, 0x200b, 0x200e, 0x200f, *range(0x202a, 0x202f), *range(0x2060, 0x2070),
+                           0xfeff, *range(0xfff9, 0xfffc)])
+SPACES = re.compile(r"[\u00a0\u1680\u2007\u202f\u2000-\u200a\u3000\u205f]")
 DASHES = dict.fromkeys(map(ord, "\u2010\u2011\u2012\u2013\u2014\u2212"), "-")
 MADE = {"date": "a date of it", "time": "a time of it", "bool": "TRUE or FALSE of it"}
 GROUPS = re.compile(r"(?<=[0-9])[ ,.'\u00a0\u202f](?=[0-9]{3}(?![0-9]))")

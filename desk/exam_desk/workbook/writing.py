@@ -1,7 +1,9 @@
 """Writes what was read as a new folder of import files, for its owner alone, whole or not at all."""
+import contextlib
 import os
 import shutil
 import tempfile
+from collections.abc import Iterable, Iterator
 
 from exam_desk import files
 from exam_desk.trouble import Trouble
@@ -19,28 +21,37 @@ def refuse_there(target: str) -> None:
         raise Trouble(f"{target} is there already; name a new folder")
 
 
+@contextlib.contextmanager
+def new_folder(target: str) -> Iterator[str]:
+    """A folder for its owner alone, which gets its name when all is in it. Raises `Trouble` where that is there."""
+    refuse_there(target)
+    making = tempfile.mkdtemp(prefix=".making-", dir=os.path.dirname(os.path.abspath(target)))
+    try:
+        yield making
+        os.rename(making, os.path.abspath(target))
+    except BaseException:
+        shutil.rmtree(making, ignore_errors=True)
+        raise
+
+
 def write_folder(target: str, reading: Reading, lines_name: str) -> dict[str, int]:
     """Makes the folder with the files and all lines of the report; gives the count of rows of each kind. Raises
     `Trouble` where a line is a mistake."""
     if reading.report.count("mistake"):
         raise Trouble("there are mistakes, so nothing is written", target)
-    refuse_there(target)
-    making = tempfile.mkdtemp(prefix=".read-", dir=os.path.dirname(os.path.abspath(target)))
-    try:
-        counts = {kind: write_kind(making, kind, reading) for kind in KINDS if reading.records.get(kind)}
+    with new_folder(target) as making:
         files.put(os.path.join(making, lines_name), lines_of(reading.report))
-        os.rename(making, target)
-    except BaseException:
-        shutil.rmtree(making, ignore_errors=True)
-        raise
-    return counts
+        return {kind: write_kind(making, kind, (record.fields for record in reading.records[kind]))
+                for kind in KINDS if reading.records.get(kind)}
 
 
-def write_kind(folder: str, kind: str, reading: Reading) -> int:
-    rows = [record.fields for record in reading.records[kind]]
-    for place, (text, _) in enumerate(file_parts(kind, rows), 1):
+def write_kind(folder: str, kind: str, rows: Iterable[list[str]]) -> int:
+    """Writes the rows of a kind, and gives their count."""
+    counts = []
+    for place, (text, count) in enumerate(file_parts(kind, rows), 1):
         files.put(os.path.join(folder, f"{kind}.csv" if place == 1 else f"{kind}-{place}.csv"), text)
-    return len(rows)
+        counts.append(count)
+    return sum(counts)
 
 
 def lines_of(report: Report) -> bytes:
