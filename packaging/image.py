@@ -50,7 +50,7 @@ def run_image(path: pathlib.Path) -> None:
     with trial.new_root() as root:
         trial.ran("tar", "-xpzf", path.resolve(), "--numeric-owner", "-C", root)
         user = re.search(r"^default=(\S+)$", (root / "etc/wsl.conf").read_text("utf-8"), re.M)[1]
-        home, shell = re.search(rf"^{user}:.*:(/[^:]*):(/[^:]*)$", (root / "etc/passwd").read_text("utf-8"), re.M).groups()
+        home, shell = re.search(rf"^{user}:.*:(/[^:]*):(/[^:\n]*)$", (root / "etc/passwd").read_text("utf-8"), re.M).groups()
         trial.same((home, shell), (f"/{trial.OFFICE}", "/bin/bash"), "where who enters begins, and the shell")
 
         def run(*words: str) -> str:
@@ -80,5 +80,7 @@ def contained(root: pathlib.Path, user: str, *words: str):
             pathlib.Path(f"/proc/{process.pid}/{kind}_map").write_text("0 0 65536\n", "ascii")
         process.stdin.write("go\n")
         process.stdin.flush()
-        yield process
-        process.terminate()
+        try:
+            yield process
+        finally:
+            process.kill()  # `unshare` hears no other signal; what it started ends with it

@@ -77,17 +77,13 @@ def workbook_day(run):
 
 
 def desk_opens(process):
-    """A browser outside comes in by the link that a desk prints, and sees the season. The desk ends here."""
-    try:
-        link = next((line.strip() for line in process.stdout if re.match(desk_client.LINK, line.strip())), None)
-        if link is None:
-            raise Failed(f"the desk prints no link: {process.stderr.read()}")
-        browser = desk_client.Browser(link)
-        same(browser.enter().status, 303, "the answer to a link")
-        same("1 without a desk" in browser.words("/"), True, "a shortage on the desk's first page")
-    finally:
-        process.terminate()
-        process.communicate()
+    """A browser outside comes in by the link that a desk prints, and sees the season."""
+    link = next((line.strip() for line in process.stdout if re.match(desk_client.LINK, line.strip())), None)
+    if link is None:
+        raise Failed(f"the desk prints no link: {process.stderr.read()}")
+    browser = desk_client.Browser(link)
+    same(browser.enter().status, 303, "the answer to a link")
+    same("1 without a desk" in browser.words("/"), True, "a shortage on the desk's first page")
 
 
 def in_empty_folder(tarball, folder):
@@ -124,7 +120,7 @@ def in_fresh_debian(tarball, package):
 
 def only_needed(run, _):
     """What is recommended is missing: the commands that need it name what to install."""
-    for words, package in ((("desk",), "python3-flask"), (("read", "day.xlsx"), "python3-openpyxl")):
+    for words, package in ((("desk",), "python3-flask"), (("template", "day.xlsx"), "python3-openpyxl")):
         try:
             run("office", *words)
         except Failed as fault:
@@ -135,8 +131,13 @@ def only_needed(run, _):
 
 def with_all(run, root):
     workbook_day(run)
-    desk_opens(subprocess.Popen(entered(root, "examoffice", "office", "desk", "--port", "0"), stdin=subprocess.DEVNULL,
-                                stdout=subprocess.PIPE, stderr=subprocess.PIPE, encoding="utf-8", env=environment()))
+    line = entered(root, "examoffice", "office", "desk", "--port", "0")
+    with subprocess.Popen(line, stdin=subprocess.DEVNULL, stdout=subprocess.PIPE, stderr=subprocess.PIPE,
+                          encoding="utf-8", env=environment()) as process:
+        try:
+            desk_opens(process)
+        finally:
+            process.terminate()
 
 
 def installed(root, package, tries):
