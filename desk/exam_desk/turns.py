@@ -144,6 +144,12 @@ def alone(office: Office, words: Sequence[str]) -> Iterator[int]:
             yield lock
 
 
+def is_taken(office: Office) -> bool:
+    """Whether a command has the office now, or waits for it."""
+    with opened(office, "want.lock") as want:
+        return not is_free(want)
+
+
 def having(office: Office) -> str:
     """Who has the office though this process has want.lock."""
     state = keep_state(office)

@@ -7,7 +7,7 @@ from flask import Blueprint, render_template, request
 
 from exam_desk import appeals, changing, facts, lastdays
 from exam_desk.telling import Change
-from exam_web import plans, proposals
+from exam_web import effects, plans, proposals
 from exam_web.desk import desk, missing, view
 from exam_web.wording import days_until
 
@@ -50,7 +50,10 @@ def if_granted(number: int, ref: str) -> str:
     outcome = "standing" if "standing" in request.args and row["kind"] == 3 else "granted"
     step = plans.command("decide", f"{number:07}", ref, outcome, "")
     with desk().rehearsing, changing.rehearse(desk().office, [step]) as rehearsal:
-        refusal = rehearsal.refused.first_line() if rehearsal.refused else ""
-        found = None if refusal else proposals.compared(desk(), rehearsal)[0]
+        refused, found = rehearsal.refused, None
+        if not refused:
+            with proposals.both(desk(), rehearsal) as (before, after):
+                found = effects.effects(before, after)
     return render_template("if_granted.html" if "piece" in request.args else "if_granted_page.html", row=row, e=found,
-                           refusal=proposals.worded(refusal), most=12, kind_of=Change.kind)
+                           refusal=proposals.worded(refused.first_line(), [])[0] if refused else "", most=12,
+                           kind_of=Change.kind)

@@ -14,7 +14,7 @@ from werkzeug.wrappers import Response
 from exam_desk.trouble import Trouble
 from exam_desk.words import FEATURES
 from exam_web import (appeals, candidates, clashes, entering, files, guard, office, plans, proposals, season, session,
-                      texts, wording)
+                      wording)
 from exam_web.desk import Desk, StillReading, desk, release
 from exam_web.wording import text
 
@@ -61,7 +61,7 @@ def everywhere() -> dict[str, Any]:
             "today": here.office.today().isoformat(), "pretended": here.pretended,
             "office_name": here.office.base_name(), "state": g.view.name if "view" in g else "", "FEATURES": FEATURES,
             "wrong": g.get("wrong", {}), "given": g.get("given", MultiDict()), "asked_form": g.get("asked_form"),
-            "direction": texts.DIRECTIONS.get(wording.language())}
+            "direction": "rtl" if wording.language() in wording.RIGHT_TO_LEFT else "ltr"}
 
 
 def refused(fault: HTTPException) -> Response | tuple[str, int]:

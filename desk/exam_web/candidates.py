@@ -1,15 +1,17 @@
 """Candidates: the search, their notes, and the page of one with timetable, arrangement, appeals and access code."""
 from __future__ import annotations
 
+import contextlib
 import sqlite3
 
 from flask import Blueprint, Response, g, redirect, render_template, request, url_for
 from werkzeug.wrappers import Response as Answer
 
-from exam_desk import appeals, facts, names, notebook
-from exam_desk.sheets import notes
+from exam_desk import appeals, facts, names, notebook, second_sitting
+from exam_desk.sheets import notes, person
+from exam_desk.trouble import Trouble
 from exam_web import printing, proposals
-from exam_web.desk import View, desk, missing, view
+from exam_web.desk import View, candidate_row, desk, view
 from exam_web.wording import text
 
 pages = Blueprint("candidates", __name__)
@@ -43,16 +45,10 @@ def folded(found: View) -> list[tuple[int, str, str]]:
     return sorted(people, key=lambda each: names.name_order(each[1], f"{each[0]:07}"))
 
 
-def candidate_row(number: int) -> sqlite3.Row:
-    return view().row("SELECT number, name FROM candidate WHERE number = ?", [number]) or missing()
-
-
 @pages.get("/candidates/<int:number>")
 def page(number: int, code: str = "") -> str:
     who = candidate_row(number)
-    entries = view().rows("SELECT session.code AS session, day, start, paper.code AS paper, title, live FROM entry "
-                          "JOIN paper ON paper.code = paper JOIN session ON session.code = session WHERE number = ? "
-                          "ORDER BY day, start, session.code, paper.code", [number])
+    entries = view().rows(person.ENTRIES, [number])
     lodged = view().rows("SELECT appeal.*, day FROM appeal JOIN session ON session.code = session WHERE number = ? "
                          "ORDER BY state, lodged, ref", [number])
     standing = {ref for ref, in view().rows("SELECT ref FROM standing WHERE number = ?", [number])}
@@ -61,16 +57,26 @@ def page(number: int, code: str = "") -> str:
                          "ORDER BY day, start, paper.code", [number])
     return render_template("candidate.html", who=who, entries=entries, sittings=view().reading.all_of(f"{number:07}"),
                            lodged=lodged, standing=standing, others=others, code=code, appeals=appeals,
-                           hall_titles=facts.hall_titles(view().reading.rows),
+                           second=second_sat(number, entries), hall_titles=facts.hall_titles(view().reading.rows),
                            note=notebook.notes(desk().office).get(f"{number:07}", ""),
                            arrangement=view().row("SELECT needs, extra FROM arrangement WHERE number = ?", [number]))
+
+
+def second_sat(number: int, entries: list[sqlite3.Row]) -> set[str]:
+    """The papers that the candidate sits later that day."""
+    found = set()
+    for row in entries:
+        if not row["live"]:
+            with contextlib.suppress(Trouble):
+                second_sitting.plan_back(view().reading, f"{number:07}", row["paper"])
+                found.add(row["paper"])
+    return found
 
 
 @pages.post("/candidates/<int:number>/code")
 def code(number: int) -> str:
     """The access code, for who asks: a POST, so that it is in no history and is never fetched ahead."""
-    row = view().row("SELECT code FROM candidate WHERE number = ?", [number]) or missing()
-    return page(number, row["code"])
+    return page(number, candidate_row(number)["code"])
 
 
 @pages.post("/candidates/<int:number>/note")
@@ -94,4 +100,9 @@ def all_notes() -> Response:
 @pages.post("/candidates/<int:number>/slip")
 def slip(number: int) -> str:
     candidate_row(number)
-    return printing.slip(view().reading, f"{number:07}", "codes" in request.form)
+    return printing.slips_for(view().reading, [f"{number:07}"], "codes" in request.form)
+
+
+@pages.post("/candidates/slips")
+def all_slips() -> str:
+    return printing.slips_for(view().reading, [], "codes" in request.form)

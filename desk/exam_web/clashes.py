@@ -1,11 +1,12 @@
-"""Two papers at once: who has them, which one they sit, and whether they have asked to sit the other."""
+"""Two papers at once: who has them, which one they sit, whether they have asked to sit the other, a second sitting."""
 from __future__ import annotations
 
-from flask import Blueprint, render_template, request
+from flask import Blueprint, redirect, render_template, request, url_for
+from werkzeug.wrappers import Response
 
 from exam_desk import appeals, facts
 from exam_web import counting, session
-from exam_web.desk import view
+from exam_web.desk import candidate_row, view
 
 pages = Blueprint("clashes", __name__)
 MOST_SHOWN = 300
@@ -19,9 +20,17 @@ def page() -> str:
     sessions = [each for each in counting.sums(view()).values() if each.clashes]
     chosen = request.args.get("session", "")
     shown = [each for each in sessions if each.code == chosen] or sessions[:1]
-    numbers = {each.code: counting.two_papers(view(), each.code)[each.code][:MOST_SHOWN] for each in shown}
-    members = {code: session.members_of(code, found) for code, found in numbers.items()}
-    missed = {code: view().reading.clashes(code, [f"{number:07}" for number in found])
-              for code, found in numbers.items()}
-    return render_template("clashes.html", sessions=sessions, shown=shown, members=members, missed=missed, asked=asked,
-                           appeals=appeals, titles=facts.paper_titles(view().reading.rows))
+    found = {each.code: session.clashes(each.code, MOST_SHOWN) for each in shown}
+    return render_template("clashes.html", sessions=sessions, shown=shown, found=found, asked=asked, appeals=appeals,
+                           titles=facts.paper_titles(view().reading.rows))
+
+
+@pages.get("/clashes/<code>/<int:number>")
+def second(code: str, number: int) -> str | Response:
+    """The form for a second sitting: which paper, from when, and where."""
+    sums, who = session.sums_of(code), f"{candidate_row(number)['number']:07}"
+    member, missed = view().reading.member(code, who), view().missed(code, [number]).get(who)
+    if not member or not missed:
+        return redirect(url_for("clashes.page", session=code))
+    return render_template("second.html", s=sums, member=member, missed=missed, halls=session.openings(code),
+                           closed=session.closed_halls(code), titles=facts.paper_titles(view().reading.rows))

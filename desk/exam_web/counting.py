@@ -11,10 +11,10 @@ COUNTS = {
     "seated": "SELECT session, count(*) FROM seat GROUP BY session",
     "desks": "SELECT session, sum(desks) FROM opening GROUP BY session",
     "halls": "SELECT session, count(*) FROM opening GROUP BY session",
-    "clashes": f"SELECT session, count(*) FROM (SELECT session, number {LIVE} GROUP BY session, number "
-               "HAVING count(*) > 1) GROUP BY session",
     "waiting": "SELECT session, count(*) FROM appeal WHERE state = 1 GROUP BY session",
 }
+AT_ONCE = (f"SELECT session, number, group_concat(code) FROM (SELECT session, number, paper.code AS code {LIVE} "
+           "ORDER BY session, number, paper.code) GROUP BY session, number HAVING count(*) > 1 ORDER BY 1, 2")
 
 
 @dataclass(frozen=True)
@@ -47,15 +47,16 @@ def sums(view: View) -> dict[str, Sums]:
 def make_sums(view: View) -> dict[str, Sums]:
     counts: dict[str, dict[str, int]] = {name: {code: count for code, count in view.rows(query)}
                                          for name, query in COUNTS.items()}
+    counts["clashes"] = {code: len(people) for code, people in two_papers(view).items()}
     return {code: Sums(code, day, start, **{name: found.get(code, 0) for name, found in counts.items()})
             for code, day, start in view.rows("SELECT code, day, start FROM session ORDER BY day, start, code")}
 
 
-def two_papers(view: View, session: str | None = None) -> dict[str, list[int]]:
-    """By session the numbers of those who have two live entries in it."""
-    found: dict[str, list[int]] = {}
-    which, values = ("AND session = ?", [session]) if session else ("", [])
-    for code, number in view.rows(f"SELECT session, number {LIVE} {which} GROUP BY session, number HAVING count(*) > 1 "
-                                  "ORDER BY session, number", values):
-        found.setdefault(code, []).append(number)
-    return found
+def two_papers(view: View) -> dict[str, dict[int, str]]:
+    """By session the numbers of those who have two live entries in it, each with these papers."""
+    def make() -> dict[str, dict[int, str]]:
+        found: dict[str, dict[int, str]] = {}
+        for code, number, papers in view.rows(AT_ONCE):
+            found.setdefault(code, {})[number] = papers
+        return found
+    return view.once("at once", make)

@@ -7,7 +7,7 @@ import os
 import sqlite3
 import threading
 import time
-from collections.abc import Callable, Iterator, Sequence
+from collections.abc import Callable, Iterable, Iterator, Sequence
 from typing import Any, NoReturn, TypeVar
 
 from flask import abort, current_app, g
@@ -46,6 +46,11 @@ class View:
 
     def count(self, query: str, values: Sequence[object] = ()) -> int:
         return int(self.reading.rows.execute(query, values).fetchone()[0])
+
+    def missed(self, session: str, numbers: Iterable[int]) -> dict[str, list[str]]:
+        """The papers that each of some candidates is entered for and does not sit, by number, as the program says."""
+        asked = [f"{number:07}" for number in numbers]
+        return self.reading.clashes(session, asked) if asked else {}
 
     def once(self, key: object, make: Callable[[], Found]) -> Found:
         """What is worked out of this state is worked out once."""
@@ -190,9 +195,13 @@ def desk() -> Desk:
 
 
 def office() -> Office:
-    """The office, with the initials of who works in this browser."""
-    here = desk().office
-    return dataclasses.replace(here, user=f"{here.user} ({g.visit.initials}, desk)")
+    """The office, with the initials of who works in this browser. What it warns of, the next page says."""
+    here, visit = desk().office, g.visit
+
+    def warn(words: str) -> None:
+        here.warn(words)
+        visit.said.append(("bad", words))
+    return dataclasses.replace(here, user=f"{here.user} ({visit.initials}, desk)", warn=warn)
 
 
 def view() -> View:
@@ -203,10 +212,9 @@ def view() -> View:
     return found
 
 
-def fresh() -> View:
-    """The office after this request has changed it."""
-    release()
-    return view()
+def candidate_row(number: int) -> sqlite3.Row:
+    """The number, the name and the access code of a candidate."""
+    return view().row("SELECT number, name, code FROM candidate WHERE number = ?", [number]) or missing()
 
 
 def release(_: BaseException | None = None) -> None:

@@ -6,6 +6,7 @@ from dataclasses import dataclass
 
 from exam_desk import telling
 from exam_desk.consequences import has_seats
+from exam_desk.reading import Member
 from exam_desk.telling import Change
 from exam_web import counting
 from exam_web.desk import View
@@ -24,6 +25,7 @@ KINDS = {  # the gravest first: in words before the change, and after it
 }
 ORDER = list(KINDS)
 NUMBERS = ("members", "desks", "short", "clashes")
+MOST_CLASHES = 100  # new ones that are named
 
 
 @dataclass(frozen=True)
@@ -34,12 +36,16 @@ class SessionChange:
     numbers: dict[str, tuple[int | None, int]]
 
 
+NewClash = tuple[str, Member, list[str]]  # a session, who is in it, and the papers that they did not miss before
+
+
 class Effects:
     """The changes of people, the gravest first, and of sessions."""
 
-    def __init__(self, changes: list[Change], sessions: list[SessionChange], titles: dict[str, str]) -> None:
+    def __init__(self, changes: list[Change], sessions: list[SessionChange], clashes: list[NewClash],
+                 titles: dict[str, str]) -> None:
         self.changes = sorted(changes, key=lambda each: ORDER.index(each.kind()))
-        self.sessions, self.titles = sessions, titles
+        self.sessions, self.clashes, self.titles = sessions, clashes, titles
         self.to_tell = [each for each in self.changes if each.is_to_tell()]
         self.people = len({each.number for each in self.to_tell})
         self.counts = Counter(map(Change.kind, self.changes))
@@ -52,7 +58,22 @@ class Effects:
 def effects(before: View, after: View) -> Effects:
     """Where nobody has a seat yet, nobody can lose or change one: then the sessions say all."""
     changes = telling.differences(before.reading, after.reading) if has_seats(before.reading) else []
-    return Effects(changes, session_changes(before, after), telling.titles_of(before.reading, after.reading))
+    return Effects(changes, session_changes(before, after), new_clashes(before, after),
+                   telling.titles_of(before.reading, after.reading))
+
+
+def new_clashes(before: View, after: View) -> list[NewClash]:
+    """The first of those: whose papers at once are others in the rows, and of whom the program says what they miss."""
+    old, found = counting.two_papers(before), list[NewClash]()
+    for code, people in counting.two_papers(after).items():
+        was = old.get(code, {})
+        others = [number for number in people if people[number] != was.get(number)][:MOST_CLASHES - len(found)]
+        then, now = before.missed(code, [number for number in others if number in was]), after.missed(code, others)
+        for number, papers in now.items():
+            new = [paper for paper in papers if paper not in then.get(number, [])]
+            if new and (member := after.reading.member(code, number)):
+                found.append((code, member, new))
+    return found
 
 
 def session_changes(before: View, after: View) -> list[SessionChange]:

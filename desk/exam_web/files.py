@@ -50,6 +50,7 @@ def look(key: str) -> str:
     looked = uploads.looked_through(upload.texts, view())
     return render_template("look.html", key=key, upload=upload, looked=looked, headers=files.HEADERS,
                            total=sum(each.total for each in looked.values()), most=uploads.MOST_SHOWN,
+                           of_books=sum(each.mistakes for each in upload.workbooks),
                            most_lines=MOST_LINES, cures=sum(bool(fault.write) for each in looked.values()
                                                             for fault in each.faults))
 

@@ -13,7 +13,7 @@ import os
 import secrets
 import threading
 import time
-from collections.abc import Callable, Iterable
+from collections.abc import Callable, Iterable, Iterator
 from dataclasses import dataclass, field
 from typing import Any
 
@@ -88,19 +88,25 @@ def new_link(office: str, address: str, prefix: str) -> str:
     return f"http://{address}{prefix}/enter#{token}"
 
 
+@contextlib.contextmanager
+def links(office: str) -> Iterator[int]:
+    """The folder of links. Raises OSError where it is not there, or cannot be used."""
+    folder = beside.open_folder(office, LINKS)
+    try:
+        yield folder
+    finally:
+        os.close(folder)
+
+
 def use_link(office: str, token: str) -> bool:
     """Whether a token opens the desk. It does so once, since its file goes; links that nobody used go too."""
-    with contextlib.suppress(FileNotFoundError):
-        folder = beside.open_folder(office, LINKS)
-        try:
-            for name in os.listdir(folder):
-                if name != digest(token) and age(name, folder) > LINK_SECONDS:
-                    os.unlink(name, dir_fd=folder)
-            made = age(digest(token), folder)
-            os.unlink(digest(token), dir_fd=folder)
-            return made < LINK_SECONDS
-        finally:
-            os.close(folder)
+    with contextlib.suppress(FileNotFoundError), links(office) as folder:
+        for name in os.listdir(folder):
+            if name != digest(token) and age(name, folder) > LINK_SECONDS:
+                os.unlink(name, dir_fd=folder)
+        made = age(digest(token), folder)
+        os.unlink(digest(token), dir_fd=folder)
+        return made < LINK_SECONDS
     return False
 
 
@@ -111,13 +117,9 @@ def age(name: str, folder: int) -> float:
 
 def drop_links(office: str) -> None:
     """Removes all links: none of them opens the next desk."""
-    with contextlib.suppress(OSError):
-        folder = beside.open_folder(office, LINKS)
-        try:
-            for name in os.listdir(folder):
-                os.unlink(name, dir_fd=folder)
-        finally:
-            os.close(folder)
+    with contextlib.suppress(OSError), links(office) as folder:
+        for name in os.listdir(folder):
+            os.unlink(name, dir_fd=folder)
         os.rmdir(os.path.join(beside.folder(office), LINKS))
 
 

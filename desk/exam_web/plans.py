@@ -4,18 +4,22 @@ from __future__ import annotations
 import re
 import sqlite3
 from collections.abc import Callable
+from functools import partial
 
 from flask import Blueprint, g, request
 from werkzeug.datastructures import MultiDict
 from werkzeug.wrappers import Response
 
-from exam_desk import coding, files, lodging, mistakes
+from markupsafe import Markup
+
+from exam_desk import coding, files, lodging, mistakes, second_sitting
 from exam_desk.changing import Step
+from exam_desk.trouble import Trouble
 from exam_desk.words import FEATURES, clock
 from exam_web import proposals, session, uploads
-from exam_web.desk import missing, view
-from exam_web.proposals import Page, Plan, Wrong
-from exam_web.wording import text
+from exam_web.desk import candidate_row, missing, view
+from exam_web.proposals import TROUBLE, Page, Plan, Wrong
+from exam_web.wording import said, text
 
 pages = Blueprint("plans", __name__)
 Form = MultiDict[str, str]
@@ -52,8 +56,7 @@ def candidate(form: Form) -> tuple[str, sqlite3.Row, Page]:
     number = form.get("number", "")
     if not files.is_number(number.encode("utf-8", "surrogateescape")):
         missing()
-    row = view().row("SELECT number, name, code FROM candidate WHERE number = ?", [int(number)]) or missing()
-    return number, row, ("candidates.page", {"number": int(number)})
+    return number, candidate_row(int(number)), ("candidates.page", {"number": int(number)})
 
 
 def reason(form: Form, page: Page) -> str:
@@ -69,27 +72,14 @@ def needs(form: Form) -> str:
     return "+".join(name for name in FEATURES if name in chosen) or "-"
 
 
-def withdraw(form: Form) -> Plan:
-    number, row, page = candidate(form)
-    paper = checked(page, form, paper="paper")["paper"]
-    title = text("Withdraw {name} from {paper}", name=row["name"], paper=paper)
-    return Plan(title, [command("withdraw", number, paper)], page, text("Withdraw"),
-                dict.fromkeys((5, 6, 8, 9), "paper"))
-
-
-def reinstate(form: Form) -> Plan:
-    number, row, page = candidate(form)
-    paper = checked(page, form, paper="paper")["paper"]
-    title = text("Reinstate {name} for {paper}", name=row["name"], paper=paper)
-    return Plan(title, [command("reinstate", number, paper)], page, text("Reinstate"),
-                dict.fromkeys((5, 6, 8, 10, 20), "paper"))
-
-
-def enter(form: Form) -> Plan:
-    number, row, page = candidate(form)
-    paper = checked(page, form, paper="paper")["paper"]
-    title = text("Enter {name} for {paper}", name=row["name"], paper=paper)
-    return Plan(title, [import_step("entries", number, paper)], page, text("Enter"), {5: "paper", 20: "paper"})
+def of_entry(title: str, verb: str, step: Callable[[str, str], Step], *numbers: int) -> Callable[[Form], Plan]:
+    """What makes the plan of one entry; refusals of these numbers are about its paper."""
+    def make(form: Form) -> Plan:
+        number, row, page = candidate(form)
+        paper = checked(page, form, paper="paper")["paper"]
+        return Plan(text(title, name=row["name"], paper=paper), [step(number, paper)], page, text(verb),
+                    dict.fromkeys((5, 6, 8, *numbers), "paper"))
+    return make
 
 
 def arrangement(form: Form) -> Plan:
@@ -183,13 +173,44 @@ def close_hall(form: Form) -> Plan:
 
 
 def others(code: str, lost: str) -> dict[str, object]:
-    """What the form for another hall begins with: the closed halls first, desks and end of the lost one."""
+    """What the form for another hall begins with: the closed halls first, desks and end of the lost one; where the
+    first is open already, as many desks more."""
     opened = {each.hall: each for each in session.openings(code)}
-    halls = [(row["code"], row["title"], opened[row["code"]].desks if row["code"] in opened else None)
-             for row in view().rows("SELECT code, title FROM hall WHERE code <> ? ORDER BY code", [lost])]
-    was = opened.get(lost)
-    return {"session": code, "lost": lost, "halls": sorted(halls, key=lambda each: each[2] is not None),
-            "desks": was.desks if was else "", "until": clock(was.until) if was else ""}
+    rows = view().rows("SELECT code, title FROM hall WHERE code <> ? ORDER BY code", [lost])
+    halls = sorted(((row["code"], row["title"], opened.get(row["code"])) for row in rows),
+                   key=lambda each: each[2] is not None)
+    needed = [each for each in (opened.get(lost), halls[0][2] if halls else None) if each]
+    return {"session": code, "lost": lost, "halls": halls, "desks": sum(each.desks for each in needed) or "",
+            "until": clock(max(each.until for each in needed)) if needed else ""}
+
+
+def second(form: Form) -> Plan:
+    """A second sitting for a candidate with two papers at once."""
+    number, row, _ = candidate(form)
+    code, _ = session_page(form)
+    page: Page = ("clashes.second", {"code": code, "number": int(number)})
+    values = checked(page, form, paper="paper", start="start", hall="hall")
+    title = text("{name} sits {paper} later that day, from {start} in {hall}", name=row["name"], **values)
+    asked = second_sitting.Asked(number, **values)
+    return of_second(page, "start", title, text("Arrange it"), lambda: second_sitting.plan(view().reading, asked))
+
+
+def second_back(form: Form) -> Plan:
+    number, row, page = candidate(form)
+    paper = checked(page, form, paper="paper")["paper"]
+    title = text("Take back the second sitting of {paper} of {name}", paper=paper, name=row["name"])
+    return of_second(page, "paper", title, text("Take it back"),
+                     lambda: second_sitting.plan_back(view().reading, number, paper))
+
+
+def of_second(page: Page, name: str, title: Markup, verb: Markup, make: Callable[[], second_sitting.Plan]) -> Plan:
+    """A plan as the command line makes it; what it refuses is said beside the field of this name."""
+    try:
+        found = make()
+    except Trouble as trouble:
+        raise Wrong(page, **{name: said(trouble.sentence)}) from None
+    return Plan(title, found.steps, page, verb, {TROUBLE: name}, command=found.title, made_from=view().name,
+                look=partial(second_sitting.lines, found))
 
 
 def import_files(form: Form) -> Plan:
@@ -200,9 +221,15 @@ def import_files(form: Form) -> Plan:
                 ("files.look", {"key": key}), text("Import"))
 
 
+ENTRIES: dict[str, tuple[str, str, Callable[[str, str], Step], int]] = {
+    "withdraw": ("Withdraw {name} from {paper}", "Withdraw", partial(command, "withdraw"), 9),
+    "reinstate": ("Reinstate {name} for {paper}", "Reinstate", partial(command, "reinstate"), 10),
+    "enter": ("Enter {name} for {paper}", "Enter", partial(import_step, "entries"), 20),
+}
 PLANS: dict[str, Callable[[Form], Plan]] = {
-    "withdraw": withdraw, "reinstate": reinstate, "enter": enter, "arrangement": arrangement, "code": new_code,
+    **{what: of_entry(*values) for what, values in ENTRIES.items()}, "arrangement": arrangement, "code": new_code,
     "lodge": lodge, "decide": decide, "open": open_hall, "close": close_hall, "files": import_files,
+    "second": second, "second-back": second_back,
 }
 
 

@@ -1,7 +1,7 @@
 """What is printed of a session, by the functions of the command line."""
 from __future__ import annotations
 
-from collections.abc import Callable
+from collections.abc import Callable, Collection
 from typing import NamedTuple
 
 from flask import g
@@ -13,7 +13,8 @@ from exam_desk.sheets import board, cards, chart, counts, doors, poster, slips
 class Sheet(NamedTuple):
     """A paper of a session, and the function that makes it."""
     title: str
-    page: Callable[[Reading, str], str]
+    page: Callable[..., str]  # of a reading, a session and, where it is by hall, the halls: all where none is named
+    by_hall: bool = False
 
 
 def slips_of(reading: Reading, session: str) -> str:
@@ -21,15 +22,16 @@ def slips_of(reading: Reading, session: str) -> str:
 
 
 SHEETS = {
-    "doors": Sheet("Invigilators' sheets to sign", doors.page), "poster": Sheet("Posters for doors", poster.page),
-    "cards": Sheet("Desk cards", cards.page), "chart": Sheet("Seating charts", chart.page),
+    "doors": Sheet("Invigilators' sheets to sign", doors.page, True), "poster": Sheet("Posters for doors", poster.page),
+    "cards": Sheet("Desk cards", cards.page, True), "chart": Sheet("Seating charts", chart.page, True),
     "slips": Sheet("Slips for candidates", slips_of), "board": Sheet("Notice board by name", board.page),
     "counts": Sheet("Copies of each paper", counts.page),
 }
 
 
-def slip(reading: Reading, number: str, with_code: bool) -> str:
-    return styled(slips.page(reading, slips.Choice(only=[number], codes=with_code, desks=True)))
+def slips_for(reading: Reading, numbers: Collection[str], with_codes: bool) -> str:
+    """Slips for some candidates, or for all, of all sessions."""
+    return styled(slips.page(reading, slips.Choice(only=numbers, codes=with_codes, desks=bool(numbers))))
 
 
 def styled(page: str) -> str:

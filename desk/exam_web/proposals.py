@@ -7,8 +7,8 @@ import secrets
 import sqlite3
 import threading
 import time
-from collections.abc import Callable
-from contextlib import closing
+from collections.abc import Callable, Iterator
+from contextlib import closing, contextmanager
 from dataclasses import dataclass, field
 from typing import Any
 
@@ -17,19 +17,25 @@ from markupsafe import Markup
 from werkzeug.wrappers import Response
 
 from exam_desk import changing, lodging, logbook, private, refusals
-from exam_desk.changing import Step
-from exam_desk.telling import Change
+from exam_desk.changing import Answered, Step
 from exam_desk.office import Office
+from exam_desk.reading import Reading
+from exam_desk.telling import Change
 from exam_desk.trouble import Stale, Trouble
 from exam_web import downloads, effects
 from exam_web.desk import PATIENCE, Desk, View, desk, office, view
 from exam_web.effects import Effects
+from exam_web.wording import said
 
 pages = Blueprint("proposals", __name__)
 MOST_PROPOSALS = 20  # of a visit
 MOST_ROWS = 250  # of those who must be told, on the page; all are in the CSV file
 MOST_LINES = 20  # of the log, where the office was another
-COMPARING = "Both states are compared"
+COMPARING, LODGING = "Both states are compared", "The appeal is lodged"
+OTHER_OFFICE = ("the office has changed since the page that you came from, so nothing was done: go back to the form, "
+                "and ask once more")
+WRONG_DESK = "the desk is wrong here; the office is as the log says"
+TROUBLE = 0  # among the numbers of refusals: what the desk refuses itself
 NEXT_APPEAL = ("SELECT appeal.*, name FROM appeal JOIN candidate USING (number) JOIN session ON session.code = session "
                "WHERE state = 1 AND day > ? ORDER BY day, session.start, lodged, appeal.number")
 Page = tuple[str, dict[str, Any]]  # an endpoint and its values
@@ -55,6 +61,9 @@ class Plan:
     done_note: Markup = Markup()
     others: dict[str, Any] = field(default_factory=dict)  # what the form for another hall than a lost one begins with
     lodge: tuple[str, ...] = ()  # in the place of steps: the words of an appeal that is lodged the candidate's way
+    command: str = ""  # as the log has it, where it is not the steps
+    made_from: str = ""  # the state that the steps were made for; "" where they suit each
+    look: Callable[[Reading, Reading], list[str]] = lambda before, after: []  # says more of a rehearsal, or refuses it
 
 
 @dataclass
@@ -71,9 +80,11 @@ class Proposal:
     since: str = ""  # when the state was read
     made_from: str = ""
     promised: str = ""
-    answers: list[changing.Answered] = field(default_factory=list)
+    answers: list[Answered] = field(default_factory=list)
     effects: Effects | None = None
+    lines: list[str] = field(default_factory=list)  # what is said of the rehearsal besides
     refusal: str = ""  # the program's line
+    explained: list[str] = field(default_factory=list)  # it in words, and its place in a file
     trouble: str = ""
     moved_on: list[list[str]] | None = None  # what the log has since, where the office was another
     is_done: bool = False
@@ -92,16 +103,22 @@ class Proposal:
     def tell(self, stage: str) -> None:
         self.stage = stage
 
+    def refuse(self, who: Office, answered: Answered | None) -> None:
+        """Keeps what the program says where it refuses a step."""
+        self.refusal, self.explained = "", []
+        if answered:
+            self.refusal = answered.first_line()
+            self.explained = refusals.explained(who, answered.step.words, answered.ran.complaint, answered.step.data)
+
 
 def now() -> str:
     return datetime.datetime.now().isoformat(" ", "seconds")
 
 
-def worded(line: str) -> str:
+def worded(line: str, explained: list[str]) -> list[Markup]:
     """What the program said of a refusal, in words."""
-    number = refusals.number_of(line) or 0
-    sentence = refusals.SENTENCES.get(number) or refusals.OTHER.get(line)
-    return f"{sentence} ({line})" if sentence else line
+    found = explained or [refusals.SENTENCES.get(refusals.number_of(line) or 0, refusals.OTHER.get(line, line))]
+    return [said(each.strip()) for each in found]
 
 
 def propose(plan: Plan, form: str) -> Response | tuple[str, int]:
@@ -112,10 +129,11 @@ def propose(plan: Plan, form: str) -> Response | tuple[str, int]:
         found.pop(next(iter(found)))
     found[proposal.key] = proposal
     work(proposal, rehearse_lodging if plan.lodge else rehearse)
-    name = plan.fields.get(refusals.number_of(proposal.refusal) or 0)
-    if name and not proposal.is_working:
+    name = plan.fields.get(refusals.number_of(proposal.refusal) or TROUBLE)
+    if name and (proposal.refusal or proposal.trouble) and not proposal.is_working:
         del found[proposal.key]
-        return wrong_page(Wrong(plan.page, **{name: worded(proposal.refusal)}), form)
+        words = worded(proposal.refusal, proposal.explained) if proposal.refusal else [said(proposal.trouble)]
+        return wrong_page(Wrong(plan.page, **{name: Markup("; ").join(words)}), form)
     return redirect(url_for("proposals.page", key=proposal.key), 303)
 
 
@@ -138,7 +156,7 @@ def work(proposal: Proposal, task: Callable[[Proposal, Desk, Office], None]) -> 
         except (Trouble, OSError, sqlite3.Error) as fault:
             proposal.trouble = str(fault)
         except Exception:
-            proposal.trouble = "the desk is wrong here; the office is as the log says"
+            proposal.trouble = WRONG_DESK
             raise
     proposal.trouble, proposal.began = "", time.monotonic()
     proposal.working = threading.Thread(target=run, daemon=True)
@@ -148,13 +166,12 @@ def work(proposal: Proposal, task: Callable[[Proposal, Desk, Office], None]) -> 
 
 def rehearse(proposal: Proposal, here: Desk, who: Office) -> None:
     """Carries the plan out on a private copy, and keeps what that would come to."""
-    proposal.since = now()
-    with changing.rehearse(who, proposal.plan.steps, proposal.tell) as rehearsal:
+    plan, proposal.since = proposal.plan, now()
+    with changing.rehearse(who, plan.steps, proposal.tell) as rehearsal:
         proposal.answers = rehearsal.answers
-        proposal.refusal = rehearsal.refused.first_line() if rehearsal.refused else ""
+        proposal.refuse(who, rehearsal.refused)
         if not proposal.refusal:
-            proposal.tell(COMPARING)
-            proposal.effects, proposal.made_from, proposal.promised = compared(here, rehearsal)
+            compare(proposal, here, rehearsal)
     proposal.seconds = time.monotonic() - proposal.began
 
 
@@ -162,16 +179,15 @@ def rehearse_lodging(proposal: Proposal, here: Desk, who: Office) -> None:
     """Lodges on a private copy, and grants it there: what either would come to."""
     with private.private_copy(who.path, who.path) as copy:
         there = dataclasses.replace(who, path=copy)
-        proposal.tell("lodge")
+        proposal.tell(LODGING)
         lodged = lodging.lodge(there, proposal.plan.lodge, asked(proposal.plan))
         if lodged.status:
-            proposal.refusal = lodged.line
+            proposal.refusal, proposal.explained = lodged.line, lodged.explained
             return
         number, ref, _ = lodged.line.split()
         with changing.rehearse(there, [Step(("decide", number, ref, "granted", ""))], proposal.tell) as rehearsal:
             proposal.answers = rehearsal.answers  # a grant may be refused where a lodging is not
-            proposal.tell(COMPARING)
-            proposal.effects, proposal.made_from, _ = compared(here, rehearsal)
+            compare(proposal, here, rehearsal)
     proposal.seconds = time.monotonic() - proposal.began
 
 
@@ -184,15 +200,29 @@ def asked(plan: Plan) -> lodging.Lodging:
 def lodge(proposal: Proposal, here: Desk, who: Office) -> None:
     """Lodges an appeal: it moves nobody, so no state has to be the same."""
     lodged = lodging.lodge(who, proposal.plan.lodge, asked(proposal.plan))
-    proposal.refusal = lodged.line if lodged.status else ""
+    if lodged.status:
+        proposal.refusal, proposal.explained = lodged.line, lodged.explained
     proposal.is_done = not lodged.status
     proposal.lodged = lodged.line.split()[1] if proposal.is_done else ""
 
 
-def compared(here: Desk, rehearsal: changing.Rehearsal) -> tuple[Effects, str, str]:
-    """What a rehearsal would come to, and the names of the states before and after it."""
+@contextmanager
+def both(here: Desk, rehearsal: changing.Rehearsal) -> Iterator[tuple[View, View]]:
+    """The office before a rehearsal and after it."""
     with here.before(rehearsal) as before, closing(View(here.office, rehearsal.after)) as after:
-        return effects.effects(before, after), before.name, after.name
+        yield before, after
+
+
+def compare(proposal: Proposal, here: Desk, rehearsal: changing.Rehearsal) -> None:
+    """Keeps what a rehearsal would come to. Raises `Trouble` where the plan does not suit this state, or refuses it."""
+    proposal.tell(COMPARING)
+    plan = proposal.plan
+    with both(here, rehearsal) as (before, after):
+        if plan.made_from not in ("", before.name):
+            raise Trouble(OTHER_OFFICE)
+        proposal.lines = plan.look(before.reading, after.reading)
+        proposal.effects = effects.effects(before, after)
+        proposal.made_from, proposal.promised = before.name, after.name
 
 
 def carry_out(proposal: Proposal, here: Desk, who: Office) -> None:
@@ -200,7 +230,7 @@ def carry_out(proposal: Proposal, here: Desk, who: Office) -> None:
     proposal.moved_on = None
     try:
         carried = changing.carry_out(who, proposal.plan.steps, proposal.made_from, proposal.promised,
-                                     tell=proposal.tell)
+                                     proposal.plan.command, proposal.tell)
     except Stale:
         since = proposal.since
         rehearse(proposal, here, who)
@@ -208,7 +238,7 @@ def carry_out(proposal: Proposal, here: Desk, who: Office) -> None:
         return
     proposal.answers, proposal.copy = carried.answers, carried.copy or ""
     proposal.as_promised = carried.as_promised is not False
-    proposal.refusal = carried.refused.first_line() if carried.refused else ""
+    proposal.refuse(who, carried.refused)
     proposal.is_done = not proposal.refusal
 
 
@@ -226,7 +256,8 @@ def page(key: str) -> str:
     elsewhere = proposal.came_from and proposal.made_from and proposal.came_from != proposal.made_from
     return render_template("proposal.html", p=proposal, plan=plan, e=proposal.effects, kinds=effects.KINDS,
                            kind_of=Change.kind, most=MOST_ROWS, back=url_for(plan.page[0], **plan.page[1]),
-                           refusal=worded(proposal.refusal), elsewhere=elsewhere and not proposal.is_done,
+                           refusal=Markup("<br>").join(worded(proposal.refusal, proposal.explained)),
+                           trouble=said(proposal.trouble), elsewhere=elsewhere and not proposal.is_done,
                            next_appeal=next_appeal(proposal), rows=imported(proposal), copy_page=copy_page(proposal))
 
 

@@ -9,9 +9,9 @@ from flask import Blueprint, g, redirect, render_template, url_for
 from markupsafe import Markup
 from werkzeug.wrappers import Response
 
-from exam_desk import appeals, lastdays, running, turns
+from exam_desk import appeals, lastdays, logbook, running, turns
 from exam_desk.trouble import Trouble
-from exam_web import counting
+from exam_web import counting, office
 from exam_web.desk import View, desk, view
 from exam_web.wording import days_until, many, text
 
@@ -78,8 +78,20 @@ def weeks_of(found: list[counting.Sums]) -> list[list[tuple[str, list[counting.S
 def attention(found: list[counting.Sums]) -> list[Attention]:
     """What to do, the most urgent first."""
     coming = [each for each in found if days_until(each.day) >= 0]
-    todo = [*shortages(coming), *open_appeals(), *clashes(coming), *unserved(coming)]
+    todo = [*broken_off(), *shortages(coming), *open_appeals(), *clashes(coming), *unserved(coming)]
     return sorted(todo, key=lambda each: (LEVELS.index(each.level), each.day or "9"))
+
+
+def broken_off() -> list[Attention]:
+    """A change without an end in the log, while nobody has the office: its process was killed, or the machine
+    stopped."""
+    here = desk().office
+    found = logbook.unfinished(here)
+    if not found or turns.is_taken(here):
+        return []
+    link = url_for("office.copy", key=office.copy_key(found.copy)) if found.copy else url_for("office.page")
+    return [Attention("late", None, text("A change was broken off: {command}, {when}", command=found.command,
+                                         when=found.when), link, text("Look"))]
 
 
 def shortages(coming: list[counting.Sums]) -> list[Attention]:

@@ -2,22 +2,23 @@
 from __future__ import annotations
 
 import sqlite3
-from collections import Counter
 
 from flask import Blueprint, g, redirect, render_template, request, url_for
 from werkzeug.wrappers import Response
 
-from exam_desk import appeals, facts, lastdays, notebook, printed
+from exam_desk import absences, appeals, facts, lastdays, notebook, printed
 from exam_desk.facts import Opening
 from exam_desk.notebook import Rows
 from exam_desk.reading import Member
 from exam_desk.sheets.chart import NotDrawn
-from exam_web import counting, downloads, pictures, printing, shortages
-from exam_web.desk import desk, missing, view
-from exam_web.wording import many, text
+from exam_desk.trouble import Trouble
+from exam_web import counting, downloads, pictures, printing, proposals, shortages
+from exam_web.desk import candidate_row, desk, missing, view
+from exam_web.wording import many, said, text
 
 pages = Blueprint("session", __name__)
 MOST_PEOPLE = 100  # that a page lists for one reason
+SEATS = "session,date,start,finish,number,name,paper,paper title,hall,desk,extra,needs".split(",")
 
 
 def sums_of(code: str) -> counting.Sums:
@@ -44,7 +45,12 @@ def page(code: str) -> str:
         "session.html", s=sums, halls=openings(code), taken=taken(code), papers=papers(code), lodged=lodged,
         previous=codes[place - 1] if place else None, next=codes[place + 1] if place + 1 < len(codes) else None,
         closed=closed_halls(code), shortage=shortages.of(code, sums), clashes=clashes(code), most=MOST_PEOPLE,
-        sheets=printing.SHEETS, appeals=appeals, last=lastdays.to_decide(sums.day))
+        absent=absent(code), sheets=printing.SHEETS, appeals=appeals, last=lastdays.to_decide(sums.day))
+
+
+def absent(code: str) -> list[sqlite3.Row]:
+    """Who is noted as missing, by number."""
+    return [candidate_row(number) for number in sorted(map(int, notebook.absent(desk().office, code)))]
 
 
 def taken(code: str) -> dict[str, int]:
@@ -65,9 +71,12 @@ def closed_halls(code: str) -> list[sqlite3.Row]:
                        "ORDER BY code", [code])
 
 
-def clashes(code: str) -> list[Member]:
-    """Who has two papers at once, as far as the page shows them: the program says which paper they sit."""
-    return members_of(code, counting.two_papers(view(), code).get(code, [])[:MOST_PEOPLE])
+def clashes(code: str, most: int = MOST_PEOPLE) -> list[tuple[Member, list[str]]]:
+    """Who has two papers at once, and which ones they miss, both as the program says. Who is asked of has two live
+    entries in the rows."""
+    numbers = list(counting.two_papers(view()).get(code, {}))[:most]
+    missed = view().missed(code, numbers)
+    return [(member, missed[member.number]) for member in members_of(code, numbers) if member.number in missed]
 
 
 def members_of(code: str, numbers: list[int]) -> list[Member]:
@@ -91,8 +100,8 @@ def hall_page(code: str, hall: str) -> str:
     members = sitting_in(code, hall)
     drawn = pictures.picture(found, members, [row["code"] for row in papers(code)])
     return render_template("hall_piece.html" if "piece" in request.args else "hall.html", s=sums, opening=found,
-                           members=members, picture=drawn, running=pictures.RUNNING, papers=papers(code),
-                           sitting=Counter(member.sitting.paper for member in members), desk_width=pictures.WIDTH,
+                           members=members, absent=notebook.absent(desk().office, code), picture=drawn,
+                           running=pictures.RUNNING, papers=papers(code), desk_width=pictures.WIDTH,
                            desk_height=pictures.HEIGHT)
 
 
@@ -110,6 +119,31 @@ def draw(code: str, hall: str) -> Response | tuple[str, int]:
     return redirect(url_for("session.page", code=code) + f"#hall-{hall}", 303)
 
 
+@pages.post("/sessions/<code>/absent")
+def note_absent(code: str) -> Response | tuple[str, int]:
+    """Notes as absent who is ticked, or named by number; whoever is listed and not ticked was there."""
+    sums_of(code)
+    ticked = request.form.getlist("absent")
+    typed = request.form.get("numbers", "").replace(",", " ").split()
+    there = set(request.form.getlist("listed")).difference(ticked)
+    try:
+        found = absences.note(view().reading, code, [*ticked, *typed], there)
+    except Trouble as trouble:
+        wrong = proposals.Wrong(("session.page", {"code": code}), numbers=said(trouble.sentence))
+        return proposals.wrong_page(wrong, "absent")
+    g.visit.said.append(("good", many(len(found), "{count} candidate is noted as absent in {session}.",
+                                      "{count} candidates are noted as absent in {session}.", session=code)))
+    return redirect(url_for("session.page", code=code) + "#absent", 303)
+
+
+@pages.get("/sessions/<code>/attendance.csv")
+def attendance_csv(code: str) -> Response:
+    """The list for the exam board."""
+    sums_of(code)
+    found = absences.listed(view().reading, code).encode()
+    return downloads.attached(found, f"{code}-attendance.csv", "text/csv")
+
+
 @pages.get("/sessions/<code>/seats.csv")
 def seats_csv(code: str) -> Response:
     sums = sums_of(code)
@@ -117,19 +151,17 @@ def seats_csv(code: str) -> Response:
     rows = [[code, sums.day, each.sitting.start, each.sitting.finish, each.number, each.name, each.sitting.paper,
              titles[each.sitting.paper], each.sitting.hall or "", each.sitting.desk or "", each.sitting.extra,
              "+".join(each.sitting.needs) or "-"] for each in view().reading.members(code)]
-    header = ["session", "date", "start", "finish", "number", "name", "paper", "paper title", "hall", "desk", "extra",
-              "needs"]
-    return downloads.csv(header, rows, f"{code}-seats.csv")
+    return downloads.csv(SEATS, rows, f"{code}-seats.csv")
 
 
 @pages.get("/sessions/<code>/print/<sheet>")
 def sheet(code: str, sheet: str) -> str | Response:
-    """A sheet to print, made by the function that the command line uses."""
+    """A sheet to print, of all halls or of some, made by the function that the command line uses."""
     sums_of(code)
-    if sheet not in printing.SHEETS:
-        missing()
+    made = printing.SHEETS.get(sheet) or missing()
+    halls = [request.args.getlist("hall")] if made.by_hall else []
     try:
-        return printing.styled(printing.SHEETS[sheet].page(view().reading, code))
+        return printing.styled(made.page(view().reading, code, *halls))
     except NotDrawn as trouble:
         g.visit.said.append(("bad", text("First open the line of each of these halls, and press Draw: {halls}.",
                                          halls=", ".join(trouble.halls))))
@@ -140,7 +172,8 @@ def sheet(code: str, sheet: str) -> str | Response:
 def compare_printed(code: str) -> str:
     """Who has another desk than on paper: a piece of the session's page, or a page of its own where no script runs."""
     return render_template("printed_piece.html" if "piece" in request.args else "printed.html", s=sums_of(code),
-                           found=printed.compared(view().reading, code), most=MOST_PEOPLE)
+                           found=printed.compared(view().reading, code), most=MOST_PEOPLE, taken=taken(code),
+                           sheets=printing.SHEETS)
 
 
 @pages.post("/sessions/<code>/printed")
@@ -149,9 +182,9 @@ def note_printed(code: str) -> Response:
     sums_of(code)
     if request.form.get("state") == view().name:
         noted = printed.note(view().reading, code)
-        said = ("good", many(noted.desks, "{count} desk of {session} is noted as printed.",
+        answer = ("good", many(noted.desks, "{count} desk of {session} is noted as printed.",
                              "{count} desks of {session} are noted as printed.", session=code))
     else:
-        said = ("bad", text("Nothing is noted: the office is another than the page showed. Print the sheets again."))
-    g.visit.said.append(said)
+        answer = ("bad", text("Nothing is noted: the office is another than the page showed. Print the sheets again."))
+    g.visit.said.append(answer)
     return redirect(url_for("session.page", code=code) + "#print", 303)

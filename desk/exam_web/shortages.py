@@ -6,6 +6,7 @@ What could help is a guess that a button rehearses: only the program says what i
 from __future__ import annotations
 
 from collections.abc import Iterator
+from concurrent.futures import ThreadPoolExecutor
 from typing import NamedTuple
 
 from markupsafe import Markup
@@ -27,10 +28,7 @@ class Remedy(NamedTuple):
     """An opening that would suit some of those without a desk."""
     suits: int
     text: Markup
-    hall: str
-    desks: int
-    until: int
-    reserved: bool
+    opening: Opening
 
 
 class Shortage(NamedTuple):
@@ -46,8 +44,10 @@ def of(code: str, sums: Sums) -> Shortage | None:
 
 def make(code: str) -> Shortage:
     reading = view().reading
-    why = reasons.Reasons(reading, code)
-    return Shortage(shortage.read(reading.sheet("shortage", code)),
+    with ThreadPoolExecutor(1) as aside:  # the program prints the sheet while it is asked
+        sheet = aside.submit(reading.sheet, "shortage", code)
+        why = reasons.Reasons(reading, code)
+    return Shortage(shortage.read(sheet.result()),
                     [(member, by_reason(why.of(member))) for member in why.unseated()[:MOST_EXPLAINED]],
                     sorted(remedies(why), key=lambda each: -each.suits)[:MOST_REMEDIES])
 
@@ -77,26 +77,23 @@ def minutes(finish: str) -> int:
     return int(hours) * 60 + int(rest)
 
 
-def begin(opening: Opening, suited: list[Member], last: int) -> Remedy:
+def begin(hall: Opening, suited: list[Member], last: int) -> Remedy:
     """A hall that is closed, open as it is in most sessions, and long enough."""
-    usual = view().row(USUAL, [opening.hall])
-    desks, until = (usual["desks"], max(usual["until"], last)) if usual else (len(suited), last)
-    words = text("Open {hall}, {title}, with {desks} desks until {until}", hall=opening.hall, title=opening.title,
-                 desks=desks, until=clock(until))
-    return Remedy(len(suited), words, opening.hall, desks, until, False)
+    desks, until = view().row(USUAL, [hall.hall]) or (len(suited), last)
+    then = hall._replace(desks=desks, until=max(until, last))
+    words = text("Open {hall}, {title}, with {desks} desks until {until}", hall=then.hall, title=then.title,
+                 desks=then.desks, until=clock(then.until))
+    return Remedy(len(suited), words, then)
 
 
 def change(why: reasons.Reasons, now: Opening, suited: list[Member], last: int) -> Remedy | None:
     """A hall that is open, with a later end, for everybody or with more desks; None where none of these is missing."""
-    until = max(now.until, last)
-    longer = now._replace(until=until)
+    longer = now._replace(until=max(now.until, last))
     reserved = now.reserved and all(not why.obstacles(member, longer) for member in suited)
-    free = now.desks - len(why.taken[now.hall])
-    desks = now.desks + max(0, len(suited) - free)
-    if (desks, until, reserved) == (now.desks, now.until, now.reserved):
-        return None
-    parts = [text("until {until}", until=clock(until))] * (until != now.until)
-    parts += [text("no longer reserved")] * (reserved != now.reserved)
-    parts += [text("with {desks} desks, {more} more", desks=desks, more=desks - now.desks)] * (desks != now.desks)
-    return Remedy(len(suited), text("Have {hall} {how}", hall=now.hall, how=Markup(", ").join(parts)), now.hall, desks,
-                  until, reserved)
+    more = max(0, len(suited) + len(why.taken[now.hall]) - now.desks)
+    then = longer._replace(reserved=reserved, desks=now.desks + more)
+    parts = [text("until {until}", until=clock(then.until))] * (then.until != now.until)
+    parts += [text("no longer reserved")] * (then.reserved != now.reserved)
+    parts += [text("with {desks} desks, {more} more", desks=then.desks, more=more)] * (more > 0)
+    words = text("Have {hall} {how}", hall=now.hall, how=Markup(", ").join(parts))
+    return Remedy(len(suited), words, then) if parts else None

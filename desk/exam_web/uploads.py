@@ -16,17 +16,18 @@ from dataclasses import dataclass, field
 from typing import IO, NamedTuple
 
 from flask import abort, g
+from markupsafe import Markup
 from werkzeug.datastructures import FileStorage
 
 from exam_desk import coding, files, mistakes, private
 from exam_desk.trouble import Trouble
-from exam_desk.words import plain
 from exam_desk.workbook.checking import file_parts
 from exam_desk.workbook.reading import read_workbook
 from exam_desk.workbook.report import Line
 from exam_desk.workbook.tables import Choices
 from exam_desk.workbook.texts import Way
 from exam_web.desk import View, desk
+from exam_web.wording import said, shown, text
 
 MOST_MEMBERS = 64  # of a zip
 MOST_UPLOADS = 4  # of a visit
@@ -71,7 +72,7 @@ class Book:
 class Upload:
     """Files that are not imported yet; corrections are made in these bytes."""
     texts: dict[str, bytes] = field(default_factory=dict)  # by kind
-    notes: list[str] = field(default_factory=list)
+    notes: list[Markup] = field(default_factory=list)
     workbooks: list[Book] = field(default_factory=list)
     when: str = field(default_factory=lambda: datetime.datetime.now().isoformat(" ", "minutes"))
     edits: int = 0
@@ -80,8 +81,8 @@ class Upload:
     def kinds(self) -> list[str]:
         return [kind for kind in files.HEADERS if kind in self.texts]
 
-    def note(self, name: str, text: str) -> None:
-        self.notes.append(f"{plain(name)[:MOST_NAME]}: {text}")
+    def note(self, name: str, words: Markup) -> None:
+        self.notes.append(Markup("{}: {}").format(shown(name[:MOST_NAME]), words))
 
 
 def of_visit(key: str) -> Upload:
@@ -95,7 +96,7 @@ def taken(storages: Iterable[FileStorage], dates: str, view: View | None) -> Upl
     for storage in storages:
         name = (storage.filename or "").replace("\\", "/").rsplit("/", 1)[-1]
         if name.lower().endswith(".zip"):
-            take_zip(upload, storage.stream)
+            take_zip(upload, name, storage.stream)
         elif name.lower().endswith(BOOKS):
             take_book(upload, name, storage.stream.read(), dates, view)
         elif name:
@@ -103,32 +104,33 @@ def taken(storages: Iterable[FileStorage], dates: str, view: View | None) -> Upl
     return upload
 
 
-def take_zip(upload: Upload, stream: IO[bytes]) -> None:
+def take_zip(upload: Upload, name: str, stream: IO[bytes]) -> None:
     try:
         with zipfile.ZipFile(stream) as archive:
             members = [each for each in archive.infolist() if not each.is_dir() and "__MACOSX" not in each.filename]
             if len(members) > MOST_MEMBERS:
-                raise Trouble(f"the zip holds {len(members)} files; give the seven alone")
+                upload.note(name, text("it holds {count} files; give the seven alone", count=len(members)))
+                return
             for member in members:
                 with archive.open(member) as file:
                     take(upload, member.filename.replace("\\", "/").rsplit("/", 1)[-1], file.read(files.MOST_BYTES + 1))
     except UNREADABLE as fault:
-        raise Trouble(f"the zip cannot be read: {fault}") from None
+        upload.note(name, text("it cannot be read: {why}", why=str(fault)))
 
 
-def take(upload: Upload, name: str, text: bytes) -> None:
+def take(upload: Upload, name: str, content: bytes) -> None:
     """Puts a text under its kind: by its header, otherwise by its name."""
-    kind = kind_of(name, text)
+    kind = kind_of(name, content)
     if kind is None:
-        upload.note(name, "is none of the seven files, so it is not looked at")
+        upload.note(name, text("this is none of the seven files, so nothing is taken of it"))
     elif kind in upload.texts:
-        upload.note(name, f"there are two files of {kind}; the first is taken")
+        upload.note(name, text("there are two files of {kind}; the first is taken", kind=kind))
     else:
-        upload.texts[kind] = text
+        upload.texts[kind] = content
 
 
-def kind_of(name: str, text: bytes) -> str | None:
-    first = next(files.records(text[:1 << 12]), None)
+def kind_of(name: str, content: bytes) -> str | None:
+    first = next(files.records(content[:1 << 12]), None)
     found = next((kind for kind in files.HEADERS if files.is_header(kind, first)), None)
     stem = re.sub(r"(-[0-9]+)?\.csv$", "", name.lower())
     return found or (stem if stem in files.HEADERS else None)
@@ -144,14 +146,14 @@ def take_book(upload: Upload, name: str, content: bytes, dates: str, view: View 
         try:
             reading = read_workbook(path, known, Way(dates), {}, Choices())
         except Trouble as trouble:
-            upload.note(name, trouble.sentence)
+            upload.note(name, said(trouble.sentence))
             return
     lines = sorted(reading.report.lines, key=lambda line: line.sort != "mistake")
     wrong = reading.report.count("mistake")
     upload.workbooks.append(Book(name[:MOST_NAME], lines, wrong, reading.report.count("change")))
     for kind, records in reading.records.items() if not wrong else ():
-        for text, _ in file_parts(kind, [record.fields for record in records]):
-            take(upload, f"{kind}.csv", text)
+        for part, _ in file_parts(kind, [record.fields for record in records]):
+            take(upload, f"{kind}.csv", part)
 
 
 def looked_through(texts: Mapping[str, bytes], view: View) -> dict[str, Looked]:
@@ -177,7 +179,7 @@ def fault(kind: str, mistake: mistakes.Mistake, records: Mapping[int, files.Reco
     if place is None or place >= len(fields):
         return Fault(mistake.line, column, value, mistake.text, "", fields, None)
     if column == "code" and not fields[place]:
-        return Fault(mistake.line, column, value, "empty: a new code can be made", NEW_CODE, fields, place)
+        return Fault(mistake.line, column, value, text("empty: a new code can be made"), NEW_CODE, fields, place)
     return Fault(mistake.line, column, value, mistake.text, mistake.write, fields, place)
 
 
@@ -200,11 +202,11 @@ def corrections(kind: str, looked: Looked, form: Mapping[str, str], taken: set[s
     return wanted
 
 
-def corrected(text: bytes, wanted: Corrections) -> bytes:
+def corrected(content: bytes, wanted: Corrections) -> bytes:
     """The bytes of a file with other values."""
     out = io.StringIO()
     lines = csv.writer(out, lineterminator="\n")
-    for record in files.records(text):
+    for record in files.records(content):
         fields = [part.decode("utf-8", "surrogateescape") for part in record.fields]
         for place, value in wanted.get(record.line, {}).items():
             fields[place] = value

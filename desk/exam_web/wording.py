@@ -1,25 +1,43 @@
-"""What pages say: texts in the reader's language, values without hidden characters, numbers and days."""
+"""What pages say: texts in the reader's language, values without hidden characters, numbers and days.
+
+Pages and modules hold the texts in English; the folder languages has them in other languages. To translate the desk,
+copy languages/de.json under the name of the language that browsers ask for, and change what stands behind the colons. A
+word in braces stands for a value. A text that a language lacks stays English; en.json says some otherwise than the
+commands do. What the program says is English always.
+"""
 from __future__ import annotations
 
 import datetime
+import json
+import pathlib
 from typing import Any
 
 from flask import Flask, current_app, request
 from markupsafe import Markup, escape
 
 from exam_desk.words import clock, feature_text, plain
-from exam_web import texts
+
+RIGHT_TO_LEFT = ("ar", "fa", "he", "ur")
+LANGUAGES: dict[str, dict[str, str]] = {
+    path.stem: json.loads(path.read_text("utf-8"))
+    for path in sorted((pathlib.Path(__file__).parent / "languages").glob("*.json"))}
 
 
 def language() -> str:
     """The first language of the browser that the desk has."""
-    return request.accept_languages.best_match(["en", *texts.LANGUAGES]) or "en"
+    return request.accept_languages.best_match(["en", *LANGUAGES]) or "en"
 
 
 def text(english: str, **values: object) -> Markup:
     """A text of the table in the reader's language; a word in braces stands for a value."""
-    found = texts.LANGUAGES.get(language(), {}).get(english, english)
+    found = LANGUAGES.get(language(), {}).get(english, english)
     return Markup(found).format(**{name: shown(value) for name, value in values.items()}) if values else Markup(found)
+
+
+def said(words: str) -> Markup:
+    """What a function of the package says: in the reader's language where the table has it, else as it is."""
+    found = LANGUAGES.get(language(), {}).get(words)
+    return Markup(found) if found else shown(words)
 
 
 def many(count: int, one: str, more: str, **values: object) -> Markup:

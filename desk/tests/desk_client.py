@@ -57,7 +57,7 @@ class Browser:
         state = re.search(STATE, text)
         values = {"mark": re.search(MARK, text)[1], "state": state[1] if state else "", **values}
         answer, text = self.ask("POST", path, urllib.parse.urlencode(values, doseq=True))
-        assert answer.status == status, (path, answer.status, text[-800:])
+        assert answer.status in (status if isinstance(status, tuple) else (status,)), (path, answer.status, text[-800:])
         return (answer.headers["Location"] or "").removeprefix(self.prefix), text
 
     def words(self, path):

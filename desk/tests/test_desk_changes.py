@@ -3,7 +3,6 @@ import concurrent.futures
 import http.client
 import os
 import pathlib
-import random
 import re
 import threading
 import unittest
@@ -89,23 +88,6 @@ class TestRehearsal(DeskSchool):
         self.browser.post(page + "/do", page)
         self.assertIn("What changed", self.browser.words(page))
 
-    def test_refusals_stand_at_their_fields(self):
-        for what, values, names in (
-                ("withdraw", {"paper": "NO-1", "key": "CS-1"}, []), ("enter", {"paper": "no"}, ["paper"]),
-                ("arrangement", {"extra": "101"}, ["extra"]), ("arrangement", {"extra": "1.5"}, ["extra"]),
-                ("lodge", {"session": "MON-AM", "kind": "hall", "wanted_hall": "GYM"}, ["wanted_hall"]),
-                ("lodge", {"session": "MON-AM", "kind": "clash", "wanted_clash": "CS-1"}, ["wanted_clash"]),
-                ("lodge", {"session": "MON-AM", "kind": "hall", "wanted_hall": "PC1", "reason": "é" * 101},
-                 ["reason"])):
-            _, text = self.browser.post(f"/propose/{what}", "/candidates/1051", 422, number="0001051", **values)
-            self.assertIn("Nothing was done", text)
-            for name in names:
-                self.assertRegex(text, rf'name="{name}"[^>]*aria-invalid="true"', what)
-        _, text = self.browser.post("/propose/open", "/sessions/MON-AM", 422, session="MON-AM", hall="AULA", desks="0",
-                                    until="25:00")
-        for name in ("desks", "until"):
-            self.assertRegex(text, rf'name="{name}"[^>]*aria-invalid="true"')
-
     def test_values_are_no_options(self):
         before = self.seats()
         for paper in ("--db=x", "-h", "../../x", "a b", "MA-1\n"):
@@ -116,6 +98,41 @@ class TestRehearsal(DeskSchool):
         page, _ = self.browser.post("/propose/close", "/sessions/-H", session="-H", lost="GYM")
         self.browser.post(page + "/do", page)
         self.assertEqual(self.rows("SELECT * FROM opening WHERE session = '-H'"), [])
+        self.assertEqual(self.seats(), before)
+
+
+class TestSecondSitting(DeskSchool):
+    FORM, PAGE = {"number": "0001051", "session": "MON-AM", "hall": "R14"}, "/clashes/MON-AM/1051"
+
+    def test_arranged_and_taken_back(self):
+        self.assertIn("CS-1 is sat until 11:00 ; LAT is not sat", self.browser.words(self.PAGE))
+        before = self.seats()
+        page, _ = self.browser.post("/propose/second", self.PAGE, **self.FORM, paper="LAT", start="11:00")
+        promised = self.browser.words(page)
+        self.assertIn("session MON-AM-2 (new) at 11:00, paper LAT-2 (new), hall R14 with 1 desk", promised)
+        self.assertIn("sits CS-1 until 11:00, and LAT-2 from 11:00 to 12:30 in R14, desk 1", promised)
+        self.assertEqual(self.seats(), before)
+        self.browser.post(page + "/do", page)
+        self.assertIn("What changed", self.browser.words(page))
+        self.assertIn("(ab, desk)\tsecond-sitting 0001051 LAT 11:00 R14\t0", self.log())
+        self.assertNotIn("0001051", self.browser.words("/clashes?session=MON-AM"))
+        self.assertEqual(self.browser.ask("GET", self.PAGE)[0].status, 302)
+        self.assertIn("Take the second sitting back", self.browser.words("/candidates/1051"))
+        page, _ = self.browser.post("/propose/second-back", "/candidates/1051", number="0001051", paper="LAT")
+        text = self.browser.words(page)
+        self.assertIn("sits CS-1 again, and misses LAT", text)
+        self.assertRegex(text, "Two papers at once would be new for .* 0001051 MON-AM CS-1 LAT")
+        self.browser.post(page + "/do", page)
+        self.assertEqual(self.seats(), before)
+        self.assertIn("0001051", self.browser.words("/clashes?session=MON-AM"))
+
+    def test_for_another_state(self):
+        """A plan was made for one state of the office: in another it would make other things."""
+        page, _ = self.browser.post("/propose/second", self.PAGE, **self.FORM, paper="LAT", start="11:00")
+        self.office("second-sitting", "0001051", "LAT", "11:00", "R14", "--yes")
+        before = self.seats()
+        self.browser.post(page + "/do", page)
+        self.assertIn("go back to the form", self.browser.words(page))
         self.assertEqual(self.seats(), before)
 
 
@@ -207,49 +224,6 @@ class TestBack(DeskSchool):
         self.assertEqual(len(self.rows("SELECT * FROM appeal")), 2)
         self.browser.post(page + "/back", page, lost=[line.replace("&gt;", ">") for line in lines])
         self.assertEqual(self.rows("SELECT * FROM appeal"), [])
-
-
-class TestWalk(DeskSchool):
-    """At random: what a rehearsal promises is what comes."""
-
-    STEPS = int(os.environ.get("WALK", "12"))
-
-    def test_rehearsal_is_result(self):
-        chance = random.Random(2027)
-        done = 0
-        openings = self.rows("SELECT session, hall, desks FROM opening ORDER BY 1, 2")
-        for _ in range(self.STEPS):
-            number, paper = chance.choice(self.rows("SELECT number, paper FROM entry ORDER BY 1, 2"))
-            session, hall, desks = chance.choice(openings)  # it may be closed by now
-            what, where, values = chance.choice([
-                ("withdraw", f"/candidates/{number}", {"number": f"{number:07}", "paper": paper}),
-                ("reinstate", f"/candidates/{number}", {"number": f"{number:07}", "paper": paper}),
-                ("arrangement", f"/candidates/{number}", {"number": f"{number:07}", "extra": chance.choice([0, 25, 50]),
-                                                          "needs": chance.sample(["screen", "reader", "quiet"], 1)}),
-                ("close", f"/sessions/{session}", {"session": session, "lost": hall}),
-                ("open", f"/sessions/{session}", {"session": session, "hall": hall,
-                                                  "desks": max(1, desks + chance.randint(-3, 3)),
-                                                  "until": "13:30"})])
-            text = self.browser.get(where)
-            answer, text = self.browser.ask("POST", f"/propose/{what}", urllib.parse.urlencode(
-                {"mark": re.search(MARK, text)[1], **values}, doseq=True))
-            if answer.status == 422:
-                continue
-            page = answer.headers["Location"].removeprefix(self.browser.prefix)
-            promised = re.findall(EFFECT, self.browser.get(page))
-            before = {row[:2]: row[2] for row in self.seats()}
-            self.browser.post(page + "/do", page)
-            after = {row[:2]: row[2] for row in self.seats()}
-            text = self.browser.get(page)
-            self.assertIn("What changed", text)
-            self.assertNotIn("should never be", text)
-            self.assertEqual(re.findall(EFFECT, text), promised)
-            moved = sum(key in after and after[key] != hall for key, hall in before.items())
-            self.assertEqual(int(dict(promised).get("moves", "0")), moved)
-            done += 1
-        self.assertGreater(done, self.STEPS // 3)
-        if "WALK" in os.environ:
-            print(f"{done} changes at random")
 
 
 class TestBesideKeep(DeskSchool):

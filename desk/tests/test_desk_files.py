@@ -1,5 +1,4 @@
 """Files at the desk in a browser: uploads of every kind, their mistakes, corrections, and the rehearsed import."""
-import html
 import io
 import json
 import os
@@ -9,9 +8,8 @@ import unittest
 import zipfile
 
 from desk_client import MARK, PYTHON, DeskSchool
-from sample import DESK, KINDS
+from sample import KINDS
 
-TEMPLATES = DESK / "exam_web"
 NEW = b"number,name,code\n12001,Nadia,K4WBN7RTQD\n0012008,Tom,\n"
 
 
@@ -83,6 +81,7 @@ class TestFiles(Uploads):
             "Candidates": [["number", "name", "code"], [12001, "Nadia", "K4WBN7RTQD"]]})))
         self.assertNotIn("/candidates.csv", self.browser.get(page))
         self.assertIn("Sessions!B2", self.browser.words(page))
+        self.assertRegex(self.browser.get(page), "<h1><bdi>1</bdi> mistake")
         self.assertIn("MISTAKE", self.browser.words(page))
         self.assertNotIn("/propose/files", self.browser.get(page))
         page = self.upload(("students.xlsx", workbook({"Sessions": [["session", "date", "start"],
@@ -96,12 +95,14 @@ class TestFiles(Uploads):
             archive.writestr("../../../etc/cron.d/entries.csv", "number,paper\n0001051,EN-1\n")
             archive.writestr("deep/bomb.csv", b"number,name,code\n" + bytes(50_000_000))
         self.assertIn("more than 4194304 bytes", self.browser.words(self.upload(("all.zip", out.getvalue()))))
-        self.upload(("bad.zip", b"PK no zip"), status=500)
+        self.assertIn("cannot be read", self.browser.words(self.upload(("bad.zip", b"PK no zip"))))
         out = io.BytesIO()
         with zipfile.ZipFile(out, "w") as archive:
             for place in range(65):
                 archive.writestr(f"{place}.csv", "x")
-        self.upload(("many.zip", out.getvalue()), status=500)
+        text = self.browser.words(self.upload(("many.zip", out.getvalue())))
+        self.assertIn("many.zip : it holds 65 files", text)
+        self.assertIn("Nothing could be taken", text)
         self.assertEqual(self.upload(), "/files")
 
     def test_broken_files(self):
@@ -150,38 +151,6 @@ class TestBegin(Uploads):
         self.browser.post(proposal + "/do", proposal)
         self.assertIn("What changed", self.browser.words(proposal))
         self.assertIn("60 candidates", self.browser.words("/"))
-
-
-class TestTexts(unittest.TestCase):
-    """Each text stands in each language, with the values that it has in English."""
-
-    def test_languages_are_whole(self):
-        used = set()
-        for path in [*TEMPLATES.glob("templates/*.html"), *TEMPLATES.glob("*.py")]:
-            text = path.read_text("utf-8")
-            called = r"\b_" if path.suffix == ".html" else r"\btext"
-            used |= {found[1:-1] for found in re.findall(called + r"""\(\s*("(?:[^"\\]|\\.)*"|'(?:[^'\\]|\\.)*')""",
-                                                         text)}
-            for pair in re.findall(r"""\bmany\([^"]*?("(?:[^"\\]|\\.)*"),\s*("(?:[^"\\]|\\.)*")""", text):
-                used |= {each[1:-1] for each in pair}
-        self.assertGreater(len(used), 300)
-        for path in TEMPLATES.glob("languages/*.json"):
-            table = json.loads(path.read_text("utf-8"))
-            self.assertEqual(used - set(table), set(), path.name)
-            for english, other in table.items():
-                self.assertEqual(sorted(re.findall(r"{\w+}", english)), sorted(re.findall(r"{\w+}", other)), english)
-                self.assertNotRegex(other, "[<>&]")
-
-
-class TestGerman(DeskSchool):
-    def test_every_page(self):
-        for path, words in (("/", "Zu tun"), ("/sessions/MON-AM", "Räume"), ("/candidates/1051", "Prüfungsplan"),
-                            ("/files", "Dateien"), ("/sessions/MON-AM", "Sitzpläne"),
-                            ("/sessions/MON-AM/halls/PC1", "hin und zurück"),
-                            ("/nothing", "Nicht hier"), ("/office", "Protokoll")):
-            answer, text = self.browser.ask("GET", path, headers={"Accept-Language": "de-AT,de;q=0.9,en;q=0.5"})
-            self.assertIn(words, html.unescape(text))
-            self.assertIn('lang="de"', text)
 
 
 def workbook(sheets):

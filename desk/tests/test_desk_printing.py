@@ -73,6 +73,24 @@ class TestPrinting(DeskSchool):
         self.assertEqual((self.office("notes"), self.browser.get("/candidates/notes")), ("", ""))
         self.browser.post("/candidates/9999999/note", "/candidates/1051", 404, note="x")
 
+    def test_who_was_absent(self):
+        page = "/sessions/MON-AM"
+        before = self.seats()
+        self.browser.post(page + "/absent", page, numbers="0001051, 0001119 ")
+        self.assertIn("2 candidates are noted as absent in MON-AM", self.browser.words(page))
+        self.browser.post(page + "/absent", page + "/halls/PC1", absent=["0001051"], listed=["0001051", "0001119"])
+        text = self.browser.get(page + "/halls/PC1")
+        self.assertEqual(re.findall(r'value="(\d{7})"[^>]*checked', text), ["0001051"])
+        self.assertEqual(self.browser.ask("GET", page + "/attendance.csv")[1], self.office("absent", "MON-AM"))
+        self.assertIn('"0001051","CS-1","absent"', self.office("absent", "MON-AM"))
+        for wrong in ("1051", "9999999", "0001051 x"):
+            _, text = self.browser.post(page + "/absent", page, 422, numbers=wrong)
+            self.assertRegex(text, 'name="numbers"[^>]*aria-invalid="true"')
+        self.browser.post("/sessions/NONE/absent", page, 404, numbers="0001051")
+        self.browser.post(page + "/absent", page, listed=["0001051"])
+        self.assertNotIn('"absent"', self.office("absent", "MON-AM"))
+        self.assertEqual(self.seats(), before)
+
     def test_how_a_hall_is_drawn(self):
         page = "/sessions/MON-AM/halls/GYM"
         before = self.seats()

@@ -1,0 +1,117 @@
+"""Refuses each plan of the desk in a browser with each refusal, while it is rehearsed and while it is carried out:
+refuse_plans.py OFFICE PROGRAM. The office is the sample school. It needs Flask, and prints what is not as it must
+be."""
+import datetime
+import pathlib
+import re
+import sys
+from unittest import mock
+
+DESK = pathlib.Path(__file__).resolve().parent.parent
+sys.path.insert(0, str(DESK))
+from exam_desk import changing, lodging, refusals  # noqa: E402
+from exam_desk.office import Office  # noqa: E402
+from exam_desk.running import Ran  # noqa: E402
+from exam_web import application, desk, guard, plans, uploads, wording  # noqa: E402
+
+WHO, MONDAY = {"number": "0001051"}, {"session": "MON-AM"}
+FORMS = {  # a form of each plan that the sample school takes, and the page that it stands on
+    "withdraw": ("/candidates/1051", {**WHO, "paper": "PH-1", "key": "PH-1"}),
+    "reinstate": ("/candidates/1051", {**WHO, "paper": "EN-1", "key": "EN-1"}),
+    "enter": ("/candidates/1051", {**WHO, "paper": "CH-1"}),
+    "arrangement": ("/candidates/1051", {**WHO, "needs": "quiet", "extra": "25"}),
+    "code": ("/candidates/1051", WHO),
+    "lodge": ("/candidates/1051", {**WHO, "session": "TUE-AM", "kind": "hall", "wanted_hall": "AULA"}),
+    "decide": ("/appeals/1051/D1", {**WHO, "ref": "D1", "outcome": "refused"}),
+    "open": ("/sessions/MON-AM", {**MONDAY, "hall": "R14", "desks": "3", "until": "14:00"}),
+    "close": ("/sessions/MON-AM", {**MONDAY, "lost": "GYM"}),
+    "files": ("/files", {"upload": "files"}),
+    "second": ("/clashes/MON-AM/1051", {**WHO, **MONDAY, "paper": "LAT", "start": "11:00", "hall": "R14"}),
+    "second-back": ("/candidates/1306", {"number": "0001306", "paper": "MA-2"}),
+}
+wrong, tries = [], []
+
+
+class Browser:
+    def __init__(self, office):
+        self.app = application.make(desk.Desk(office, "127.0.0.1:1", "", False))
+        self.client = self.app.test_client()
+        self.visit = guard.Visit("ab")
+        self.app.extensions["guard"].visits[guard.digest("secret")] = self.visit
+        self.client.set_cookie("localhost", "desk", "secret")
+        self.visit.uploads["files"] = uploads.Upload({"halls": b"hall,title,features\nR20,x,-\n",
+                                                      "entries": b"number,paper\n0001051,CH-1\n"})
+
+    def post(self, path, values):
+        return self.client.post(path, data={"mark": self.visit.mark, **values},
+                                headers={"Origin": "http://127.0.0.1:1"})
+
+
+def sentence(number):
+    said = refusals.SENTENCES[number]
+    return wording.LANGUAGES["en"].get(said, said)
+
+
+def holds(right, what):
+    tries.append(what)
+    if not right:
+        wrong.append(what)
+
+
+def shown(answer):
+    return re.sub(r"\s+", " ", answer.get_data(True).replace("&#39;", "'"))
+
+
+def refused(browser, what, number):
+    """The plan is refused while it is rehearsed: in words, at the field that they are about, else on a page that does
+    nothing."""
+    page, values = FORMS[what]
+    line = f"refused {number}"
+    lodged = lodging.Lodged(1, line, refusals.explained(browser.app.extensions["desk"].office, ["lodge"], line))
+    with (mock.patch.object(changing.running, "run_over", return_value=Ran(1, "", line + "\n")),
+          mock.patch.object(lodging, "lodge", return_value=lodged)):
+        answer = browser.post(f"/propose/{what}", values)
+    at_field = answer.status_code == 422
+    text = shown(answer if at_field else browser.client.get(answer.headers["Location"]))
+    holds(sentence(number) in text, f"{what} {number} is not in words")
+    holds(line not in text, f"{what} {number} shows its code")
+    holds(("aria-invalid" in text or 'class="fault"' in text) if at_field else "/do" not in text,
+          f"{what} {number} stands at no field, or could be done")
+
+
+def refused_late(browser, what):
+    """The plan is refused while it is carried out, after a good rehearsal."""
+    _, values = FORMS[what]
+    answer = browser.post(f"/propose/{what}", values)
+    said = re.findall("Nothing was done[^<]*", shown(answer))
+    holds(answer.status_code == 303, f"{what} cannot be rehearsed: {said}")
+    if answer.status_code != 303:
+        return
+    page = answer.headers["Location"]
+    while "refresh" in shown(browser.client.get(page)):
+        pass
+    lodged = lodging.Lodged(1, "refused 22", [refusals.SENTENCES[22]])
+    with (mock.patch.object(changing, "run_patiently", return_value=Ran(1, "", "refused 22\n")),
+          mock.patch.object(lodging, "lodge", return_value=lodged)):
+        browser.post(f"{page}/do", {})
+    text = shown(browser.client.get(page))
+    holds("It was refused, and the office is as it was" in text and sentence(22) in text and "/do" not in text,
+          f"{what} refused late: {text[-300:]}")
+
+
+def main():
+    office = Office(sys.argv[1], sys.argv[2], lambda: datetime.date(2027, 5, 1), "tester")
+    browser = Browser(office)
+    if missing := set(plans.PLANS) - set(FORMS):
+        wrong.append(f"no form for {missing}")
+    numbers = [*refusals.SENTENCES] if "--all" in sys.argv else [1, 5, 8, 20, 22, 23, 24, 27]
+    for what in FORMS:
+        browser.client.get(FORMS[what][0])
+        for number in numbers:
+            refused(browser, what, number)
+        refused_late(browser, what)
+    browser.app.extensions["desk"].close()
+    print("\n".join([*wrong, f"{len(FORMS)} plans, {len(tries)} looks, {len(wrong)} bad"]))
+
+
+main()

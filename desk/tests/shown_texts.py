@@ -1,0 +1,157 @@
+"""Finds every text that a page of the desk can show, for the test of the languages: prints them, and what it cannot
+find, as JSON. It needs Jinja, which Debian's own python has.
+
+A text stands as a literal in a call of `text`, `many` or `_`, or in one of the tables of `TABLES`. A call whose text is
+neither, words in a template outside a call, and a sentence in a module outside a call are what it cannot find.
+"""
+import ast
+import datetime
+import html.parser
+import json
+import pathlib
+import re
+import sys
+
+import jinja2
+from jinja2 import nodes
+
+DESK = pathlib.Path(__file__).resolve().parent.parent
+sys.path.insert(0, str(DESK))
+from exam_desk import appeals, mistakes, refusals  # noqa: E402
+from exam_web import application, desk, effects, pictures, plans, printing, proposals  # noqa: E402
+
+DAYS = [datetime.date(2027, 3, day) for day in range(1, 8)]
+MONTHS = [datetime.date(2027, month, 1) for month in range(1, 13)]
+CHAPTERS = set(re.findall("^## (.+)", (DESK.parent / "docs/HANDBOOK.md").read_text("utf-8"), re.M))
+SAID = [*refusals.SENTENCES.values(), *refusals.OTHER.values()]
+CURES = [cure.removesuffix(plans.SHEET_HINT) for cure in mistakes.CURES.values()]
+OWN = [proposals.OTHER_OFFICE, proposals.WRONG_DESK]
+TABLES = {  # by what stands in the call
+    "word": [*(word for _, word in application.PLACES), *pictures.RUNNING.values()],
+    "sheet.title": [sheet.title for sheet in printing.SHEETS.values()],
+    "words[tense]": [word for pair in effects.KINDS.values() for word in pair],
+    "appeals.KINDS[row.kind]": appeals.KINDS.values(), "appeals.STATES[row.state]": appeals.STATES.values(),
+    "kind": appeals.KINDS.values(), "PROBLEMS[fault.code]": application.PROBLEMS.values(),
+    "str(stage)": [desk.COPYING, desk.COUNTING], "mistakes.CURES[column].removesuffix(SHEET_HINT)": CURES,
+    "title": [each[0] for each in (*plans.OUTCOMES.values(), *plans.ENTRIES.values())],
+    "verb": [each[1] for each in (*plans.OUTCOMES.values(), *plans.ENTRIES.values())],
+    "f'{date:%a}'": [f"{date:%a}" for date in DAYS], "f'{date:%b}'": [f"{date:%b}" for date in MONTHS],
+    "near[left]": ["today", "tomorrow", "yesterday"],
+}
+SENTENCE = re.compile(r"[a-z]{2,} [a-z]{2,}.* [a-z]{2,}")
+SQL = re.compile(r"\s*(SELECT|FROM|WHERE|ORDER|JOIN|AND|GROUP|HAVING)\b|.*\b(SELECT|FROM entry|JOIN)\b")
+OF_STRANGERS = {"guard.py", "serving.py"}  # they speak to who is not in, and to the terminal
+PLAIN = {"examoffice", "csv", "aria", "invalid", "true", "describedby", "fault"}  # no words of a language
+NO_TEXTS = {plans.SHEET_HINT, "the form has all values"}  # what is taken away from a text; of an assertion
+ATTRIBUTES = {"title", "placeholder", "aria-label", "alt", "data-busy", "data-working", "data-nothing"}
+found, lost = set(), []
+
+
+def take(place, call, literal, texts):
+    """Takes the texts of a call: a literal, or what a table has under the words that stand there."""
+    if literal is not None:
+        found.add(literal)
+    elif texts in TABLES:
+        found.update(TABLES[texts])
+    else:
+        lost.append(f"{place}: {call}({texts})")
+
+
+class Modules(ast.NodeVisitor):
+    """The calls in a module, and the sentences outside them."""
+
+    def __init__(self, path):
+        self.path, self.inside = path, 0
+
+    def visit_Call(self, call):
+        name = call.func.id if isinstance(call.func, ast.Name) else ""
+        if name not in ("text", "many", "said"):
+            self.generic_visit(call)
+            return
+        if name != "said" and self.path.name != "wording.py":
+            for value in call.args[:1] if name == "text" else call.args[1:3]:
+                self.take(name, value)
+        self.inside += 1
+        self.generic_visit(call)
+        self.inside -= 1
+
+    def take(self, name, value):
+        if isinstance(value, ast.IfExp):
+            self.take(name, value.body)
+            self.take(name, value.orelse)
+            return
+        literal = value.value if isinstance(value, ast.Constant) else None
+        take(self.path.name, name, literal, ast.unparse(value))
+
+    def visit_Constant(self, constant):
+        known = {*OWN, proposals.COMPARING, proposals.LODGING, *(each for table in TABLES.values() for each in table)}
+        if (isinstance(constant.value, str) and not self.inside and constant.value not in known
+                and SENTENCE.search(constant.value) and not SQL.match(constant.value)
+                and constant.value not in NO_TEXTS):
+            lost.append(f"{self.path.name}:{constant.lineno}: {constant.value!r}")
+
+    def visit_Expr(self, expression):
+        if not isinstance(expression.value, ast.Constant):  # else it is what describes a function
+            self.generic_visit(expression)
+
+
+class Words(html.parser.HTMLParser):
+    """What a template says outside its calls."""
+
+    def __init__(self, path):
+        super().__init__()
+        self.path = path
+
+    def handle_data(self, data):
+        self.look(data)
+
+    def handle_starttag(self, tag, attrs):
+        for name, value in attrs:
+            if name in ATTRIBUTES:
+                self.look(value or "")
+
+    def look(self, data):
+        for word in re.findall(r"[^\W\d_]{2,}", data):
+            if word not in PLAIN:
+                lost.append(f"{self.path.name}: {data.strip()!r} stands outside a call")
+
+
+def spelled(node):
+    """An expression of a template, as it stands there."""
+    if isinstance(node, nodes.Name):
+        return node.name
+    if isinstance(node, nodes.Getattr):
+        return f"{spelled(node.node)}.{node.attr}"
+    if isinstance(node, nodes.Getitem):
+        return f"{spelled(node.node)}[{spelled(node.arg)}]"
+    return repr(node)
+
+
+def of_template(path):
+    source = path.read_text("utf-8")
+    for call in jinja2.Environment().parse(source).find_all(nodes.Call):
+        name = call.node.name if isinstance(call.node, nodes.Name) else ""
+        for value in call.args[:1] if name == "_" else call.args[1:3] if name == "many" else ():
+            parts = [value.expr1, value.expr2] if isinstance(value, nodes.CondExpr) else [value]
+            for part in parts:
+                take(path.name, name, part.value if isinstance(part, nodes.Const) else None, spelled(part))
+        if isinstance(call.node, nodes.Getattr) and call.node.attr == "help" and call.args[1].value not in CHAPTERS:
+            lost.append(f"{path.name}: the handbook has no chapter {call.args[1].value}")
+    words = Words(path)
+    words.feed(re.sub(r"{%.*?%}|{{.*?}}|{#.*?#}", " ", source, flags=re.S))
+
+
+def main():
+    for path in sorted((DESK / "exam_web").glob("*.py")):
+        if path.name not in OF_STRANGERS:
+            Modules(path).visit(ast.parse(path.read_text("utf-8")))
+    for path in sorted((DESK / "exam_web/templates").glob("*.html")):
+        of_template(path)
+    found.update(re.findall(r'\btext\("((?:[^"\\]|\\.)*)"', (DESK / "exam_web/wording.py").read_text("utf-8")))
+    for table in TABLES.values():
+        found.update(table)
+    found.update(SAID, OWN)
+    print(json.dumps({"found": sorted(found), "lost": lost}))
+
+
+main()

@@ -1,0 +1,113 @@
+"""Changes at random at the desk in a browser, over schools at random: what a rehearsal promises is what comes.
+
+WALK is the number of changes, a dozen if it is not set; each school has 25 of them.
+"""
+import os
+import random
+import re
+import shutil
+import unittest
+import urllib.parse
+
+from desk_client import MARK, STATE, DeskSchool
+from random_offices import RandomOffice
+
+EFFECT = r'effect (\w+)"><b>([\d,]+)'
+OF_A_SCHOOL = 25
+
+
+class Files(RandomOffice):
+    """A school as its import files have it."""
+
+    def change(self):
+        pass
+
+
+class TestWalk(DeskSchool):
+    STEPS = int(os.environ.get("WALK", "12"))
+
+    def test_rehearsal_is_result(self):
+        done = tried = 0
+        for seed in range(-(-self.STEPS // OF_A_SCHOOL)):
+            chance = self.begin_school(2027 + seed)
+            for _ in range(min(OF_A_SCHOOL, self.STEPS - tried)):
+                tried += 1
+                done += self.walk(*self.wanted(chance))
+        self.assertGreater(done, tried // 3)
+        if "WALK" in os.environ:
+            print(f"{done} changes at random")
+
+    def begin_school(self, seed):
+        self.end()
+        for name in os.listdir(self.folder):
+            if name != "program":
+                path = os.path.join(self.folder, name)
+                (shutil.rmtree if os.path.isdir(path) else os.remove)(path)
+        Files(self.folder, seed).make()
+        self.start()
+        return random.Random(seed)
+
+    def wanted(self, chance):
+        """What is asked: the name of a plan, the page of its form, and the values."""
+        entries = self.rows("SELECT number, paper, session FROM entry JOIN paper ON code = paper ORDER BY 1, 2")
+        number, paper, session = chance.choice(entries)
+        where, person = f"/candidates/{number}", {"number": f"{number:07}"}
+        hall, = chance.choice(self.rows("SELECT code FROM hall ORDER BY 1"))
+        needs = {"needs": chance.sample(["screen", "reader", "quiet"], 1)}
+        lodged = self.rows("SELECT number, ref, kind FROM appeal WHERE state = 1 ORDER BY 1, 2")
+        found = [
+            ("withdraw", where, {**person, "paper": paper}), ("reinstate", where, {**person, "paper": paper}),
+            ("arrangement", where, {**person, "extra": chance.choice([0, 25, 50]), **needs}), ("code", where, person),
+            ("enter", where, {**person, "paper": chance.choice(entries)[1]}),
+            ("lodge", where, {**person, "session": session, "kind": "arrangement", "wanted_extra": 25, **needs}),
+            ("lodge", where, {**person, "session": session, "kind": "hall", "wanted_hall": hall}),
+            ("close", f"/sessions/{session}", {"session": session, "lost": hall}),
+            ("open", f"/sessions/{session}", {"session": session, "hall": hall, "desks": chance.randint(1, 9),
+                                              "until": "23:30"}),
+            ("second", where, {**person, "session": session, "paper": paper, "start": chance.choice(["13:00", "22:00"]),
+                               "hall": hall}),
+            ("second-back", where, {**person, "paper": paper})]
+        for number, ref, kind in lodged:
+            outcome = chance.choice(["granted", "refused", *(["standing"] if kind == 3 else [])])
+            found.append(("decide", f"/appeals/{number}/{ref}", {"number": f"{number:07}", "ref": ref,
+                                                                 "outcome": outcome}))
+        return chance.choice(found)
+
+    def walk(self, what, where, values):
+        """Rehearses and does it; gives whether it could be done."""
+        text, before = self.browser.get(where), self.halls()
+        answer, _ = self.browser.ask("POST", f"/propose/{what}", urllib.parse.urlencode(
+            {"mark": re.search(MARK, text)[1], "state": re.search(STATE, text)[1], **values}, doseq=True))
+        self.assertEqual(self.halls(), before)
+        self.assertIn(answer.status, (303, 422))
+        page = (answer.headers["Location"] or "").removeprefix(self.browser.prefix)
+        if answer.status == 422 or f"{page}/do" not in (text := self.browser.get(page)):
+            return False
+        promised = re.findall(EFFECT, text)
+        self.browser.post(page + "/do", page)
+        text, after = self.browser.get(page), self.halls()
+        self.assertNotIn("should never be", text)
+        if what == "lodge":
+            self.assertIn("Lodged as", text)
+            self.assertEqual(after, before)
+        else:
+            self.assertIn("What changed", text)
+            self.assertEqual(re.findall(EFFECT, text), promised)
+            self.compare(before, after, {kind: int(count) for kind, count in promised})
+        return True
+
+    def compare(self, before, after, promised):
+        """What the page said, beside the rows."""
+        moved = sum(key in after and after[key] != hall for key, hall in before.items())
+        for kinds, count in ((("moves", "paper", "time"), moved), (("loses", "leaves"), len(before.keys() - after)),
+                             (("gets", "joins"), len(after.keys() - before))):
+            least, most = promised.get(kinds[0], 0), sum(promised.get(kind, 0) for kind in kinds)
+            self.assertTrue(least <= count <= most, (kinds, count, promised))
+
+    def halls(self):
+        """The hall of each who has a seat, by session and number."""
+        return {row[:2]: row[2] for row in self.seats()}
+
+
+if __name__ == "__main__":
+    unittest.main()

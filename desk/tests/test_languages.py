@@ -1,0 +1,44 @@
+"""The texts of the desk in a browser: each language has each text that a page can show, with its values."""
+import html
+import json
+import pathlib
+import re
+import subprocess
+import unittest
+
+from desk_client import HAS_FLASK, PYTHON, DeskSchool
+from sample import DESK
+
+FINDER = pathlib.Path(__file__).parent / "shown_texts.py"
+
+
+@unittest.skipUnless(HAS_FLASK, "Flask or waitress is missing")
+class TestTexts(unittest.TestCase):
+    def test_each_language_has_each_text(self):
+        done = subprocess.run([PYTHON, "-B", FINDER], capture_output=True, text=True, check=True)
+        said = json.loads(done.stdout)
+        self.assertEqual(said["lost"], [])
+        self.assertGreater(len(said["found"]), 500)
+        for path in (DESK / "exam_web/languages").glob("*.json"):
+            table = json.loads(path.read_text("utf-8"))
+            wanted = set(said["found"]) if path.stem != "en" else set(table)  # English is there without a table
+            self.assertEqual(set(table) - set(said["found"]), set(), path.name)
+            self.assertEqual(wanted - set(table), set(), path.name)
+            for english, other in table.items():
+                self.assertEqual(sorted(re.findall(r"{\w+}", english)), sorted(re.findall(r"{\w+}", other)), english)
+                self.assertNotRegex(other, "[<>&]")
+
+
+class TestGerman(DeskSchool):
+    def test_every_page(self):
+        for path, words in (("/", "Zu tun"), ("/sessions/MON-AM", "Räume"), ("/candidates/1051", "Prüfungsplan"),
+                            ("/files", "Dateien"), ("/sessions/MON-AM", "Sitzpläne"), ("/clashes", "Zweite Sitzung"),
+                            ("/sessions/MON-AM/halls/PC1", "hin und zurück"),
+                            ("/nothing", "Nicht hier"), ("/office", "Protokoll")):
+            answer, text = self.browser.ask("GET", path, headers={"Accept-Language": "de-AT,de;q=0.9,en;q=0.5"})
+            self.assertIn(words, html.unescape(text))
+            self.assertIn('lang="de"', text)
+
+
+if __name__ == "__main__":
+    unittest.main()
