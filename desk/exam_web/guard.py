@@ -102,8 +102,9 @@ def use_link(office: str, token: str) -> bool:
     """Whether a token opens the desk. It does so once, since its file goes; links that nobody used go too."""
     with contextlib.suppress(FileNotFoundError), links(office) as folder:
         for name in os.listdir(folder):
-            if name != digest(token) and age(name, folder) > LINK_SECONDS:
-                os.unlink(name, dir_fd=folder)
+            with contextlib.suppress(FileNotFoundError):  # somebody else may come in just now
+                if name != digest(token) and age(name, folder) > LINK_SECONDS:
+                    os.unlink(name, dir_fd=folder)
         made = age(digest(token), folder)
         os.unlink(digest(token), dir_fd=folder)
         return made < LINK_SECONDS

@@ -165,10 +165,14 @@ def work(proposal: Proposal, task: Callable[[Proposal, Desk, Office], None]) -> 
 
 
 def rehearse(proposal: Proposal, here: Desk, who: Office) -> None:
-    """Carries the plan out on a private copy, and keeps what that would come to."""
+    """Carries the plan out on a private copy, and keeps what that would come to. Raises `Trouble` where the steps were
+    made for another state, whatever they would do in this one."""
     plan, proposal.since = proposal.plan, now()
     with changing.rehearse(who, plan.steps, proposal.tell) as rehearsal:
         proposal.answers = rehearsal.answers
+        with here.before(rehearsal) as before:
+            if plan.made_from not in ("", before.name):
+                raise Trouble(OTHER_OFFICE)
         proposal.refuse(who, rehearsal.refused)
         if not proposal.refusal:
             compare(proposal, here, rehearsal)
@@ -214,12 +218,10 @@ def both(here: Desk, rehearsal: changing.Rehearsal) -> Iterator[tuple[View, View
 
 
 def compare(proposal: Proposal, here: Desk, rehearsal: changing.Rehearsal) -> None:
-    """Keeps what a rehearsal would come to. Raises `Trouble` where the plan does not suit this state, or refuses it."""
+    """Keeps what a rehearsal would come to. Raises `Trouble` where the plan refuses it."""
     proposal.tell(COMPARING)
     plan = proposal.plan
     with both(here, rehearsal) as (before, after):
-        if plan.made_from not in ("", before.name):
-            raise Trouble(OTHER_OFFICE)
         proposal.lines = plan.look(before.reading, after.reading)
         proposal.effects = effects.effects(before, after)
         proposal.made_from, proposal.promised = before.name, after.name

@@ -70,9 +70,10 @@ class StandIns(sample.SampleSchool):
     maxDiff = None
 
     def setUp(self):
-        """Somebody else's desk in the hall is another than in `self.made`, so `changes` asks for the session."""
+        """Something is another than in `self.made` of somebody in the hall, so `changes` asks for all who sit there."""
         super().setUp()
         subprocess.run(self.value.line("withdraw", "0001306", "LAT"), check=True, stdout=subprocess.DEVNULL)
+        self.office("name", "0001221", "Nora Hadad")
 
     def pages(self, number=NUMBER, **members):
         """The pages, where a program answers so of a candidate's sitting on Monday."""
@@ -100,7 +101,7 @@ class StandIns(sample.SampleSchool):
         self.assertIn("Computer science (CS-1)", pages.slip()[2])
         self.assertEqual(pages.line("door-list", "LIB"), f"   1 {NUMBER} CS-1         {NAME}")
         self.assertEqual(pages.line("attendance", "CS-1"), f"{NUMBER} LIB         1 10:53 {NAME}")
-        self.assertIn(["Library (LIB)", "Computer science (CS-1)", "1", "10:53"], pages.count("Library (LIB)"))
+        self.assertIn(["Library (LIB)", "Computer science (CS-1)", "1", "10:53", "", ""], pages.count("Library (LIB)"))
         self.assertIn("sits CS-1 until 10:53", pages.why())
         self.assertIn("LAT Latin: not sat, since they sit CS-1 then", pages.look)
         self.assertIn("Jana Roe: LAT -> CS-1\n", pages.changes)
@@ -112,7 +113,7 @@ class StandIns(sample.SampleSchool):
         self.assertEqual(pages.slip()[1], "09:00–23:45")
         self.assertIn("last finish 23:45", pages.doors)
         self.assertEqual(pages.line("attendance", "LAT"), f"{NUMBER} LIB         1 23:45 {NAME}")
-        self.assertIn(["Library (LIB)", "Latin (LAT)", "1", "23:45"], pages.count("Library (LIB)"))
+        self.assertIn(["Library (LIB)", "Latin (LAT)", "1", "23:45", "", ""], pages.count("Library (LIB)"))
         self.assertIn("until 23:45", pages.why())
         self.assertIn("GYM      no screen, closes ", pages.why())
         self.assertIn("until 23:45", pages.look)
@@ -142,11 +143,11 @@ class StandIns(sample.SampleSchool):
 
     def test_hall(self):
         pages = self.pages(hall="R12")
-        sheet = next(table for table in Cells(pages.doors).tables if "|R12|" in table[0][0])
+        sheet = next(table for table in Cells(pages.doors).tables if "|R12, page" in table[0][0])
         self.assertIn(NUMBER, [row[1] for row in sheet if len(row) > 1])
         self.assertIn("Room 12 (R12)", pages.slip()[3])
         self.assertEqual(pages.row("board")[1], "R12")
-        self.assertIn(["Room 12 (R12)", "Latin (LAT)", "1", "10:53"], pages.count("Room 12 (R12)"))
+        self.assertIn(["Room 12 (R12)", "Latin (LAT)", "1", "10:53", "", ""], pages.count("Room 12 (R12)"))
         self.assertIn(NAME, pages.page[pages.page.index("id=hall-R12"):pages.page.index("id=clashes")])
         self.assertIn("R12      sits here, at desk 1", pages.why())
         self.assertEqual(pages.line("door-list", "R12"), f"   1 {NUMBER} LAT          {NAME}")
@@ -160,8 +161,8 @@ class StandIns(sample.SampleSchool):
         self.assertNotIn(NAME, pages.doors)
         self.assertIn("no desk yet: ask the office", pages.slip()[3])
         self.assertEqual(pages.row("board")[1], "ask the office")
-        self.assertIn(["no desk", "Latin (LAT)", "1", "10:53"], pages.count("no desk"))
-        self.assertEqual(pages.summary.split()[-7:-2], ["60", "57", "3", "58", "1"])
+        self.assertIn(["no desk", "Latin (LAT)", "1", "10:53", "", ""], pages.count("no desk"))
+        self.assertEqual(pages.summary.split()[-8:-3], ["60", "57", "3", "58", "1"])
         self.assertIn("unseated: the sheet counts 2, and there are 3", pages.faults)
         self.assertIn(f"{NUMBER} has no desk and is not listed", pages.differences)
         self.assertIn(NAME, pages.reasons.text())
