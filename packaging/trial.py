@@ -170,11 +170,13 @@ def from_tarball(root, tarball):
 def remove(root: pathlib.Path, users: str) -> None:
     """The office outlives the package; its user does not outlive a purge, nor a `keep` of theirs the removal."""
     office = root / OFFICE / "office.db"
+    ran("mount", "-t", "proc", "proc", root / "proc")  # `keep` looks there who listens
     in_root(root, "examoffice", "office", "keep", "start", free_port())
     same(len(processes_in(root)) > 0, True, "a `keep` before the removal")
     kept = office.read_bytes()
     in_root(root, "root", "dpkg", "-r", "examoffice")
     same(processes_in(root), [], "processes after the removal")
+    ran("umount", root / "proc")
     same((office.read_bytes() == kept, "examoffice:" in users_of(root)), (True, True), "the office and its user, removed")
     in_root(root, "root", "dpkg", "-P", "examoffice")
     found = office.read_bytes() == kept, office.stat().st_uid, users_of(root)
