@@ -37,8 +37,17 @@ def skip(why):
     sys.exit(0)
 
 
+def explain():
+    """Answers --help with what the script says of itself."""
+    if {"-h", "--help"} & set(sys.argv[1:]):
+        print(sys.modules["__main__"].__doc__.strip())
+        sys.exit()
+
+
 def end_cleanly():
-    """HUP, INT and TERM end the script as a fault would, so that what it made goes again."""
+    """HUP, INT and TERM end the script as a fault would, so that what it made goes again. Answers --help."""
+    explain()
+
     def leave(number, _):
         sys.exit(128 + number)
     for number in (signal.SIGHUP, signal.SIGINT, signal.SIGTERM):
