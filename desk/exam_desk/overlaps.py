@@ -27,7 +27,8 @@ CANDIDATES = ("SELECT DISTINCT printf('%07d', entry.number) FROM session JOIN pa
               "FROM paper JOIN entry ON entry.paper = paper.code WHERE session = :late AND live = 1) ORDER BY 1")
 SEATED = ("SELECT hall, printf('%07d', number) FROM seat JOIN opening USING (session, hall) "
           "JOIN session ON code = session WHERE session = :early AND until - start > :gap "
-          "AND hall IN (SELECT hall FROM seat WHERE session = :late) ORDER BY hall")
+          "AND hall IN (SELECT hall FROM seat WHERE session = :late) AND (:only = '' OR hall IN (SELECT hall FROM seat "
+          "WHERE number = CAST(:only AS INTEGER) AND session IN (:early, :late))) ORDER BY hall")
 
 
 class Pair(NamedTuple):
@@ -56,8 +57,8 @@ def of_candidate(reading: Reading, number: str) -> Iterator[Overlap]:
 
 
 def found(reading: Reading, asked: Collection[str] = (), only: str = "") -> list[Overlap]:
-    """The overlaps of these sessions with any others, otherwise all, by day and start; of the candidates only one,
-    where one is named."""
+    """The overlaps of these sessions with any others, otherwise all, by day and start; of candidates and halls only
+    one and theirs, where one is named."""
     reading.rows.index_entries()
     doubtful = [(pair, *in_doubt(reading, pair, only)) for pair in pairs(reading, asked)]
     numbers = {number for _, people, halls in doubtful for number in (*people, *itertools.chain(*halls.values()))}
