@@ -23,10 +23,10 @@ use exam_rules::{Appeal, Facts, Seats, Status, Subject, is_live_paper, is_member
 use exam_types::{Day, Number, PaperCode, Reason, Reference, Refusal, SessionCode};
 use std::alloc::Global;
 
-/// Decides the appeal; a grant of a clash or an arrangement supersedes an earlier grant of its kind. Returns how to take
-/// this back; nothing changes if the decision is already made. Refused, in this order, for an unknown appeal; for one
-/// that is not open; from the session's day on; for a standing grant of anything but an arrangement; for a grant if the
-/// candidate is no longer a member, or has no live entry for the paper; and if there is not enough memory. After a
+/// Decides the appeal; a grant of a clash or an arrangement supersedes an earlier grant of its kind. Returns how to
+/// take this back; nothing changes if the decision is already made. Refused, in this order, for an unknown appeal; for
+/// one that is not open; from the session's day on; for a standing grant of anything but an arrangement; for a grant if
+/// the candidate is no longer a member, or has no live entry for the paper; and if there is not enough memory. After a
 /// refusal the facts are as before. It never passes a limit.
 pub fn decide(
     alloc: Global,
