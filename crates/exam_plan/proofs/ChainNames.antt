@@ -9,7 +9,7 @@ use Rattle.std.specs.Option.{option_map, option_and_then}
 use Rattle.std.proofs.lemmas.List.{get_or-map, length-map}
 use Rattle.std.proofs.lemmas.List.Elements.{All-from_recursion}
 use Rattle.std.proofs.lemmas.Option.{same_Some}
-use Rattle.exam_plan.specs.Naming.{Naming, named_plan, named_hop, named_chain}
+use Rattle.exam_plan.specs.Naming.{Naming, named_plan}
 use Rattle.exam_plan.specs.Matching.{Plan, is_hall, occupants}
 use Rattle.exam_plan.specs.Chains.{Chain, chain_halls, HasFreeDesk, Leads, IsChain, chain_cmp, IsLeastChain}
 use Rattle.exam_plan.proofs.Renaming.{Renames, named_member, is_hall-known}
@@ -23,6 +23,14 @@ pub record Follows {C H : Type 0} (name : Naming C H) : Type 0 where
   pub same_a : (i j : ℕ) → (name.of_indices.same_candidate i j ≡ true) ↔ (i ≡ j)
   pub same_b : (c d : C) → (name.of_names.same_candidate c d ≡ true) ↔ (c ≡ d)
   pub fit_members : (i j : ℕ) → IsTrue (name.of_indices.fits i j) → Contains name.of_indices.members i
+
+module _ {C H : Type 0} (name : Naming C H) where
+  abbrev pub named_hop : ℕ × ℕ → H × C
+  named_hop hop = (name.hall hop.0, name.candidate hop.1)
+
+  -- a chain by indices, read by names
+  abbrev pub named_chain : Chain ℕ ℕ → Chain C H
+  named_chain chain = record { hops = map named_hop chain.hops; last = name.hall chain.last }
 
 module _ {C H : Type 0} (name : Naming C H) (r : Renames name) (f : Follows name) where
   abbrev pub IsKnown : ℕ → Type 0

@@ -9,12 +9,12 @@ use Rattle.std.proofs.lemmas.List.Elements.{All-append, All-from_recursion, recu
 use Rattle.std.proofs.lemmas.Option.{same_Some}
 use Rattle.std.proofs.lemmas.Bool.{false_from_ne_true}
 use Rattle.std.proofs.Math.Path.{fun_ext}
-use Rattle.exam_plan.specs.Naming.{Naming, named_plan, named_hop, named_chain}
+use Rattle.exam_plan.specs.Naming.{Naming, named_plan}
 use Rattle.exam_plan.specs.Matching.{Plan, SamePlan}
 use Rattle.exam_plan.specs.Chains.{Chain, Leads, IsLeastChain, seated, augmented}
 use Rattle.exam_plan.specs.Repair.{TurnFrom, Turn, Sweeps, sweep_order, IsSweep}
 use Rattle.exam_plan.proofs.Renaming.{Renames, named_member}
-use Rattle.exam_plan.proofs.ChainNames.{Follows, AreKnown, IsKnownHop, hops_known, IsChain-named, IsLeastChain-named, IsLeastChain-indexed, no_chain-named}
+use Rattle.exam_plan.proofs.ChainNames.{named_hop, named_chain, Follows, AreKnown, IsKnownHop, hops_known, IsChain-named, IsLeastChain-named, IsLeastChain-indexed, no_chain-named}
 use Rattle.exam_plan.proofs.Small.{all_filter, filter_same, none_kept, of_members}
 
 keeps_all : {X : Type 0} (xs : List X) → filter (λ (x : X). true) xs ≡ xs

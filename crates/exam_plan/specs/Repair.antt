@@ -62,7 +62,8 @@ module _ {C H : Type 0} where
   abbrev pub IsSweep : Seating C H → Option C → Plan C H → Plan C H → Type 0
   IsSweep g first before after = Sweeps g before (sweep_order g first) after
 
-  -- what a search from c without a chain adds to the dead halls: those to which c leads, rising
+  -- what a search from c without a chain adds to the dead halls: those to which c leads, rising (the halls of a
+  -- Hungarian tree)
   pub record AreNewlyDead (g : Seating C H) (plan : Plan C H) (c : C) (dead halls : List H) : Type 0 where
     pub rising : IsStrictlySortedBy g.hall_cmp halls
     pub exact : (h : H) → Contains halls h ↔ (((j : ℕ) × LeadsTo g plan c j h) × (Contains dead h → ⊥))

@@ -30,10 +30,14 @@ use Rattle.exam_rules.specs.Sessions.{has_live_entry, head_of, is_live_entry, is
 use Rattle.exam_rules.specs.Names.{ListsRise}
 use Rattle.exam_rules.specs.Orders.{AreInOrder, KeysRise}
 use Rattle.exam_rules.specs.Tables.{Candidates, Entries, Openings}
-use Rattle.exam_rules.specs.Lists.{listed, entrant, entrants, entered, lesser_paper, lowered, SetsEntry, MakesLive, AreListsOf}
+use Rattle.exam_rules.specs.Lists.{listed, entrant, entrants, entered, lesser_paper, SetsEntry, MakesLive, AreListsOf}
 use Rattle.exam_rules.proofs.Listed.{listed_with}
 use Rattle.exam_rules.proofs.Naming.{halls_rise}
 use Rattle.exam_rules.proofs.Relisting.{above_same, entries_exact, least_of_other, lists_with, raised}
+
+-- the paper, or the one that there is already, if that is less
+abbrev lowered : Code → Option Code → Code
+lowered p least = option_map_or (lesser_paper p) least p
 
 entries_total : IsTotalOrder entry_cmp
 entries_total = then_total (on_total (λ (k : ℕ × Code). k.0) nat_cmp_total) (on_total (λ (k : ℕ × Code). k.1) nat_list_cmp_total)

@@ -7,6 +7,7 @@ ghost use Rattle.sqlite.specs.Held.{state};
 ghost use Rattle.sqlite.specs.State.{HasCleanDisk, Survives};
 ghost use Rattle.sqlite.specs.Steps.{over_memory};
 ghost use Rattle.exam_types.specs.declared.refusal.Refusal.TheVariants.{NoMemory, UnknownSession};
+ghost use Rattle.exam_types.specs.Refusals.{OnlyMemory};
 ghost use Rattle.exam_rules.specs.Relations.{Code, code_cmp, has_row};
 ghost use Rattle.exam_rules.specs.Sessions.{IsSessionRefusal};
 ghost use Rattle.exam_commands.specs.Good.{IsGood};
@@ -77,7 +78,7 @@ impl Store<MemStore> {
         ensures kept { IfOk result (λ store. IsKept (state over_memory store.database) store.office
             × IsTrue (state over_memory store.database).is_open) }
         ensures good { IfOk result (λ store. IsGood store.office × IsInOrder store.office) }
-        ensures memory { IfErr result (λ e. e ≡ NoMemory) }
+        ensures memory { OnlyMemory result }
     {
         let mut conn = Connection::open_in_memory(alloc)?;
         save_empty(&mut conn)?;
@@ -208,7 +209,7 @@ impl<S: Alter> Store<S> {
         ensures was_open { IsSound (state S.Store self.new.database)
             → IsSound (state S.Store self.old.database) }
         ensures headline { (s : Code) → IsSeated self.new.office s }
-        ensures memory { IfErr result (λ e. e ≡ NoMemory) }
+        ensures memory { OnlyMemory result }
         ensures same { OnErr result (self.new ≡ self.old) }
     {
         // Shows the promise for a refusal here, and again after the commands.
