@@ -64,8 +64,8 @@ RestsOn old new = IsSound new → (office : Office) → Rests old office → Res
 abbrev pub IsFailing : Refusal → Type 0
 IsFailing e = (e ≡ NoMemory) ⊎ (e ≡ Store)
 
--- Why no office is opened: it is not brought to the newest version; or it is, in one transaction, and is not opened then,
--- where opening commits nothing and forgets no fault of the disk.
+-- Why no office is opened: it is not brought to the newest version; or it is, in one transaction, and is not opened
+-- then, where opening commits nothing and forgets no fault of the disk.
 abbrev pub FailsToCarry : {S : Type 0} → Ghosts S → Held S → Held S → Refusal → Type 0
 FailsToCarry {S} g old new e =
     FailsToMigrate g old new e
