@@ -60,7 +60,7 @@ fn add_set(command: &Command, codes: &mut Codes) -> Result<(), Refusal>
     ensures memory { OnlyMemory result }
 {
     match command {
-        Command::Import(import) => add_imported(import.rows(), codes),
+        Command::Import(import) => add_imported(import, codes),
         Command::Withdraw(_, _)
         | Command::Reinstate(_, _)
         | Command::CloseHall(_, _)
@@ -70,8 +70,26 @@ fn add_set(command: &Command, codes: &mut Codes) -> Result<(), Refusal>
     }
 }
 
+/// Adds the sessions that an import sets: all its rows are of its kind.
+fn add_imported(import: &Import, codes: &mut Codes) -> Result<(), Refusal>
+    ensures ok { OnOk result ((s : Code) → contains code_cmp codes.new s
+        ≡ (list_any (spec.sets_session s) import.now.rows || contains code_cmp codes.old s)) }
+    ensures memory { IfErr result (λ e. e ≡ NoMemory) }
+{
+    let rows = import.rows();
+    match import.kind() {
+        Kind::Sessions => add_sessions(rows, codes),
+        Kind::Papers
+        | Kind::Halls
+        | Kind::Openings
+        | Kind::Candidates
+        | Kind::Entries
+        | Kind::Arrangements => Ok(()),
+    }
+}
+
 /// Adds the sessions that these rows set.
-fn add_imported(rows: &[Row], codes: &mut Codes) -> Result<(), Refusal>
+fn add_sessions(rows: &[Row], codes: &mut Codes) -> Result<(), Refusal>
     ensures ok { OnOk result ((s : Code) → contains code_cmp codes.new s
         ≡ (list_any (spec.sets_session s) rows.now || contains code_cmp codes.old s)) }
     ensures memory { OnlyMemory result }
@@ -106,8 +124,8 @@ fn add_reached(
     }
 }
 
-/// Adds the sessions that an import reaches. The openings are walked once for all halls that its rows name, and the
-/// appeals once for all sessions.
+/// Adds the sessions that an import reaches. All its rows are of its kind, so they are walked once: the appeals are for
+/// all rows of sessions, the openings for all rows of halls.
 fn add_import(
     alloc: Global,
     facts: &Facts,
@@ -119,28 +137,31 @@ fn add_import(
     ensures memory { OnlyMemory result }
 {
     let rows = import.rows();
-    add_rows(facts, rows, codes)?;
-    let halls = named_halls(alloc, rows)?;
-    add_opened(facts, &halls, codes)?;
-    add_dated(facts, import.kind(), codes)
+    match import.kind() {
+        Kind::Sessions => add_standing(facts, codes),
+        Kind::Halls => add_halls(alloc, facts, rows, codes),
+        Kind::Candidates => Ok(()),
+        Kind::Papers | Kind::Openings | Kind::Entries | Kind::Arrangements => {
+            add_rows(facts, rows, codes)
+        }
+    }
 }
 
-/// If an import of this kind may change dates, adds the sessions that have a member with a standing grant.
-fn add_dated(facts: &Facts, kind: Kind, codes: &mut Codes) -> Result<(), Refusal>
+/// Adds the sessions that open a hall that these rows name.
+fn add_halls(
+    alloc: Global,
+    facts: &Facts,
+    rows: &[Row],
+    codes: &mut Codes,
+) -> Result<(), Refusal>
     ensures ok { OnOk result ((s : Code) → contains code_cmp codes.new s
-        ≡ ((spec.is_of_sessions kind && spec.has_standing_member (relations_of facts.now) s)
+        ≡ (list_any (λ (o : (Code × Code) × OpeningRow). same_code o.0.0 s
+        && list_any (λ (x : ImportRow). spec.names_hall x o.0.1) rows.now) facts.now.openings.entries
         || contains code_cmp codes.old s)) }
     ensures memory { OnlyMemory result }
 {
-    match kind {
-        Kind::Sessions => add_standing(facts, codes),
-        Kind::Papers
-        | Kind::Halls
-        | Kind::Openings
-        | Kind::Candidates
-        | Kind::Entries
-        | Kind::Arrangements => Ok(()),
-    }
+    let halls = named_halls(alloc, rows)?;
+    add_opened(facts, &halls, codes)
 }
 
 /// Adds the sessions that have a member with a standing grant.
