@@ -1,3 +1,5 @@
+-- A decision that is made already changes nothing. Otherwise the checks in order give the refusal of the definition; a
+-- grant that is superseded is another appeal than the one that is decided, so both rows can be put and taken back.
 use Rattle.std.proofs.Common.{◌≡◌, ℕ, Bool, Some, true, false, cond, OnOk, Option, ap, ap₂, sym, subst, ◌∙◌}
 use Rattle.std.specs.Option.{option_map_or}
 use Rattle.exam_rules.specs.declared.rows.Appeal.{Appeal}

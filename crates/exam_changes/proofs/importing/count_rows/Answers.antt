@@ -1,3 +1,5 @@
+-- The counts are those of the rows walked so far, each row once: a repeated one is not its key's first. None passes
+-- the number of rows.
 use Rattle.std.proofs.Common.{◌∙◌, ◌+◌, ◌<◌, ◌≤◌, cond, is_none, not, false, length, sym, ap, arith}
 use Rattle.std.specs.Option.{option_map_or}
 use Rattle.exam_rules.specs.Relations.{relations_of}

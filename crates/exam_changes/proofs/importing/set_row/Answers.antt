@@ -1,3 +1,4 @@
+-- The row's kind says which table is put; all other tables and what is kept of them stay.
 use Rattle.std.proofs.lemmas.Map.Lookups.{exact_bytes, exact_unsigned}
 use Rattle.exam_rules.specs.Tables as table
 use Rattle.exam_commands.proofs.AppealKeys.{appeals_exact, openings_exact}

@@ -1,3 +1,4 @@
+-- A key is put in its place, and the places of the keys that are still to come are not touched by it.
 use Rattle.std.proofs.Common.{◌≡◌, ◌∷◌, List, Option, ap, sym, subst, ◌∙◌}
 use Rattle.std.specs.Map.{keys_of}
 use Rattle.std.proofs.lemmas.Map.Keys.{sorted_tail}

@@ -1,3 +1,5 @@
+-- A key that was kept before keeps its oldest row. A new key keeps the row that it had, or that it had none; if there
+-- is no memory for that, the row goes back.
 use Rattle.std.proofs.Common.{◌≡◌, List, Option, ap, ap₂, sym, subst, subst₂, ◌∙◌}
 use Rattle.exam_rules.specs.Relations.{put_row, row_at}
 use Rattle.exam_commands.specs.Exchanges.{GoBack, set_row}

@@ -1,3 +1,5 @@
+-- A database that lists no table of the newest version is a bad office before any table is read. Otherwise the first
+-- bad table is the one that was found, and none was found exactly where opening accepts it.
 use Rattle.std.proofs.Common.{Some, inl, inr, refl, sym, subst}
 use Rattle.std.proofs.lemmas.Bool.{both_ways}
 use Rattle.std.specs.Prelude.{option_map}

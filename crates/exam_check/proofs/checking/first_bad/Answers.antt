@@ -1,3 +1,5 @@
+-- Each step looks at the database that the one before left, so all looks are at one set of rows. The version comes
+-- first, then the tables in order: the first that cannot be read or that the judge finds bad, whichever comes sooner.
 use Rattle.std.proofs.Common.{◌≡◌, true, Err, refl, sym, ap, subst, rules, ◌∙◌}
 use Rattle.std.proofs.lemmas.Bool.{both_ways}
 use Rattle.sqlite.specs.Effect.{Database}

@@ -1,3 +1,5 @@
+-- The ten tables come in their order, each with its rows or none. The first without rows is noted, and an empty map
+-- stands for it.
 use Rattle.std.proofs.Common.{◌≡◌, None, Err, refl, rules}
 use Rattle.exam_commands.specs.declared.table.Table.TheVariants as office
 use Rattle.exam_tables.specs.Forms as forms

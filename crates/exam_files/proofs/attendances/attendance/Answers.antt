@@ -1,3 +1,4 @@
+-- The seats are those of the view, so the text is the sheet. What fails before it is sent has written nothing.
 use Rattle.std.proofs.Common.{◌≡◌, ◌∙◌, List, ℕ, ap, sym}
 use Rattle.std.specs.Prelude.{Ok}
 use Rattle.exam_rules.specs.declared.rows.Session.{Session}

@@ -1,3 +1,5 @@
+-- The seats are those of the view and the opening is that of the hall, so the text is the sheet. What fails before it
+-- is sent has written nothing.
 use Rattle.std.proofs.Common.{◌≡◌, ◌∙◌, List, ℕ, ap, sym}
 use Rattle.std.specs.Prelude.{Ok}
 use Rattle.exam_rules.specs.declared.rows.Opening.{Opening}

@@ -1,3 +1,5 @@
+-- The reader gives the records of the text one after the other. The rows so far are those of the records that were
+-- taken, and what is left denotes the rest; there are no more records than bytes, so the loop meets the end.
 use Rattle.std.proofs.Common.{◌≡◌, ◌∙◌, ◌+◌, ◌⊎◌, ℕ, [], ◌∷◌, ◌++◌, length, sym, ap, arith, inl, inr, length-append}
 use Rattle.std.specs.Prelude.{Ok, Err}
 use Rattle.exam_commands.specs.Imports.{ImportRows}

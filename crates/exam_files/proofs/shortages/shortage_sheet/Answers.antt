@@ -1,3 +1,5 @@
+-- That the view can show a shortage is known before memory is taken, so there is a sheet also where it cannot be
+-- written.
 use Rattle.std.proofs.Common.{◌≡◌, ◌∙◌, List, ℕ, ap, sym}
 use Rattle.std.specs.Prelude.{Ok, refl}
 use Rattle.exam_views.specs.Views.{Report, report_of}

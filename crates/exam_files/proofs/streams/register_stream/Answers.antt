@@ -1,3 +1,5 @@
+-- What was written so far is the heading and a line for each appeal that the source gave, and what the source still
+-- has is the rest. A fault ends the text at that place, so a beginning of the sheet was written.
 use Rattle.std.proofs.Common.{rules, ◌≡◌, ◌≤◌, ◌+◌, Err, arith, ap, drop, refl, ◌∙◌}
 use Rattle.exam_files.specs.Registers.{register_text}
 use Rattle.exam_files.proofs.Streaming.{all_streamed, asked_on, cut_off, enough, fault_asked, fault_streams, few_asked, heading_cut, left_after, none_streamed, one_streamed}

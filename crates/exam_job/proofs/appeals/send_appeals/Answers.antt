@@ -1,3 +1,5 @@
+-- A known session has as many appeals as the store counts, and the rows that it lends are those of its office. What
+-- the source reads of the store is what the sending read.
 use Rattle.std.proofs.Common.{rules, ◌≡◌, ◌<◌, Err, length, ap, sym, subst, ◌∙◌, arith}
 use Rattle.std.specs.Prelude.{⊤, IfErr, OnErr}
 use Rattle.exam_files.specs.Registers.{BreaksOff, Streams, register_text}

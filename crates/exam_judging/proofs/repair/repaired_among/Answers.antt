@@ -1,3 +1,5 @@
+-- The plans of the sessions walked so far are repaired, and nobody sits in the others yet. The table has each session
+-- once.
 use Rattle.std.proofs.Common.{rules, Contains, [], is_some, ap, sym, subst}
 use Rattle.std.specs.Map.Iter.{deref_pair}
 use Rattle.std.specs.Cmp.Lexicographic.{nat_list_cmp_total}

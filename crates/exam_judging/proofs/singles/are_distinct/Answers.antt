@@ -1,3 +1,5 @@
+-- The keys seen are those before the one at hand, and no two of them are equal. A key that is there already equals one
+-- of them.
 use Rattle.std.proofs.Common.{◌≡◌, ◌∷◌, ◌++◌, [], ◌+◌, true, false, take, drop, suc, cond, ap, sym, subst, ◌∙◌, arith}
 use Rattle.std.proofs.lemmas.Grind.{common_steps}
 use Rattle.std.proofs.lemmas.Bool.{not-true, not-false}

@@ -1,3 +1,5 @@
+-- The codes are those that the command reaches and that exist, and those that it imports. A set lists each code once,
+-- rising.
 use Rattle.std.proofs.Common.{rules, ◌≡◌, ◌&&◌, ◌||◌, Bool, Contains, List, ap, sym, subst, ◌∙◌}
 use Rattle.std.specs.BTreeMap.{is_at}
 use Rattle.std.specs.BTreeSet.{contains}

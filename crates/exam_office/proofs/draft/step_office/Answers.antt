@@ -1,3 +1,5 @@
+-- The step is that of the part. Only its new plans are put among the seats, whose other sessions stay; if there is no
+-- memory for them, part and seats are taken back.
 use Rattle.std.proofs.Common.{◌≡◌, true, Option, ap, sym, subst, ◌∙◌}
 use Rattle.exam_rules.specs.Relations.{has_row, relations_of, row_at, seat_cmp}
 use Rattle.exam_commands.specs.Exchanges.{all_put}

@@ -1,3 +1,4 @@
+-- The plans of the sessions walked so far are those of the office, and the sessions are those that the command reads.
 use Rattle.std.proofs.Common.{◌≡◌, ◌+◌, ◌++◌, ◌∷◌, [], List, None, take, ap, sym, subst, arith, ◌∙◌}
 use Rattle.std.specs.Prelude.{◌&&◌, ◌↔◌, Contains, IsTrue, if◌then◌else◌}
 use Rattle.std.specs.List.{list_any}

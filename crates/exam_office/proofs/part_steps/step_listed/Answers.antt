@@ -1,3 +1,5 @@
+-- What the command reads is the same in the part as in the office, so facts, lists and plans change as they would
+-- there. If the new plans cannot be made, the facts go back by what was kept.
 use Rattle.std.proofs.Common.{rules, ◌≡◌, ◌↔◌, Contains, IsTrue, List, Err, inr, refl, ap, sym, subst, ◌∙◌}
 use Rattle.std.specs.Prelude.{OnErr}
 use Rattle.exam_rules.specs.Lists.{AreListsOf}

@@ -1,3 +1,4 @@
+-- To list a part changes none of its facts and plans, so what holds of a listed part holds of this one.
 use Rattle.std.proofs.Common.{◌≡◌, rules, Err, inl, sym, subst}
 use Rattle.std.specs.Prelude.{IfErr, IfOk, OnErr}
 use Rattle.exam_commands.specs.Parts.{Agrees, IsPutBack, IsRefusedIn}

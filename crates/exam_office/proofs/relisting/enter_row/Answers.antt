@@ -1,3 +1,5 @@
+-- Only an entry that is live in the facts enters a list. Rows that come later can only withdraw or add other entries,
+-- so the list is right for the facts of all rows.
 use Rattle.std.proofs.Common.{◌∷◌, ap, sym, subst, ◌∙◌}
 use Rattle.std.proofs.lemmas.Result.{on_ok_weaker}
 use Rattle.exam_rules.specs.Lists.{AreListsOf}

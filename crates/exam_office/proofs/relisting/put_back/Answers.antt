@@ -1,3 +1,4 @@
+-- The lists of the sessions walked so far are back, all others are as they were; each session is kept once.
 use Rattle.std.proofs.Common.{◌≡◌, ◌∷◌, true, List, Vec, sym, subst, ◌∙◌}
 use Rattle.std.specs.Cmp.Lexicographic.{nat_list_cmp_total}
 use Rattle.std.specs.Global.{Global}

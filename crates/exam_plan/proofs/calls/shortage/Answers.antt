@@ -1,3 +1,5 @@
+-- The halls that the search marks are those that fit a contested candidate: it marks no other, and it is closed. So
+-- the candidates who can only sit there outnumber their desks by exactly those whom the best plan leaves out.
 use Rattle.std.proofs.Common.{◌≡◌, ℕ, List, Option, length, ap, ◌∙◌, subst, IsTrue}
 use Rattle.std.specs.Prelude.{filter}
 use Rattle.std.specs.List.{range_with_len}

@@ -1,3 +1,5 @@
+-- Before each turn the sweep is under way: the first candidate and all lesser numbers have had their turn. After the
+-- last one nobody is left with a chain to a free desk, so the plan is best and its dead halls are the contested ones.
 use Rattle.std.proofs.Common.{◌≡◌, ◌<◌, ℕ, length, Option, IfSome, sym, ◌∙◌, subst, arith}
 use Rattle.exam_plan.specs.HallSets.{holds}
 use Rattle.exam_plan.specs.Problems.{plan_at}

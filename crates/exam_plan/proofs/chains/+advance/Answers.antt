@@ -1,3 +1,6 @@
+-- The least chain of so many hops begins at the least hall of that layer and goes on with its first occupant who
+-- reaches the next layer, who has one hop less to go. Those who move behind them sit in other halls, so the table of
+-- the plan stays right.
 use Rattle.std.proofs.Common.{◌≡◌, ℕ, suc, ◌+◌, ◌-◌, ◌<◌, length, refl, sym, ◌∙◌, arith, subst}
 use Rattle.std.proofs.lemmas.Bool.{and_parts}
 use Rattle.std.proofs.lemmas.List.{length-set}

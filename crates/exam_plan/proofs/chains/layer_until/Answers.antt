@@ -1,3 +1,5 @@
+-- Each layer holds all halls from which a free desk is so many hops away. A round that adds a hall makes the set
+-- larger, so there are no more rounds than halls; a round that adds none shows that no chain begins at the candidate.
 use Rattle.std.proofs.Common.{◌≡◌, ◌+◌, ◌<◌, ◌≤◌, ℕ, true, false, length, sym, ◌∙◌, arith, rules}
 use Rattle.std.specs.Prelude.{IsTrue}
 use Rattle.std.proofs.lemmas.List.{length-set}

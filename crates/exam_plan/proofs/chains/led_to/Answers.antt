@@ -1,3 +1,5 @@
+-- All halls that were found lead back to the candidate, and those not yet followed are among them. Each round finds
+-- one more or is the last, after which what sits in a found hall fits only found or dead ones.
 use Rattle.std.proofs.Common.{◌≡◌, ◌<◌, ◌≤◌, ℕ, false, length, arith}
 use Rattle.std.specs.Prelude.{IsTrue}
 use Rattle.exam_plan.specs.HallSets.{most_halls, holds}

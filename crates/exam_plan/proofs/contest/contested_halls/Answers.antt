@@ -1,3 +1,5 @@
+-- Whatever is marked draws somebody whom some best plan leaves out. A round that marks no more shows that the set is
+-- closed; every other round marks one hall more, so there are no more rounds than halls.
 use Rattle.std.proofs.Common.{◌≡◌, ◌<◌, ◌≤◌, ℕ, false, length, inl, arith}
 use Rattle.std.specs.Prelude.{IsTrue}
 use Rattle.exam_plan.specs.HallSets.{most_halls, holds}

@@ -1,3 +1,5 @@
+-- The counts are those who were met so far, by hall. Who meets a count above the desks is one with as many lesser
+-- candidates in their hall as it has desks; all others stay.
 use Rattle.std.proofs.Common.{rules, ◌≡◌, ℕ, ◌+◌, ◌<◌, ◌≤◌, List, Option, length, get_or, set, None, Some, IfSome, refl, arith}
 use Rattle.std.specs.Prelude.{All}
 use Rattle.std.proofs.lemmas.List.{length-set, get_or-set_same, get_or_default}

@@ -1,3 +1,4 @@
+-- Below the candidate at hand everybody sits where the hall fits, and from there on as before.
 use Rattle.std.proofs.Common.{length, None, Some, refl, sym, ◌∙◌, arith}
 use Rattle.exam_plan.specs.Problems.{seating_of}
 use Rattle.exam_plan.specs.Repair.{where_fitting}

@@ -1,3 +1,5 @@
+-- In the order of desks each candidate gets one number more than those before them in their hall: the count of that
+-- hall. A count is at most the number of candidates, so it fits into 32 bits.
 use Rattle.std.proofs.Common.{rules, ◌≡◌, ◌∙◌, ◌+◌, ◌<◌, ◌≤◌, length, get_or, replicate, map, None, sym, subst, arith}
 use Rattle.std.specs.Prelude.{IsSorted}
 use Rattle.std.specs.List.{range_with_len}

@@ -1,3 +1,4 @@
+-- The sets of those halls that are no longer in the rest are changed, the others are not.
 use Rattle.std.proofs.Common.{rules, ◌<◌, ◌∙◌, length, cond, nat_eq, ap, arith}
 use Rattle.std.proofs.lemmas.List.{length-set, get_or_default}
 use Rattle.exam_plan.specs.HallSets.{holds}

@@ -1,3 +1,5 @@
+-- What was appended is the halls of the set below the hall at hand. The room that is asked for is enough, since each
+-- of them is appended once.
 use Rattle.std.proofs.Common.{◌≡◌, ◌+◌, length, ap, sym, ◌∙◌, rules}
 use Rattle.std.proofs.lemmas.List.{length-append}
 use Rattle.exam_plan.specs.HallSets.{holds, halls_below}

@@ -1,3 +1,4 @@
+-- The counts are those of the places that were read so far; none passes the number of places.
 use Rattle.std.proofs.Common.{rules, ◌≡◌, ◌≤◌, ◌<◌, ◌∙◌, get_or, arith}
 use Rattle.std.proofs.lemmas.List.{length-set, get_or_default}
 use Rattle.exam_plan.specs.Problems.{plan_at}

@@ -1,3 +1,6 @@
+-- Whoever sits, or can only sit in dead halls, has no chain. Where a search finds one, it moves everybody along it and
+-- its last hall has one occupant more; where it finds none, all halls that the candidate leads to are dead from now
+-- on.
 use Rattle.std.proofs.Common.{◌≡◌, ◌+◌, ◌<◌, ◌≤◌, ◌++◌, ℕ, List, None, is_some, length, get_or, set, refl, sym, ap, ◌∙◌, inl, inr, subst, arith, rules}
 use Rattle.std.proofs.lemmas.List.{length-set, get_or_default}
 use Rattle.exam_plan.specs.HallSets.{holds, halls_below}

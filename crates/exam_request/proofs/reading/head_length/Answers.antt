@@ -1,3 +1,5 @@
+-- No empty line begins in what was passed. The three bytes before the new ones are looked at again, since a line can
+-- begin there and end in the new ones.
 use Rattle.std.proofs.Common.{◌≡◌, ◌≤◌, ◌∙◌, ◌+◌, ◌-◌, ap, sym, subst, arith, rules, drop, length, true, false}
 use Rattle.std.specs.Prelude.{option_map}
 use Rattle.std.proofs.lemmas.List.{length-drop}

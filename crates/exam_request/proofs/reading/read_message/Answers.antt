@@ -1,3 +1,5 @@
+-- What is in hand begins with the head and the spans are judged by it alone, so the bytes that follow do not matter
+-- until the body is whole.
 use Rattle.std.proofs.Common.{◌≡◌, arith, rules}
 use Rattle.std.specs.Prelude.{Err}
 use Rattle.std.proofs.lemmas.List.{length-take-le}

@@ -1,3 +1,4 @@
+-- No two of the four routes match one path, so each may be added to those before it. The table is these four.
 use Rattle.std.proofs.Common.{◌∙◌, ap, codes, refl, subst, sym}
 use Rattle.matchit.proofs.OnLiterals.{matchit_on_literals}
 use Rattle.exam_request.specs.Table.{IsFree, with_route}

@@ -1,3 +1,5 @@
+-- The place is that of the first number that is not less. Who is there already has the number, and keeps the lesser
+-- paper; else the candidate goes in before them, and the numbers still rise.
 use Rattle.std.proofs.Common.{◌≡◌, ◌<◌, ◌≤◌, ℕ, List, length, get_or, nat_eq, false, set, refl, ap, sym, subst, ◌∙◌, rules}
 use Rattle.std.specs.List.{insert}
 use Rattle.std.specs.List.Sorted.{IsNonDecreasingBy}

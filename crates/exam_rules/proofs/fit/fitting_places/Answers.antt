@@ -1,3 +1,5 @@
+-- Who sits no paper is no member, and fits nowhere. Of a member the terms and the barred halls are those of the rules,
+-- so the places that suit are those that fit.
 use Rattle.std.proofs.Common.{◌≡◌, map, is_some, true, false, length, Option, ap, sym, ◌∙◌, arith}
 use Rattle.exam_rules.specs.declared.fit.Room.{Room}
 use Rattle.exam_rules.specs.Relations.{Code, relations_of}

@@ -1,3 +1,5 @@
+-- The entries of a candidate are walked by paper, rising. The first live one of a session has the least paper, and
+-- appends the candidate; a later one of that session finds them last and changes nothing.
 use Rattle.std.proofs.Common.{◌≡◌, ℕ, cond, nat_eq, true, None, Some, List, Bool, false, ap, sym, ◌∙◌, arith, rules}
 use Rattle.std.proofs.lemmas.Bool.Decides.{nat_tests}
 use Rattle.exam_rules.specs.declared.listing.Entrant.{Entrant}

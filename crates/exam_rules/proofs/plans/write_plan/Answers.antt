@@ -1,3 +1,5 @@
+-- The seats of the session are those of the members walked so far. Each number stands once among them, so no seat is
+-- put twice.
 use Rattle.std.proofs.Common.{◌≡◌, ◌∙◌, ℕ, ◌<◌, [], List, Option, length, get_or, nat_eq, None, ap, sym, arith}
 use Rattle.std.specs.Option.{option_map}
 use Rattle.std.proofs.lemmas.List.{get_or_default}

@@ -1,3 +1,4 @@
+-- The rooms are those of the halls that were given, so the rows are those of the rules.
 use Rattle.std.proofs.Common.{◌≡◌, ◌≤◌, ◌<◌, ℕ, true, List, Option, length, map, IfOk, refl, ap, sym, subst, ◌∙◌}
 use Rattle.std.specs.Prelude.{All}
 use Rattle.std.proofs.lemmas.List.{length-map}

@@ -1,3 +1,5 @@
+-- Desks, fits and ranks are made of the same members and halls, so they have one length each; put together they are
+-- the seating problem of the rules.
 use Rattle.std.proofs.Common.{◌≡◌, ◌≤◌, ◌<◌, nat_eq, true, ℕ, List, Option, length, map, ap, sym, subst, ◌∙◌, arith}
 use Rattle.std.specs.Prelude.{All}
 use Rattle.std.specs.List.{IsDistinct}

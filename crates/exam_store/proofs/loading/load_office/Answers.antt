@@ -1,3 +1,4 @@
+-- Facts, seats and lists are read of one set of rows: what the first part read the second found as it was.
 use Rattle.std.proofs.Common.{◌≡◌, ◌++◌, [], ◌∷◌, Ok, Err, inl, inr, sym, subst, rules}
 use Rattle.std.proofs.lemmas.Result.{IfOk-weaker, IfErr-weaker}
 use Rattle.sqlite.specs.Effect.{Database}

@@ -1,3 +1,5 @@
+-- The table of standing grants must be there exactly where the version has it, and the office be within its limits;
+-- otherwise the rows are none of that version.
 use Rattle.std.proofs.Common.{◌≡◌, true, Ok, Err, inr, refl, sym, ap, ◌∙◌, true≢false, rules}
 use Rattle.sqlite.specs.Effect.{Database}
 use Rattle.sqlite.specs.Held.{state}

@@ -1,3 +1,4 @@
+-- The office is read of the rows of which the version was read, so it is a good office of that version.
 use Rattle.std.proofs.Common.{◌≡◌, Ok, Err, inl, inr, ◌∙◌, rules}
 use Rattle.std.proofs.lemmas.Bool.{both_ways}
 use Rattle.sqlite.specs.Held.{state}

@@ -1,3 +1,5 @@
+-- What was judged is what is saved, since judging only reads. The rows are those of before with the table that was
+-- missing and the number of the newest version, in one transaction.
 use Rattle.std.proofs.Common.{◌≡◌, ◌≢◌, IsTrue, Ok, Err, false, inl, inr, arith, subst, rules}
 use Rattle.std.proofs.lemmas.Bool.{both_ways}
 use Rattle.sqlite.specs.State.{HasCleanDisk}

@@ -1,3 +1,5 @@
+-- For each table the difference is taken between what it was before the command and what it is after. The command
+-- takes no row away but openings and seats, so for all other tables the puts are enough.
 use Rattle.std.proofs.Common.{◌≡◌, List, Ordering, ap, map, refl, subst, sym}
 use Rattle.std.specs.Cmp.{IsTotalOrder, nat_cmp_total}
 use Rattle.std.specs.Cmp.Lexicographic.{nat_list_cmp_total}

@@ -1,3 +1,5 @@
+-- Only the keys that were kept can have changed, so to put what they have now makes the table what it is. Those walked
+-- so far are put.
 use Rattle.std.proofs.Common.{◌≡◌, ◌++◌, ◌∷◌, [], List, Option, None, Some, map, ap, sym, subst, append-nil, ◌∙◌}
 use Rattle.std.specs.Option.{option_copied}
 use Rattle.std.specs.Map.Iter.{deref_pair}

@@ -1,3 +1,5 @@
+-- The version and the office are read of the same rows. A version that is not the newest is refused before any other
+-- row is read.
 use Rattle.std.proofs.Common.{◌≡◌, Ok, Err, inl, inr, refl, subst, rules}
 use Rattle.std.proofs.lemmas.Bool.{both_ways}
 use Rattle.std.proofs.lemmas.Result.{IfErr-weaker}

@@ -1,3 +1,4 @@
+-- The key finds one row or none, since no two rows have it. Where the query fails, that is the reason.
 use Rattle.std.proofs.Common.{arith, ◌≡◌, ℕ, ◌∙◌}
 use Rattle.sqlite.specs.Held.{state}
 use Rattle.sqlite.specs.State.{FailsToQuery, Shown}

@@ -1,3 +1,5 @@
+-- Each table is read of the rows that the one before found, since reading changes none. Once the first is read, the
+-- connection is open.
 use Rattle.std.proofs.Common.{◌≡◌, Ok, Err, inl, inr, rules}
 use Rattle.exam_rules.specs.Tables as table
 use Rattle.exam_tables.specs.Forms.{sessions}

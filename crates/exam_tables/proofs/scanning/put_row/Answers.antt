@@ -1,3 +1,4 @@
+-- A row that cannot be read belongs to no table; one that can is added, unless its key is there.
 use Rattle.std.proofs.Common.{◌≡◌, Err, inl, inr, rules}
 use Rattle.std.proofs.lemmas.Result.{IfErr-weaker}
 use Rattle.exam_tables.proofs.Reading.{found}

@@ -1,3 +1,5 @@
+-- The map holds the rows that were stepped over so far, and the query has the rest to come. It ends with all of them,
+-- or at the first row that no table has.
 use Rattle.std.proofs.Common.{◌≡◌, Ok, Err, Some, None, refl, arith, rules}
 use Rattle.sqlite.specs.Held.{state}
 use Rattle.sqlite.specs.State.{HasCleanDisk}

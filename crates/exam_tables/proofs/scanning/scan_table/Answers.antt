@@ -1,3 +1,4 @@
+-- The query gives the rows of the database as they are; what the scan makes of them is the table, or none.
 use Rattle.std.proofs.Common.{◌≡◌, [], Err, arith, rules}
 use Rattle.sqlite.specs.Held.{state}
 use Rattle.sqlite.specs.State.{CommitsShowing, HasCleanDisk, Survives}

@@ -1,3 +1,4 @@
+-- The tables of the statements run so far are made, and have no rows. Each statement makes the next one.
 use Rattle.std.proofs.Common.{◌≡◌, ◌<◌, ◌+◌, Ok, Err, arith, get_or, refl, subst, ◌∙◌, rules}
 use Rattle.sqlite.specs.Held.{state}
 use Rattle.exam_sql.specs.Tables as tables

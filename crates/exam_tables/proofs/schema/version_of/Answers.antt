@@ -1,3 +1,5 @@
+-- The names are those of tables or no query is asked. Where they are, the one row of `office` has the version; a
+-- version that no record has is none.
 use Rattle.std.proofs.Common.{◌≡◌, Err, [], arith, rules, inl, inr, refl, sym, ◌∙◌}
 use Rattle.std.proofs.lemmas.Result.{IfOk-weaker, IfErr-weaker}
 use Rattle.sqlite.specs.Held.{state}

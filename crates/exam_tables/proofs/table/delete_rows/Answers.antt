@@ -1,3 +1,4 @@
+-- The rows of the keys walked so far are deleted. Where one fails, the transaction says so, and it is what failed.
 use Rattle.std.proofs.Common.{◌≡◌, ◌∷◌, [], ◌++◌, ◌+◌, Ok, Err, map, take, subst, ◌∙◌, rules}
 use Rattle.std.proofs.lemmas.List.{take_more, take_all}
 use Rattle.sqlite.specs.Held.{state}

@@ -1,3 +1,5 @@
+-- What was written in the transaction becomes what is committed, all of it or none. A write that fails ends the
+-- transaction without a commit.
 use Rattle.std.proofs.Common.{◌≡◌, IsTrue, Err, IfErr, arith, refl, sym, subst, rules}
 use Rattle.sqlite.specs.Held.{state}
 use Rattle.sqlite.specs.State.{HasCleanDisk}

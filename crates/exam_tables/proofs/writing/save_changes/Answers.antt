@@ -1,3 +1,4 @@
+-- The connection is asked first, which changes nothing, so what is committed is committed from the state at the start.
 use Rattle.std.proofs.Common.{◌≡◌, IsTrue, Err, arith, rules}
 use Rattle.std.proofs.lemmas.Bool.{both_ways}
 use Rattle.sqlite.specs.Held.{state}

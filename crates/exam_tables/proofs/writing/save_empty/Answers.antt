@@ -1,3 +1,4 @@
+-- The tables are made in one transaction over a blank database: they are there without rows, or it is blank as before.
 use Rattle.std.proofs.Common.{◌≡◌, IsTrue, IsSome, Err, IfErr, arith, inl, refl, sym, subst, rules}
 use Rattle.sqlite.specs.Effect.{Database}
 use Rattle.sqlite.specs.State.{HasCleanDisk}

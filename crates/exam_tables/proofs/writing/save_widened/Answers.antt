@@ -1,3 +1,5 @@
+-- What the version lacks is made and its number is set in one transaction. The rows of all other tables are not named
+-- in it.
 use Rattle.std.proofs.Common.{◌≡◌, [], IsTrue, IsSome, Err, IfErr, arith, inl, refl, sym, subst, rules}
 use Rattle.std.proofs.lemmas.Result.{IfErr-weaker}
 use Rattle.sqlite.specs.State.{HasCleanDisk, Survives}

@@ -1,3 +1,5 @@
+-- Where the version is the newest nothing is written; where it is an older one the migration commits, or leaves
+-- everything as it was.
 use Rattle.std.proofs.Common.{◌≡◌, ◌≢◌, IsTrue, Ok, Err, inl, inr, arith, sym, subst, rules}
 use Rattle.sqlite.specs.Effect.{Database}
 use Rattle.sqlite.specs.Held.{state}

@@ -1,3 +1,4 @@
+-- What is opened is what bringing over left: the office that was there, or the connection with the database as it was.
 use Rattle.std.proofs.Common.{inl}
 use Rattle.std.specs.Prelude.{Err}
 use Rattle.std.proofs.lemmas.Result.{IfOk-weaker}

@@ -1,3 +1,5 @@
+-- The orders go on from the store that was opened, and the sheet is of the office that they leave. A refusal comes
+-- before the first order.
 use Rattle.std.proofs.Common.{inl, inr}
 use Rattle.std.specs.Prelude.{map}
 use Rattle.sqlite.specs.Held.{state}

@@ -1,3 +1,4 @@
+-- The orders followed so far have their outcomes, and the store is the one that they led to.
 use Rattle.std.proofs.Common.{◌≡◌, ◌+◌, ◌∷◌, ◌++◌, [], take, ap, sym, ◌∙◌, arith}
 use Rattle.std.proofs.lemmas.List.{take_more}
 use Rattle.exam_theorem.specs.Following.{Follows, SparesOthers}

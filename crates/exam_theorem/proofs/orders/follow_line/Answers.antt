@@ -1,3 +1,4 @@
+-- A line with its file means one command, which has one result. So what the store came to is what the definition says.
 use Rattle.std.proofs.Common.{None, Some, subst, sym}
 use Rattle.std.specs.Prelude.{IsTrue}
 use Rattle.exam_line.specs.Lines.{job_shown}

@@ -1,3 +1,5 @@
+-- The bytes ask one thing, of the candidate whose code they show. To lodge or to retract moves nobody, so nobody
+-- else's seat is another.
 use Rattle.std.proofs.Common.{Some, ap, refl, subst}
 use Rattle.exam_types.specs.Days.{IsDay}
 use Rattle.exam_theorem.proofs.OwnRows.{own_decides}

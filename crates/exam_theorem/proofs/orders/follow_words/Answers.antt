@@ -1,3 +1,4 @@
+-- Words that are no line change nothing and say so. Otherwise they are the line that they mean.
 use Rattle.std.proofs.Common.{refl}
 use Rattle.std.specs.Prelude.{Err, IsTrue, map, string_bytes}
 use Rattle.exam_line.specs.Lines.{job_shown}

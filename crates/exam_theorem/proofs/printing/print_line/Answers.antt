@@ -1,3 +1,4 @@
+-- A line that asks for a sheet changes no office, and what it prints is that sheet. Any other line is not carried out.
 use Rattle.std.proofs.Common.{◌≡◌, ◌∙◌, [], Some, true, refl, subst, sym}
 use Rattle.std.specs.Prelude.{is_some}
 use Rattle.exam_line.specs.Lines.{job_shown}

@@ -1,3 +1,4 @@
+-- A member has a live paper, so there is a sitting paper and a finish. Each part is read as the rules say it.
 use Rattle.std.proofs.Common.{◌≡◌, ◌∙◌, Some, ap, is_some, rules, sym}
 use Rattle.exam_rules.specs.Relations.{relations_of}
 use Rattle.exam_rules.specs.Sessions.{least_live_paper, sitting}

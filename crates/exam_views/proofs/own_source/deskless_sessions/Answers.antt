@@ -1,3 +1,5 @@
+-- The sessions that the entries name are walked by code, and are those with a live entry. Those walked so far give the
+-- sessions of the definition up to there.
 use Rattle.std.proofs.Common.{◌≡◌, ◌++◌, ◌∙◌, ◌⊎◌, inl, inr, List, ◌∷◌, None, Vec, ap, map, rules, subst, sym}
 use Rattle.std.specs.Global.{Global}
 use Rattle.std.specs.Map.{keys_of}

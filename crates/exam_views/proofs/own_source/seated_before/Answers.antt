@@ -1,3 +1,5 @@
+-- The count is of those walked so far who sit in that hall and come before the candidate. All of them are members, so
+-- it fits.
 use Rattle.std.proofs.Common.{ℕ, filter, ap, zero-add, ◌∙◌, arith}
 use Rattle.exam_rules.specs.Relations.{Code, relations_of, same_code}
 use Rattle.exam_rules.proofs.InOrder.{lists_rise}

@@ -1,3 +1,5 @@
+-- Each part of the view is read from the same facts, and the stored plan is the plan by indices. So it is the view of
+-- that session.
 use Rattle.std.proofs.Common.{refl, ap, is_some, map, ◌∙◌}
 use Rattle.exam_rules.specs.Relations.{relations_of}
 use Rattle.exam_views.specs.Views.{member_of}

@@ -1,3 +1,4 @@
+-- Each table tells its keys apart and has the keys that were kept, so each goes back by itself.
 use Rattle.std.proofs.lemmas.Map.Lookups.{exact_bytes}
 use Rattle.exam_rules.specs.Tables as table
 use Rattle.exam_commands.proofs.AppealKeys.{appeals_exact, openings_exact}

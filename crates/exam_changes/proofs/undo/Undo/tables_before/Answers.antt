@@ -1,3 +1,5 @@
+-- Each kind of change names the one table that it touched, or each of them for an import; every other table is what it
+-- was.
 use Rattle.std.proofs.Common.{None, Some, refl, subst}
 use Rattle.exam_rules.specs.Relations.{appeal_cmp, entry_cmp}
 use Rattle.exam_rules.specs.Tables as table

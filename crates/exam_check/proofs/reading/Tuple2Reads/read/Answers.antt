@@ -1,3 +1,4 @@
+-- The later tables are read of the database that reading the first one left, which has the rows of before.
 use Rattle.std.proofs.Common.{◌≡◌, Err, subst, rules}
 use Rattle.sqlite.specs.Effect.{Database}
 use Rattle.sqlite.specs.Held.{state}

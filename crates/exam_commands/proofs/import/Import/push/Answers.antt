@@ -1,3 +1,5 @@
+-- The index finds the first row with the key. If it has the same contents the row repeats it, if it has others the row
+-- conflicts; a key that is not there conflicts with none.
 use Rattle.std.proofs.Common.{◌≡◌, ◌∙◌, sym, ap, rules, Some, None, true, false, length, inr, refl}
 use Rattle.std.specs.List.{find}
 use Rattle.std.specs.Prelude.{List, Result, Ok, Err, IfErr}

@@ -1,3 +1,5 @@
+-- Room is made first. Then the key gets the place at which the row is put, so the index still names the first row of
+-- each key.
 use Rattle.std.proofs.Common.{◌≡◌, ◌∙◌, ◌++◌, ◌∷◌, [], ap, rules, Some, None, cond, length, false, ◌≤◌, ◌<◌, arith, ◌+◌}
 use Rattle.std.specs.List.{find}
 use Rattle.std.proofs.lemmas.List.{length-append}

@@ -1,3 +1,5 @@
+-- The tallies of the hall rise where the newcomer's halls are, so exactly these halls are added to its set, and the
+-- hall to the sets that go inward.
 use Rattle.std.proofs.Common.{◌≡◌, ◌+◌, ◌<◌, ◌≤◌, ◌||◌, ◌&&◌, not, true, ℕ, length, get_or, refl, sym, ap, subst, ◌∙◌, arith}
 use Rattle.std.proofs.lemmas.List.{get_or_default}
 use Rattle.exam_plan.specs.declared.tally.Tally.{Tally}

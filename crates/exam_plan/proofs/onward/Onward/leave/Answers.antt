@@ -1,3 +1,5 @@
+-- The tallies of the hall fall where the leaver's halls are. A hall whose tally falls to nothing leaves the set, and
+-- only such ones are taken out of the sets that go inward.
 use Rattle.std.proofs.Common.{◌≡◌, ◌+◌, ◌<◌, ◌↔◌, false, ℕ, length, get_or, refl, sym, ap, ◌∙◌, arith}
 use Rattle.std.proofs.lemmas.List.{get_or-set_same, get_or_default}
 use Rattle.exam_plan.specs.declared.tally.Tally.{Tally}

@@ -1,3 +1,4 @@
+-- Below the candidate at hand all who sit are in the table. A tally never passes the number of candidates.
 use Rattle.std.proofs.Common.{◌∙◌, arith}
 use Rattle.exam_plan.specs.Problems.{plan_at}
 use Rattle.exam_plan.proofs.Steps.{sits_below}

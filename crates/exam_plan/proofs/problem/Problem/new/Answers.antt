@@ -1,3 +1,5 @@
+-- Each row that was read so far is the set of its halls, since each hall is below the most halls that a set can hold.
+-- So what the sets represent is the rows again.
 use Rattle.std.proofs.Common.{◌≡◌, ◌+◌, ◌<◌, ℕ, nat_eq, List, Vec, Global, length, take, map, sym, ap, subst, arith}
 use Rattle.std.specs.Prelude.{All}
 use Rattle.std.specs.List.Sorted.{IsStrictlySortedBy}

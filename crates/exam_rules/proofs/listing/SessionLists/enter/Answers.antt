@@ -1,3 +1,4 @@
+-- Only the list of that session is changed, or made if there is none; the lists of all others are as they were.
 use Rattle.std.proofs.Common.{◌≡◌, Bool, true, false, List, Some, IsSome, Vec, cond, refl, ap, sym, subst, ◌∙◌}
 use Rattle.std.specs.Global.{Global}
 use Rattle.std.specs.List.Sorted.{IsNonDecreasingBy}

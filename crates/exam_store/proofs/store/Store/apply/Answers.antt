@@ -1,3 +1,5 @@
+-- The draft takes the step before anything is saved. If saving fails it is taken back, so office and tables agree in
+-- both cases.
 use Rattle.std.proofs.Common.{◌≡◌, Ok, false, rules, subst, sym}
 use Rattle.sqlite.specs.Held.{state}
 use Rattle.exam_commands.specs.State.{State}

@@ -1,3 +1,5 @@
+-- A text that has no parts, or parts that are no date, is the text of no day. Otherwise the parts are those of that
+-- date, which has this text and no other.
 use Rattle.std.proofs.Common.{◌≡◌, Some, None, true, false}
 use Rattle.exam_types.specs.Days as spec
 use Rattle.exam_types.proofs.DayTexts.{day_of_is, is_date, no_text, parts_of_text, read_text}

@@ -1,3 +1,4 @@
+-- Members, plan and desks of a view have one length. The seats so far are those of the members walked so far.
 use Rattle.std.proofs.Common.{◌≡◌, ◌∙◌, ◌<◌, Option, length, [], ◌∷◌, ◌++◌, get_or, ap, subst, arith}
 use Rattle.exam_plan.specs.Problems.{desk_numbers}
 use Rattle.exam_rules.specs.Relations.{Code}

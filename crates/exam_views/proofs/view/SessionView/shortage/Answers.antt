@@ -1,3 +1,5 @@
+-- The indices of the certificate are below the halls and the members of the view. Named by codes and numbers they are
+-- the report.
 use Rattle.std.proofs.Common.{◌↔◌, ◌∙◌, ℕ, ◌<◌, List, length, map, Contains, ap, sym, subst}
 use Rattle.std.specs.List.{All}
 use Rattle.exam_plan.specs.Matching.{IsCertificate, IsContested, unseated}

@@ -1,3 +1,5 @@
+-- Each column is read in its own form, and eleven of them are a row. A column that has not this form is none of an
+-- appeal's; where memory ran out, the form was right.
 use Rattle.std.proofs.Common.{◌≡◌, length, inr, Err, ap, rules}
 use Rattle.sqlite_value.specs.Order.{column}
 use Rattle.exam_tables.proofs.Reading.{found, eleven}
