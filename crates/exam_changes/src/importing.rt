@@ -1,5 +1,6 @@
 //! What an import makes of the facts.
-ghost use Rattle.std.specs.Prelude.{◌≡◌, ◌⊎◌, ◌<◌, ◌^◌, ◌+◌, ◌-◌, is_none, not, false, if◌then◌else◌, length, None, Some, IfOk, IfErr, OnOk, OnErr};
+ghost use Rattle.std.specs.Prelude.{◌≡◌, ◌⊎◌, ◌<◌, ◌^◌, ◌+◌, ◌-◌, is_none, not, false, if◌then◌else◌, length, None};
+ghost use Rattle.std.specs.Prelude.{Some, IfOk, IfErr, OnOk, OnErr};
 ghost use Rattle.std.specs.Option.{option_map, option_map_or};
 ghost use Rattle.std.specs.Result.{result_err};
 ghost use Rattle.exam_rules.specs.Relations.{Relations, opening_cmp, relations_of, row_at};

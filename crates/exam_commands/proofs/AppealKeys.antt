@@ -7,7 +7,8 @@ use Rattle.std.proofs.lemmas.Map.Lookups.{CmpEqualImpliesEq, exact_pairs, exact_
 use Rattle.exam_rules.specs.Relations.{Code, appeal_cmp, code_cmp, opening_cmp}
 
 pub appeals_total : IsTotalOrder appeal_cmp
-appeals_total = then_total (on_total (λ (k : ℕ × Code). k.0) nat_cmp_total) (on_total (λ (k : ℕ × Code). k.1) nat_list_cmp_total)
+appeals_total = then_total (on_total (λ (k : ℕ × Code). k.0) nat_cmp_total)
+    (on_total (λ (k : ℕ × Code). k.1) nat_list_cmp_total)
 
 pub appeals_exact : CmpEqualImpliesEq appeal_cmp
 appeals_exact = exact_pairs nat_cmp code_cmp exact_unsigned exact_bytes

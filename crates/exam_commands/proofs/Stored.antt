@@ -1,5 +1,6 @@
 -- After an import each of its rows is stored, and put again they change nothing.
-use Rattle.std.proofs.Common.{◌≡◌, ℕ, ◌&&◌, not, Bool, true, false, cond, List, [], ◌∷◌, Option, None, Some, eq-eqb, refl, sym, ap, ◌∙◌, is_some}
+use Rattle.std.proofs.Common.{◌≡◌, ℕ, ◌&&◌, not, Bool, true, false, cond, List, [], ◌∷◌, Option, None, Some, eq-eqb}
+use Rattle.std.proofs.Common.{refl, sym, ap, ◌∙◌, is_some}
 use Rattle.std.specs.Cmp.{IsTotalOrder, nat_cmp_total, then_total, on_total}
 use Rattle.std.specs.Cmp.Lexicographic.{nat_list_cmp_total}
 use Rattle.std.specs.List.{AllByRecursion}
@@ -16,7 +17,8 @@ use Rattle.exam_commands.specs.declared.import_row.Row.TheVariants as row
 use Rattle.exam_commands.specs.Changes.{with_row, with_rows}
 use Rattle.exam_commands.specs.Imports.{conflicts, has_key, is_consistent, key_of, same_row}
 use Rattle.exam_commands.specs.Replies.{is_stored}
-use Rattle.exam_commands.specs.SameRows.{same_arrangement, same_candidate, same_hall, same_opening, same_paper, same_session}
+use Rattle.exam_commands.specs.SameRows.{same_arrangement, same_candidate, same_hall, same_opening, same_paper}
+use Rattle.exam_commands.specs.SameRows.{same_session}
 use Rattle.exam_commands.specs.contracts.import_row.KeyOrd.TheImpl as keys
 use Rattle.exam_commands.proofs.ImportKeys.{cmp_same}
 use Rattle.exam_commands.proofs.ImportRowsEqual.{row_exact}
@@ -34,10 +36,12 @@ IsStored r (row.OfEntry c p) = has_row entry_cmp r.entries (c, p) ≡ true
 IsStored r (row.OfArrangement c x) = row_at nat_cmp r.arrangements c ≡ Some x
 
 opening_total : IsTotalOrder opening_cmp
-opening_total = then_total (on_total (λ (k : Code × Code). k.0) nat_list_cmp_total) (on_total (λ (k : Code × Code). k.1) nat_list_cmp_total)
+opening_total = then_total (on_total (λ (k : Code × Code). k.0) nat_list_cmp_total)
+    (on_total (λ (k : Code × Code). k.1) nat_list_cmp_total)
 
 pub entry_total : IsTotalOrder entry_cmp
-entry_total = then_total (on_total (λ (k : ℕ × Code). k.0) nat_cmp_total) (on_total (λ (k : ℕ × Code). k.1) nat_list_cmp_total)
+entry_total = then_total (on_total (λ (k : ℕ × Code). k.0) nat_cmp_total)
+    (on_total (λ (k : ℕ × Code). k.1) nat_list_cmp_total)
 
 -- ---- the tables stay in order
 
@@ -54,10 +58,15 @@ row_in_order r (row.OfCandidate c x) up =
     elim [ table.Candidates ↦ put_rises nat_cmp nat_cmp_total r.candidates c x (up table.Candidates) | t ↦ up t ]
 row_in_order r (row.OfEntry c p) up = inner (has_row entry_cmp r.entries (c, p))
   where
-    inner : (b : Bool) → AreInOrder (cond b r (record r { entries = put_row entry_cmp r.entries (c, p) (record { live = true }) }))
+    inner : (b : Bool) → AreInOrder
+        (cond b r (record r { entries = put_row entry_cmp r.entries (c, p) (record { live = true }) }))
     inner true = up
     inner false =
-        elim [ table.Entries ↦ put_rises entry_cmp entry_total r.entries (c, p) (record { live = true }) (up table.Entries) | t ↦ up t ]
+        elim [
+          | table.Entries ↦ put_rises entry_cmp entry_total r.entries (c, p) (record { live = true })
+              (up table.Entries)
+          | t ↦ up t
+        ]
 row_in_order r (row.OfArrangement c x) up =
     elim [ table.Arrangements ↦ put_rises nat_cmp nat_cmp_total r.arrangements c x (up table.Arrangements) | t ↦ up t ]
 
@@ -67,7 +76,8 @@ rows_in_order r (x ∷ rows) up = rows_in_order (with_row r x) rows (row_in_orde
 
 -- ---- a row that is found the same is stored
 
-found_same : {X : Type 0} (agree : X → X → Bool) (x : X) → ((y : X) → agree x y ≡ true → x ≡ y) → (o : Option X) → option_map (agree x) o ≡ Some true → o ≡ Some x
+found_same : {X : Type 0} (agree : X → X → Bool) (x : X) → ((y : X) → agree x y ≡ true → x ≡ y) → (o : Option X)
+    → option_map (agree x) o ≡ Some true → o ≡ Some x
 found_same agree x exact None e = absurd (let differ : None ≡ Some true = e in cc)
 found_same agree x exact (Some y) e = let same : agree x y ≡ true = cc in ap Some (sym (exact y same))
 
@@ -112,15 +122,27 @@ stored_same r (row.OfArrangement c x) e =
 -- ---- a stored row put again
 
 pub row_again : (r : Relations) (x : Row) → AreInOrder r → IsStored r x → with_row r x ≡ r
-row_again r (row.OfSession s x) up at = ap (λ rows. record r { sessions = rows }) (put_same code_cmp nat_list_cmp_total r.sessions s x (up table.Sessions) at)
-row_again r (row.OfPaper p x) up at = ap (λ rows. record r { papers = rows }) (put_same code_cmp nat_list_cmp_total r.papers p x (up table.Papers) at)
-row_again r (row.OfHall h x) up at = ap (λ rows. record r { halls = rows }) (put_same code_cmp nat_list_cmp_total r.halls h x (up table.Halls) at)
-row_again r (row.OfOpening s h x) up at = ap (λ rows. record r { openings = rows }) (put_same opening_cmp opening_total r.openings (s, h) x (up table.Openings) at)
-row_again r (row.OfCandidate c x) up at = ap (λ rows. record r { candidates = rows }) (put_same nat_cmp nat_cmp_total r.candidates c x (up table.Candidates) at)
-row_again r (row.OfEntry c p) up at = ap (λ b. cond b r (record r { entries = put_row entry_cmp r.entries (c, p) (record { live = true }) })) at
-row_again r (row.OfArrangement c x) up at = ap (λ rows. record r { arrangements = rows }) (put_same nat_cmp nat_cmp_total r.arrangements c x (up table.Arrangements) at)
+row_again r (row.OfSession s x) up at =
+    ap (λ rows. record r { sessions = rows })
+    (put_same code_cmp nat_list_cmp_total r.sessions s x (up table.Sessions) at)
+row_again r (row.OfPaper p x) up at =
+    ap (λ rows. record r { papers = rows }) (put_same code_cmp nat_list_cmp_total r.papers p x (up table.Papers) at)
+row_again r (row.OfHall h x) up at =
+    ap (λ rows. record r { halls = rows }) (put_same code_cmp nat_list_cmp_total r.halls h x (up table.Halls) at)
+row_again r (row.OfOpening s h x) up at =
+    ap (λ rows. record r { openings = rows })
+    (put_same opening_cmp opening_total r.openings (s, h) x (up table.Openings) at)
+row_again r (row.OfCandidate c x) up at =
+    ap (λ rows. record r { candidates = rows })
+    (put_same nat_cmp nat_cmp_total r.candidates c x (up table.Candidates) at)
+row_again r (row.OfEntry c p) up at =
+    ap (λ b. cond b r (record r { entries = put_row entry_cmp r.entries (c, p) (record { live = true }) })) at
+row_again r (row.OfArrangement c x) up at =
+    ap (λ rows. record r { arrangements = rows })
+    (put_same nat_cmp nat_cmp_total r.arrangements c x (up table.Arrangements) at)
 
-pub rows_again : (r : Relations) (rows : List Row) → AreInOrder r → AllByRecursion (IsStored r) rows → with_rows r rows ≡ r
+pub rows_again : (r : Relations) (rows : List Row) → AreInOrder r → AllByRecursion (IsStored r) rows
+    → with_rows r rows ≡ r
 rows_again r [] up every = refl
 rows_again r (x ∷ rows) up every = ap (λ t. with_rows t rows) (row_again r x up every.0) ∙ rows_again r rows up every.1
 
@@ -142,40 +164,54 @@ row_stored r (row.OfEntry c p) = inner (has_row entry_cmp r.entries (c, p)) refl
 row_stored r (row.OfArrangement c x) = put_found nat_cmp nat_cmp_total r.arrangements c x
 
 -- a new entry leaves what is stored
-entry_keeps : (r : Relations) (c : ℕ) (p : Code) (x : Row) → IsStored r x → IsStored (record r { entries = put_row entry_cmp r.entries (c, p) (record { live = true }) }) x
+entry_keeps : (r : Relations) (c : ℕ) (p : Code) (x : Row) → IsStored r x
+    → IsStored (record r { entries = put_row entry_cmp r.entries (c, p) (record { live = true }) }) x
 entry_keeps r c p (row.OfEntry d q) at = has_put entry_cmp r.entries (c, p) (d, q) (record { live = true }) at
 entry_keeps r c p x at = at
 
 -- so does a row that does not contradict it
-row_keeps : (r : Relations) (y x : Row) → (is_eq (keys.ghosts.cmp (key_of y) (key_of x)) ≡ true → y ≡ x) → IsStored r x → IsStored (with_row r y) x
+row_keeps : (r : Relations) (y x : Row) → (is_eq (keys.ghosts.cmp (key_of y) (key_of x)) ≡ true → y ≡ x) → IsStored r x
+    → IsStored (with_row r y) x
 row_keeps r (row.OfEntry c p) x agrees at = inner (has_row entry_cmp r.entries (c, p))
   where
-    inner : (b : Bool) → IsStored (cond b r (record r { entries = put_row entry_cmp r.entries (c, p) (record { live = true }) })) x
+    inner : (b : Bool) → IsStored
+        (cond b r (record r { entries = put_row entry_cmp r.entries (c, p) (record { live = true }) })) x
     inner true = at
     inner false = entry_keeps r c p x at
-row_keeps r (row.OfSession s v) (row.OfSession t x) agrees at = put_stays code_cmp nat_list_cmp_total r.sessions s t v x (λ e. let same : row.OfSession s v ≡ row.OfSession t x = agrees e in cc) at
-row_keeps r (row.OfPaper s v) (row.OfPaper t x) agrees at = put_stays code_cmp nat_list_cmp_total r.papers s t v x (λ e. let same : row.OfPaper s v ≡ row.OfPaper t x = agrees e in cc) at
-row_keeps r (row.OfHall s v) (row.OfHall t x) agrees at = put_stays code_cmp nat_list_cmp_total r.halls s t v x (λ e. let same : row.OfHall s v ≡ row.OfHall t x = agrees e in cc) at
+row_keeps r (row.OfSession s v) (row.OfSession t x) agrees at =
+    put_stays code_cmp nat_list_cmp_total r.sessions s t v x
+    (λ e. let same : row.OfSession s v ≡ row.OfSession t x = agrees e in cc) at
+row_keeps r (row.OfPaper s v) (row.OfPaper t x) agrees at =
+    put_stays code_cmp nat_list_cmp_total r.papers s t v x
+    (λ e. let same : row.OfPaper s v ≡ row.OfPaper t x = agrees e in cc) at
+row_keeps r (row.OfHall s v) (row.OfHall t x) agrees at =
+    put_stays code_cmp nat_list_cmp_total r.halls s t v x
+    (λ e. let same : row.OfHall s v ≡ row.OfHall t x = agrees e in cc) at
 row_keeps r (row.OfOpening s h v) (row.OfOpening t k x) agrees at =
     put_stays opening_cmp opening_total r.openings (s, h) (t, k) v x
     (λ e. let same : row.OfOpening s h v ≡ row.OfOpening t k x = agrees e in cc) at
-row_keeps r (row.OfCandidate s v) (row.OfCandidate t x) agrees at = put_stays nat_cmp nat_cmp_total r.candidates s t v x (λ e. let same : row.OfCandidate s v ≡ row.OfCandidate t x = agrees e in cc) at
+row_keeps r (row.OfCandidate s v) (row.OfCandidate t x) agrees at =
+    put_stays nat_cmp nat_cmp_total r.candidates s t v x
+    (λ e. let same : row.OfCandidate s v ≡ row.OfCandidate t x = agrees e in cc) at
 row_keeps r (row.OfArrangement s v) (row.OfArrangement t x) agrees at =
     put_stays nat_cmp nat_cmp_total r.arrangements s t v x
     (λ e. let same : row.OfArrangement s v ≡ row.OfArrangement t x = agrees e in cc) at
 row_keeps r y x agrees at = at
 
-rows_keep : (r : Relations) (x : Row) (rows : List Row) → conflicts x rows ≡ false → IsStored r x → IsStored (with_rows r rows) x
+rows_keep : (r : Relations) (x : Row) (rows : List Row) → conflicts x rows ≡ false → IsStored r x
+    → IsStored (with_rows r rows) x
 rows_keep r x [] none at = at
 rows_keep r x (y ∷ rows) none at =
     let both = or_parts _ _ none in
-    rows_keep (with_row r y) x rows both.1 (row_keeps r y x (λ e. agreed (has_key (key_of x) y) both.0 (sym (cmp_same (key_of y) (key_of x)) ∙ e)) at)
+    rows_keep (with_row r y) x rows both.1
+    (row_keeps r y x (λ e. agreed (has_key (key_of x) y) both.0 (sym (cmp_same (key_of y) (key_of x)) ∙ e)) at)
   where
     agreed : (b : Bool) → (b && not (same_row y x)) ≡ false → b ≡ true → y ≡ x
     agreed true agrees e = row_exact y x (not-false (same_row y x) agrees)
     agreed false agrees e = cc
 
-pub rows_stored : (r : Relations) (rows : List Row) → is_consistent rows ≡ true → AllByRecursion (IsStored (with_rows r rows)) rows
+pub rows_stored : (r : Relations) (rows : List Row) → is_consistent rows ≡ true
+    → AllByRecursion (IsStored (with_rows r rows)) rows
 rows_stored r [] agree = tt
 rows_stored r (x ∷ rows) agree =
     let both = and_parts (not (conflicts x rows)) (is_consistent rows) agree in

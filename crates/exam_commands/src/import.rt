@@ -1,5 +1,6 @@
 //! The rows of an import file.
-ghost use Rattle.std.specs.Prelude.{◌≤◌, ◌≡◌, ◌⊎◌, ◌<◌, ◌+◌, ◌++◌, ◌∷◌, ◌==◌, [], length, true, false, Some, None, OnOk, OnErr, IfErr, option_copied};
+ghost use Rattle.std.specs.Prelude.{◌≤◌, ◌≡◌, ◌⊎◌, ◌<◌, ◌+◌, ◌++◌, ◌∷◌, ◌==◌, [], length, true, false, Some, None};
+ghost use Rattle.std.specs.Prelude.{OnOk, OnErr, IfErr, option_copied};
 ghost use Rattle.std.specs.List.{find};
 ghost use Rattle.std.specs.Option.{option_map_or};
 ghost use Rattle.exam_commands.specs.Imports as spec;

@@ -1,5 +1,6 @@
 -- The sessions that a command reaches, gathered row by row.
-use Rattle.std.proofs.Common.{◌≡◌, ℕ, ◌&&◌, ◌||◌, Bool, true, false, cond, List, [], ◌∷◌, filter, nat_eq, Some, is_some, refl, ap, sym, subst, inl, inr, ◌⊎◌, ◌∙◌}
+use Rattle.std.proofs.Common.{◌≡◌, ℕ, ◌&&◌, ◌||◌, Bool, true, false, cond, List, [], ◌∷◌, filter, nat_eq, Some, is_some}
+use Rattle.std.proofs.Common.{refl, ap, sym, subst, inl, inr, ◌⊎◌, ◌∙◌}
 use Rattle.std.specs.List.{list_any}
 use Rattle.std.specs.BTreeMap.{is_at}
 use Rattle.std.specs.Cmp.Lexicographic.{texts_ties}
@@ -14,7 +15,8 @@ use Rattle.exam_commands.specs.declared.import_row.Kind.{Kind}
 use Rattle.exam_commands.specs.declared.import_row.Kind.TheVariants as kind
 use Rattle.exam_commands.specs.declared.import_row.Row.{Row}
 use Rattle.exam_commands.specs.declared.import_row.Row.TheVariants as row
-use Rattle.exam_commands.specs.Touched.{has_standing_member, import_reaches, is_of_sessions, names, names_hall, names_session, row_reaches, sets_session}
+use Rattle.exam_commands.specs.Touched.{has_standing_member, import_reaches, is_of_sessions, names, names_hall}
+use Rattle.exam_commands.specs.Touched.{names_session, row_reaches, sets_session}
 use Rattle.exam_commands.proofs.ImportKeys.{code_flips}
 use Rattle.exam_rules.proofs.Writing.{then_eq}
 
@@ -42,11 +44,14 @@ at_opening s h k =
     ∙ ap (λ b. b && is_at (code_cmp h) k.1) (sym (texts_ties s k.0) ∙ code_flips s k.0)
     ∙ ap (λ b. same_code k.0 s && b) (sym (texts_ties h k.1) ∙ code_flips h k.1)
 
-pub opened_any : (s h : Code) (rows : List ((Code × Code) × Opening)) → list_any (opens s h) rows ≡ has_row opening_cmp rows (s, h)
+pub opened_any : (s h : Code) (rows : List ((Code × Code) × Opening))
+    → list_any (opens s h) rows ≡ has_row opening_cmp rows (s, h)
 opened_any s h [] = refl
-opened_any s h (row ∷ rows) = inner (opens s h row) (is_at (opening_cmp (s, h)) row.0) (sym (at_opening s h row.0)) (opened_any s h rows)
+opened_any s h (row ∷ rows) =
+    inner (opens s h row) (is_at (opening_cmp (s, h)) row.0) (sym (at_opening s h row.0)) (opened_any s h rows)
   where
-    inner : (b a : Bool) → b ≡ a → list_any (opens s h) rows ≡ has_row opening_cmp rows (s, h) → (b || list_any (opens s h) rows) ≡ is_some (cond a (Some row.1) (row_at opening_cmp rows (s, h)))
+    inner : (b a : Bool) → b ≡ a → list_any (opens s h) rows ≡ has_row opening_cmp rows (s, h)
+        → (b || list_any (opens s h) rows) ≡ is_some (cond a (Some row.1) (row_at opening_cmp rows (s, h)))
     inner true true e rest = refl
     inner false false e rest = rest
     inner true false e rest = cc
@@ -62,28 +67,33 @@ none_opens : (s : Code) (os : List ((Code × Code) × Opening)) → list_any (op
 none_opens s [] = refl
 none_opens s (o ∷ os) = inner (same_code o.0.0 s) (none_opens s os)
   where
-    inner : (b : Bool) → list_any (opens_named [] s) os ≡ false → ((b && false) || list_any (opens_named [] s) os) ≡ false
+    inner : (b : Bool) → list_any (opens_named [] s) os ≡ false
+        → ((b && false) || list_any (opens_named [] s) os) ≡ false
     inner true rest = rest
     inner false rest = rest
 
 -- the halls that rows name, by any other test
-pub opens_found : (s : Code) (rows : List Row) (named : Code → Bool) → ((h : Code) → named h ≡ list_any (λ (x : Row). names_hall x h) rows) → (os : List ((Code × Code) × Opening))
+pub opens_found : (s : Code) (rows : List Row) (named : Code → Bool)
+    → ((h : Code) → named h ≡ list_any (λ (x : Row). names_hall x h) rows) → (os : List ((Code × Code) × Opening))
     → list_any (λ (o : (Code × Code) × Opening). same_code o.0.0 s && named o.0.1) os ≡ list_any (opens_named rows s) os
 opens_found s rows named same [] = refl
 opens_found s rows named same (o ∷ os) =
-    ap (λ b. (same_code o.0.0 s && b) || list_any (λ (p : (Code × Code) × Opening). same_code p.0.0 s && named p.0.1) os) (same o.0.1)
+    ap (λ b. (same_code o.0.0 s && b) || list_any
+    (λ (p : (Code × Code) × Opening). same_code p.0.0 s && named p.0.1) os) (same o.0.1)
     ∙ ap (λ t. opens_named rows s o || t) (opens_found s rows named same os)
 
 -- one hall more
 more_opens : (s h : Code) (x : Hall) (rows : List Row) (os : List ((Code × Code) × Opening))
-    → list_any (opens_named (row.OfHall h x ∷ rows) s) os ≡ (list_any (opens s h) os || list_any (opens_named rows s) os)
+    → list_any (opens_named (row.OfHall h x ∷ rows) s) os
+    ≡ (list_any (opens s h) os || list_any (opens_named rows s) os)
 more_opens s h x rows [] = refl
 more_opens s h x rows (o ∷ os) =
     ap (λ t. opens_named (row.OfHall h x ∷ rows) s o || t) (more_opens s h x rows os)
     ∙ inner (same_code o.0.0 s) (same_code h o.0.1) (same_code o.0.1 h) (code_flips h o.0.1)
     (list_any (λ (y : Row). names_hall y o.0.1) rows) (list_any (opens s h) os) (list_any (opens_named rows s) os)
   where
-    inner : (a b c : Bool) → b ≡ c → (d p q : Bool) → ((a && (b || d)) || (p || q)) ≡ (((a && c) || p) || ((a && d) || q))
+    inner : (a b c : Bool) → b ≡ c → (d p q : Bool)
+        → ((a && (b || d)) || (p || q)) ≡ (((a && c) || p) || ((a && d) || q))
     inner a true true e d p q = by a d p q
       where
         by : (a d p q : Bool) → ((a && true) || (p || q)) ≡ (((a && true) || p) || ((a && d) || q))
@@ -131,7 +141,8 @@ sets_none s (row.OfArrangement c z) is = refl
 pub others_set_none : (s : Code) (k : Kind) (rows : List Row) → AreOfKind k rows → is_of_sessions k ≡ false
     → list_any (sets_session s) rows ≡ false
 others_set_none s k rows of is =
-    same_any (sets_session s) (λ x. false) k rows of (λ x same. sets_none s x (ap is_of_sessions same ∙ is)) ∙ any_none rows
+    same_any (sets_session s) (λ x. false) k rows of (λ x same. sets_none s x (ap is_of_sessions same ∙ is))
+    ∙ any_none rows
 
 -- what rows of a kind reach is what they name, but for those of sessions and halls
 abbrev pub names_all : Kind → Bool
@@ -219,11 +230,13 @@ module _ (r : Relations) (s : Code) where
     pub sessions_reach : is_of_sessions import.kind ≡ true → import_reaches r import s ≡ has_standing_member r s
     sessions_reach is =
         ap (λ k. reached || (k && has_standing_member r s)) is
-        ∙ ap (λ b. b || has_standing_member r s) (same_any (λ (x : Row). row_reaches r x s) (λ x. has_standing_member r s)
+        ∙ ap (λ b. b || has_standing_member r s)
+        (same_any (λ (x : Row). row_reaches r x s) (λ x. has_standing_member r s)
         import.kind import.rows of (λ x same. reaches_standing x (ap is_of_sessions same ∙ is)))
         ∙ any_or_one (has_standing_member r s) import.rows
 
-    pub halls_reach : import.kind ≡ kind.Halls → import_reaches r import s ≡ list_any (opens_named import.rows s) r.openings
+    pub halls_reach : import.kind ≡ kind.Halls
+        → import_reaches r import s ≡ list_any (opens_named import.rows s) r.openings
     halls_reach is =
         no_sessions (ap is_of_sessions is)
         ∙ hall_rows_reach import.rows (subst (λ (k : Kind). AreOfKind k import.rows) is of)
@@ -257,19 +270,24 @@ candidates_reach r s import of is =
 
 module _ (r : Relations) (s : Code) (c : ℕ) where
   -- only the candidate's own rows count
-  pub own_any : (es : List ((ℕ × Code) × Entry)) → list_any (is_live_entry r s c) (filter (is_row_of c) es) ≡ list_any (is_live_entry r s c) es
+  pub own_any : (es : List ((ℕ × Code) × Entry))
+      → list_any (is_live_entry r s c) (filter (is_row_of c) es) ≡ list_any (is_live_entry r s c) es
   own_any [] = refl
   own_any (e ∷ es) = inner (nat_eq e.0.0 c) refl (own_any es)
     where
-      inner : (b : Bool) → nat_eq e.0.0 c ≡ b → list_any (is_live_entry r s c) (filter (is_row_of c) es) ≡ list_any (is_live_entry r s c) es
-          → list_any (is_live_entry r s c) (cond b (e ∷ filter (is_row_of c) es) (filter (is_row_of c) es)) ≡ (is_live_entry r s c e || list_any (is_live_entry r s c) es)
+      inner : (b : Bool) → nat_eq e.0.0 c ≡ b
+          → list_any (is_live_entry r s c) (filter (is_row_of c) es) ≡ list_any (is_live_entry r s c) es
+          → list_any (is_live_entry r s c) (cond b (e ∷ filter (is_row_of c) es) (filter (is_row_of c) es))
+          ≡ (is_live_entry r s c e || list_any (is_live_entry r s c) es)
       inner true is rest = ap (λ t. is_live_entry r s c e || t) rest
-      inner false is rest = rest ∙ sym (ap (λ b. (b && (e.1.live && is_paper_of r s e.0.1)) || list_any (is_live_entry r s c) es) is)
+      inner false is rest =
+          rest ∙ sym (ap (λ b. (b && (e.1.live && is_paper_of r s e.0.1)) || list_any (is_live_entry r s c) es) is)
 
 -- ---- the codes that exist
 
 -- the set has a code that exists
-pub names_any : (r : Relations) (s : Code) (ks : List Code) → list_any (λ (k : Code). names r k s) ks ≡ (has_row code_cmp r.sessions s && list_any (is_at (code_cmp s)) ks)
+pub names_any : (r : Relations) (s : Code) (ks : List Code)
+    → list_any (λ (k : Code). names r k s) ks ≡ (has_row code_cmp r.sessions s && list_any (is_at (code_cmp s)) ks)
 names_any r s [] = sym (and_none (has_row code_cmp r.sessions s))
   where
     and_none : (b : Bool) → (b && false) ≡ false
@@ -277,7 +295,8 @@ names_any r s [] = sym (and_none (has_row code_cmp r.sessions s))
     and_none false = refl
 names_any r s (k ∷ ks) =
     ap (λ b. names r k s || b) (names_any r s ks)
-    ∙ ap (λ b. (b && has_row code_cmp r.sessions s) || (has_row code_cmp r.sessions s && list_any (is_at (code_cmp s)) ks)) (sym (code_flips s k) ∙ texts_ties s k)
+    ∙ ap (λ b. (b && has_row code_cmp r.sessions s) ||
+    (has_row code_cmp r.sessions s && list_any (is_at (code_cmp s)) ks)) (sym (code_flips s k) ∙ texts_ties s k)
     ∙ inner (is_at (code_cmp s) k) (has_row code_cmp r.sessions s) (list_any (is_at (code_cmp s)) ks)
   where
     inner : (a e b : Bool) → ((a && e) || (e && b)) ≡ (e && (a || b))

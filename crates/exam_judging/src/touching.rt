@@ -148,12 +148,7 @@ fn add_import(
 }
 
 /// Adds the sessions that open a hall that these rows name.
-fn add_halls(
-    alloc: Global,
-    facts: &Facts,
-    rows: &[Row],
-    codes: &mut Codes,
-) -> Result<(), Refusal>
+fn add_halls(alloc: Global, facts: &Facts, rows: &[Row], codes: &mut Codes) -> Result<(), Refusal>
     ensures ok { OnOk result ((s : Code) → contains code_cmp codes.new s
         ≡ (list_any (λ (o : (Code × Code) × OpeningRow). same_code o.0.0 s
         && list_any (λ (x : ImportRow). spec.names_hall x o.0.1) rows.now) facts.now.openings.entries

@@ -1,6 +1,7 @@
 -- An accepted import repeated later, if no import came between and no hall was closed: its rows are still stored, so it
 -- is accepted, changes nothing, and finds every row the same.
-use Rattle.std.proofs.Common.{◌≡◌, ℕ, Bool, true, false, cond, List, [], ◌∷◌, length, Option, None, Some, Result, Ok, Err, is_none, refl, ap, sym, subst, ◌∙◌, inl, inr}
+use Rattle.std.proofs.Common.{◌≡◌, ℕ, Bool, true, false, cond, List, [], ◌∷◌, length, Option, None, Some, Result, Ok}
+use Rattle.std.proofs.Common.{Err, is_none, refl, ap, sym, subst, ◌∙◌, inl, inr}
 use Rattle.std.specs.List.{AllByRecursion}
 use Rattle.std.specs.Ordering.{nat_cmp}
 use Rattle.std.proofs.lemmas.List.Elements.{All-head, All-tail}
@@ -17,7 +18,8 @@ use Rattle.exam_commands.specs.declared.import_row.Row.{Row}
 use Rattle.exam_commands.specs.declared.import_row.Row.TheVariants as row
 use Rattle.exam_commands.specs.Appeals.{appeal_at, is_retracted}
 use Rattle.exam_commands.specs.Between.{NoneImportsOrCloses, imports_or_closes}
-use Rattle.exam_commands.specs.Changes.{imported, reinstatement_refusal, rows_refusal, first_refusal, too_many, with_live, with_rows, withdrawal_refusal}
+use Rattle.exam_commands.specs.Changes.{imported, reinstatement_refusal, rows_refusal, first_refusal, too_many}
+use Rattle.exam_commands.specs.Changes.{with_live, with_rows, withdrawal_refusal}
 use Rattle.exam_commands.specs.Decisions.{decision_refusal, is_made, with_decided, with_decision, with_outcome}
 use Rattle.exam_commands.specs.Good.{IsGood}
 use Rattle.exam_commands.specs.Imports.{ImportRows, distinct_rows, is_consistent}
@@ -56,8 +58,18 @@ holds_both r t u one two = record {
 }
 
 -- if only appeals change
-holds_decisions : (r : Relations) (appeals : List ((ℕ × Code) × Appeal)) (marks : List ((ℕ × Code) × Unit {0})) → Holds r (record r { appeals = appeals; standing = marks })
-holds_decisions r appeals marks = record { sessions = refl; papers = refl; halls = refl; openings = refl; candidates = refl; entries = λ k has. has; arrangements = refl }
+holds_decisions : (r : Relations) (appeals : List ((ℕ × Code) × Appeal)) (marks : List ((ℕ × Code) × Unit {0}))
+    → Holds r (record r { appeals = appeals; standing = marks })
+holds_decisions r appeals marks =
+    record {
+      sessions = refl;
+      papers = refl;
+      halls = refl;
+      openings = refl;
+      candidates = refl;
+      entries = λ k has. has;
+      arrangements = refl;
+    }
 
 holds_itself : (r : Relations) → Holds r r
 holds_itself r = holds_decisions r r.appeals r.standing
@@ -107,21 +119,30 @@ decision_holds r d = inner (appeal_at r d.number d.reference)
     inner None = holds_itself r
     inner (Some a) = by_case a (is_made r d a)
 
-change_holds : (done : Command) (day : ℕ) (before : State) (t : Relations) → imports_or_closes done ≡ false → change done day before ≡ Ok t → Holds before.relations t
+change_holds : (done : Command) (day : ℕ) (before : State) (t : Relations) → imports_or_closes done ≡ false
+    → change done day before ≡ Ok t → Holds before.relations t
 change_holds (command.Import import) day before t leaves is = absurd (let differ : true ≡ false = leaves in cc)
 change_holds (command.Withdraw c p) day before t leaves is =
-    subst (Holds before.relations) (made (withdrawal_refusal before.relations c p) (with_live before.relations c p false) t is) (holds_live before.relations c p false)
+    subst (Holds before.relations)
+    (made (withdrawal_refusal before.relations c p) (with_live before.relations c p false) t is)
+    (holds_live before.relations c p false)
 change_holds (command.Reinstate c p) day before t leaves is =
-    subst (Holds before.relations) (made (reinstatement_refusal before.relations c p) (with_live before.relations c p true) t is) (holds_live before.relations c p true)
+    subst (Holds before.relations)
+    (made (reinstatement_refusal before.relations c p) (with_live before.relations c p true) t is)
+    (holds_live before.relations c p true)
 change_holds (command.CloseHall s h) day before t leaves is = absurd (let differ : true ≡ false = leaves in cc)
 change_holds (command.Lodge l) day before t leaves is =
-    subst (Holds before.relations) (made (spec.lodging_refusal before.relations before.seats day l) (spec.with_lodging before.relations day l) t is) (lodging_holds before.relations day l)
+    subst (Holds before.relations)
+    (made (spec.lodging_refusal before.relations before.seats day l)
+    (spec.with_lodging before.relations day l) t is) (lodging_holds before.relations day l)
 change_holds (command.Retract c reference) day before t leaves is =
     subst (Holds before.relations)
     (made (spec.retraction_refusal before.relations c reference)
     (spec.with_retraction before.relations c reference) t is) (retraction_holds before.relations c reference)
 change_holds (command.Decide d) day before t leaves is =
-    subst (Holds before.relations) (made (decision_refusal before.relations day d) (with_decision before.relations d) t is) (decision_holds before.relations d)
+    subst (Holds before.relations)
+    (made (decision_refusal before.relations day d) (with_decision before.relations d) t is)
+    (decision_holds before.relations d)
 
 -- what a command keeps of an office's facts; an office in order stays in order
 record GoesOn (before after : State) : Type 0 where
@@ -129,30 +150,45 @@ record GoesOn (before after : State) : Type 0 where
   order : IsInOrder before → IsInOrder after
 
 goes_on_itself : (before after : State) → after ≡ before → GoesOn before after
-goes_on_itself before after same = subst (GoesOn before) (sym same) (record { holds = holds_itself before.relations; order = λ up. up })
+goes_on_itself before after same =
+    subst (GoesOn before) (sym same) (record { holds = holds_itself before.relations; order = λ up. up })
 
-step_goes_on : (done : Command) (day : ℕ) (before : State) (answer : Result Reply Refusal) (after : State) → imports_or_closes done ≡ false → Step done day before answer after → GoesOn before after
+step_goes_on : (done : Command) (day : ℕ) (before : State) (answer : Result Reply Refusal) (after : State)
+    → imports_or_closes done ≡ false → Step done day before answer after → GoesOn before after
 step_goes_on done day before answer after leaves step = inner (change done day before) refl step
   where
-    inner : (o : Result Relations Refusal) → change done day before ≡ o → StepTo done before answer after o → GoesOn before after
-    inner (Ok t) is to = record { holds = subst (Holds before.relations) (sym to.0) (change_holds done day before t leaves is); order = λ up. to.3 }
+    inner : (o : Result Relations Refusal) → change done day before ≡ o → StepTo done before answer after o
+        → GoesOn before after
+    inner (Ok t) is to =
+        record {
+          holds = subst (Holds before.relations) (sym to.0) (change_holds done day before t leaves is);
+          order = λ up. to.3;
+        }
     inner (Err e) is to = goes_on_itself before after to.1
 
-run_goes_on : (done : List (Command × ℕ)) (before : State) (replies : List (Result Reply Refusal)) (after : State) → NoneImportsOrCloses done → Run done before replies after → GoesOn before after
+run_goes_on : (done : List (Command × ℕ)) (before : State) (replies : List (Result Reply Refusal)) (after : State)
+    → NoneImportsOrCloses done → Run done before replies after → GoesOn before after
 run_goes_on [] before [] after none same = goes_on_itself before after same
 run_goes_on [] before (q ∷ replies) after none never = absurd never
 run_goes_on (x ∷ done) before [] after none never = absurd never
 run_goes_on (x ∷ done) before (q ∷ replies) after none run =
     let one = first run.1 in
-    let rest = run_goes_on done run.0 replies after (All-tail (λ (d : Command × ℕ). imports_or_closes d.0 ≡ false) x done none) run.2 in
-    record { holds = holds_both before.relations run.0.relations after.relations one.holds rest.holds; order = λ up. rest.order (one.order up) }
+    let rest = run_goes_on done run.0 replies after
+    (All-tail (λ (d : Command × ℕ). imports_or_closes d.0 ≡ false) x done none) run.2 in
+    record {
+      holds = holds_both before.relations run.0.relations after.relations one.holds rest.holds;
+      order = λ up. rest.order (one.order up);
+    }
   where
     first : {mid : State} → MayStep x.0 x.1 before q mid → GoesOn before mid
     first {mid} (inl memory) = goes_on_itself before mid memory.1
-    first {mid} (inr step) = step_goes_on x.0 x.1 before q mid (All-head (λ (d : Command × ℕ). imports_or_closes d.0 ≡ false) x done none) step
+    first {mid} (inr step) =
+        step_goes_on x.0 x.1 before q mid
+        (All-head (λ (d : Command × ℕ). imports_or_closes d.0 ≡ false) x done none) step
 
 -- an accepted command leaves the office in order
-in_order_then : (done : Command) (day : ℕ) (before : State) (answer : Reply) (after : State) → Step done day before (Ok answer) after → IsInOrder after
+in_order_then : (done : Command) (day : ℕ) (before : State) (answer : Reply) (after : State)
+    → Step done day before (Ok answer) after → IsInOrder after
 in_order_then done day before answer after step = inner (change done day before) step
   where
     inner : (o : Result Relations Refusal) → StepTo done before (Ok answer) after o → IsInOrder after
@@ -184,26 +220,36 @@ module _ (r t : Relations) (holds : Holds r t) where
   }
 
 -- rows that are stored, with references that are there, in an office that is within limits and in order
-stored_import : (r : Relations) (rows : List Row) → rows_refusal r rows ≡ None → within_limits r ≡ true → with_rows r rows ≡ r → imported r rows ≡ Ok r
+stored_import : (r : Relations) (rows : List Row) → rows_refusal r rows ≡ None → within_limits r ≡ true
+    → with_rows r rows ≡ r → imported r rows ≡ Ok r
 stored_import r rows refer limits same = import_accepted r rows refer (ap within_limits same ∙ limits) ∙ ap Ok same
 
 pub repeated_later : (import : ImportRows) (day later : ℕ) (before mid late after : State) (first : Reply)
     (done : List (Command × ℕ)) (replies : List (Result Reply Refusal)) (second : Result Reply Refusal)
     → IsGood late → is_consistent import.rows ≡ true → NoneImportsOrCloses done
-    → Step (command.Import import) day before (Ok first) mid → Run done mid replies late → Step (command.Import import) later late second after
+    → Step (command.Import import) day before (Ok first) mid → Run done mid replies late
+    → Step (command.Import import) later late second after
     → (second ≡ Ok (reply.Imported 0 0 (length (distinct_rows import.rows)))) × (after ≡ late)
 repeated_later import day later before mid late after first done replies second good agree none one run two =
     let new = new_facts (command.Import import) day before first mid one in
     let made_so = accepted before.relations mid.relations import.rows new in
-    let checks = neither (rows_refusal before.relations import.rows) (first_refusal (too_many (with_rows before.relations import.rows) ∷ [])) made_so.0 in
+    let checks = neither (rows_refusal before.relations import.rows)
+    (first_refusal (too_many (with_rows before.relations import.rows) ∷ [])) made_so.0 in
     let on = run_goes_on done mid replies late none run in
-    let stored_then : AllByRecursion (IsStored mid.relations) import.rows = subst (λ t. AllByRecursion (IsStored t) import.rows) made_so.1 (rows_stored before.relations import.rows agree) in
-    let referred_then : rows_refusal mid.relations import.rows ≡ None = ap (λ t. rows_refusal t import.rows) (sym made_so.1) ∙ import_refers_still before.relations import.rows checks.0 in
+    let stored_then : AllByRecursion (IsStored mid.relations) import.rows =
+    subst (λ t. AllByRecursion (IsStored t) import.rows) made_so.1
+    (rows_stored before.relations import.rows agree) in
+    let referred_then : rows_refusal mid.relations import.rows ≡ None =
+    ap (λ t. rows_refusal t import.rows) (sym made_so.1)
+    ∙ import_refers_still before.relations import.rows checks.0 in
     let stored = all_stored_still mid.relations late.relations on.holds import.rows stored_then in
-    let refer = rows_refer_still mid.relations late.relations import.rows (grows_still mid.relations late.relations on.holds) referred_then in
+    let refer = rows_refer_still mid.relations late.relations import.rows
+    (grows_still mid.relations late.relations on.holds) referred_then in
     let up : IsInOrder late = on.order (in_order_then (command.Import import) day before first mid one) in
     let same = rows_again late.relations import.rows up.tables stored in
     let to : StepTo (command.Import import) late second after (Ok late.relations) =
     subst (StepTo (command.Import import) late second after)
-    (stored_import late.relations import.rows refer good.limits same) two in
-    (to.2 ∙ ap Ok (stored_reply late.relations import.rows stored), same_office (command.Import import) late second after up to.3 to)
+    (stored_import late.relations import.rows refer good.limits same) two in (
+      to.2 ∙ ap Ok (stored_reply late.relations import.rows stored),
+      same_office (command.Import import) late second after up to.3 to,
+    )

@@ -1,5 +1,6 @@
 -- The repair of a plan.
-use Rattle.std.specs.Prelude.{◌≡◌, ◌⊎◌, ◌↔◌, ℕ, Contains, Bool, ◌&&◌, nat_lt, not, List, [], ◌∷◌, ◌++◌, filter, count_by, Option}
+use Rattle.std.specs.Prelude.{◌≡◌, ◌⊎◌, ◌↔◌, ℕ, Contains, Bool, ◌&&◌, nat_lt, not, List, [], ◌∷◌, ◌++◌, filter}
+use Rattle.std.specs.Prelude.{count_by, Option}
 use Rattle.std.specs.Prelude.{None, Some, if◌then◌else◌}
 use Rattle.std.specs.List.{list_any}
 use Rattle.std.specs.List.Sorted.{IsStrictlySortedBy}

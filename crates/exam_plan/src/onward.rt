@@ -1,5 +1,6 @@
 //! Which halls fit some occupant of each hall, kept as people move.
-ghost use Rattle.std.specs.Prelude.{◌≡◌, ◌<◌, ◌≤◌, ◌&&◌, ℕ, true, nat_eq, if◌then◌else◌, length, Option, Some, IfOk, IsTrue};
+ghost use Rattle.std.specs.Prelude.{◌≡◌, ◌<◌, ◌≤◌, ◌&&◌, ℕ, true, nat_eq, if◌then◌else◌, length, Option, Some, IfOk};
+ghost use Rattle.std.specs.Prelude.{IsTrue};
 ghost use Rattle.std.specs.Prelude.{slice_index, slice_set};
 ghost use Rattle.exam_types.specs.Refusals.{OnlyMemory};
 ghost use Rattle.exam_plan.specs.HallSets.{most_halls, holds};

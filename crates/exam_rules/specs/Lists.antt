@@ -1,5 +1,6 @@
 -- The members and the open halls of all sessions, as lists by session.
-use Rattle.std.specs.Prelude.{◌≡◌, ◌<◌, ℕ, ◌-◌, not, length, slice_get, slice_index_or, nat_eq, nat_lt, Bool, true, false}
+use Rattle.std.specs.Prelude.{◌≡◌, ◌<◌, ℕ, ◌-◌, not, length, slice_get, slice_index_or, nat_eq, nat_lt, Bool, true}
+use Rattle.std.specs.Prelude.{false}
 use Rattle.std.specs.Prelude.{List, [], ◌∷◌, ◌++◌, map, filter, Option, None, Vec, if◌then◌else◌}
 use Rattle.std.specs.Global.{Global}
 use Rattle.std.specs.List.{filter_map, cons_option}

@@ -4,4 +4,8 @@ use Rattle.exam_changes.proofs.deciding.put_appeal.Goals as goal
 
 pub returns-clause-back : goal.returns-clause-back
 returns-clause-back c =
-    λ first back. elim [ table.Appeals ↦ c.put_kept.ensures.back appeals_exact first.appeals (back table.Appeals) | t ↦ back t ]
+    λ first back. elim [
+      | table.Appeals ↦ c.put_kept.ensures.back appeals_exact first.appeals
+          (back table.Appeals)
+      | t ↦ back t
+    ]

@@ -4,4 +4,8 @@ use Rattle.exam_changes.proofs.deciding.put_mark.Goals as goal
 
 pub returns-clause-back : goal.returns-clause-back
 returns-clause-back c =
-    λ first back. elim [ table.Standing ↦ c.put_kept.ensures.back appeals_exact first.standing (back table.Standing) | t ↦ back t ]
+    λ first back. elim [
+      | table.Standing ↦ c.put_kept.ensures.back appeals_exact first.standing
+          (back table.Standing)
+      | t ↦ back t
+    ]

@@ -12,24 +12,29 @@ use Rattle.exam_check.proofs.checking.check.Goals as goal
 pub returns-in-Ok-None-clause-found : goal.returns-in-Ok-None-clause-found
 returns-in-Ok-None-clause-found g c = λ clean all was.
     let db = (state g.S.Store c.args.conn.now).now in
-    subst (λ bad. IsFirstBadTable db all (option_map table_of bad)) c.in-Ok-None.field-0-is (found_as db all c.in-Ok-None.field-0 (c.in-Ok-None.ensures.found clean all was))
+    subst (λ bad. IsFirstBadTable db all (option_map table_of bad)) c.in-Ok-None.field-0-is
+    (found_as db all c.in-Ok-None.field-0 (c.in-Ok-None.ensures.found clean all was))
 
 pub returns-in-Ok-Some-clause-found : goal.returns-in-Ok-Some-clause-found
 returns-in-Ok-Some-clause-found g c = λ clean all was.
     let db = (state g.S.Store c.args.conn.now).now in
     subst (λ t. IsFirstBadTable db all (Some t)) (sym c.table_of.ensures)
-    (subst (λ bad. IsFirstBadTable db all (option_map table_of bad)) c.in-Ok-Some.field-0-is (found_as db all c.in-Ok-Some.field-0 (c.in-Ok-Some.ensures.found clean all was)))
+    (subst (λ bad. IsFirstBadTable db all (option_map table_of bad)) c.in-Ok-Some.field-0-is
+    (found_as db all c.in-Ok-Some.field-0 (c.in-Ok-Some.ensures.found clean all was)))
 
 pub returns-in-Err-BadStore-clause-found : goal.returns-in-Err-BadStore-clause-found
-returns-in-Err-BadStore-clause-found g c = λ clean all was. inl (((c.in-Err-BadStore.ensures.looks.bad clean) c.in-Err-BadStore.field-0-is).1 all, refl)
+returns-in-Err-BadStore-clause-found g c =
+    λ clean all was. inl (((c.in-Err-BadStore.ensures.looks.bad clean) c.in-Err-BadStore.field-0-is).1 all, refl)
 
 -- ---- the names of the tables
 
 pub returns-in-Ok-None-clause-unlisted : goal.returns-in-Ok-None-clause-unlisted
-returns-in-Ok-None-clause-unlisted g c = λ clean none. absurd (both_ways _ none (listed_newest _ (c.in-Ok-None.ensures.listed clean)))
+returns-in-Ok-None-clause-unlisted g c =
+    λ clean none. absurd (both_ways _ none (listed_newest _ (c.in-Ok-None.ensures.listed clean)))
 
 pub returns-in-Ok-Some-clause-unlisted : goal.returns-in-Ok-Some-clause-unlisted
-returns-in-Ok-Some-clause-unlisted g c = λ clean none. absurd (both_ways _ none (listed_newest _ (c.in-Ok-Some.ensures.listed clean)))
+returns-in-Ok-Some-clause-unlisted g c =
+    λ clean none. absurd (both_ways _ none (listed_newest _ (c.in-Ok-Some.ensures.listed clean)))
 
 -- an older version
 

@@ -24,7 +24,9 @@ returns-then-not-branch-clause-ok g c = (
       let keys = c.args.keys.now in
       let i = c.loop-key.key-index in
       let y = c.key-item.result in
-      let there : contains g.K.Ord.cmp c.loop-key.seen y ≡ true = not-false (contains g.K.Ord.cmp c.loop-key.seen y) (sym c.in_ok-insert.ensures.added ∙ c.if-not-branch.true) in
+      let there : contains g.K.Ord.cmp c.loop-key.seen y ≡ true =
+      not-false (contains g.K.Ord.cmp c.loop-key.seen y)
+      (sym c.in_ok-insert.ensures.added ∙ c.if-not-branch.true) in
       let split : take i keys ++ y ∷ drop (suc i) keys ≡ keys =
       ap (λ z. take i keys ++ z ∷ drop (suc i) keys) c.key-item.is
       ∙ ap (λ t. take i keys ++ t) (sym (drop-cons keys i y c.loop-key-test.true)) ∙ take-append-drop i keys in
@@ -37,7 +39,9 @@ pub loop-key-preserved : goal.loop-key-preserved
 loop-key-preserved g c =
     let i = c.loop-key.key-index in
     let y = c.key-item.result in
-    let more : take (i + 1) c.args.keys.now ≡ take i c.args.keys.now ++ y ∷ [] = take_more c.args.keys.now i y c.loop-key-test.true ∙ ap (λ z. take i c.args.keys.now ++ z ∷ []) (sym c.key-item.is) in
+    let more : take (i + 1) c.args.keys.now ≡ take i c.args.keys.now ++ y ∷ [] =
+    take_more c.args.keys.now i y c.loop-key-test.true
+    ∙ ap (λ z. take i c.args.keys.now ++ z ∷ []) (sym c.key-item.is) in
     let fresh : list_any (eq_by_cmp g.K.Ord.cmp y) (take i c.args.keys.now) ≡ false =
     sym (c.loop-key.invariant.seen y)
     ∙ not-true (contains g.K.Ord.cmp c.loop-key.seen y)
@@ -48,5 +52,7 @@ loop-key-preserved g c =
           (c.in_ok-insert.ensures.updates.0 k
           ∙ ap (λ t. cond (is_at (g.K.Ord.cmp y) k) true t) (c.loop-key.invariant.seen k))
           ∙ ap (list_any (eq_by_cmp g.K.Ord.cmp k)) (sym more);
-      distinct = subst (IsDistinct (eq_by_cmp g.K.Ord.cmp)) (sym more) (IsDistinct-push (eq_by_cmp_equiv g.met.K.Ord.total) (take i c.args.keys.now) y c.loop-key.invariant.distinct fresh);
+      distinct = subst (IsDistinct (eq_by_cmp g.K.Ord.cmp)) (sym more)
+          (IsDistinct-push (eq_by_cmp_equiv g.met.K.Ord.total)
+          (take i c.args.keys.now) y c.loop-key.invariant.distinct fresh);
     }

@@ -11,9 +11,12 @@ use Rattle.exam_judging.proofs.touching.add_imported.Goals as goal
 pub returns-in-Papers : goal.returns-in-Papers
 returns-in-Papers c =
     let import : ImportRows = c.args.import.now in
-    let of : AreOfKind import.kind import.rows = subst (AreOfKind import.kind) c.rows-rows.ensures.value c.rows-rows.ensures.kind in
-    let other : is_of_sessions import.kind ≡ false = sym (ap is_of_sessions c.kind.ensures) ∙ sets_no_session c.kind.result c.in-Papers.is in
+    let of : AreOfKind import.kind import.rows =
+    subst (AreOfKind import.kind) c.rows-rows.ensures.value c.rows-rows.ensures.kind in
+    let other : is_of_sessions import.kind ≡ false =
+    sym (ap is_of_sessions c.kind.ensures) ∙ sets_no_session c.kind.result c.in-Papers.is in
     record {
-      ok = λ s. ap (λ b. b || contains code_cmp c.args.codes.now s) (sym (others_set_none s import.kind import.rows of other));
+      ok = λ s. ap (λ b. b || contains code_cmp c.args.codes.now s)
+          (sym (others_set_none s import.kind import.rows of other));
       memory = tt;
     }

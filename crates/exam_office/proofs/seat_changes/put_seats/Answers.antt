@@ -18,7 +18,8 @@ loop-key-preserved c =
     record {
       so_far =
           ap (λ (held : List ((Code × ℕ) × Code)). all_put seat_cmp held rest) c.in_ok-insert.ensures.entries
-          ∙ subst (λ (es : List ((Code × ℕ) × Code)). all_put seat_cmp c.loop-key.seats.entries es ≡ all_put seat_cmp c.args.seats.now.entries new) c.in-Some.ensures.steps c.loop-key.invariant.so_far;
+          ∙ subst (λ (es : List ((Code × ℕ) × Code)). all_put seat_cmp c.loop-key.seats.entries es
+          ≡ all_put seat_cmp c.args.seats.now.entries new) c.in-Some.ensures.steps c.loop-key.invariant.so_far;
       among = λ k has. among k (has_later seat_cmp seats_total seats_exact seat rest k has);
       others = λ k away. ap
           (λ (held : List ((Code × ℕ) × Code)). row_at seat_cmp held k) c.in_ok-insert.ensures.entries

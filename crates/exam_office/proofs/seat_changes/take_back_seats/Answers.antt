@@ -11,7 +11,8 @@ loop-key-preserved c =
     let rows = c.loop-key.seats.entries in
     let key : Code × ℕ = c.in-Some.key.now in
     let rest = c.next.new.self in
-    let set : c.set.new.rows.entries ≡ set_row seat_cmp rows key (row_at seat_cmp old key) = c.set.ensures.set ∙ ap (set_row seat_cmp rows key) (c.copied.ensures ∙ c.get.ensures.value) in
+    let set : c.set.new.rows.entries ≡ set_row seat_cmp rows key (row_at seat_cmp old key) =
+    c.set.ensures.set ∙ ap (set_row seat_cmp rows key) (c.copied.ensures ∙ c.get.ensures.value) in
     record {
       so_far =
           ap (λ (held : List ((Code × ℕ) × Code)). taken_back seat_cmp held old rest) set

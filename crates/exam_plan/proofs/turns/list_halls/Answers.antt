@@ -9,7 +9,8 @@ use Rattle.exam_plan.proofs.turns.list_halls.Goals.{then-contains, else-contains
 
 pub push_reserved-requires : goal.push_reserved-requires
 push_reserved-requires c =
-    let fewer = still_fewer (holds c.args.set) c.args.halls c.loop-hall.hall c.loop-hall-test.true (sym c.contains.ensures ∙ c.if-contains.true) in
+    let fewer = still_fewer (holds c.args.set) c.args.halls c.loop-hall.hall c.loop-hall-test.true
+    (sym c.contains.ensures ∙ c.if-contains.true) in
     let long : length c.loop-hall.listed.items
     ≡ length c.args.listed.now.items + length (halls_below c.loop-hall.hall c.args.set) =
     ap length c.loop-hall.invariant.listed

@@ -26,8 +26,10 @@ returns-clause-made g c =
     let made = c.in_ok-save_widened.ensures.made in
     commits_ok old new tt (v, version) Migrates
     (commits_at old new (Ok tt) Widens Migrates
-    (λ clean db. migrates old.now db v (older v c.in_ok-version.ensures.known.0 other) (c.in_ok-version.ensures.judges.rows (omega (arith, made.survives.clean, clean))))
-    (then_commits old mid new (Ok tt) Widens c.in_ok-version.ensures.judges.left c.judged_version.ensures.judges.survives made))
+    (λ clean db. migrates old.now db v (older v c.in_ok-version.ensures.known.0 other)
+    (c.in_ok-version.ensures.judges.rows (omega (arith, made.survives.clean, clean))))
+    (then_commits old mid new
+    (Ok tt) Widens c.in_ok-version.ensures.judges.left c.judged_version.ensures.judges.survives made))
 
 pub returns-in_err-save_widened-clause-made : goal.returns-in_err-save_widened-clause-made
 returns-in_err-save_widened-clause-made g c =
@@ -41,8 +43,10 @@ returns-in_err-save_widened-clause-made g c =
     let is : c.from_residual-in_err-save_widened.result ≡ Err e = search rules in
     rw is (commits_err old new e e Migrates
     (commits_at old new (Err e) Widens Migrates
-    (λ clean db. migrates old.now db v (older v c.in_ok-version.ensures.known.0 other) (c.in_ok-version.ensures.judges.rows (omega (arith, made.survives.clean, clean))))
-    (then_commits old mid new (Err e) Widens c.in_ok-version.ensures.judges.left c.judged_version.ensures.judges.survives made)))
+    (λ clean db. migrates old.now db v (older v c.in_ok-version.ensures.known.0 other)
+    (c.in_ok-version.ensures.judges.rows (omega (arith, made.survives.clean, clean))))
+    (then_commits old mid new
+    (Err e) Widens c.in_ok-version.ensures.judges.left c.judged_version.ensures.judges.survives made)))
 
 pub returns-in_err-save_widened-clause-refusal : goal.returns-in_err-save_widened-clause-refusal
 returns-in_err-save_widened-clause-refusal g c = λ clean.
@@ -58,7 +62,8 @@ returns-in_err-save_widened-clause-refusal g c = λ clean.
     let known = c.in_ok-version.ensures.judges.understood clean_mid in
     rw is (inr (inr (
       (known.0, some_understood old.now held_texts _ known.1),
-      λ made. not_made old mid new e c.judged_version.ensures.judges.survives clean_mid s.counts calm same (c.in_err-save_widened.ensures.failed clean (made.0, still_made old mid made.0 same made.1)),
+      λ made. not_made old mid new e c.judged_version.ensures.judges.survives clean_mid s.counts calm same
+          (c.in_err-save_widened.ensures.failed clean (made.0, still_made old mid made.0 same made.1)),
     )))
 
 -- no office of any version is there
@@ -67,13 +72,18 @@ pub returns-in_err-version-clause-refusal : goal.returns-in_err-version-clause-r
 returns-in_err-version-clause-refusal g c = λ clean.
     let is : c.from_residual.result ≡ Err c.in_err-version.field-0.0 = search rules in
     rw is (inr (inl (part_failed c.in_err-version.field-0.0 (λ told. told)
-    (λ none v known all was. none all (made_of v (state g.S.Store c.args.conn.now).now all was) v known was) (c.in_err-version.ensures.judges.bad clean))))
+    (λ none v known all was. none all (made_of v (state g.S.Store c.args.conn.now).now all was) v known was)
+    (c.in_err-version.ensures.judges.bad clean))))
 
 pub returns-clause-found : goal.returns-clause-found
-returns-clause-found g c = λ clean. c.in_ok-version.ensures.judges.rows (omega (arith, c.in_ok-save_widened.ensures.made.survives.clean, clean))
+returns-clause-found g c =
+    λ clean. c.in_ok-version.ensures.judges.rows
+    (omega (arith, c.in_ok-save_widened.ensures.made.survives.clean, clean))
 
 pub returns-clause-understood : goal.returns-clause-understood
-returns-clause-understood g c = λ clean. c.in_ok-version.ensures.judges.understood (omega (arith, c.in_ok-save_widened.ensures.made.survives.clean, clean))
+returns-clause-understood g c =
+    λ clean. c.in_ok-version.ensures.judges.understood
+    (omega (arith, c.in_ok-save_widened.ensures.made.survives.clean, clean))
 
 -- of the newest version already
 
@@ -94,7 +104,8 @@ returns-then-version-clause-made g c =
 -- where the names of the tables are not those of tables
 
 pub returns-in_err-save_widened-clause-unlisted : goal.returns-in_err-save_widened-clause-unlisted
-returns-in_err-save_widened-clause-unlisted g c = λ clean calm none. absurd (both_ways _ none c.in_ok-version.ensures.listed)
+returns-in_err-save_widened-clause-unlisted g c =
+    λ clean calm none. absurd (both_ways _ none c.in_ok-version.ensures.listed)
 
 pub returns-in_err-version-clause-unlisted : goal.returns-in_err-version-clause-unlisted
 returns-in_err-version-clause-unlisted g c = λ clean calm none.
@@ -114,4 +125,5 @@ returns-in_err-save_widened-clause-still g c = λ clean.
     let mid = state g.S.Store c.judged_version.new.conn in
     let new = state g.S.Store c.save_widened.new.conn in
     let is : c.from_residual-in_err-save_widened.result ≡ Err c.in_err-save_widened.field-0.0 = search rules in
-    rw is (λ bad. both_survive old mid new c.judged_version.ensures.judges.survives (c.in_err-save_widened.ensures.still clean bad))
+    rw is (λ bad. both_survive old mid new c.judged_version.ensures.judges.survives
+    (c.in_err-save_widened.ensures.still clean bad))

@@ -34,7 +34,8 @@ returns-clause-shut g c = λ shut.
     let new = state g.S.Store c.commit_changes.new.conn in
     let after = c.commit_changes.ensures.made.survives in
     survives_then old mid new _ _ _ (λ _ trees none. none)
-    (λ clean trees may. absurd (both_ways _ shut (c.in_ok-ask_nothing.ensures.ok (omega (arith, after.clean))).0.was_open))
+    (λ clean trees may. absurd
+    (both_ways _ shut (c.in_ok-ask_nothing.ensures.ok (omega (arith, after.clean))).0.was_open))
     c.ask_nothing.ensures.survives after
 
 -- where no statement can be run

@@ -44,7 +44,8 @@ returns-in-Ok-print_after-clause-tables g c =
 
 pub returns-in-Err-print_after-clause-still : goal.returns-in-Err-print_after-clause-still
 returns-in-Err-print_after-clause-still g c =
-    rw (c.close.ensures, c.in-Err-print_after.ensures.same.0) (opened_rests_on g.S.Store (state g.S.Store c.args.conn) c.in-Ok.store c.in-Ok.ensures.same)
+    rw (c.close.ensures, c.in-Err-print_after.ensures.same.0)
+    (opened_rests_on g.S.Store (state g.S.Store c.args.conn) c.in-Ok.store c.in-Ok.ensures.same)
 
 pub returns-in-Err-print_after-clause-why : goal.returns-in-Err-print_after-clause-why
 returns-in-Err-print_after-clause-why g c = λ clean. inl (inr (inl (inl c.in-Err-print_after.ensures.memory)))

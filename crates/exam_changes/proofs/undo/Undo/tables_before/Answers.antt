@@ -15,7 +15,8 @@ returns-in-Entry c = λ r up there.
     (elim [
       | table.Entries ↦ (
         subst (λ (u : Undo). IsThere u r) c.in-Entry.is there,
-        set_others entry_cmp appeals_total appeals_exact r.entries c.in-Entry.key (Some c.in-Entry.field-1) (up table.Entries),
+        set_others entry_cmp appeals_total appeals_exact r.entries c.in-Entry.key (Some c.in-Entry.field-1)
+            (up table.Entries),
       )
       | _ ↦ refl
     ])
@@ -37,13 +38,15 @@ returns-in-Appeal c = λ r up there.
     (elim [
       | table.Appeals ↦ (
         subst (λ (u : Undo). IsThere u r) c.in-Appeal.is there,
-        set_others appeal_cmp appeals_total appeals_exact r.appeals c.in-Appeal.key (Some c.in-Appeal.field-1) (up table.Appeals),
+        set_others appeal_cmp appeals_total appeals_exact r.appeals c.in-Appeal.key (Some c.in-Appeal.field-1)
+            (up table.Appeals),
       )
       | _ ↦ refl
     ])
 
 pub returns-in-Nothing : goal.returns-in-Nothing
-returns-in-Nothing c = λ r up there. rw (c.same-before.ensures, c.in-Nothing.is) (elim [ table.Entries ↦ refl | _ ↦ refl ])
+returns-in-Nothing c =
+    λ r up there. rw (c.same-before.ensures, c.in-Nothing.is) (elim [ table.Entries ↦ refl | _ ↦ refl ])
 
 pub returns-in-Rows : goal.returns-in-Rows
 returns-in-Rows c = λ r up there.

@@ -31,5 +31,6 @@ returns-clause-read c =
     let lodged = c.in_ok-lodged.ensures in
     inr (
       (number.0, reference.0, session.0, subject.0, reason.0, status.0, lodged.0),
-      eleven c.args.row.now _ _ _ _ _ _ _ _ _ _ _ len number.1 reference.1 session.1 subject.1 reason.1 status.1 lodged.1,
+      eleven c.args.row.now _ _ _ _ _ _ _ _ _ _ _ len number.1 reference.1 session.1 subject.1 reason.1 status.1
+          lodged.1,
     )
