@@ -1,20 +1,15 @@
 """What all commands of the desk share: how they begin, which office they mean, their words, and how they speak.
 
 OFFICE names another file than office.db, TODAY another date than the clock's, EXAMOFFICE another program. The package
-exam_desk reads none of these: a command hands an `Office` on.
+exam_desk reads none of these: a command hands an `Office` on. What not every command needs is imported where it is
+used, since that is most of the time in which `office look` answers.
 """
 from __future__ import annotations
 
-import argparse
 import contextlib
-import datetime
 import os
-import pathlib
-import shutil
 import signal
-import sqlite3
 import sys
-from types import FrameType, TracebackType
 from typing import TYPE_CHECKING
 
 from exam_desk import beside
@@ -23,9 +18,13 @@ from exam_desk.trouble import Trouble
 from exam_desk.words import plain
 
 if TYPE_CHECKING:
+    import argparse
+    import datetime
+    from types import FrameType, TracebackType
+
     from exam_desk.reading import Reading
 
-DESK = pathlib.Path(__file__).resolve().parent
+DESK = os.path.dirname(os.path.realpath(__file__))
 BAR = 24  # letters of a bar that is full
 MANY, FEW = 500, 100  # of so many questions, the progress is shown after each few
 CLEAR = "\r\x1b[K"  # a terminal takes away the line on which it writes
@@ -46,6 +45,7 @@ def begin() -> None:
 
 def tell(kind: type[BaseException], fault: BaseException, place: TracebackType | None) -> None:
     """Prints what ends a command: a line where a person can mend it, a list of calls where the desk is wrong."""
+    import sqlite3
     if isinstance(fault, BrokenPipeError):
         drop_output()
     elif isinstance(fault, Trouble):
@@ -91,7 +91,7 @@ def progress(text: str, part: float | None = None) -> None:
 def tell_consequences(copy: str | None) -> None:
     """Says on standard error what a change did to candidates that is done, from the copy of before it."""
     if copy is not None:
-        from exam_desk import consequences  # here, since a command without it begins sooner
+        from exam_desk import consequences
         progress("it is done; who sits otherwise now?")
         lines = consequences.done(office(), copy, show_asked)
         progress("")
@@ -102,6 +102,7 @@ def tell_consequences(copy: str | None) -> None:
 
 def arguments(name: str, doc: str | None) -> argparse.ArgumentParser:
     """What reads the words of a command; `--help` prints the text."""
+    import argparse
     return argparse.ArgumentParser(prog=f"office {name}", description=doc,
                                    formatter_class=argparse.RawDescriptionHelpFormatter)
 
@@ -113,7 +114,7 @@ def office() -> Office:
 
 def reading(path: str | None = None) -> Reading:
     """The office, or another file of one, as it is now; a terminal shows how far long questions are."""
-    from exam_desk.reading import Reading  # here, since half the time of a command without it would be this import
+    from exam_desk.reading import Reading
     return Reading(office(), path, show_asked)
 
 
@@ -129,14 +130,16 @@ def office_path() -> str:
 def program() -> str:
     """The program: EXAMOFFICE, else beside the scripts, else the built one of the repository, else one on the PATH.
     Where none is there, the first name: a command that needs none goes on."""
+    import shutil
     named = os.environ.get("EXAMOFFICE")
-    places = [named] if named else [str(DESK / "examoffice"), str(DESK.parent / "crates/examoffice/out/examoffice"),
-                                    "examoffice"]
+    places = [named] if named else [os.path.join(DESK, "examoffice"),
+                                    os.path.join(DESK, "../crates/examoffice/out/examoffice"), "examoffice"]
     return next(filter(None, map(shutil.which, places)), places[0])
 
 
 def today() -> datetime.date:
     """The date. Raises `Trouble` where TODAY is none."""
+    import datetime
     given = os.environ.get("TODAY")
     if not given:
         return datetime.date.today()

@@ -7,7 +7,6 @@ listened before the connection and still does, is at its other end.
 """
 from __future__ import annotations
 
-import asyncio
 import contextlib
 import os
 import re
@@ -42,27 +41,14 @@ def shown(place: str) -> str:
     return f"{HOST} {place}" if place.isdigit() else place
 
 
-async def answer(server: Server, request: bytes) -> bytes:
-    """All that a server answers before it closes the connection, in whatever way. Raises `Stranger`, or another OSError
-    where nobody listens."""
-    loop = asyncio.get_running_loop()
-    family, where = address(server.place)
-    parts = []
-    with socket.socket(family) as connection:
-        connection.setblocking(False)
-        await loop.sock_connect(connection, where)
-        refuse_stranger(connection, server)
-        with contextlib.suppress(OSError):
-            await loop.sock_sendall(connection, request)
-            connection.shutdown(socket.SHUT_WR)
-            while part := await loop.sock_recv(connection, 1 << 16):
-                parts.append(part)
-    return b"".join(parts)
+def answer(server: Server, request: bytes, seconds: float) -> bytes:
+    """All that a server answers before it closes the connection. Raises as `sent`."""
+    return received(sent(server, request, seconds))
 
 
 def sent(server: Server, request: bytes, seconds: float) -> socket.socket:
-    """A connection over which a request went, for who asks many one after the other and does nothing else meanwhile.
-    Raises as `answer`; each wait for the server lasts so long at most."""
+    """A connection over which a request went. Raises `Stranger`, or another OSError where nobody listens; each wait for
+    the server lasts so long at most."""
     family, where = address(server.place)
     connection = socket.socket(family)
     try:

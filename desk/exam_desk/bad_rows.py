@@ -1,7 +1,7 @@
 """What whoever reads an office relies on: values that can be read, and rows that refer to rows that are there.
 
-It is less than `office check` looks at, and takes little time: entry and seat, the large tables, are looked at by who
-reads a session of them.
+It is less than `office check` looks at, and takes little time: entry and seat, the large tables, are looked at only
+where the program refuses the office.
 """
 from __future__ import annotations
 
@@ -48,11 +48,15 @@ WRONG = {  # of each table the conditions of wrong rows
                whole("state", 1, 5), text("coalesce(answer, '')"), day("lodged")],
     "standing": [missing("number, ref", "appeal", "number, ref")],
 }
+LARGE = {
+    "entry": [missing("number", "candidate", "number"), missing("paper", "paper"), whole("live", 0, 1)],
+    "seat": [missing("session, hall", "opening", "session, hall"), missing("number", "candidate", "number")],
+}
 
 
-def refuse(connection: sqlite3.Connection, path: str) -> None:
+def refuse(connection: sqlite3.Connection, path: str, wrong: dict[str, list[str]]) -> None:
     """Raises `BadRows` where a table has wrong rows."""
-    for table, conditions in WRONG.items():
+    for table, conditions in wrong.items():
         query = f"SELECT 1 FROM {table} WHERE {' OR '.join(conditions)} LIMIT 1"
         if connection.execute(query).fetchone():
             raise BadRows(path, table)

@@ -7,8 +7,10 @@ sends nothing keeps nobody waiting: `serve` sees whole requests alone, and in a 
 from __future__ import annotations
 
 import asyncio
+import contextlib
 import re
 import resource
+import socket
 import time
 
 from exam_desk import asking
@@ -101,7 +103,7 @@ class Hold:
     async def ask(self, server: asking.Server, request: bytes) -> bytes:
         """What `serve` answers; nothing where no whole answer comes. Call it with the turn, while it is open."""
         try:
-            answer = await asyncio.wait_for(asking.answer(server, request), ANSWER_SECONDS)
+            answer = await asyncio.wait_for(answer_of(server, request), ANSWER_SECONDS)
         except asyncio.TimeoutError:
             self.give_up(f"no answer within {ANSWER_SECONDS} seconds")
             return b""
@@ -112,6 +114,24 @@ class Hold:
             self.renewed = time.monotonic()
             self.give_up("an answer 500")
         return answer if status else b""
+
+
+async def answer_of(server: asking.Server, request: bytes) -> bytes:
+    """All that a server answers before it closes the connection, in whatever way; raises as `asking.sent`. Others are
+    served meanwhile."""
+    loop = asyncio.get_running_loop()
+    family, where = asking.address(server.place)
+    parts = []
+    with socket.socket(family) as connection:
+        connection.setblocking(False)
+        await loop.sock_connect(connection, where)
+        asking.refuse_stranger(connection, server)
+        with contextlib.suppress(OSError):
+            await loop.sock_sendall(connection, request)
+            connection.shutdown(socket.SHUT_WR)
+            while part := await loop.sock_recv(connection, 1 << 16):
+                parts.append(part)
+    return b"".join(parts)
 
 
 async def whole_request(reader: asyncio.StreamReader) -> bytes:

@@ -1,7 +1,6 @@
 """Begins `keep` in the background, ends it, and asks whether it serves."""
 from __future__ import annotations
 
-import asyncio
 import os
 import signal
 import subprocess
@@ -87,7 +86,7 @@ def fault_of(state: turns.Said) -> str:
 def answers(state: turns.Said) -> bool:
     """Whether `serve` answers through `keep` in time."""
     try:
-        asked = asking.answer(asking.Server(state["pid"], state["place"]), QUESTION)
-        return asking.status_of(asyncio.run(asyncio.wait_for(asked, ASKING_SECONDS))) == 404
-    except (OSError, asyncio.TimeoutError):
+        server = asking.Server(state["pid"], state["place"])
+        return asking.status_of(asking.answer(server, QUESTION, ASKING_SECONDS)) == 404
+    except OSError:
         return False

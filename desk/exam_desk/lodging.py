@@ -1,7 +1,6 @@
 """Lodges an appeal for a candidate who is there, the candidates' way: over HTTP, with the candidate's access code."""
 from __future__ import annotations
 
-import asyncio
 import contextlib
 import json
 import re
@@ -100,8 +99,8 @@ def post(server: asking.Server, number: str, code: str, body: bytes) -> dict[str
     head = (f"POST /candidates/{number}/appeals HTTP/1.1\r\nHost: {asking.HOST}\r\nexam-code: {code}\r\n"
             f"Content-Length: {len(body)}\r\n\r\n")
     for _ in range(TRIES):
-        with contextlib.suppress(OSError, asyncio.TimeoutError):
-            answer = asyncio.run(asyncio.wait_for(asking.answer(server, head.encode() + body), SECONDS))
+        with contextlib.suppress(OSError):
+            answer = asking.answer(server, head.encode() + body, SECONDS)
             if asking.status_of(answer) not in (0, 502, 503, 504):
                 said: dict[str, object] = json.loads(asking.body_of(answer))
                 return said

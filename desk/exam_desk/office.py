@@ -4,11 +4,10 @@ from __future__ import annotations
 import datetime
 import os
 from collections.abc import Callable
-from dataclasses import dataclass
+from typing import NamedTuple
 
 
-@dataclass(frozen=True)
-class Office:
+class Office(NamedTuple):
     """An office, the program that has it, the day, and who works."""
     path: str  # of its file, as the user named it
     program: str  # the path of examoffice

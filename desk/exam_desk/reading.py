@@ -14,11 +14,11 @@ from collections.abc import Callable, Collection, Iterable, Sequence
 from types import TracebackType
 from typing import NamedTuple, TypeVar
 
-from exam_desk import answers, asking, facts, private, running, snapshot, turns
+from exam_desk import answers, asking, bad_rows, facts, private, running, snapshot, turns
 from exam_desk.answers import Appeal, Sitting
 from exam_desk.office import Office
 from exam_desk.serving import Kept, Progress, Serve
-from exam_desk.trouble import Trouble
+from exam_desk.trouble import BadRows, Trouble
 
 Found = TypeVar("Found")
 
@@ -157,7 +157,7 @@ class Reading:
     def begun(self) -> Serve | Kept:
         """Who is asked. Call it with the lock of those who ask."""
         if self.serve is None:
-            self.serve = serve = Serve(self.office, self.second_copy())
+            self.serve = serve = Serve(self.office, self.second_copy(), self.refuse_rows)
             self.stack.callback(serve.close)
         return self.serve
 
@@ -187,8 +187,18 @@ class Reading:
             done = running.run_over(self.office, self.copy, name, "--", *values)
         if done.status != 0:
             complaint = done.complaint.split("\n")[0] or f"status {done.status}"
+            self.refuse_rows(complaint)
             raise Trouble(f"no {name} {' '.join(values)}: {complaint}; nothing is printed")
         return done.answer
+
+    def refuse_rows(self, complaint: str) -> None:
+        """Raises `BadRows` where the program refuses the rows; it names the table, or else `check` does."""
+        if complaint == "refused 24":
+            bad_rows.refuse(self.rows, self.path, bad_rows.LARGE)
+            with self.printing:
+                said = running.run_over(self.office, self.copy, "check").answer
+            if said.startswith("bad "):
+                raise BadRows(self.path, said.removeprefix("bad ").strip())
 
 
 def of_few(office: Office, read: Callable[[Reading], Found]) -> Found:

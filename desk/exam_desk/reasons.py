@@ -6,17 +6,22 @@ compared with the printed shortage: `Reasons.differences`.
 from __future__ import annotations
 
 import collections
+import textwrap
 from collections.abc import Iterator
 
 from exam_desk import facts, shortage
 from exam_desk.facts import Opening
+from exam_desk.lists import count
 from exam_desk.reading import Member, Reading
 from exam_desk.shortage import Shortage
 from exam_desk.snapshot import session_row
 from exam_desk.trouble import Trouble
 from exam_desk.words import FEATURES, clock, features, plain
 
-MOST_NAMED = 3  # occupants of a full hall
+MOST_NAMED, MOST_HALLS = 3, 5  # occupants of a full hall, halls of a reason
+MOST_LINES = 60  # that go hall by hall; in place of more, equal reasons are put together
+MOST_GROUPS, COLUMNS = 24, 118  # of candidates, each on a line of its own; letters of a line
+CLOSES, TOO_EARLY = "closes ", "closes too early"
 GRANTED_HALLS = "SELECT number, target FROM appeal WHERE session = ? AND kind = 1 AND state = 2"
 
 
@@ -58,7 +63,7 @@ class Reasons:
         there, sitting = features(opening.features), member.sitting
         found = [f"no {name}" for name in self.needs(member) if name not in there]
         if sitting.finish > clock(opening.until):
-            found.append(f"closes {clock(opening.until)}")
+            found.append(f"{CLOSES}{clock(opening.until)}")
         if opening.reserved and not sitting.needs and not sitting.extra:
             found.append("reserved")
         if (member.number, opening.hall) in self.barred:
@@ -83,11 +88,44 @@ class Reasons:
                 + (f" and {others} more" if others > 0 else ""))
 
     def text(self, number: str | None = None) -> str:
-        """Lines on everybody without a desk, or on one candidate. Raises `Trouble` where that one sits nothing here."""
+        """Lines on everybody without a desk, or on one candidate, hall by hall; of many candidates and halls in short.
+        Raises `Trouble` where that one sits nothing here."""
         asked = self.unseated() if number is None else [each for each in self.members if each.number == number]
         if number is not None and not asked:
             raise Trouble(f"{number} sits nothing in {self.session}; a number has seven digits")
+        if number is None and len(asked) * (1 + len(self.openings)) > MOST_LINES:
+            return "".join(f"{line}\n" for line in self.in_short(asked))
         return "".join(map(self.lines, asked)) or "everybody has a desk\n"
+
+    def in_short(self, asked: list[Member]) -> Iterator[str]:
+        """All numbers, by needs, and each reason with its candidates and halls: at most MOST_LINES of 256."""
+        groups: dict[str, list[str]] = collections.defaultdict(list)
+        who: dict[str, set[str]] = collections.defaultdict(set)
+        where: dict[str, set[str]] = collections.defaultdict(set)
+        for member in asked:
+            groups["+".join(self.needs(member)) or "-"].append(member.number)
+            for opening in self.openings:
+                for reason in self.kinds(member, opening):
+                    who[reason].add(member.number)
+                    where[reason].add(opening.hall)
+        yield f"{count(len(asked), 'candidate')} without a desk, by what they and their papers need:"
+        parts = [f"needs {needs}: {' '.join(groups[needs])}" for needs in sorted(groups)]
+        for part in parts if len(parts) <= MOST_GROUPS else ["; ".join(parts)]:
+            yield from textwrap.wrap(part, COLUMNS, subsequent_indent="  ", break_on_hyphens=False)
+        halls = count(len(self.openings), "open hall")
+        yield f"why not in {halls}; a hall may have several reasons:" if self.openings else "no hall is open"
+        for reason in sorted(where, key=lambda reason: (-len(who[reason]), reason)):
+            named = sorted(where[reason])
+            more = f" and {len(named) - MOST_HALLS} more" if len(named) > MOST_HALLS else ""
+            yield (f"  {reason}: {count(len(who[reason]), 'candidate')}, {count(len(named), 'hall')}: "
+                   f"{', '.join(named[:MOST_HALLS])}{more}")
+        yield f"`office why {self.session} NUMBER` goes hall by hall for one of them"
+
+    def kinds(self, member: Member, opening: Opening) -> list[str]:
+        """The reasons of `obstacles` that others may share; whether a hall that suits is full."""
+        found = self.obstacles(member, opening)
+        taken = "all desks are taken" if len(self.taken[opening.hall]) >= opening.desks else "desks are free"
+        return [TOO_EARLY if each.startswith(CLOSES) else each for each in found] or [f"suits, but {taken}"]
 
     def lines(self, member: Member) -> str:
         sitting, halls = member.sitting, self.of(member)

@@ -2,7 +2,6 @@
 from __future__ import annotations
 
 import contextlib
-import ctypes
 import os
 import shutil
 import subprocess
@@ -94,6 +93,7 @@ def not_started(office: Office, fault: OSError) -> NotStarted:
 def end_with(parent: int, number: int) -> Callable[[], None]:
     """What a child does first, so that a signal ends it where its parent is killed. The thread that begins the child
     must live as long: the system asks for that thread."""
+    import ctypes  # here, since most commands begin sooner without it
     library = ctypes.CDLL(None)
 
     def arrange() -> None:

@@ -27,8 +27,9 @@ class Serve:
     The thread that asks first must live as long: the system ends `serve` with that thread.
     """
 
-    def __init__(self, office: Office, path: str) -> None:
-        self.office, self.path = office, path
+    def __init__(self, office: Office, path: str, explain: Callable[[str], None]) -> None:
+        """Over a file of an office. `explain` hears a refusal, and may raise what it knows better."""
+        self.office, self.path, self.explain = office, path, explain
         self.child: subprocess.Popen[bytes] | None = None
         self.port = 0
         self.server: asking.Server | None = None  # once it has said that it serves
@@ -63,9 +64,17 @@ class Serve:
             child = self.begin()
             assert child.stdout and child.stderr
             if not child.stdout.readline().startswith(b"serving"):
-                refuse(child.stderr.readline().decode("utf-8", "replace").strip())
+                self.refuse(child.stderr.readline().decode("utf-8", "replace").strip())
             self.server = asking.Server(child.pid, str(self.port))
         return self.server
+
+    def refuse(self, complaint: str) -> None:
+        """Raises `Trouble`, or OSError where another try may do: its port was taken, or a signal ended it."""
+        if complaint in ("", "net fault"):
+            raise OSError("serve does not listen")
+        self.explain(complaint)
+        raise Trouble(f"the program does not read the office ({complaint}); `office check` says more; nothing is "
+                      "printed")
 
     def close(self) -> None:
         """Ends `serve`, which has nothing to save."""
@@ -90,13 +99,6 @@ class Kept:
         found: list[bytes] = []
         ask_all(self.server, requests, found, progress)
         return found
-
-
-def refuse(complaint: str) -> None:
-    """Raises `Trouble`, or OSError where another try may do: its port was taken, or a signal ended it."""
-    if complaint in ("", "net fault"):
-        raise OSError("serve does not listen")
-    raise Trouble(f"the program does not read the office ({complaint}); `office check` says more; nothing is printed")
 
 
 def ask_all(server: asking.Server, requests: Sequence[bytes], found: list[bytes], progress: Progress) -> None:

@@ -56,7 +56,7 @@ def rows_of(copy: str, path: str) -> Rows:
             file.backup(memory)
         memory.path = path
         memory.text_factory = lambda text: text.decode("utf-8", "replace")
-        bad_rows.refuse(memory, path)
+        bad_rows.refuse(memory, path, bad_rows.WRONG)
     except sqlite3.Error as fault:
         raise Trouble(f"{path} holds no office: {fault}") from fault
     memory.row_factory = sqlite3.Row

@@ -12,6 +12,7 @@ import io
 import json
 import os
 import random
+import re
 import shutil
 import subprocess
 from typing import NamedTuple
@@ -25,6 +26,7 @@ from exam_desk.office import Office
 from exam_desk.reading import Reading
 from exam_desk.sheets import board, counts, doors, person, printing, slips, summary
 from exam_desk.sheets.session_page import Page
+from exam_desk.snapshot import session_row
 from exam_desk.words import FEATURES, plain
 
 TODAY = datetime.date(2027, 5, 1)
@@ -284,21 +286,21 @@ class RandomOffice:
                 and (f"+ {sheet.unseated} unseated</p>" in page) == (sheet.unseated > 0)), "shortage"
 
     def printed(self, reading, session):
-        text = printing.text(reading, session, 999, 200)
-        halls = [hall for hall, in reading.rows.execute(
-            "SELECT hall FROM opening WHERE session = ? ORDER BY hall", [session])]
-        sheets = [["door-list", session, hall] for hall in halls]
-        sheets += [["attendance", session, paper] for paper, of in sorted(self.papers.items()) if of == session]
-        wanted = [lines for words in sheets if len(lines := self.sheet(self.path, *words)) > 2]
-        wanted.append(self.sheet(self.path, "clashes", session))
-        equal(text.split("\f"), ["".join(f"{plain(line)}\n" for line in lines) for lines in wanted], "print-session",
-              text)
+        halls = reading.rows.execute("SELECT hall FROM opening WHERE session = ? ORDER BY hall", [session])
+        names = [("door-list", session, hall) for hall, in halls]
+        names += [("attendance", session, paper) for paper, of in sorted(self.papers.items()) if of == session]
+        names.append(("clashes", session))
+        wanted = {name: lines for name in names
+                  if len(lines := self.sheet(self.path, *name)) > 2 or name[0] == "clashes"}
+        found = printing.written(reading, session_row(reading.rows, session))
+        equal(list(found.items()), list(wanted.items()), "print-session", found)
 
     def reasons(self, reading, session):
         """Nobody who has no desk suits a hall with a free one; the program's sheet adds up."""
         found, sheet = reasons.Reasons(reading, session), shortage.read(reading.sheet("shortage", session))
         text = found.text()
-        equal([line[:7] for line in text.split("\n") if line[:1].isdigit()],
+        equal(sorted({*re.findall(r"\b[0-9]{7}\b", text)}) if "by what they" in text else
+              [line[:7] for line in text.split("\n") if line[:1].isdigit()],
               [number for number, seat in sorted(self.now[session].items()) if seat.hall == "-"], "why", text)
         assert "are free" not in text, text
         equal((list(found.differences(sheet)), list(checking_shortage.faults(reading, sheet))), ([], []), "shortage",

@@ -56,11 +56,20 @@ class SampleSchool(unittest.TestCase):
 
     @classmethod
     def setUpClass(cls):
+        """Makes the office, or takes the one that another class made: `bench/run-tests` names a folder for it."""
         cls.made = tempfile.mkdtemp(prefix="office-test-")
         cls.addClassCleanup(shutil.rmtree, cls.made, ignore_errors=True)
+        cache = os.environ.get("TEST_CACHE")
+        kept = cache and os.path.join(cache, "-".join(cls.examples.parts[1:]))
+        if kept and os.path.isdir(kept):
+            shutil.copytree(kept, cls.made, dirs_exist_ok=True)
+            return
         for words in [["init"], *(["import", kind, str(cls.examples / f"{kind}.csv")] for kind in KINDS)]:
             line = [built_program(), "--db", os.path.join(cls.made, "office.db"), "--today", TODAY, *words]
             subprocess.run(line, check=True, stdout=subprocess.DEVNULL)
+        if kept:
+            with contextlib.suppress(OSError):  # another class was sooner
+                os.rename(shutil.copytree(cls.made, tempfile.mkdtemp(dir=cache), dirs_exist_ok=True), kept)
 
     def setUp(self):
         self.folder = tempfile.mkdtemp(prefix="office-test-")

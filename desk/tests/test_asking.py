@@ -45,7 +45,7 @@ def listening(path="port"):
 
 class Asking(unittest.TestCase):
     def asks(self, server):
-        return asyncio.run(asyncio.wait_for(asking.answer(server, REQUEST), 30))
+        return asyncio.run(asyncio.wait_for(hold.answer_of(server, REQUEST), 30))
 
     def refuses(self, server, thief):
         """Nothing is sent: whoever listens reads the end."""
@@ -78,11 +78,11 @@ class Asking(unittest.TestCase):
             self.assertFalse(asking.listens(asking.Server(os.getpid(), str(other.getsockname()[1]))))
         self.assertFalse(asking.listens(asking.Server(os.getpid(), str(sample.free_port()))))
 
-    def test_who_asks_many_sends_to_nobody_else(self):
+    def test_who_does_nothing_else_meanwhile_sends_to_nobody_else(self):
         with listening() as (thief, place), listening() as (meant, own):
-            self.assertEqual(asking.received(asking.sent(asking.Server(meant.pid, own), REQUEST, 30)), ANSWER)
+            self.assertEqual(asking.answer(asking.Server(meant.pid, own), REQUEST, 30), ANSWER)
             with self.assertRaises(asking.Stranger):
-                asking.sent(asking.Server(meant.pid, place), REQUEST, 30)
+                asking.answer(asking.Server(meant.pid, place), REQUEST, 30)
             self.assertEqual(thief.stdout.readline(), "0\n")
 
     def test_it_looks_after_the_connection(self):

@@ -20,6 +20,7 @@ SPOILED = {  # a change that spoils each table
     "opening": "UPDATE opening SET desks = 0", "appeal": APPEAL.replace("'PC1'", "'<b>'"),
     "arrangement": "DELETE FROM candidate", "standing": "INSERT INTO standing VALUES (1, 'A')",
     "candidate": "UPDATE candidate SET code = 'A' || char(0)", "seat": "UPDATE seat SET hall = 'NONE'",
+    "entry": "UPDATE entry SET paper = 'X' || paper WHERE number = 1000",
 }
 READER = """import sys; sys.path.insert(0, sys.argv[1])
 from exam_desk import private
@@ -353,8 +354,11 @@ class Faults(Beside):
             self.change(change, *(["A1"] if table == "appeal" else []))
             named = f"office.db: there are rows that no office has (table {table})"
             for words in (["summary"], ["why", "MON-AM"]):
-                said = "refused 24" if table == "seat" else named  # the program looks at seats
-                self.assertIn(said, self.refused(*words))
+                self.assertIn(named, self.refused(*words))
+
+    def test_a_table_that_only_check_knows_to_be_bad_is_named(self):
+        self.change("DELETE FROM seat WHERE number = 1000")
+        self.assertIn("there are rows that no office has (table seat)", self.refused("doors", "MON-AM"))
 
 
 if __name__ == "__main__":

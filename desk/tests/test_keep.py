@@ -1,7 +1,6 @@
 """`keep` with commands beside it: nothing is lost or done twice, no lock is left, no client notices a gap."""
 import asyncio
 import contextlib
-import dataclasses
 import datetime
 import os
 import signal
@@ -151,7 +150,7 @@ class NewDay(sample.SampleSchool):
     def test_a_new_day_is_served_with_its_date_and_a_copy(self):
         today = mock.Mock(return_value=datetime.date(2027, 5, 1))
         with mock.patch("exam_desk.keeping.say"):
-            asyncio.run(self.two_days(dataclasses.replace(self.value, today=today), today))
+            asyncio.run(self.two_days(self.value._replace(today=today), today))
         self.assertEqual(sorted(os.listdir(os.path.join(self.desk, "days"))), ["2027-05-02", "2027-05-03"])
 
     async def two_days(self, office, today):

@@ -1,31 +1,64 @@
-"""The program's own sheets of a session as pages of text."""
+"""The program's own sheets of a session as pages of text.
+
+Of a large session there are hundreds, and each would take an opening of the office. So the program says once what each
+member sits, and the sheets are written from that, in the form of the program's; a dozen of them it prints as well, and
+these must be alike.
+"""
 from __future__ import annotations
 
-from collections.abc import Iterator
+import math
+import sqlite3
+from collections.abc import Callable, Iterator
 
 from exam_desk import facts
+from exam_desk.lists import by_desk
 from exam_desk.reading import Reading
 from exam_desk.snapshot import session_row
-from exam_desk.words import plain
+from exam_desk.trouble import Trouble
+from exam_desk.words import clock, plain
 
 HEADING = 2  # lines of each sheet
+COMPARED = 12  # sheets at most that the program prints too
+
+Sheets = dict[tuple[str, ...], list[str]]  # the lines of each sheet, by the words of its command
 
 
-def text(reading: Reading, session: str, lines: int, columns: int) -> str:
-    """All sheets, each page of at most so many lines of so many letters; a form feed stands between two pages."""
-    return "\f".join(page for sheet in sheets(reading, session) for page in pages(sheet, lines, columns))
+def text(reading: Reading, session: str, lines: int, columns: int,
+         progress: Callable[[str, float], None] = lambda text, part: None) -> str:
+    """All sheets, each page of at most so many lines of so many letters; a form feed stands between two pages. Raises
+    `Trouble` where a sheet is not as the program prints it."""
+    sheets = written(reading, session_row(reading.rows, session))
+    compared = list(sheets)[::-math.ceil(len(sheets) / COMPARED)]
+    for done, name in enumerate(compared):
+        progress("sheets are compared with the program's", done / len(compared))
+        if reading.sheet(*name).split("\n")[:-1] != sheets[name]:
+            raise Trouble(f"the program prints another {' '.join(name)} than its answers give; nothing is printed")
+    progress("", 1)
+    return "\f".join(page for sheet in sheets.values() for page in pages([*map(plain, sheet)], lines, columns))
 
 
-def sheets(reading: Reading, session: str) -> list[list[str]]:
-    """The lines of the door lists and attendance sheets of a session that have rows, and of the clash list."""
-    session_row(reading.rows, session)
-    found = [sheet(reading, "door-list", session, opening.hall) for opening in facts.openings(reading.rows, session)]
-    found += [sheet(reading, "attendance", session, paper) for paper in facts.papers(reading.rows, session)]
-    return [lines for lines in found if len(lines) > HEADING] + [sheet(reading, "clashes", session)]
-
-
-def sheet(reading: Reading, name: str, *values: str) -> list[str]:
-    return [plain(line) for line in reading.sheet(name, *values).split("\n")[:-1]]
+def written(reading: Reading, row: sqlite3.Row) -> Sheets:
+    """The door lists and attendance sheets of a session that have rows, and the clash list."""
+    session, date = row["code"], f"date {row['day']}"
+    start = f"{date} start {clock(row['start'])}"
+    found: Sheets = {}
+    members, missed = reading.members(session), reading.clashes(session)
+    for opening in facts.openings(reading.rows, session):
+        there = by_desk(members, opening.hall)
+        found["door-list", session, opening.hall] = [
+            f"DOOR LIST session {session} hall {opening.hall}", f"{start} desks {opening.desks} seated {len(there)}",
+            *(f"{it.sitting.desk:4} {it.number} {it.sitting.paper:12} {it.name}" for it in there)]
+    for paper in facts.papers(reading.rows, session):
+        sits = [it for it in members if it.sitting.paper == paper]
+        found["attendance", session, paper] = [
+            f"ATTENDANCE session {session} paper {paper}", f"{start} candidates {len(sits)}",
+            *(f"{it.number} {it.sitting.hall or '-':8} {it.sitting.desk or '-':>4} {it.sitting.finish} {it.name}"
+              for it in sits)]
+    found = {name: sheet for name, sheet in found.items() if len(sheet) > HEADING}
+    lost = [f"{it.number} sits {it.sitting.paper:12} clash {paper}"
+            for it in members for paper in missed.get(it.number, [])]
+    found["clashes", session] = [f"CLASHES session {session}", f"{date} clashes {len(lost)}", *lost]
+    return found
 
 
 def pages(lines: list[str], most: int, width: int) -> Iterator[str]:

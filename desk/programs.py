@@ -1,0 +1,124 @@
+"""What `office` does for a command of the program: it hands the words on, keeps a copy before a change, and says what
+came of it."""
+from __future__ import annotations
+
+import os
+import sys
+
+import command
+from exam_desk import beside, changing, refusals, running, turns
+from exam_desk.office import Office
+from exam_desk.running import Ran
+from exam_desk.trouble import Trouble
+from exam_desk.words import plain
+
+CHECKING = ["init", "check"]  # change no facts, but need the office for themselves
+MIGRATE = "migrate"
+LISTED = ["withdraw", "reinstate"]  # take a list too
+LIST_HELP = """
+With the entries of a file, whose header is number,paper: office {0} --list FILE.csv
+  One copy of the office is kept, and each row has a line in the log. Where a number or a paper is not known nothing is
+  changed. A row that is refused is printed, and the others are carried out; `office back 1` takes all of it back.
+"""
+
+
+def run(office: Office, words: list[str]) -> int:
+    """Runs a command of the program; the status."""
+    if words[0] in LISTED and "--help" in words:
+        command.say(running.help_text(office, words[0]) + LIST_HELP.format(words[0]))
+        return 0
+    if words[0] in LISTED and len(words) == 3 and words[1] == "--list":
+        return run_list(office, words[0], words[2])
+    if words[0].startswith("-") or "--help" in words:
+        replace_by(office, ["examoffice", *words])
+    if words[0] == "serve":
+        beside.refuse_stranger(office.path)
+        if turns.keep_state(office) is not None:
+            raise Trouble("`keep` serves this office already; `office keep stop` ends it")
+        replace_by(office, office.line(*words))
+    if words[0] in changing.CHANGES and os.path.isfile(office.path):
+        return changed(office, words)
+    return outcome(office, words, printed(dispatch(office, words)))
+
+
+def changed(office: Office, words: list[str]) -> int:
+    """Carries out a change; its status, whatever can be said of what it did."""
+    carried = changing.carry_out(office, [changing.Step(tuple(words))])
+    status = outcome(office, words, printed(carried.answers[0].ran))
+    if words[0] != MIGRATE:  # of the office before it nobody here can read the tables
+        command.tell_consequences(carried.copy)
+    return status
+
+
+def dispatch(office: Office, words: list[str]) -> Ran:
+    """Runs another command of the program; its answer is printed already where it is empty."""
+    if words[0] in CHECKING and (os.path.isfile(office.path) or words[0] == "init" and not os.path.exists(office.path)):
+        with turns.alone_if_possible(office, words):
+            return changing.run_patiently(office, words)
+    if words[0] not in running.SHEETS:
+        return running.hand_on(office, office.path, *words)
+    with running.readable(office) as path:
+        return sheet(office, path, words)
+
+
+def sheet(office: Office, path: str, words: list[str]) -> Ran:
+    """Runs the program for a sheet. Its bytes go out as they are; only a terminal gets what hides in names as `?`."""
+    if not sys.stdout.isatty():
+        return running.hand_on(office, path, *words)
+    ran = running.run_over(office, path, *words)
+    return ran._replace(answer="\n".join(map(plain, ran.answer.split("\n"))))
+
+
+def printed(ran: Ran) -> Ran:
+    """Prints the answer. Where it cannot be written the command is done all the same."""
+    try:
+        command.say(ran.answer)
+    except OSError:
+        command.drop_output()
+        return ran._replace(status=1, complaint=ran.complaint + "write fault\n")
+    return ran
+
+
+def run_list(office: Office, name: str, path: str) -> int:
+    """Withdraws or reinstates the entries of a file; the status is 1 where one is refused."""
+    from exam_desk import listed  # here, since half the time of a command without it would be this import
+    rows, wrong = listed.rows_of(office, name, path)
+    sys.stderr.write("".join(f"{plain(line)}\n" for line in wrong))
+    if wrong:
+        raise Trouble("nothing is changed")
+    statuses: list[int] = []
+    answers = listed.carry_out(office, f"{name} --list {os.path.basename(path)}", rows,
+                               lambda line, answered: statuses.append(tell_row(office, line, answered)))
+    done = sum(answered.ran.status == 0 for answered in answers)
+    back = "; `office back 1` takes them back" if done else ""
+    printed(Ran(0, f"{done} of {len(rows)} rows are done{back}\n", ""))
+    return int(any(statuses) or len(answers) < len(rows))
+
+
+def tell_row(office: Office, line: int, answered: changing.Answered) -> int:
+    """Prints what became of the row of a list, and gives a status."""
+    said = plain(f"line {line}: {answered.step.title()}: {answered.first_line()}")
+    if not answered.ran.status:
+        return printed(Ran(0, f"{said}\n", "")).status
+    lines = [said, *refusals.explained(office, answered.step.words, answered.ran.complaint)]
+    sys.stderr.write("".join(f"{line}\n" for line in lines))
+    return answered.ran.status
+
+
+def replace_by(office: Office, line: list[str]) -> None:
+    """Goes on as the program."""
+    try:
+        os.execv(office.program, line)
+    except OSError as fault:
+        raise running.not_started(office, fault) from fault
+
+
+def outcome(office: Office, words: list[str], ran: Ran) -> int:
+    """Says what a refusal means; the status."""
+    lines = []
+    if ran.status == 1:
+        lines = refusals.explained(office, words, ran.complaint)
+    elif ran.status == 2:
+        lines = running.usage(office, words[0])
+    sys.stderr.write(ran.complaint + "".join(f"{line}\n" for line in lines))
+    return ran.status
