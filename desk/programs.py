@@ -87,12 +87,13 @@ def run_list(office: Office, name: str, path: str) -> int:
     if wrong:
         raise Trouble("nothing is changed")
     statuses: list[int] = []
-    answers = listed.carry_out(office, f"{name} --list {os.path.basename(path)}", rows,
+    carried = listed.carry_out(office, f"{name} --list {os.path.basename(path)}", rows,
                                lambda line, answered: statuses.append(tell_row(office, line, answered)))
-    done = sum(answered.ran.status == 0 for answered in answers)
+    done = sum(answered.ran.status == 0 for answered in carried.answers)
     back = "; `office back 1` takes them back" if done else ""
     printed(Ran(0, f"{done} of {len(rows)} rows are done{back}\n", ""))
-    return int(any(statuses) or len(answers) < len(rows))
+    command.tell_consequences(carried.copy)
+    return int(any(statuses) or len(carried.answers) < len(rows))
 
 
 def tell_row(office: Office, line: int, answered: changing.Answered) -> int:

@@ -7,8 +7,10 @@ from collections import Counter
 from collections.abc import Iterator
 from dataclasses import dataclass, field
 
-from exam_desk import files, mistakes, snapshot
+from exam_desk import files, mistakes, snapshot, trying
+from exam_desk.changing import Tell
 from exam_desk.office import Office
+from exam_desk.serving import Progress
 from exam_desk.trouble import Trouble
 
 MOST_SHOWN = 5  # mistakes or notes on one column of a file
@@ -17,20 +19,22 @@ WORKBOOKS = (".xlsx", ".xlsm", ".ods")
 
 @dataclass
 class Checked:
-    """What a folder holds: of each file the mistakes and the notes, and a sentence on each other name."""
+    """What a folder holds: of each file the mistakes and the notes, what files without a mistake would do, and a
+    sentence on each other name."""
     files: dict[str, tuple[mistakes.Found, mistakes.Found]] = field(default_factory=dict)
+    tried: list[str] = field(default_factory=list)
     others: list[str] = field(default_factory=list)
 
     def counts(self) -> Counter[str]:
         """How many files, mistakes and notes there are."""
         return Counter(files=len(self.files), mistakes=sum(wrong.counts.total() for wrong, _ in self.files.values()),
-                       notes=sum(notes.counts.total() for _, notes in self.files.values()))
+                       notes=sum(notes.counts.total() for _, notes in self.files.values()) + len(self.tried))
 
     def lines(self) -> Iterator[str]:
         for name, (wrong, notes) in self.files.items():
             yield from lines_on(name, wrong, "")
             yield from lines_on(name, notes, "NOTE: ")
-        yield from (f"NOTE: {other}" for other in self.others)
+        yield from (f"NOTE: {line}" for line in [*self.tried, *self.others])
 
 
 def lines_on(name: str, found: mistakes.Found, word: str) -> Iterator[str]:
@@ -72,10 +76,13 @@ def check(texts: dict[str, bytes], known: mistakes.Known, most: int = MOST_SHOWN
     return found
 
 
-def check_folder(office: Office, folder: str) -> Checked:
-    """Looks through the import files of a folder, beside what the office has. Raises `Trouble` as `texts_in`, and where
-    none of the seven files is there."""
-    found = check(texts_in(folder), office_knows(office))
+def check_folder(office: Office, folder: str, tell: Tell, progress: Progress) -> Checked:
+    """Looks through the import files of a folder, beside what the office has, and tries those without a mistake. Raises
+    `Trouble` as `texts_in`."""
+    texts = texts_in(folder)
+    found = check(texts, office_knows(office))
+    if texts and not found.counts()["mistakes"]:
+        found.tried = trying.lines(office, texts, tell, progress)
     found.others = [sentence for name in sorted(os.listdir(folder)) if (sentence := other(name))]
     return found
 

@@ -3,23 +3,27 @@ from __future__ import annotations
 
 import sqlite3
 from collections import Counter
+from collections.abc import Collection, Iterable
 from typing import NamedTuple
 
-from exam_desk import copies, facts, lists, telling
+from exam_desk import copies, facts, lists, overlaps, telling, touched
 from exam_desk.changing import Rehearsal
 from exam_desk.names import name_order
 from exam_desk.office import Office
-from exam_desk.reading import Reading
+from exam_desk.reading import Person, Reading
 from exam_desk.serving import Progress
 from exam_desk.telling import Change, counted
 from exam_desk.trouble import Trouble
 from exam_desk.words import plain
 
-CLASHES = "clashes"
-KINDS = {  # those of changes, and new clashes behind who has no desk
+CLASHES, TWICE, HALLS = "clashes", "twice", "halls"
+KINDS = {  # those of changes, and behind who has no desk what no rule of the office forbids
     **{kind: telling.KINDS[kind] for kind in ("loses", "lacks")}, CLASHES: ("has a new clash", "have new clashes"),
+    TWICE: ("is in two sessions at one time", "are in two sessions at one time"),
+    HALLS: ("hall has candidates of two sessions at one time", "halls have candidates of two sessions at one time"),
     **telling.KINDS,
 }
+LISTED_BY = {CLASHES: "clashes", TWICE: "summary", HALLS: "summary"}  # all others by `changes`
 GRAVEST = 4  # groups that have a line of their own in a short answer
 MOST_NAMED = 3  # candidates in such a line, or sessions
 DESK_ALONE = "desk"  # candidates of this kind are counted, and never named
@@ -27,14 +31,10 @@ COUNTED = ["gets", "leaves", "joins", DESK_ALONE]  # so are these where the othe
 
 
 class Met(NamedTuple):
-    """A candidate whom a change meets, and how, in words."""
+    """Whom a change meets, and how, in words."""
     session: str
-    number: str
-    name: str
+    who: str  # in a list
     what: str
-
-    def who(self) -> str:
-        return f"{self.session} {self.number} {plain(self.name)}"
 
 
 class Group(NamedTuple):
@@ -68,7 +68,10 @@ def done(office: Office, copy: str, progress: Progress) -> list[str]:
             if copies.listed(office)[:1] != [copy]:
                 raise Trouble("the office has changed again meanwhile")
             met = groups(before, after)
-            return short_at_first(before, after) + brief(met, copies.listed(office).index(copy) + 1)
+            shown = brief(met)
+            hint = [f"`office {listing(met, copies.listed(office).index(copy) + 1)}` lists them"] if shown else []
+            short = short_at_first(before, after)
+            return [f"{line}; `office summary` has all sessions" for line in short] + shown + hint
     except (Trouble, OSError, sqlite3.Error, MemoryError) as fault:
         reason = plain(str(fault)) or "there is no memory"
         return [f"the change is done, but nobody can say what it did to candidates: {reason}"]
@@ -77,19 +80,46 @@ def done(office: Office, copy: str, progress: Progress) -> list[str]:
 def groups(before: Reading, after: Reading) -> list[Group]:
     """Those whom a change meets in each way, the gravest first. Where nobody has a seat yet, nobody can lose
     or change one."""
-    sessions = telling.touched_sessions(before, after)
-    different = telling.of_sessions(before, after, sessions) if has_seats(before) else []
-    clashing = [met for code in sessions for met in new_clashes(before, after, code)]
-    return grouped(different, clashing)
+    sessions = touched.of_readings(before, after)
+    different = telling.of_touched(before, after, sessions) if has_seats(before) else []
+    clashing = [met for code, people in sessions.items() for met in new_clashes(before, after, code, people)]
+    return grouped(different, {CLASHES: clashing, **new_overlaps(before, after, list(sessions))})
 
 
-def new_clashes(before: Reading, after: Reading, session: str) -> list[Met]:
-    """Who misses a paper of a session that they did not miss before."""
-    old, new = before.clashes(session), after.clashes(session)
+def new_clashes(before: Reading, after: Reading, session: str, people: Collection[int] | None) -> list[Met]:
+    """Who of these people, or of all, misses a paper of a session that they did not miss before."""
+    several = [f"{number:07}" for number, count in facts.entered(after.rows, session).items()
+               if count > 1 and (people is None or number in people)]
+    new = after.clashes(session, several) if several else {}
+    entered = facts.entered(before.rows, session)
+    there = [number for number in new if int(number) in entered]
+    old = before.clashes(session, there) if there else {}
     missed = {number: sorted(set(papers) - set(old.get(number, []))) for number, papers in new.items()}
-    people = [Met(session, number, after.person(int(number)).name, f"does not sit {', '.join(papers)}")
-              for number, papers in missed.items() if papers]
-    return sorted(people, key=lambda met: name_order(met.name, met.number))
+    return [candidate(session, person.number, person.name, f"does not sit {', '.join(missed[person.number])}")
+            for person in by_name(after, (number for number, papers in missed.items() if papers))]
+
+
+def by_name(reading: Reading, numbers: Iterable[str]) -> list[Person]:
+    return sorted((reading.person(int(number)) for number in numbers),
+                  key=lambda person: name_order(person.name, person.number))
+
+
+def new_overlaps(before: Reading, after: Reading, sessions: list[str]) -> dict[str, list[Met]]:
+    """Who is in two sessions at one time, and in which halls both have candidates, where that was not so before."""
+    found: dict[str, list[Met]] = {TWICE: [], HALLS: []}
+    now = overlaps.found(after, sessions) if sessions else []
+    old = {each[:2]: each for each in (overlaps.found(before, sessions) if now else [])}
+    for each in now:
+        was = old.get(each[:2], each._replace(candidates=[], halls=[]))
+        found[TWICE] += [candidate(each.late, person.number, person.name, f"sits in {each.early} then")
+                         for person in by_name(after, {*each.candidates} - {*was.candidates})]
+        found[HALLS] += [Met(each.late, f"{hall} in {each.early} and {each.late}", "both number their desks from 1")
+                         for hall in each.halls if hall not in was.halls]
+    return found
+
+
+def candidate(session: str, number: str, name: str, what: str) -> Met:
+    return Met(session, f"{session} {number} {plain(name)}", what)
 
 
 def short_at_first(before: Reading, after: Reading) -> list[str]:
@@ -99,13 +129,14 @@ def short_at_first(before: Reading, after: Reading) -> list[str]:
                      if was.get(code) != (people, seats)})
     if has_seats(before) or not short.total():
         return []
-    return [f"{short.total():,} without a desk: {most(short)}; `office summary` has all sessions"]
+    return [f"{short.total():,} without a desk: {most(short)}"]
 
 
-def grouped(changes: list[Change], clashing: list[Met]) -> list[Group]:
-    people = {CLASHES: clashing}
+def grouped(changes: list[Change], people: dict[str, list[Met]]) -> list[Group]:
+    """The changes, and besides those who are met in other ways, by kind."""
     for change in one_for_each_name(changes):
-        people.setdefault(change.kind(), []).append(Met(change.session, change.number, change.name, change.what()))
+        met = candidate(change.session, change.number, change.name, change.what())
+        people.setdefault(change.kind(), []).append(met)
     return [Group(kind, people[kind]) for kind in KINDS if people.get(kind)]
 
 
@@ -125,26 +156,26 @@ def lines(met: list[Group], at_most: int | None) -> list[str]:
 def named(met: Group, at_most: int | None) -> list[str]:
     if met.kind in COUNTED:
         return []
-    shown = [f"  {each.who()}: {each.what}" for each in met.people[:at_most]]
+    shown = [f"  {each.who}: {each.what}" for each in met.people[:at_most]]
     rest = len(met.people) - len(shown)
     return shown + ([f"  .. and {rest:,} more"] if rest else [])
 
 
-def brief(met: list[Group], copy: int) -> list[str]:
-    """At most six lines, the gravest first, then how to list them from the copy with this number; none where nobody is
-    met."""
+def brief(met: list[Group]) -> list[str]:
+    """At most five lines, the gravest first; none where nobody is met."""
     first, others = met[:GRAVEST], met[GRAVEST:]
     shown = [f"{each.title()}{who_or_where(each)}" for each in first]
     if others:
         shown.append(", ".join(each.title() for each in others))
-    listing = f"changes {copy}"
-    if all(each.kind == CLASHES for each in met):
-        listing = "; office ".join(f"clashes {code}" for code in sessions_of(met)[:MOST_NAMED])
-    return shown and [*shown, f"`office {listing}` lists them"]
+    return shown
 
 
-def sessions_of(met: list[Group]) -> list[str]:
-    return list(dict.fromkeys(each.session for group in met for each in group.people))
+def listing(met: list[Group], copy: int) -> str:
+    """What lists them: the changes since a copy, or where nobody sits otherwise the clashes and the overlaps."""
+    if any(each.kind not in LISTED_BY for each in met):
+        return f"changes {copy}"
+    words = dict.fromkeys(f"{LISTED_BY[group.kind]} {each.session}" for group in met for each in group.people)
+    return "; office ".join([*words][:MOST_NAMED])
 
 
 def who_or_where(met: Group) -> str:
@@ -152,7 +183,7 @@ def who_or_where(met: Group) -> str:
     if met.kind == DESK_ALONE:
         return ""
     if len(met.people) <= MOST_NAMED:
-        return ": " + "; ".join(each.who() for each in met.people)
+        return ": " + "; ".join(each.who for each in met.people)
     return ": " + most(Counter(each.session for each in met.people))
 
 

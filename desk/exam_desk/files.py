@@ -132,7 +132,12 @@ def is_date(text: bytes) -> bool:
 
 
 def is_name(text: bytes) -> bool:
-    return 1 <= len(text) <= 80 and not CONTROL.search(text) and is_utf_8(text)
+    return text != b"" and is_short(text, 80)
+
+
+def is_short(text: bytes, most: int) -> bool:
+    """Whether a text has at most so many bytes, and no control character."""
+    return len(text) <= most and not CONTROL.search(text) and is_utf_8(text)
 
 
 def is_utf_8(text: bytes) -> bool:

@@ -45,10 +45,10 @@ def rows_of(office: Office, command: str, path: str) -> tuple[list[Row], list[st
     return rows, []
 
 
-def carry_out(office: Office, title: str, rows: list[Row], tell: Tell) -> list[Answered]:
-    """Carries out each row by itself, so that one that is refused leaves the others; what is said of the rows. It stops
-    where the office itself cannot be used. The copy from before stays where something may be done. Raises `Trouble`
-    where a turn, the disk or the program is not to be had; the rows before are done then."""
+def carry_out(office: Office, title: str, rows: list[Row], tell: Tell) -> changing.Carried:
+    """Carries out each row by itself, so that one that is refused leaves the others. It stops where the office itself
+    cannot be used. The copy from before stays where something may be done. Raises `Trouble` where a turn, the disk or
+    the program is not to be had; the rows before are done then."""
     answers: list[Answered] = []
     copy = ""
     left = iter(rows)
@@ -61,12 +61,11 @@ def carry_out(office: Office, title: str, rows: list[Row], tell: Tell) -> list[A
                     tell(row.line, answered)
             time.sleep(BETWEEN)
     except Trouble as fault:
-        drop_needless(office, answers, copy)
+        kept(office, answers, copy)
         if not answers:
             raise
         raise Trouble(f"the rows from line {rows[len(answers)].line} on are not carried out: {fault}") from fault
-    drop_needless(office, answers, copy)
-    return answers
+    return changing.Carried(answers, kept(office, answers, copy), None)
 
 
 def in_one_turn(taken: changing.Turn, left: Iterator[Row]) -> Iterator[tuple[Row, Answered]]:
@@ -84,7 +83,9 @@ def is_hopeless(answers: list[Answered]) -> bool:
     return bool(answers) and refusals.number_of(answers[-1].ran.complaint) in OF_THE_OFFICE
 
 
-def drop_needless(office: Office, answers: list[Answered], copy: str) -> None:
-    """Removes the copy from before where nothing was done."""
+def kept(office: Office, answers: list[Answered], copy: str) -> str | None:
+    """The copy from before; where nothing was done it goes."""
     if copy and all(changing.has_done_nothing(office, answered, copy) for answered in answers):
         copies.drop(copy)
+        return None
+    return copy or None

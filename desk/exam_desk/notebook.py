@@ -2,7 +2,8 @@
 printed, who was absent.
 
 Each is a file of JSON in the folder `notebook` beside the office, for the office's user alone. None of it is a fact of
-the office: no seat depends on it, and `office back` leaves it as it is. The copies of the office have it too.
+the office: no seat depends on it. The copies of the office have it too; `office back` leaves what is there as it is,
+and says what of it a copy has otherwise.
 """
 from __future__ import annotations
 
@@ -10,7 +11,6 @@ import contextlib
 import fcntl
 import json
 import os
-import shutil
 from collections.abc import Callable, Iterable, Iterator, Mapping
 from typing import NamedTuple, TypeVar
 
@@ -21,8 +21,10 @@ from exam_desk.trouble import NoOffice, Trouble
 PLACE = "notebook"
 SCHOOL, NOTES, ROWS = "school.json", "notes.json", "rows.json"
 RUNNING = ["across", "across-and-back", "down", "down-and-up"]  # how the numbers of desks run
+PRINTED, ABSENT = "printed.{}.json", "absent.{}.json"  # of a session
+WORDS = {SCHOOL: "the name of the school", NOTES: "notes", ROWS: "rows of desks", PRINTED: "printed desks of {}",
+         ABSENT: "absences of {}"}
 NEW = ".new"  # the end of the name of a file that is being written
-HEADER = ["number", "text"]
 MOST_NOTE_BYTES = 200
 MOST_ACROSS = 100  # desks in a row
 Value = TypeVar("Value")
@@ -80,39 +82,8 @@ def take_notes(office: Office, new: Mapping[str, str]) -> Noted:
                  sum(text == known[number] for number, text in new.items()))
 
 
-def notes_in(path: str, known: set[str]) -> dict[str, str]:
-    """The notes of a file. Raises `Trouble` where it is none of notes, or has a number that is not known."""
-    text = files.read(path)
-    if len(text) > files.MOST_BYTES:
-        raise Trouble(f"is longer than {files.MOST_BYTES} bytes; split it", path)
-    rows = files.records(text)
-    first = next(rows, None)
-    if first is None or first.fields != tuple(name.encode() for name in HEADER):
-        raise Trouble(f"line 1 must be: {','.join(HEADER)}", path)
-    found: dict[str, str] = {}
-    for row in rows:
-        if wrong := bad_note(row, known):
-            raise Trouble(f"line {row.line}: {wrong}; nothing is noted", path)
-        number, note = (field.decode() for field in row.fields)
-        if found.setdefault(number, note) != note:
-            raise Trouble(f"line {row.line}: there is another text for {number} above; nothing is noted", path)
-    return found
-
-
-def bad_note(row: files.Record, known: set[str]) -> str:
-    """What is wrong with a row of notes; nothing where all is right."""
-    if not row.closed or len(row.fields) != len(HEADER):
-        return "a row has a number and a text; put quotes around a text with a comma"
-    number, text = row.fields
-    if not files.is_number(number) or number.decode() not in known:
-        return f"the office has no candidate {files.shown(number)}; a number has seven digits"
-    if not is_note(text):
-        return f"a text has at most {MOST_NOTE_BYTES} bytes of UTF-8 and no control characters"
-    return ""
-
-
 def is_note(text: bytes) -> bool:
-    return len(text) <= MOST_NOTE_BYTES and not files.CONTROL.search(text) and files.is_utf_8(text)
+    return files.is_short(text, MOST_NOTE_BYTES)
 
 
 def rows_of_halls(office: Office) -> dict[str, Rows]:
@@ -133,13 +104,13 @@ def keep_rows(office: Office, hall: str, rows: Rows) -> None:
 def printed(office: Office, session: str) -> dict[str, Desk]:
     """The desks that were printed for a session, by number; none where nobody said that they were."""
     nothing: dict[str, tuple[str, int]] = {}
-    found = read(office, f"printed.{session}.json", nothing, lambda value: is_map(value, is_desk))
+    found = read(office, PRINTED.format(session), nothing, lambda value: is_map(value, is_desk))
     return {number: Desk(*desk) for number, desk in found.items()}
 
 
 def keep_printed(office: Office, session: str, desks: Mapping[str, Desk]) -> None:
     with alone(office):
-        write(office, f"printed.{session}.json", desks)
+        write(office, PRINTED.format(session), desks)
 
 
 def moved(before: Mapping[str, Desk], now: Mapping[str, Desk]) -> list[str]:
@@ -156,14 +127,14 @@ def out_of_date(before: Mapping[str, Desk], now: Mapping[str, Desk]) -> list[str
 def absent(office: Office, session: str) -> set[str]:
     """The numbers of who was missing in a session."""
     nobody: list[str] = []
-    return set(read(office, f"absent.{session}.json", nobody, is_list_of_texts))
+    return set(read(office, ABSENT.format(session), nobody, is_list_of_texts))
 
 
 def keep_absent(office: Office, session: str, missing: Iterable[str], there: Iterable[str]) -> set[str]:
     """Adds some to the absent of a session and takes others away; who was missing then."""
     with alone(office):
         found = (absent(office, session) | set(missing)) - set(there)
-        write(office, f"absent.{session}.json", sorted(found))
+        write(office, ABSENT.format(session), sorted(found))
     return found
 
 
@@ -197,9 +168,16 @@ def alone(office: Office) -> Iterator[None]:
     if not os.path.isfile(office.path):
         raise NoOffice(office.path)
     beside.make_folder(office.path, PLACE)
+    with locked(office, fcntl.LOCK_EX):
+        yield
+
+
+@contextlib.contextmanager
+def locked(office: Office, how: int) -> Iterator[None]:
+    """Holds the lock of the notebook. Raises FileNotFoundError where there is none."""
     folder = beside.open_folder(office.path, PLACE)
     try:
-        fcntl.flock(folder, fcntl.LOCK_EX)
+        fcntl.flock(folder, how)
         yield
     finally:
         os.close(folder)
@@ -241,20 +219,42 @@ def write(office: Office, name: str, value: object) -> None:
 
 def copy_into(office: Office, target: str) -> None:
     """Copies the notebook, if there is one, into a new folder of that name."""
+    with contextlib.suppress(FileNotFoundError), locked(office, fcntl.LOCK_SH):
+        found = contents(office, PLACE)
+        place = os.path.join(target, PLACE)
+        os.mkdir(place, 0o700)
+        for name, text in found.items():
+            files.put(os.path.join(place, name), text)
+            beside.sync(os.path.join(place, name))
+
+
+def others_than_in(office: Office, copy: str) -> list[str]:
+    """What the notebook has otherwise than a copy of the office, in words; none of it is put back with the copy."""
+    inside = os.path.relpath(copy, beside.folder(office.path)).split(os.sep)
+    now, then = contents(office, PLACE), contents(office, *inside, PLACE)
+    return [words_of(name) for name in sorted({*now, *then}) if now.get(name) != then.get(name)]
+
+
+def words_of(name: str) -> str:
+    for form, words in WORDS.items():
+        before, _, behind = form.partition("{}")
+        if name.startswith(before) and name.endswith(behind):
+            return words.format(name[len(before):len(name) - len(behind)])
+    return name
+
+
+def contents(office: Office, *place: str) -> dict[str, bytes]:
+    """The files of a notebook by name; none where there is none."""
     try:
-        folder = beside.open_folder(office.path, PLACE)
+        folder = beside.open_folder(office.path, *place)
     except FileNotFoundError:
-        return
-    place = os.path.join(target, PLACE)
-    os.mkdir(place, 0o700)
+        return {}
     try:
-        fcntl.flock(folder, fcntl.LOCK_SH)
-        for name in os.listdir(folder):
-            source = beside.open_file(office.path, PLACE, name, flags=os.O_RDONLY)
-            with open(source, "rb") as opened, open(os.open(os.path.join(place, name), os.O_WRONLY | os.O_CREAT
-                                                            | os.O_EXCL, 0o600), "wb") as copy:
-                shutil.copyfileobj(opened, copy)
-                copy.flush()
-                os.fsync(copy.fileno())
+        names = [name for name in os.listdir(folder) if not name.endswith(NEW)]
     finally:
         os.close(folder)
+    found = {}
+    for name in names:
+        with open(beside.open_file(office.path, *place, name, flags=os.O_RDONLY), "rb") as file:
+            found[name] = file.read()
+    return found

@@ -8,11 +8,10 @@ from __future__ import annotations
 
 import itertools
 import sqlite3
-from collections import Counter
 from collections.abc import Container
 from typing import NamedTuple
 
-from exam_desk import files, lists
+from exam_desk import files, lists, overlaps
 from exam_desk.answers import Sitting
 from exam_desk.changing import Step
 from exam_desk.mistakes import RIGHT
@@ -26,7 +25,6 @@ MOST_LETTERS = 12  # of the code of a session or a paper
 END_OF_DAY = "24:00"
 SESSIONS_THEN = ("SELECT session.code FROM session JOIN opening ON session = code "
                  "WHERE day = ? AND start = ? AND hall = ? ORDER BY code")
-SEATED_THAT_DAY = "SELECT session, number FROM seat JOIN session ON session = code WHERE day = ? AND hall = ?"
 
 
 class Asked(NamedTuple):
@@ -197,7 +195,7 @@ def lines_there(planned: Plan, before: Reading, after: Reading) -> list[str]:
     first, second = member(after, planned.first, planned.number), member(after, planned.session, planned.number)
     refuse_early(first, second)
     refuse_elsewhere(planned, after, second)
-    refuse_overlaps(after, second)
+    refuse_overlaps(planned, after, second.sitting)
     found = [planned.made, f"{second.number} {plain(second.name)} sits {first.sitting.paper} until "
              f"{first.sitting.finish}, and {second.sitting.paper} from {second.sitting.start} to "
              f"{second.sitting.finish} in {second.sitting.hall}, desk {second.sitting.desk}"]
@@ -205,7 +203,7 @@ def lines_there(planned: Plan, before: Reading, after: Reading) -> list[str]:
     if was != lists.allowance(second.sitting):
         found.append(f"NOTE: the arrangement is {was or 'none'} in {planned.first}, and "
                      f"{lists.allowance(second.sitting) or 'none'} in {planned.session}")
-    return found + others_there(after, second.sitting)
+    return found
 
 
 def member(reading: Reading, session: str, number: str) -> Member:
@@ -232,27 +230,14 @@ def refuse_elsewhere(planned: Plan, after: Reading, second: Member) -> None:
         raise Trouble(f"{second.number} would have no desk in {planned.hall} ({reason}); nothing is changed")
 
 
-def overlap(one: Sitting, other: Sitting) -> bool:
-    return one.date == other.date and one.start < other.finish and other.start < one.finish
-
-
-def refuse_overlaps(after: Reading, second: Member) -> None:
+def refuse_overlaps(planned: Plan, after: Reading, second: Sitting) -> None:
     """Raises `Trouble` where the candidate would be in two sessions at one time."""
-    for other in after.all_of(second.number).values():
-        if other.session != second.sitting.session and overlap(other, second.sitting):
-            raise Trouble(f"{second.number} sits {other.paper} in {other.session} from {other.start} to "
-                          f"{other.finish}, and would sit {second.sitting.paper} from {second.sitting.start} to "
-                          f"{second.sitting.finish}; nothing is changed")
-
-
-def others_there(after: Reading, second: Sitting) -> list[str]:
-    """A note for each other session of which somebody is in the hall at that time."""
-    rows = after.rows.execute(SEATED_THAT_DAY, [second.date, second.hall]).fetchall()
-    seated = [(session, f"{number:07}") for session, number in rows if session != second.session]
-    after.ask(after.person(int(number)) for _, number in seated)
-    counts = Counter(session for session, number in seated if overlap(after.all_of(number)[session], second))
-    return [f"NOTE: {lists.count(count, 'candidate')} of {session} would be in {second.hall} at that time, by other "
-            "lists of desks" for session, count in sorted(counts.items())]
+    for each in overlaps.found(after, [planned.session]):
+        if planned.number in each.candidates:
+            other = after.all_of(planned.number)[each.early if each.late == planned.session else each.late]
+            raise Trouble(f"{planned.number} sits {other.paper} in {other.session} from {other.start} to "
+                          f"{other.finish}, and would sit {second.paper} from {second.start} to {second.finish}; "
+                          "nothing is changed")
 
 
 def lines_back(planned: Plan, after: Reading) -> list[str]:

@@ -1,39 +1,20 @@
 """Who must be told: what members of a session sit, when and where, at two moments of an office."""
 from __future__ import annotations
 
-import contextlib
-import sqlite3
 from collections.abc import Collection, Iterable
 from typing import NamedTuple
 
-from exam_desk import facts, files
+from exam_desk import facts, files, touched
 from exam_desk.answers import Sitting
 from exam_desk.names import name_order
 from exam_desk.reading import Reading
+from exam_desk.touched import Touched
 from exam_desk.trouble import Trouble
 from exam_desk.words import plain
 
 HEADER = ["tell", "session", "number", "name",
           "old date", "old start", "old finish", "old paper", "old hall", "old desk",
           "date", "start", "finish", "paper", "hall", "desk", "paper title", "hall title", "old name"]
-SESSIONS_OF = ("SELECT DISTINCT session FROM {moment}.paper JOIN {moment}.entry ON entry.paper = paper.code "
-               "WHERE entry.number IN ({numbers})")
-# By table: which sessions a row that is another can change, as a query over the rows in `different`.
-TOUCHED = {
-    "session": "SELECT code FROM different UNION " + SESSIONS_OF.replace(
-        "{numbers}", "SELECT number FROM {moment}.appeal WHERE session IN (SELECT code FROM different)"),
-    "paper": "SELECT session FROM different",
-    "hall": "SELECT session FROM {moment}.opening WHERE hall IN (SELECT code FROM different)",
-    "opening": "SELECT session FROM different",
-    "seat": "SELECT session FROM different",
-    "entry": "SELECT session FROM {moment}.paper WHERE code IN (SELECT paper FROM different)",
-    "candidate": SESSIONS_OF.replace("{numbers}", "SELECT number FROM different"),
-    "arrangement": SESSIONS_OF.replace("{numbers}", "SELECT number FROM different"),
-    "appeal": SESSIONS_OF.replace("{numbers}", "SELECT number FROM different"),
-    "standing": SESSIONS_OF.replace("{numbers}", "SELECT number FROM different"),
-}
-
-
 KINDS = {  # the gravest first; what one does and what several do
     "loses": ("loses the desk", "lose their desks"),
     "lacks": ("joins a session without a desk", "join a session without a desk"),
@@ -99,51 +80,34 @@ def paper(sitting: Sitting) -> str:
 
 
 def differences(before: Reading, after: Reading, asked: Collection[str] = ()) -> list[Change]:
-    """The changes by session, in each by name; of these sessions, or of all. The program is asked only of sessions in
-    which a row is another. Raises `Trouble` where neither office has a session that is asked for."""
-    sessions = all_sessions(before, after)
+    """The changes by session, in each by name; of these sessions, or of all. The program is asked only of whom rows
+    that are others can meet. Raises `Trouble` where neither office has a session that is asked for."""
+    sessions = touched.all_sessions(before, after)
     for code in asked:
         if code not in sessions:
             raise Trouble(f"there is no session {code}; the office has {', '.join(sessions[:20])}")
-    return of_sessions(before, after, [code for code in touched_sessions(before, after) if not asked or code in asked])
+    found = touched.of_readings(before, after)
+    return of_touched(before, after, {code: found[code] for code in found if not asked or code in asked})
 
 
-def all_sessions(before: Reading, after: Reading) -> list[str]:
-    """The codes of the sessions after, by day and start; then of those that are gone."""
-    return list(dict.fromkeys(head["code"] for reading in (after, before) for head in facts.sessions(reading.rows)))
-
-
-def touched_sessions(before: Reading, after: Reading) -> list[str]:
-    """The sessions that some row which is in one of the readings alone may have changed, in order."""
-    with contextlib.closing(sqlite3.connect(":memory:")) as both:
-        both.execute("PRAGMA temp_store = MEMORY")  # reasons of appeals are in no file of others
-        both.execute("ATTACH ? AS before", [before.copy])
-        both.execute("ATTACH ? AS after", [after.copy])
-        found = {code for table, query in TOUCHED.items() for code in touched_by(both, table, query)}
-    return [code for code in all_sessions(before, after) if code in found]
-
-
-def touched_by(both: sqlite3.Connection, table: str, query: str) -> set[str]:
-    found: set[str] = set()
-    for one, other in (("before", "after"), ("after", "before")):
-        both.execute("DROP TABLE IF EXISTS temp.different")
-        both.execute(f"CREATE TEMP TABLE different AS SELECT * FROM {one}.{table} EXCEPT SELECT * FROM {other}.{table}")
-        found.update(code for code, in both.execute(query.format(moment=one)))
-    return found
-
-
-def of_sessions(before: Reading, after: Reading, sessions: Collection[str]) -> list[Change]:
-    """The changes in these sessions; the program is asked of all their members at once."""
+def of_touched(before: Reading, after: Reading, sessions: Touched) -> list[Change]:
+    """The changes of those who are touched; the program is asked of all of them at once."""
     for reading in (before, after):  # both open their copies at once
         if sessions:
             reading.prepare()
     for reading in (before, after):
-        reading.ask_sessions(sessions)
-    return [change for code in sessions for change in of_session(before, after, code)]
+        numbers = {number for code, people in sessions.items() for number in members(reading, code, people)}
+        reading.ask(map(reading.person, sorted(numbers)))
+    return [change for code, people in sessions.items() for change in of_session(before, after, code, people)]
 
 
-def of_session(before: Reading, after: Reading, session: str) -> list[Change]:
-    old, new = sittings(before, session), sittings(after, session)
+def members(reading: Reading, session: str, people: Collection[int] | None) -> list[int]:
+    """The numbers of those of these people, or of all, who have an entry in a session."""
+    return [number for number in facts.entered(reading.rows, session) if people is None or number in people]
+
+
+def of_session(before: Reading, after: Reading, session: str, people: Collection[int] | None) -> list[Change]:
+    old, new = (sittings(reading, session, people) for reading in (before, after))
     none: tuple[str, None] = ("", None)
     pairs = {number: (old.get(number, none), new.get(number, none)) for number in {**old, **new}}
     found = [Change(session, number, after[0] or before[0], before[1], after[1], before[0] or after[0])
@@ -156,11 +120,10 @@ def is_change(change: Change) -> bool:
             or change.old_name != change.name)
 
 
-def sittings(reading: Reading, session: str) -> dict[str, tuple[str, Sitting]]:
+def sittings(reading: Reading, session: str, people: Collection[int] | None) -> dict[str, tuple[str, Sitting]]:
     """By number the name and what they sit; nothing where there is no such session."""
-    if all(head["code"] != session for head in facts.sessions(reading.rows)):
-        return {}
-    return {member.number: (member.name, member.sitting) for member in reading.members(session)}
+    found = (reading.member(session, f"{number:07}") for number in members(reading, session, people))
+    return {member.number: (member.name, member.sitting) for member in found if member}
 
 
 def text(changes: Collection[Change], tells_alone: bool = False) -> str:

@@ -19,8 +19,9 @@ from typing import NamedTuple
 
 import sample
 from cells import Cells
+from moments import at_one_time
 
-from exam_desk import checking_shortage, reasons, shortage, telling  # beside the tests' folder
+from exam_desk import checking_shortage, overlaps, reasons, shortage, telling  # beside the tests' folder
 from exam_desk.names import fold, name_order
 from exam_desk.office import Office
 from exam_desk.reading import Reading
@@ -221,20 +222,25 @@ class RandomOffice:
             self.compared[what] += rows.execute(f"SELECT count(*) FROM {table}").fetchone()[0]
 
     def doors(self, reading, session):
-        tables = Cells(page := doors.page(reading, session)).tables
+        tables = collections.defaultdict(list)
+        for table in Cells(page := doors.page(reading, session)).tables:
+            tables[re.search(r"\|([A-Z0-9]+), page [0-9]+ of [0-9]+\|", table[0][0])[1]].append(table)
         halls = sorted({seat.hall for seat in self.now[session].values()} - {"-"})
-        equal([table[0][0].rsplit("|", 2)[1] for table in tables], halls, "halls", page)
-        for hall, table in zip(halls, tables):
+        equal([*tables], halls, "halls", page)
+        for hall, parts in tables.items():
             lines = self.sheet(self.path, "door-list", session, hall)
             rows = [[*line[:25].split(), line[26:]] for line in lines[2:]]
             wanted = [[desk, number, plain(name), paper, self.now[session][number].finish,
                        self.arrangements[number, session], ""]
                       for desk, number, paper, name in rows]
-            equal(table[2:-1], wanted, "doors", page)
+            equal([row for table in parts for row in table[2:]][:-1], wanted, "doors", page)
             last = max(self.now[session][number].finish for _, number, *_ in rows)
-            assert f"last finish {last}" in table[0][0] and f"{len(rows)} seated" in table[0][0], table[0]
-            papers = "; ".join(f"{code} {plain(self.titles[code])}" for code in sorted({row[2] for row in rows}))
-            assert table[0][0].endswith(f"|{papers}"), table[0]
+            copies = collections.Counter(row[2] for row in rows)
+            papers = "|".join(f"{code} {plain(self.titles[code])}: {copies[code]}" for code in sorted(copies))
+            for place, table in enumerate(parts, 1):
+                for words in (f"last finish {last}|", f", {len(rows):,} candidate",
+                              f"|{hall}, page {place} of {len(parts)}|{papers}"):
+                    assert words in table[0][0], (words, table[0])
 
     def board(self, reading, session):
         seats = sorted(self.now[session].items(), key=lambda each: name_order(each[1].name, each[0]))
@@ -251,8 +257,8 @@ class RandomOffice:
             key = (seat.hall == "-", seat.hall, seat.paper)
             copies[key], total[seat.paper] = copies[key] + 1, total[seat.paper] + 1
             last[key], last_of_all[seat.paper] = max(last[key], seat.finish), max(last_of_all[seat.paper], seat.finish)
-        wanted = [[self.titled(hall) if hall != "-" else "no desk", self.titled(paper), str(copies[key]), last[key]]
-                  for key in sorted(copies) for _, hall, paper in [key]]
+        wanted = [[self.titled(hall) if hall != "-" else "no desk", self.titled(paper), str(copies[key]), last[key], "",
+                   ""] for key in sorted(copies) for _, hall, paper in [key]]
         wanted_sums = [[self.titled(paper), str(total[paper]), last_of_all[paper]] for paper in sorted(total)]
         tables = Cells(page := counts.page(reading, session)).tables
         equal((tables[0][2:], tables[1][1:]), (wanted, wanted_sums), "counts", page)
@@ -336,16 +342,22 @@ class RandomOffice:
                 "|".join([self.titled(seat.paper), *notes]), place]
 
     def summary(self, reading):
-        for line in summary.text(reading).split("\n")[1:-1]:
-            session, _, _, members, seated, short, desks, free, clashing, waiting = line.split()
+        both = at_one_time(reading.rows, self.now)
+        lines = summary.text(reading).split("\n")[1:-1]
+        notes = [overlaps.line(reading, overlaps.Overlap(*pair, *both[pair])) for pair in both]
+        equal(lines[len(self.sessions):], [f"NOTE: {note}" for note in notes], "overlaps", "")
+        self.compared["overlaps"] += len(notes)
+        for line in lines[:len(self.sessions)]:
+            session, _, _, members, seated, short, desks, free, clashing, twice, waiting = line.split()
             seats = self.now[session]
             there = sum(seat.hall != "-" for seat in seats.values())
             appeals = [line[37:47].strip() for line in self.sheet(self.path, "appeals", session)[2:]]
             [all_desks] = reading.rows.execute("SELECT coalesce(sum(desks), 0) FROM opening WHERE session = ?",
                                                [session]).fetchone()
             wanted = [len(seats), there, len(seats) - there, all_desks, all_desks - there,
-                      len({number for number, *_ in self.clashes(session)}), appeals.count("open")]
-            equal([members, seated, short, desks, free, clashing, waiting], [*map(str, wanted)], "summary", line)
+                      len({number for number, *_ in self.clashes(session)}), sum(session in pair for pair in both),
+                      appeals.count("open")]
+            equal([members, seated, short, desks, free, clashing, twice, waiting], [*map(str, wanted)], "summary", line)
 
     def persons(self, reading):
         for number in self.chance.sample(sorted(self.codes), 3):

@@ -17,7 +17,7 @@ def change(old=SITTING, new=SITTING, number="0000001", session="S1", name="Ada",
 
 
 def brief(changes, clashing=()):
-    return consequences.brief(consequences.grouped(list(changes), list(clashing)), 1)
+    return consequences.brief(consequences.grouped(list(changes), {consequences.CLASHES: list(clashing)}))
 
 
 class Kinds(unittest.TestCase):
@@ -38,25 +38,25 @@ class Kinds(unittest.TestCase):
         self.assertEqual(change(old_name="Eda").kind(), "name")
         self.assertEqual(change(old_name="Eda").what(), "Eda -> Ada")
 
-    def test_at_most_six_lines_the_gravest_first(self):
+    def test_at_most_five_lines_the_gravest_first(self):
         news = [SITTING._replace(desk=2), SITTING._replace(start="09:10"), SITTING._replace(hall="B"),
                 SITTING._replace(paper="SP-1"), SITTING._replace(hall=None, desk=None), None]
         changes = [change(new=new, number=f"{place:07}") for place, new in enumerate(news)]
-        clash = consequences.Met("S1", "0000003", "Ada", "does not sit MA-1")
+        clash = consequences.Met("S1", "S1 0000003 Ada", "does not sit MA-1")
         self.assertEqual(brief(changes, [clash]), [
             "1 loses the desk: S1 0000004 Ada", "1 has a new clash: S1 0000003 Ada",
             "1 sits another paper: S1 0000003 Ada", "1 moves to another hall: S1 0000002 Ada",
-            "1 sits at another time, 1 leaves a session, 1 has another desk in the same hall", LAST])
+            "1 sits at another time, 1 leaves a session, 1 has another desk in the same hall"])
         self.assertEqual(brief([]), [])
 
     def test_many_are_counted_by_session(self):
         new = SITTING._replace(hall=None, desk=None)
         changes = [change(new=new, number=f"{place:07}", session=f"S{place % 7 % 4}") for place in range(1004)]
-        self.assertEqual(brief(changes), ["1,004 lose their desks: 287 in S0, 287 in S1, 287 in S2, ..", LAST])
+        self.assertEqual(brief(changes), ["1,004 lose their desks: 287 in S0, 287 in S1, 287 in S2, .."])
 
     def test_another_name_is_one_candidate(self):
         changes = [change(old_name="Eda", session=session) for session in ("S1", "S2", "S3")]
-        self.assertEqual(brief(changes), ["1 has another name: S1 0000001 Ada", LAST])
+        self.assertEqual(brief(changes), ["1 has another name: S1 0000001 Ada"])
 
     def test_what_hides_in_a_name_is_shown(self):
         self.assertEqual(brief([change(new=None, name="\u202eA\u009b2J\nda")])[0],

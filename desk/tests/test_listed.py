@@ -1,6 +1,7 @@
 """Lists of withdrawals and of their way back: a refusal leaves the other rows, and others have their turns."""
 import contextlib
 import os
+import re
 import subprocess
 import threading
 import time
@@ -28,11 +29,14 @@ class Listed(test_changing.Changing):
     def carried(self, text, tell=lambda line, answered: None):
         rows, wrong = listed.rows_of(self.value, "withdraw", self.write(NAME, text))
         self.assertEqual(wrong, [])
-        return [answered.first_line() for answered in listed.carry_out(self.value, "withdraw --list x", rows, tell)]
+        return [answered.first_line() for answered
+                in listed.carry_out(self.value, "withdraw --list x", rows, tell).answers]
 
     def test_there_and_back_again(self):
         done = self.run_list(GOOD)
-        self.assertEqual((done.returncode, done.stderr), (0, ""))
+        self.assertEqual(done.returncode, 0)
+        self.assertIn("2 leave a session: MON-AM 0001017 Bo Ito; MON-AM 0001000 Ada Lin\n", done.stderr)
+        self.assertTrue(done.stderr.endswith("`office changes 1` lists them\n"), done.stderr)
         self.assertEqual(done.stdout, "line 2: withdraw 0001000 MA-1: withdrawn\n"
                                       "line 3: withdraw 0001017 MA-1: withdrawn\n"
                                       "2 of 2 rows are done; `office back 1` takes them back\n")
@@ -51,7 +55,9 @@ class Listed(test_changing.Changing):
         self.office("withdraw", "0001000", "MA-1")
         done = self.run_list("\ufeffnumber,paper\r\n\"0001000\",MA-1\r\n\r\n0001017,CS-1\r\n" + "0001017,MA-1\r\n" * 2)
         self.assertEqual(done.returncode, 1)
-        self.assertEqual(done.stderr, "line 2: withdraw 0001000 MA-1: refused 9\n  the entry is withdrawn already\n"
+        self.assertIn("1 leaves a session: MON-AM 0001017 Bo Ito\n", done.stderr)
+        self.assertEqual(re.sub("(?m)^[0-9`].*\n", "", done.stderr),
+                         "line 2: withdraw 0001000 MA-1: refused 9\n  the entry is withdrawn already\n"
                                       "line 4: withdraw 0001017 CS-1: refused 8\n  the candidate is not entered for "
                                       "this paper; import the entry or reinstate it, or decide `refused`\n"
                                       "line 6: withdraw 0001017 MA-1: refused 9\n  the entry is withdrawn already\n")
@@ -166,7 +172,7 @@ class Served(sample.KeptSchool):
             told.append(line)
         told = []
         with mock.patch.object(listed, "TURN", 0):
-            answers = listed.carry_out(self.value, "withdraw --list x", rows, tell)
+            answers = listed.carry_out(self.value, "withdraw --list x", rows, tell).answers
         self.assertEqual([answer.ran.status for answer in answers], [0] * 4)
         asked[0].join()
         self.assertEqual(asked[1][0], 200)

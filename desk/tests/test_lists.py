@@ -138,9 +138,9 @@ class Lists(sample.SampleSchool):
     def test_summary(self):
         self.change(APPEAL, [1051, "HA1", "MON-AM", 1, "PC1", 0, 0, "", 1, None, "2027-05-02"])
         rows = [line.split() for line in self.office("summary").split("\n")[1:-1]]
-        self.assertEqual(rows, [["MON-AM", "2027-06-07", "09:00", "60", "58", "2", "58", "0", "4", "1"],
-                                ["MON-PM", "2027-06-07", "13:30", "60", "58", "2", "58", "0", "0", "0"],
-                                ["TUE-AM", "2027-06-08", "09:00", "48", "46", "2", "56", "10", "0", "0"]])
+        self.assertEqual(rows, [["MON-AM", "2027-06-07", "09:00", "60", "58", "2", "58", "0", "4", "0", "1"],
+                                ["MON-PM", "2027-06-07", "13:30", "60", "58", "2", "58", "0", "0", "0", "0"],
+                                ["TUE-AM", "2027-06-08", "09:00", "48", "46", "2", "56", "10", "0", "0", "0"]])
 
     def test_open_appeals(self):
         self.assertEqual(self.office("appeals-open"), "no appeal is open\n")

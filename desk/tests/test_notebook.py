@@ -12,7 +12,7 @@ import unittest
 import sample
 
 sys.path.insert(0, str(pathlib.Path(__file__).resolve().parents[1]))
-from exam_desk import beside, copies, notebook  # noqa: E402
+from exam_desk import beside, copies, notebook, numbered  # noqa: E402
 from exam_desk.notebook import Desk, Rows  # noqa: E402
 from exam_desk.office import Office  # noqa: E402
 from exam_desk.trouble import Trouble  # noqa: E402
@@ -27,7 +27,7 @@ WRONG = {
     "a field too many": ("number,text\n0000001,a,b\n", "line 2: a row has a number and a text"),
     "a field too few": ("number,text\n0000001\n", "line 2: a row has a number and a text"),
     "an open quote": ('number,text\n0000001,"a\n', "line 2: a row has a number and a text"),
-    "no zeros": ("number,text\n0000001,a\n2,b\n", "line 3: the office has no candidate '2'"),
+    "no zeros": ("number,text\n0000001,a\n2,b\n", "line 3: '2' is no number of seven digits"),
     "nobody": ("number,text\n0000004,a\n", "line 2: the office has no candidate '0000004'"),
     "too long": (f"number,text\n0000001,{'é' * 100}a\n", "line 2: a text has at most 200 bytes"),
     "a line in a text": ('number,text\n0000001,"a\nb"\n', "line 2: a text has at most 200 bytes"),
@@ -56,6 +56,9 @@ class Notebook(unittest.TestCase):
         path.write_bytes(text.encode() if isinstance(text, str) else text)
         return str(path)
 
+    def texts(self, text):
+        return numbered.texts_in(self.file(text), "text", notebook.MOST_NOTE_BYTES, KNOWN)
+
     def test_nothing_is_there_at_first(self):
         self.assertEqual((notebook.school_name(self.office), notebook.notes(self.office)), ("", {}))
         self.assertEqual((notebook.printed(self.office, "S1"), notebook.absent(self.office, "S1")), ({}, set()))
@@ -63,7 +66,7 @@ class Notebook(unittest.TestCase):
 
     def test_notes(self):
         text = f'\ufeffnumber,text\r\n0000001,"{HOSTILE.replace(chr(34), chr(34) * 2)}"\r\n\r\n0000002,rest breaks\r\n'
-        took = notebook.take_notes(self.office, notebook.notes_in(self.file(text), KNOWN))
+        took = notebook.take_notes(self.office, self.texts(text))
         self.assertEqual(took, (2, 0, 0, 0))
         self.assertEqual(notebook.notes(self.office), {"0000001": HOSTILE, "0000002": "rest breaks"})
         took = notebook.take_notes(self.office, {"0000001": "scribe", "0000002": "rest breaks", "0000003": ""})
@@ -75,7 +78,7 @@ class Notebook(unittest.TestCase):
         notebook.take_notes(self.office, {"0000002": "stays"})
         for what, (text, said) in WRONG.items():
             with self.subTest(what), self.assertRaises(Trouble) as found:
-                notebook.take_notes(self.office, notebook.notes_in(self.file(text), KNOWN))
+                notebook.take_notes(self.office, self.texts(text))
             self.assertIn(said, str(found.exception))
         self.assertEqual(notebook.notes(self.office), {"0000002": "stays"})
 
@@ -201,6 +204,19 @@ class Commands(sample.SampleSchool):
         self.assertIn(hall, lines[-1].removeprefix("to print again: ").split(", "))
         self.assertRegex(self.office("printed", "MON-AM"), r"^\d+ desks noted, [1-9]\d* other than before\n$")
         self.assertEqual(self.office("printed", "MON-AM", "--look"), "the papers are up to date\n")
+
+    def test_back_leaves_it_and_says_so(self):
+        self.office("school", "Hill")
+        self.office("printed", "MON-AM")
+        self.office("withdraw", "0001000", "MA-1")
+        self.assertNotIn("left as they are now", self.office("back", "1", "--yes"))
+        self.write("notes.csv", "number,text\n0001051,scribe\n")
+        self.office("notes", "notes.csv")
+        self.office("absent", "MON-AM", "0001051")
+        self.office("school", "Dale")
+        self.assertIn("left as they are now, and otherwise in the copy: absences of MON-AM, notes, the name of the "
+                      "school\n", self.office("back", "2", "--yes"))
+        self.assertEqual((self.office("school"), self.office("notes")), ("Dale\n", "0001051 Di Berg: scribe\n"))
 
     def test_on_papers(self):
         """Notes stand on the invigilators' sheet and the slip alone; whose desk is another sees which it was."""

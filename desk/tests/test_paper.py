@@ -1,5 +1,7 @@
 """The papers for people over the sample school, and over one with hostile names."""
 import contextlib
+import csv
+import io
 import re
 import shutil
 import sqlite3
@@ -36,6 +38,45 @@ class Papers(sample.SampleSchool):
         self.assertIn("sits nothing there", self.refused("slips", "--only", "1051"))
         self.assertIn("no session S9", self.refused("slips", "S9"))
 
+    def test_slips_by_group(self):
+        path = self.write("forms.csv", 'number,group\n0001051,10B\n0001000,"<i>=10A"\n0001017,10B\n9999999,10A\n'
+                                       "0001034,\n")
+        done = self.run_office("slips", "--order", path)
+        self.assertEqual(done.stderr, "office: 1 number of the file are no candidates of the office\n"
+                                      "office: 57 candidates in no group: their slips come last\n")
+        groups = done.stdout.split("<div class=sheet><h2><bdi>")[1:]
+        self.assertEqual([text.partition("</bdi>")[0] for text in groups], ["10B", "&lt;i&gt;=10A", "in no group"])
+        slips = [re.findall(r"<span>(\d{7})</span>", text) for text in groups]
+        self.assertEqual((slips[:2], len(slips[2])), ([["0001051", "0001017"], ["0001000"]], 57))
+        text = self.office("slips", "--csv", "--only", "0001051", "--order", path)
+        rows = list(csv.DictReader(io.StringIO(text.removeprefix("\ufeff"))))
+        self.assertEqual([(row["session"], row["finish"], row["not sat"], row["group"], row["desk"] + row["code"])
+                          for row in rows], [("MON-AM", "11:00", "LAT", "10B", ""), ("MON-PM", "15:00", "", "10B", ""),
+                                             ("TUE-AM", "11:00", "", "10B", "")])
+        self.assertIn('"VMGNZGEDP9"\n', self.office("slips", "--csv", "--codes", "--only", "0001051"))
+        for text, said in (("number,form\n", "line 1 must be: number,group"),
+                           ("number,group\n1051,10B\n", "line 2: '1051' is no number of seven digits"),
+                           ("number,group\n0001051,10B\n0001051,10A\n", "line 3: there is another group for 0001051"),
+                           ('number,group\n0001051,"a\nb"\n', "line 2: a group has at most 80 bytes")):
+            self.assertIn(said, self.refused("slips", "--order", self.write("wrong.csv", text)))
+
+    def test_changes(self):
+        self.make_hostile()
+        before = self.write("before.db", b"")
+        shutil.copy2(self.path, before)
+        for words in (["close-hall", "MON-AM", "R12"], ["name", "0001748", "<b>New</b>"],
+                      ["withdraw", "0001306", "LAT"]):
+            self.assertEqual(self.run_office(*words).returncode, 0)
+        text = self.office("changes", before, "--paper", "--tell")
+        page = Cells(text)
+        self.assertEqual((page.strange, "size: A4" in text), (set(), True))
+        lost = [row for row in page.rows if len(row) == 6 and "no desk" in row[4]]
+        told = re.findall("! MON-AM ([0-9]{7}) .* -> no desk", self.office("changes", before))
+        self.assertEqual([row[1] for row in lost], told)
+        self.assertIn("<b>New</b>|before: Tomas Costa", {row[2] for row in page.rows if len(row) == 6})
+        self.assertNotIn("other desks in the same hall", text)
+        self.assertIn("other desks in the same hall", self.office("changes", before, "--paper"))
+
     def test_board(self):
         self.change("UPDATE candidate SET name = 'ada LIN' WHERE number = 1017")
         rows = self.rows("board", "MON-AM")
@@ -53,8 +94,8 @@ class Papers(sample.SampleSchool):
         self.assertEqual(text.count("<div class=sheet>"), 5)
         rows = self.rows("doors", "MON-AM", "LIB")
         self.assertEqual(rows[:3], [
-            ["Monday, 7 June 2027, 09:00 (MON-AM)|open until 14:00, last finish 12:08|6 desks, 6 seatedLibrary|LIB|"
-             "LAT Latin; MA-1 Mathematics 1; MA-2 Mathematics 2"],
+            ["Monday, 7 June 2027, 09:00 (MON-AM)|open until 14:00, last finish 12:08|6 desks, 6 candidates expected"
+             "Library|LIB, page 1 of 1|LAT Latin: 1|MA-1 Mathematics 1: 3|MA-2 Mathematics 2: 2"],
             ["Desk", "Number", "Name", "Paper", "Finish", "Arrangement", "Signature"],
             ["1", "0001153", "Jana Roe", "LAT", "10:53", "25 % extra time, screen", ""]])
         self.assertEqual((len(rows), rows[-1][0][:18]), (9, "Present: ________ "))
@@ -62,7 +103,7 @@ class Papers(sample.SampleSchool):
 
     def test_counts(self):
         rows = self.rows("counts", "TUE-AM")
-        halls = [row for row in rows if len(row) == 4][1:]
+        halls = [row[:4] for row in rows if len(row) == 6][1:]
         papers = [row for row in rows if len(row) == 3][1:]
         self.assertEqual(sum(int(row[2]) for row in halls), 48)
         self.assertEqual({row[0]: sum(int(each[2]) for each in halls if each[1] == row[0]) for row in papers},
@@ -134,6 +175,9 @@ class Papers(sample.SampleSchool):
                             f"--user-data-dir={self.folder}/browser", f"--print-to-pdf={page}.pdf", f"file://{page}"],
                            check=True, capture_output=True)
             text = subprocess.run(["pdftotext", "-raw", f"{page}.pdf", "-"], check=True, capture_output=True).stdout
+            if words[0] == "doors":  # each page of a hall says which it is
+                with open(page, encoding="utf-8") as file:
+                    self.assertEqual(text.count(b"\f"), file.read().count("<div class=sheet>"))
             self.assertEqual(text.count(b"W") - text.count(b"Wanda") - text.count(b"Weiss") - text.count(b"Willem"), 80)
 
 

@@ -123,10 +123,10 @@ class There(SecondSitting):
         self.assertIn("NOTE: the arrangement is 25 % extra time in MON-AM, and none in MON-AM-2\n", said)
 
     def test_others_in_the_hall_are_noted(self):
-        there = sum(hall == "GYM" for _, hall, _ in self.seats("MON-PM").values())
-        notes = [line for line in self.second("0000003", "MA-1", "12:30", "GYM").split("\n") if "NOTE" in line]
-        self.assertEqual(notes, [f"NOTE: {there} candidates of MON-PM would be in GYM at that time, by other lists of "
-                                 "desks"])
+        said = self.second("0000003", "MA-1", "12:30", "GYM")
+        self.assertIn("1 hall has candidates of two sessions at one time\n"
+                      "  GYM in MON-AM-2 and MON-PM: both number their desks from 1\n", said)
+        self.assertNotIn("NOTE", said)
 
 
 class Refused(SecondSitting):

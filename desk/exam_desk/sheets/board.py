@@ -11,7 +11,10 @@ from exam_desk.sheets import beside, pages
 from exam_desk.snapshot import session_row
 from markupsafe import Markup
 
-STYLE = ".columns { columns: 2; column-gap: 8mm } .columns th.top { font-size: 8.5pt } .legend { columns: 3 }"
+STYLE = """
+.columns { columns: 2; column-gap: 8mm } .columns th.top { font-size: 8.5pt } .legend { columns: 3 }
+.columns td { padding: 0.3mm 1mm 0.3mm 0; line-height: 1.15 }
+"""
 HEADS = ["Name", "w:Hall", "n:Desk"]
 BODY = "<h1>{}</h1>\n<p class=legend>{}</p>\n<div class=columns>{}</div>\n"
 

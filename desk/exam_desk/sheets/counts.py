@@ -1,4 +1,4 @@
-"""How many copies of each paper each hall needs, and the last finish."""
+"""How many copies of each paper each hall needs, and the last finish, with boxes for spare ones and to tick."""
 from __future__ import annotations
 
 from collections.abc import Callable, Iterable
@@ -9,11 +9,11 @@ from markupsafe import Markup
 from exam_desk import facts
 from exam_desk.answers import Sitting
 from exam_desk.reading import Reading
-from exam_desk.sheets import pages
+from exam_desk.sheets import beside, pages
 from exam_desk.snapshot import session_row
 
-STYLE = "table { margin-bottom: 6mm }"
-HEADS = ["Hall", "Paper", "n:Copies", "n:Last finish"]
+STYLE = "table { margin-bottom: 6mm } td.box { border: 0.6pt solid #000; width: 14mm }"
+HEADS = ["Hall", "Paper", "n:Copies", "n:Last finish", "box:Spare", "box:Packed"]
 TOTAL_HEADS = ["Paper, all halls", "n:Copies", "n:Last finish"]
 NO_DESK = Markup("<b>no desk</b>")
 Key = TypeVar("Key", str, tuple[str, str])
@@ -26,10 +26,10 @@ def page(reading: Reading, session: str) -> str:
     halls = pages.titled(facts.hall_titles(reading.rows))
     seated = sums((each for each in sittings if each.hall), lambda each: (each.hall or "", each.paper))
     unseated = sums((each for each in sittings if not each.hall), lambda each: each.paper)
-    rows = [[halls[hall], papers[code], *found] for (hall, code), found in seated]
-    rows += [[NO_DESK, papers[code], *found] for code, found in unseated]
+    rows = [[halls[hall], papers[code], *found, "", ""] for (hall, code), found in seated]
+    rows += [[NO_DESK, papers[code], *found, "", ""] for code, found in unseated]
     total = [[papers[code], *found] for code, found in sums(sittings, lambda each: each.paper)]
-    above = pages.html("<b>Copies</b> &emsp; {}", pages.when(head))
+    above = pages.html("{}<b>Copies</b> &emsp; {}", beside.school(reading.office, "<br>"), pages.when(head))
     return pages.document(f"Copies {session}", pages.table(HEADS, rows, above) + pages.table(TOTAL_HEADS, total), STYLE)
 
 

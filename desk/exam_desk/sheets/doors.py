@@ -1,7 +1,8 @@
-"""Invigilators' sheets: each hall of a session on a page of its own, by desk."""
+"""Invigilators' sheets: each hall of a session from a page of its own on, by desk."""
 from __future__ import annotations
 
-from collections.abc import Collection
+from collections import Counter
+from collections.abc import Collection, Sequence
 from typing import NamedTuple
 
 from markupsafe import Markup
@@ -9,20 +10,22 @@ from markupsafe import Markup
 from exam_desk import facts, lists, notebook
 from exam_desk.notebook import Desk
 from exam_desk.reading import Member, Reading
-from exam_desk.sheets import beside, pages
+from exam_desk.sheets import beside, pages, paging
 from exam_desk.snapshot import session_row
 from exam_desk.trouble import Trouble
 from exam_desk.words import clock
 
 STYLE = """
-td { height: 8mm; padding: 0.5mm 2mm 0.5mm 0; vertical-align: middle } td.sign { border: 0.6pt solid #000 }
+td { box-sizing: border-box; height: 9mm; padding: 0.5mm 2mm 0.5mm 0; vertical-align: middle } td.sign { border: 0.6pt solid #000 }
 .sign { width: 34mm }
-th.top span { float: right; text-align: right } td:nth-child(6) { width: 36mm; font-size: 8.5pt }
-td:nth-child(3) { width: 40% }
+th.top span { float: right; text-align: right; margin-left: 4mm } td:nth-child(6) { width: 36mm; font-size: 8.5pt }
+td:nth-child(3) { width: 40% } td.n { padding-right: 3mm }
 """
 HEADS = ["n:Desk", "w:Number", "Name", "w:Paper", "w:Finish", "Arrangement", "sign:Signature"]
-ABOVE = "<span>{}{}<br>open until {}, last finish {}<br>{}, {} seated</span><b>{}</b><br>{}<br>{}"
+ABOVE = "<span>{}{}<br>open until {}, last finish {}<br>{}, {} expected</span><b>{}</b><br>{}, page {} of {}<br>{}"
 BELOW = Markup("Present: ________ &emsp; Absent: ________ &emsp; Invigilator: ______________________________")
+ROW, HEADING, LAST = 9.05, 16.0, 11.5  # millimetres of a row, of a heading without titles, of the line below all
+NAME, ARRANGEMENT, TITLES = 50.0, 34.0, 90.0  # millimetres of these texts
 
 
 class Beside(NamedTuple):
@@ -53,17 +56,37 @@ def page(reading: Reading, session: str, asked: Collection[str] = ()) -> str:
 
 
 def sheet(also: Beside, opening: facts.Opening, members: list[Member]) -> Markup:
+    """The pages of a hall: each is a table, whose heading says which it is."""
+    counts = sorted(Counter(member.sitting.paper for member in members).items())
+    papers = pages.joined((pages.html("{} {}: {}", code, pages.text(also.papers[code]), count)
+                           for code, count in counts), "<br>")
+    titles = [opening.title, *(f"{code} {also.papers[code]}" for code, _ in counts)]
+    over = HEADING + paging.LINE * max(3, paging.lines(titles, TITLES))
+    parts = paging.pages([height(also, member) for member in members], paging.HEIGHT - over, LAST)
     last = max(member.sitting.finish for member in members)
-    papers = pages.joined((pages.html("{} {}", code, pages.text(also.papers[code]))
-                           for code in sorted({member.sitting.paper for member in members})), "; ")
-    above = pages.html(ABOVE, also.school, also.when, clock(opening.until), last, lists.count(opening.desks, "desk"),
-                       len(members), pages.text(opening.title), opening.hall, papers)
-    rows = [row(also, member) for member in members]
-    return pages.html("<div class=sheet>{}</div>\n", pages.table(HEADS, rows, above, BELOW))
+    found = []
+    for place, part in enumerate(parts, 1):
+        above = pages.html(ABOVE, also.school, also.when, clock(opening.until), last,
+                           lists.count(opening.desks, "desk"), lists.count(len(members), "candidate"),
+                           pages.text(opening.title), opening.hall, place, len(parts), papers)
+        rows = [row(also, members[at]) for at in part]
+        below = BELOW if place == len(parts) else Markup()
+        found.append(pages.html("<div class=sheet>{}</div>\n", pages.table(HEADS, rows, above, below)))
+    return pages.joined(found)
+
+
+def arrangement(also: Beside, member: Member) -> Sequence[str]:
+    """The arrangement in force and the note, as far as there are such."""
+    return [*filter(None, (lists.allowance(member.sitting), also.notes.get(member.number)))]
+
+
+def height(also: Beside, member: Member) -> float:
+    """What a row takes, in millimetres."""
+    texts = paging.lines([member.name], NAME), paging.lines(arrangement(also, member), ARRANGEMENT)
+    return max(ROW, 1 + paging.LINE * max(texts))
 
 
 def row(also: Beside, member: Member) -> list[object]:
-    sits, note = member.sitting, also.notes.get(member.number)
-    needs = [lists.allowance(sits)] if lists.allowance(sits) else []
+    sits = member.sitting
     return [beside.desk(member, also.printed), member.number, pages.text(member.name), sits.paper, sits.finish,
-            pages.joined([*needs, *([pages.text(note)] if note else [])], "<br>"), ""]
+            pages.joined(map(pages.text, arrangement(also, member)), "<br>"), ""]

@@ -12,9 +12,11 @@ from markupsafe import Markup, escape
 
 from exam_desk.words import clock, long_day, plain
 
-STYLE = """
+PAPER = """
 @page { size: A4; margin: 14mm 12mm 16mm;
   @bottom-right { content: counter(page) " / " counter(pages); font: 8pt sans-serif } }
+"""
+STYLE = PAPER + """
 body { margin: 0; font: 10pt/1.3 "Liberation Sans", "DejaVu Sans", Arial, sans-serif; color: #000 }
 h1 { font-size: 15pt; margin: 0 0 2mm } h2 { font-size: 12pt; margin: 5mm 0 1mm; break-after: avoid }
 p { margin: 0 0 3mm }

@@ -65,7 +65,7 @@ class Page:
         picture = drawing.listing(self.shortage, self.unseated)
         if len(self.shortage.candidates) <= drawing.MOST_DRAWN:
             picture = drawing.drawing(self.shortage, self.unseated, self.openings, self.seated)
-        return (drawing.balance(self.shortage) + drawing.explanation(self.shortage) + picture
+        return (drawing.explanation(self.shortage) + drawing.balance(self.shortage) + picture
                 + drawing.why(self.reasons))
 
     def seats_part(self) -> Markup:
@@ -94,7 +94,7 @@ class Page:
         parts = [self.halls_part(), self.shortage_part(), self.seats_part(), self.clashes_part(), self.appeals_part()]
         sections = pages.joined((pages.html("<section id={}><h2>{}</h2>\n{}\n</section>", *each, part)
                                  for each, part in zip(SECTIONS.items(), parts)), "\n")
-        return str(pages.html(DOCUMENT, head, Markup(drawing.STYLE), self.title(), sections))
+        return str(pages.html(DOCUMENT, head, Markup(pages.PAPER + drawing.STYLE), self.title(), sections))
 
 
 def hall_label(opening: Opening, listed: bool) -> Markup:

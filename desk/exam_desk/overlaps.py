@@ -1,0 +1,116 @@
+"""Two sessions at one time: candidates who would be in both, and halls in which both have candidates.
+
+The rules of the office allow it, so it is noted and not refused. Until when somebody sits the program says. It is asked
+only of those whom the rows leave in doubt: nobody sits in a hall for longer than it is open.
+"""
+from __future__ import annotations
+
+import itertools
+from collections import defaultdict
+from collections.abc import Collection, Iterator
+from typing import NamedTuple
+
+from exam_desk.lists import count
+from exam_desk.reading import Reading
+from exam_desk.words import plain
+
+LONGEST = 1200  # minutes that somebody without a desk may sit: those of the longest paper, and as many more
+MOST_NAMED = 3  # candidates, or halls, in a line
+MOST_LINES = 20
+SESSIONS = "SELECT code, CAST(julianday(day) * 1440 AS INTEGER) + start AS begins FROM session ORDER BY begins, code"
+CANDIDATES = ("SELECT DISTINCT printf('%07d', entry.number) FROM session JOIN paper ON paper.session = session.code "
+              "JOIN entry ON entry.paper = paper.code "
+              "LEFT JOIN seat ON seat.session = session.code AND seat.number = entry.number "
+              "LEFT JOIN opening ON opening.session = seat.session AND opening.hall = seat.hall "
+              "WHERE session.code = :early AND live = 1 AND coalesce(until - start, :longest) > :gap "
+              "AND (:only = '' OR entry.number = CAST(:only AS INTEGER)) AND entry.number IN (SELECT number "
+              "FROM paper JOIN entry ON entry.paper = paper.code WHERE session = :late AND live = 1) ORDER BY 1")
+SEATED = ("SELECT hall, printf('%07d', number) FROM seat JOIN opening USING (session, hall) "
+          "JOIN session ON code = session WHERE session = :early AND until - start > :gap "
+          "AND hall IN (SELECT hall FROM seat WHERE session = :late) ORDER BY hall")
+
+
+class Pair(NamedTuple):
+    """Two sessions of which one begins so soon behind the other that they may be at one time."""
+    early: str
+    late: str
+    gap: int  # minutes from one start to the other
+
+
+class Overlap(NamedTuple):
+    """Two sessions of which candidates or halls are in both at one time."""
+    early: str
+    late: str
+    candidates: list[str]  # their numbers
+    halls: list[str]
+
+
+def of_candidate(reading: Reading, number: str) -> Iterator[Overlap]:
+    """The overlaps of the sessions in which a candidate sits, as far as they or their halls are in both."""
+    sittings = reading.all_of(number)
+    for each in found(reading, sittings, number) if sittings else []:
+        halls = [sittings[code].hall for code in each[:2] if code in sittings]
+        shown = each._replace(halls=[hall for hall in each.halls if hall in halls])
+        if shown.candidates or shown.halls:
+            yield shown
+
+
+def found(reading: Reading, asked: Collection[str] = (), only: str = "") -> list[Overlap]:
+    """The overlaps of these sessions with any others, otherwise all, by day and start; of the candidates only one,
+    where one is named."""
+    reading.rows.index_entries()
+    doubtful = [(pair, *in_doubt(reading, pair, only)) for pair in pairs(reading, asked)]
+    numbers = {number for _, people, halls in doubtful for number in (*people, *itertools.chain(*halls.values()))}
+    reading.ask(reading.person(int(number)) for number in sorted(numbers))
+    overlaps = [Overlap(pair.early, pair.late, [number for number in people if lasts(reading, pair, number)],
+                        [hall for hall, there in halls.items() if any(lasts(reading, pair, each) for each in there)])
+                for pair, people, halls in doubtful]
+    return [each for each in overlaps if each.candidates or each.halls]
+
+
+def pairs(reading: Reading, asked: Collection[str]) -> list[Pair]:
+    """The pairs of sessions that may be at one time, by the rows alone; of those asked for, if there are such."""
+    sessions = reading.rows.execute(SESSIONS).fetchall()
+    return [Pair(early, late, then - now) for (early, now), (late, then) in itertools.combinations(sessions, 2)
+            if then - now < LONGEST and (not asked or early in asked or late in asked)]
+
+
+def in_doubt(reading: Reading, pair: Pair, only: str) -> tuple[list[str], dict[str, list[str]]]:
+    """The candidates of both sessions who may still sit when the second begins; and by hall those who sit there in the
+    first session, where candidates of the second have it too."""
+    values = {**pair._asdict(), "only": only, "longest": LONGEST}
+    halls: dict[str, list[str]] = defaultdict(list)
+    for hall, number in reading.rows.execute(SEATED, values):
+        halls[hall].append(number)
+    return [number for number, in reading.rows.execute(CANDIDATES, values)], halls
+
+
+def lasts(reading: Reading, pair: Pair, number: str) -> bool:
+    """Whether a candidate of the first session sits when the second begins, as the program says."""
+    sitting = reading.all_of(number)[pair.early]
+    return of_day(sitting.finish) - of_day(sitting.start) > pair.gap
+
+
+def of_day(clock: str) -> int:
+    hours, minutes = clock.split(":")
+    return int(hours) * 60 + int(minutes)
+
+
+def line(reading: Reading, each: Overlap) -> str:
+    """An overlap in words."""
+    parts = [f"{count(len(each.candidates), 'candidate')} in both: "
+             + few([f"{number} {plain(reading.person(int(number)).name)}" for number in each.candidates])
+             ] if each.candidates else []
+    parts += [f"candidates of both in {few(each.halls)}"] if each.halls else []
+    return f"{each.early} and {each.late} overlap: {'; '.join(parts)}"
+
+
+def lines(reading: Reading, found: Collection[Overlap]) -> list[str]:
+    """A line for each, and one for those that are too many."""
+    rest = [f".. and {len(found) - MOST_LINES:,} more overlaps"] if len(found) > MOST_LINES else []
+    return [*(line(reading, each) for each in itertools.islice(found, MOST_LINES)), *rest]
+
+
+def few(names: list[str]) -> str:
+    rest = len(names) - MOST_NAMED
+    return ", ".join(names[:MOST_NAMED]) + (f" and {rest:,} more" if rest > 0 else "")

@@ -1,0 +1,96 @@
+"""Sessions at one time, wherever a person is told of them; and what `check-files` says of files without a mistake."""
+import os
+import re
+import subprocess
+import unittest
+
+import sample
+
+FILES = {  # MON-AM begins at 09:00: Ada Lin sits there until 11:00, Cy Ferrari, with extra time, until 12:08
+    "sessions": "session,date,start\nHL,2027-06-07,10:00\nT1,2027-06-07,11:00\nHM,2027-06-07,11:30\n"
+                "T2,2027-06-07,12:07\nLT,2027-06-07,23:30\nNX,2027-06-08,00:59\n",
+    "papers": "paper,title,session,minutes,requires\nHL-1,Oral,HL,60,-\nT1-1,Oral,T1,30,-\nHM-1,Oral,HM,30,-\n"
+              "T2-1,Oral,T2,30,-\nLT-1,Oral,LT,90,-\nNX-1,Oral,NX,30,-\n",
+    "openings": "session,hall,desks,until,reserved\nHL,AULA,5,18:00,no\nHM,AULA,5,18:00,no\n",
+    "candidates": "number,name,code\n0009000,\"Berg, \u202eBo <b>\",CODE9000\n",
+    "entries": "number,paper\n0009000,HL-1\n0009000,HM-1\n0001000,T1-1\n0001034,T2-1\n0001000,LT-1\n0001000,NX-1\n"}
+NOTES = ["MON-AM and HL overlap: candidates of both in AULA",
+         "MON-AM and T2 overlap: 1 candidate in both: 0001034 Cy Ferrari",
+         "LT and NX overlap: 1 candidate in both: 0001000 Ada Lin"]
+
+
+class Overlaps(sample.SampleSchool):
+    @classmethod
+    def setUpClass(cls):
+        super().setUpClass()
+        for kind, text in FILES.items():
+            path = os.path.join(cls.made, f"{kind}.csv")
+            with open(path, "w", encoding="utf-8") as file:
+                file.write(text)
+            if kind != "entries":
+                line = [sample.built_program(), "--db", os.path.join(cls.made, "office.db"), "--today", sample.TODAY]
+                subprocess.run([*line, "import", kind, path], check=True, stdout=subprocess.DEVNULL)
+
+    def test_they_are_told_and_listed(self):
+        told = self.run_office("import", "entries", "entries.csv").stderr.split("\n")
+        self.assertEqual(told[1:3], [
+            "2 are in two sessions at one time: T2 0001034 Cy Ferrari; NX 0001000 Ada Lin",
+            "1 hall has candidates of two sessions at one time: AULA in MON-AM and HL"], told)
+        lines = self.office("summary").split("\n")
+        counts = {line.split()[0]: line.split()[9] for line in lines[1:-1] if not line.startswith("NOTE")}
+        self.assertEqual(counts, {"MON-AM": "2", "HL": "1", "T1": "0", "HM": "0", "T2": "1", "MON-PM": "0", "LT": "1",
+                                  "NX": "1", "TUE-AM": "0"})
+        self.assertEqual([line[len("NOTE: "):] for line in lines if line.startswith("NOTE")], NOTES)
+        self.assertIn(f"\nNOTE: {NOTES[2]}\n", self.office("summary", "NX"))
+        for number, notes in (("0001000", [NOTES[0], NOTES[2]]), ("0001034", NOTES[1:2]), ("0001051", [])):
+            said = re.findall("  NOTE: (.*)\n", self.office("look", number))
+            self.assertEqual([note for note in said if note != NOTES[0]], [note for note in notes if note != NOTES[0]])
+        told = self.run_office("withdraw", "0001017", "MA-1").stderr  # what was so before is not told again
+        self.assertIn("1 leaves a session: MON-AM 0001017 Bo Ito", told)
+        self.assertNotIn("at one time", told)
+
+
+class Files(sample.SampleSchool):
+    def checked(self, status=0, **texts):
+        folder = os.path.join(self.folder, f"files-{len(os.listdir(self.folder))}")
+        os.mkdir(folder)
+        for kind, text in texts.items():
+            self.write(os.path.join(folder, f"{kind}.csv"), text)
+        done = self.run_office("check-files", folder)
+        self.assertEqual((done.returncode, done.stderr), (status, ""), done.stdout)
+        return done.stdout.split("\n")[:-1]
+
+    def test_overlaps(self):
+        before = self.office("export", "MON-AM")
+        lines = self.checked(**FILES)
+        self.assertEqual([line for line in lines if "overlap" in line],
+                         [f"NOTE: once imported: {note}" for note in NOTES])
+        self.assertEqual(lines[-1], f"5 files, 0 mistakes, {len(lines) - 1} notes")
+        self.assertEqual(self.office("export", "MON-AM"), before)
+
+    def test_who_loses_a_desk_or_misses_a_paper(self):
+        rows = (self.examples / "openings.csv").read_text("utf-8").replace("MON-AM,GYM,24", "MON-AM,GYM,2")
+        lines = self.checked(openings=rows, entries="number,paper\n0001000,LAT\n")
+        self.assertRegex(lines[0], r"^NOTE: once imported: \d+ lose their desks: \d+ in MON-AM$")
+        self.assertIn("NOTE: once imported: 1 has a new clash: MON-AM 0001000 Ada Lin", lines)
+
+    def test_without_an_office(self):
+        os.remove(self.path)
+        texts = {kind: (self.examples / f"{kind}.csv").read_text("utf-8") for kind in sample.KINDS}
+        self.assertEqual(self.checked(**texts), [
+            "NOTE: once imported: 6 without a desk: 2 in MON-AM, 2 in MON-PM, 2 in TUE-AM",
+            "NOTE: once imported: 4 have new clashes: 4 in MON-AM", "7 files, 0 mistakes, 2 notes"])
+        self.assertFalse(os.path.exists(self.path))
+
+    def test_what_cannot_be_tried(self):
+        [line, last] = self.checked(status=1, entries="number,paper\n1000,LAT\n")
+        self.assertIn("leading zeros lost?", line)
+        program = self.write("program", "#!/bin/sh\necho refused 22 >&2\nexit 1\n")
+        os.chmod(program, 0o700)
+        self.environment["EXAMOFFICE"] = program
+        self.assertEqual(self.checked(entries="number,paper\n0001000,LAT\n")[0],
+                         "NOTE: nobody can say what the files would do: the program says refused 22 to entries.csv")
+
+
+if __name__ == "__main__":
+    unittest.main()
