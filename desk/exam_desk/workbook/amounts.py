@@ -108,7 +108,11 @@ def whole_of_number(column: str, text: str, cell: Cell) -> Value:
             raise Wrong(f"{(decimal.Decimal(text) * 100).normalize():f} percent? Write the percent as a whole number")
         raise Wrong(mistakes.CURES[column])
     refuse_other_digits(cell)
-    return Value(text, "", "is 1 percent; 100 percent is 100" if column == "extra" and text == "1" else "")
+    return bare_whole(column, text, [])
+
+
+def bare_whole(column: str, text: str, done: list[str]) -> Value:
+    return Value(text, reason(done), "is 1 percent; 100 percent is 100" if column == "extra" and text == "1" else "")
 
 
 def whole_of_text(column: str, text: str, done: list[str]) -> Value:
@@ -128,4 +132,4 @@ def whole_of_text(column: str, text: str, done: list[str]) -> Value:
     if column == "minutes" and (match := HOURS.fullmatch(number)):
         hours, rest = int(match[1]), int(match[2] or match[3] or 0)
         return Value(str(60 * hours + rest), reason(done, f"{hours} h {rest} min"))
-    return Value(number, reason(done))
+    return bare_whole(column, number, done)

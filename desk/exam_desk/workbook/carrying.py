@@ -1,19 +1,26 @@
 """A workbook as lines of JSON: so the process that reads it hands it over to the one that asked."""
 import json
 from collections.abc import Iterable, Iterator
+from typing import Any
 
 from exam_desk.trouble import Trouble
 from exam_desk.workbook.cells import Book, Cell, Sheet
 
 
 def packed(book: Book) -> Iterator[str]:
-    """The lines of a workbook: one for it, one for each sheet and one for each row."""
+    """The lines of a workbook: one for it, one for each sheet and one for each row. A cell that stood before is the
+    number that it has among all."""
     yield json.dumps({"form": book.form, "notes": book.notes})
+    known: dict[Cell, int] = {}
     for sheet in book.sheets:
         more = (sheet.hidden, sheet.hidden_rows, sheet.hidden_columns, sheet.merged, sheet.comments)
         yield json.dumps({"sheet": sheet.name, "more": more})
         for row, cells in sheet.rows.items():
-            yield json.dumps([row, [[column, *cell] for column, cell in cells.items()]])
+            line: list[object] = [row]
+            for column, cell in cells.items():
+                line += column, known.get(cell, cell)
+                known.setdefault(cell, len(known))
+            yield json.dumps(line)
 
 
 def refused(trouble: Trouble) -> str:
@@ -23,20 +30,21 @@ def refused(trouble: Trouble) -> str:
 
 def unpacked(lines: Iterable[str]) -> Book:
     """The workbook of the lines; raises the `Trouble` of one that could not be read."""
-    book = Book("", [], [])
+    book, known = Book("", [], []), []
     for line in lines:
         found = json.loads(line)
         if isinstance(found, list):
-            row, cells = found
-            book.sheets[-1].rows[row] = {column: Cell(*cell) for column, *cell in cells}
+            for place, cell in enumerate(found):
+                if isinstance(cell, list):
+                    known.append(Cell(*cell))
+                    found[place] = len(known) - 1
+            book.sheets[-1].rows[found[0]] = {column: known[cell] for column, cell in zip(found[1::2], found[2::2])}
         elif "refused" in found:
             raise Trouble(found["refused"])
         elif "sheet" in found:
-            hidden, rows, columns, merged, comments = found["more"]
-            book.sheets.append(Sheet(found["sheet"], hidden, {}, [(first, last) for first, last in rows],
-                                     [(first, last) for first, last in columns],
-                                     [(top, left, bottom, right) for top, left, bottom, right in merged],
-                                     [(row, column) for row, column in comments]))
+            hidden, *places = found["more"]
+            spans: list[list[Any]] = [[tuple(place) for place in several] for several in places]
+            book.sheets.append(Sheet(found["sheet"], hidden, {}, *spans))
         else:
             book = Book(found["form"], [], found["notes"])
     return book

@@ -7,9 +7,11 @@ from exam_desk.workbook.cells import Cell
 from exam_desk.workbook.texts import Value, Way, Wrong, letters, reason, refuse_kinds
 
 MONTHS = {name: place for place, names in enumerate(
-    ["jan january januar", "feb february februar", "mar march märz", "apr april", "may mai", "jun june juni",
-     "jul july juli", "aug august", "sep sept september", "oct october oktober", "nov november",
-     "dec december dezember"], 1) for name in names.split()}
+    ["jan january januar", "feb february februar", "mar march mär märz", "apr april", "may mai", "jun june juni",
+     "jul july juli", "aug august", "sep sept september", "oct october okt oktober", "nov november",
+     "dec december dez dezember"], 1) for name in names.split()}
+WEEKDAYS = ["monday montag", "tuesday dienstag", "wednesday mittwoch", "thursday donnerstag", "friday freitag",
+            "saturday samstag", "sunday sonntag"]
 WITH_SLASHES = re.compile(r"([0-9]{1,2})([/-])([0-9]{1,2})\2([0-9]{4})")
 AS_TEXT = re.compile(r"([0-9]{1,2})([/.-])([0-9]{1,2})\2([0-9]{2}|[0-9]{4})")  # however a spreadsheet shows a date
 DAY_FIRST = re.compile(r"(?:([^\W\d]+),? )?([0-9]{1,2})(?:\.|st|nd|rd|th)?[ -]([^\W\d]+)\.?,?[ -]([0-9]{4})")
@@ -79,9 +81,10 @@ def named_month(weekday: str | None, day: str, month: str, year: str, done: list
     if month.lower() not in MONTHS:
         raise Wrong(mistakes.CURES["date"])
     value = day_value(f"{year}-{MONTHS[month.lower()]:02}-{int(day):02}", done)
-    right = f"{datetime.date.fromisoformat(value.text):%A}"
-    if weekday and not (len(weekday) > 1 and right.lower().startswith(weekday.lower())):
-        raise Wrong(f"{value.text} is a {right}, and the cell says {weekday}: write the date alone")
+    day_of = datetime.date.fromisoformat(value.text)
+    right = any(name.startswith(weekday.lower()) for name in WEEKDAYS[day_of.weekday()].split()) if weekday else True
+    if not right or weekday and len(weekday) < 2:
+        raise Wrong(f"{value.text} is a {day_of:%A}, and the cell says {weekday}: write the date alone")
     return value
 
 

@@ -1,53 +1,58 @@
 """Which sheet of a workbook is what."""
 from exam_desk import files
-from exam_desk.workbook.cells import Sheet, place_name
+from exam_desk.workbook.cells import Book, Sheet, place_name
 from exam_desk.workbook.headers import (KINDS, WITHIN, Header, find_header, folded, is_exact, match_header, named_kind,
-                                        text_cells, words_of)
-from exam_desk.workbook.tables import Job, Table, make_table
-from exam_desk.workbook.texts import bare
-from exam_desk.workbook.values import is_mark
+                                        names_people, text_cells, words_of)
+from exam_desk.workbook.tables import Job, Table, first_crosses, make_table
 
 Found = tuple[Sheet, Header]
 
 
-def usable_sheets(job: Job, sheets: list[Sheet]) -> list[Sheet]:
+def usable_sheets(job: Job, book: Book) -> list[Sheet]:
     """The sheets that are to be read; of the others a line says why they are not."""
     wanted, leave = job.choices.sheets, job.choices.leave
-    names = [sheet.name for sheet in sheets]
-    for name in [*(wanted or []), *leave]:
-        if name not in names:
+    names = [sheet.name for sheet in book.sheets]
+    said = [str(given["sheet"]) for given in job.given.values() if "sheet" in given and book.form != "csv"]
+    for name in [*(wanted or []), *leave, *said]:
+        if name not in names and (name not in said or folded(name) not in map(folded, names)):
             job.report.mistake(None, None, None, f"there is no sheet {name}; there are: {', '.join(names)}")
-    usable = []
-    for sheet in sheets:
+    usable: list[Sheet] = []
+    hidden: list[Sheet] = []
+    for sheet in book.sheets:
         if wanted is not None and sheet.name not in wanted or sheet.name in leave:
             job.report.note(sheet, None, None, "is not read, as you said")
         elif not sheet.rows:
             if not sheet.hidden and named_kind(sheet.name):
                 job.report.note(sheet, None, None, "is empty")
-        elif sheet.hidden and wanted is None:
-            tell_hidden(job, sheet, sheets)
         else:
-            usable.append(sheet)
+            (hidden if sheet.hidden and wanted is None else usable).append(sheet)
+    job.papers = named_papers(job, usable)
+    shown = {kind for sheet in usable for kind in kinds_of(job, sheet)} if hidden else set()
+    for sheet in hidden:
+        tell_hidden(job, sheet, shown)
     return usable
 
 
-def tell_hidden(job: Job, sheet: Sheet, sheets: list[Sheet]) -> None:
+def tell_hidden(job: Job, sheet: Sheet, shown: set[str]) -> None:
     """A hidden sheet is left, unless it is the only one of its kind: then the officer must say."""
-    kind = named_kind(sheet.name)
-    others = any(not other.hidden and other.rows and named_kind(other.name) == kind for other in sheets)
-    if kind and not others:
-        job.report.mistake(sheet, None, None, f"is hidden: show it if it has the {kind}, or name the sheets to read "
-                                              "with --sheet")
+    if alone := set(kinds_of(job, sheet)) - shown:
+        job.report.mistake(sheet, None, None, f"is hidden: show it if it has the {' or '.join(sorted(alone))}, or name "
+                                              "the sheets to read with --sheet")
     else:
         job.report.note(sheet, None, None, "is hidden, so it is not read")
 
 
+def said_elsewhere(job: Job, kind: str, sheet: Sheet) -> bool:
+    """Whether the file of columns says another sheet of a kind."""
+    said = str(job.of_kind(kind).get("sheet", ""))
+    return said != "" and folded(said) != folded(sheet.name)
+
+
 def kinds_by_name(job: Job, sheet: Sheet) -> list[str]:
     """The kinds that the file of columns or else the name of the sheet says."""
-    name = folded(sheet.name)
-    given = [kind for kind, said in job.given.items() if folded(str(said.get("sheet", ""))) == name != ""]
+    given = [kind for kind, said in job.given.items() if "sheet" in said and not said_elsewhere(job, kind, sheet)]
     named = named_kind(sheet.name)
-    return given or ([named] if named else [])
+    return given or ([named] if named and not said_elsewhere(job, named, sheet) else [])
 
 
 def kinds_of(job: Job, sheet: Sheet) -> list[str]:
@@ -58,9 +63,10 @@ def kinds_of(job: Job, sheet: Sheet) -> list[str]:
             and any(name in files.HEADERS[kind] and not isinstance(value, dict) for name, value in said.items())]
     if kinds := [kind for kind in told if find_header(kind, sheet, job.given[kind])]:
         return kinds  # the officer has named their headers
-    if bare(sheet.name).upper() in job.papers:
-        return []  # a list of those who sit the paper
-    kinds = [kind for kind in KINDS if find_header(kind, sheet, job.of_kind(kind), True)]
+    if job.paper(sheet.name):
+        return []  # a list of those who sit it
+    kinds = [kind for kind in KINDS if not said_elsewhere(job, kind, sheet)
+             and find_header(kind, sheet, job.of_kind(kind), True)]
     exact = [kind for kind in kinds if is_exact(kind, sheet)]
     return exact if len(exact) == 1 else kinds
 
@@ -73,9 +79,9 @@ def named_papers(job: Job, sheets: list[Sheet]) -> set[str]:
         may_be = not kinds or "papers" in kinds
         if may_be and (header := find_header("papers", sheet, job.of_kind("papers"), not kinds)):
             place = header.columns["paper"][0]
-            codes |= {bare(cells[place].text).upper() for row, cells in sheet.rows.items()
+            codes |= {job.said("paper", cells[place]) for row, cells in sheet.rows.items()
                       if row > header.row and place in cells}
-    return codes
+    return codes - {""}
 
 
 def find_tables(job: Job, sheets: list[Sheet]) -> tuple[list[Table], list[Sheet]]:
@@ -83,7 +89,10 @@ def find_tables(job: Job, sheets: list[Sheet]) -> tuple[list[Table], list[Sheet]
     rest: list[Sheet] = []
     found: dict[str, list[Found]] = {}
     for sheet in sheets:
-        kinds = kinds_of(job, sheet)
+        kinds, named = kinds_of(job, sheet), named_kind(sheet.name)
+        if not kinds_by_name(job, sheet) and named:
+            job.report.note(sheet, None, None, f"is not read: the file of columns says another sheet of {named}")
+            continue
         if len(kinds) > 1 and not all(kind in job.given for kind in kinds):
             job.report.mistake(sheet, None, None, f"could be {' or '.join(kinds)}: give the sheet that name")
             continue
@@ -127,27 +136,27 @@ def tell_no_header(job: Job, kind: str, sheet: Sheet) -> None:
 
 # -- entries in other forms
 
-def find_entries(job: Job, rest: list[Sheet], tables: list[Table]) -> tuple[list[Table], list[Sheet]]:
-    """Tables of candidates by papers, and sheets that bear the name of a paper; and the sheets that are neither."""
-    left: list[Sheet] = []
+def find_entries(job: Job, rest: list[Sheet], tables: list[Table]) -> list[Table]:
+    """Tables of candidates by papers, and sheets that bear the name of a paper; a line says which sheet is neither."""
     lists: list[tuple[Sheet, Header, dict[int, str], str]] = []
     for sheet in rest:
-        code, header = bare(sheet.name).upper(), number_header(job, sheet)
-        if code in job.papers and header:
+        code, header = job.paper(sheet.name), number_header(job, sheet)
+        if code and header:
             lists.append((sheet, header, {}, code))
         elif marks := paper_columns(job, sheet, header) if header else {}:
             assert header is not None
             lists.append((sheet, header, marks, ""))
         else:
-            if named_kind(sheet.name) == "entries":
+            if "entries" in kinds_by_name(job, sheet):
                 tell_no_entries(job, sheet)
-            left.append(sheet)
+            else:
+                job.report.note(sheet, None, None, "is not read: no row is the header of one of the seven kinds")
     crossed = [sheet for sheet, _, marks, _ in lists if marks]
     listed = [table.sheet for table in tables if table.kind == "entries"]
     several = listed or len(crossed) > 1 or crossed and len(crossed) < len(lists)
     if lists and several and tell_both(job, "entries", listed + [sheet for sheet, *_ in lists], len(listed)):
-        return [], left
-    return [list_table(job, *found) for found in lists], left
+        return []
+    return [list_table(job, *found) for found in lists]
 
 
 def tell_no_entries(job: Job, sheet: Sheet) -> None:
@@ -179,30 +188,15 @@ def paper_columns(job: Job, sheet: Sheet, header: Header) -> dict[int, str]:
     marks: dict[int, str] = {}
     head = {place: cell for place, cell in sheet.rows[header.row].items() if place not in header.columns["number"]}
     for place, cell in head.items():
-        code = bare(cell.text).upper()
-        if cell.kind in ("text", "number") and code in job.papers:
+        if (code := job.said("paper", cell)) in job.papers:
             if code in marks.values():
                 job.report.mistake(sheet, header.row, place, f"the paper {code} has two columns")
             marks[place] = code
     crosses = first_crosses(sheet, header.row) if marks else {}
-    for place in sorted(set(crosses) - set(marks) - set(header.columns["number"])):
+    names = {place for place, text in text_cells(head).items() if names_people(text)}
+    for place in sorted(set(crosses) - set(marks) - set(header.columns["number"]) - names):
         what = f"{head[place].text.strip()!r} is no paper that is known" if place in head else "the column has no header"
         where = place_name(sheet, crosses[place], place)
         job.report.mistake(sheet, header.row, place, f"{what}, and has crosses ({where}): correct the code, or delete "
                                                      "the column")
     return marks
-
-
-def first_crosses(sheet: Sheet, header: int) -> dict[int, int]:
-    """Of each column with crosses below the header the first row with one. Numbers count as crosses where a column has
-    nothing else than 1 and 0."""
-    found: dict[int, int] = {}
-    others: set[int] = set()
-    for row, cells in sheet.rows.items():
-        if row > header:
-            marks = {place: is_mark(cell) for place, cell in cells.items()}
-            others |= {place for place, mark in marks.items() if mark is None}
-            for place in [place for place, mark in marks.items() if mark and place not in found]:
-                found[place] = row
-    counts = {place for place, row in found.items() if sheet.rows[row][place].kind == "number" and place in others}
-    return {place: row for place, row in found.items() if place not in counts}

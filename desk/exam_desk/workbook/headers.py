@@ -70,10 +70,15 @@ def words_of(kind: str, column: str) -> frozenset[str]:
     return frozenset({column, *WORDS.get(column, "").split(), *OF_KIND.get((kind, column), "").split()})
 
 
-@functools.cache
-def all_words() -> frozenset[str]:
-    return frozenset(word for kind, header in files.HEADERS.items() for column in header
-                     for word in words_of(kind, column))
+@functools.lru_cache(1 << 14)
+def is_header_word(text: str) -> bool:
+    """Whether a text is a header of a column of any kind."""
+    return len(text) <= 200 and text.lstrip()[:1].isalpha() and any(
+        folded(text) in words_of(kind, column) for kind, header in files.HEADERS.items() for column in header)
+
+
+def names_people(text: str) -> bool:
+    return folded(text) in {*words_of("candidates", "name"), *FIRST_NAME, *LAST_NAME}
 
 
 def seen(cell: Cell | None) -> Cell | None:

@@ -15,20 +15,22 @@ MACHINE_DATE = "m/d/yy?"  # the date that each machine shows in its own way
 BUILT_IN = {  # formats by number, beside those that openpyxl knows
             14: MACHINE_DATE, 22: MACHINE_DATE + " h:mm", 32: "h:mm", 33: "h:mm",
             **{number: MACHINE_DATE for number in (*range(27, 32), *range(34, 37), *range(50, 59))}}
+NUMBER = re.compile(r"\s*[+-]?([0-9]+\.?[0-9]*|\.[0-9]+)([eE][+-]?[0-9]+)?\s*")
 TOKEN = re.compile(r'"[^"]*"|\\.|_.|\*.|\[[^\]]*\]|General|[0#?]+(?:[0#?,.]*[0#?])?,*|.', re.I)
-DATE_TOKEN = re.compile(r"\[[^\]]*\]|yyyy|yy\?|yy|mmmm|mmm|mm|m|dddd|ddd|dd|d|hh|h|ss|s|AM/PM|\\.|\"[^\"]*\"|.")
+DATE_TOKEN = re.compile(r'\[[^\]]*\]|yy\?|AM/PM|([ymdhs])\1*|[\\_*].|"[^"]*"|.', re.I)
+LOCALE = re.compile(r"\[\$[^\]-]*-([0-9A-F]+)\]", re.I)  # a language in the last ten bits, digits in the first
 DIGITS = re.compile(r"(?P<group>#,)?#*(?P<zeros>0*)(?:\.(?P<places>0+))?")
 
 
 @functools.lru_cache(1 << 16)
 def number_cell(raw: str, form: str, epoch: datetime.datetime = WINDOWS) -> Cell | None:
-    """The cell of a number that is stored as `raw`; none where it is 0 and the format shows nothing for 0."""
-    try:
-        number = decimal.Decimal(raw)
-    except decimal.InvalidOperation:
-        return Cell("number", raw[:40], raw[:40])
-    if not number.is_finite() or abs(number) > MOST_NUMBER:
-        return Cell("number", raw[:40], raw[:40])
+    """The cell of a number that is stored as `raw`; none where it is 0 and the format shows nothing for 0. Raises
+    ValueError where it is none."""
+    if not NUMBER.fullmatch(raw):  # python would take 1_7, nan, and digits of other scripts too
+        raise ValueError(f"{raw[:40]!r} is no number")
+    number = decimal.Decimal(raw)
+    if abs(number) > MOST_NUMBER:
+        return Cell("number", f"{number:.5E}", f"{number:.5E}")
     tidy = tidied(number)
     plain = format(tidy, "f") if tidy else "0"
     marks = format_marks(form)
@@ -41,7 +43,7 @@ def number_cell(raw: str, form: str, epoch: datetime.datetime = WINDOWS) -> Cell
         times = format((tidy * 100).normalize(), "f") if tidy else "0"
         return Cell("percent", times, shown or f"{times}%")
     if "power" in marks:
-        return Cell("number", plain, f"{float(number):.2E}")
+        shown = f"{float(number):.2E}" if sections(form)[0] == "0.00E+00" else ""
     return Cell("number", plain, shown)
 
 
@@ -121,7 +123,7 @@ def format_marks(form: str) -> frozenset[str]:
 def shown_number(form: str, number: decimal.Decimal) -> str | None:
     """How a number is shown: '' where that is not known, none where nothing is shown."""
     parts = sections(form)
-    if any(re.match(r"\[[<>=]", token) for token in TOKEN.findall(form)):
+    if locale_of(form) >= 2 << 24 or any(re.match(r"\[[<>=]", token) for token in TOKEN.findall(form)):
         return ""
     numeric = parts[:3] if len(parts) > 1 or "@" not in parts[0] else ("General",)
     place = 0 if number > 0 else 1 if number < 0 else 2
@@ -152,10 +154,8 @@ def shown_token(token: str, number: decimal.Decimal) -> str | None:
 
 def literal(token: str) -> str | None:
     """The letters that a piece of a number format shows as they are; none of a piece that means something."""
-    if token[0] in "_*" and len(token) == 2:
-        return " " if token[0] == "_" else ""
-    if token[0] in '"\\':
-        return token.strip('"') if token[0] == '"' else token[1:]
+    if len(token) > 1 and token[0] in '_*"\\':
+        return {"_": " ", "*": "", '"': token.strip('"'), "\\": token[1:]}[token[0]]
     return token if token in " -+/():!^&'~{}<>=$€£%" else None
 
 
@@ -180,30 +180,34 @@ def shown_text(form: str, text: str) -> str | None:
     return "".join(piece or "" for piece in pieces) if pieces else None
 
 
+def locale_of(form: str) -> int:
+    """The number of the language and of the digits of a number format; from 2 << 24 on they are of another script."""
+    match = LOCALE.search(form)
+    return 2 << 24 if "[dbnum" in form.lower() else int(match[1], 16) if match else 0
+
+
 def painted(form: str, when: datetime.datetime) -> str:
-    """How a date is shown, where the format is plain; '' where the officer's machine decides."""
-    words = DATE_TOKEN.findall(sections(form)[0])
-    if "yy?" in words:
+    """How a date is shown, where the format is plain; '' where that is not known."""
+    words = [word if word[0] in '"\\_*' else word.lower() for word in
+             (match[0] for match in DATE_TOKEN.finditer(sections(form)[0]))]
+    foreign = locale_of(form) & 0x3ff not in (0, 9) and {"mmm", "mmmm", "ddd", "dddd"} & set(words)
+    if foreign or locale_of(form) >= 2 << 24:
         return ""
-    out: list[str] = []
-    clock, half = False, "AM/PM" in words
+    numbers = {"h": (when.hour + 11) % 12 + 1 if "am/pm" in words else when.hour, "n": when.minute, "s": when.second,
+               "d": when.day, "m": when.month}
+    known = {word: text for letter, number in numbers.items()
+             for word, text in ((letter, f"{number}"), (2 * letter, f"{number:02}"))}
+    known |= {"yyyy": f"{when.year}", "yy": f"{when:%y}", "mmm": f"{when:%b}", "mmmm": f"{when:%B}", "ddd": f"{when:%a}",
+              "dddd": f"{when:%A}", "am/pm": f"{when:%p}", ".": ".", ",": ","}
+    out, after_hour = "", False
     for place, word in enumerate(words):
-        later = [other for other in words[place + 1:] if other in ("ss", "s", "hh", "h", "dd", "d", "yyyy", "yy")]
-        minute = word in ("mm", "m") and (clock or later[:1] in (["ss"], ["s"]))
-        out.append("" if word.startswith("[") else date_word(word, when, half, minute))
-        if word in ("hh", "h", "dd", "d", "yyyy", "yy", "ss", "s"):
-            clock = word in ("hh", "h")
-    return "".join(out).strip()
-
-
-def date_word(word: str, when: datetime.datetime, half: bool, minute: bool) -> str:
-    """What a piece of a format of dates shows; `half`: hours count to 12, `minute`: m are minutes."""
-    hour = (when.hour + 11) % 12 + 1 if half else when.hour
-    numbers = {"h": hour, "m": when.minute if minute else when.month, "s": when.second, "d": when.day}
-    if word in ("hh", "mm", "ss", "dd"):
-        return f"{numbers[word[0]]:02}"
-    if word in numbers:
-        return str(numbers[word])
-    names = {"yyyy": f"{when.year}", "yy": f"{when:%y}", "mmm": f"{when:%b}", "mmmm": f"{when:%B}", "ddd": f"{when:%a}",
-             "dddd": f"{when:%A}", "AM/PM": f"{when:%p}"}
-    return names.get(word, word.strip('"\\'))
+        later = next((other for other in words[place + 1:] if other[0] in "hsdy"), "")
+        if word in ("m", "mm") and (after_hour or later in ("s", "ss")):
+            word = word.replace("m", "n")
+        text = "" if word[0] == "[" else known[word] if word in known else literal(word)
+        if text is None:
+            return ""
+        out += text
+        if word[0] in "hsdy":
+            after_hour = word[0] == "h"
+    return out.strip()

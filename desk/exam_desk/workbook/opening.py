@@ -6,6 +6,7 @@ import re
 import stat
 import subprocess
 import sys
+from collections import Counter
 
 from exam_desk import files
 from exam_desk.trouble import Trouble
@@ -45,7 +46,7 @@ def is_zip(data: bytes) -> bool:
         if "EncryptedPackage".encode("utf-16-le") in data:
             raise Trouble("it has a password: save it without one")
         raise Trouble("it is of the old form .xls: open it in a spreadsheet and save it as .xlsx or .ods")
-    if data.startswith(b"PK"):
+    if data.startswith((b"PK\3\4", b"PK\5\6")):
         return True
     start = data[:1000].lstrip(b"\xef\xbb\xbf \r\n\t").lower()
     if start.startswith(OTHERS) or b"\0" in data[:1000] and data[:2] not in (b"\xff\xfe", b"\xfe\xff"):
@@ -100,14 +101,16 @@ def text_cell(shown: str) -> Cell:
 
 
 def read_csv(data: bytes, name: str, encoding: str | None = None) -> Book:
-    """A file of one sheet whose cells are texts. What parts its columns is what its first lines have most of."""
+    """A file of one sheet whose cells are texts. What parts its columns stands as often in most of its first lines."""
     text, notes = decoded(data, encoding), []
     lines = [line for line in text.splitlines()[:20] if line.strip()]
     if lines and (match := re.fullmatch("sep=(.)", lines[0])):
         comma = match[1]
         text = text.replace(lines[0], "", 1)
     else:
-        comma = max(",;\t|", key=lambda mark: max((line.count(mark) for line in lines), default=0))
+        bare = [re.sub('"[^"]*"', "", line) for line in lines]
+        comma = max(",;\t|", key=lambda mark: max(
+            ((often, count) for count, often in Counter(line.count(mark) for line in bare).items() if count), default=(0, 0)))
     if comma != ",":
         notes.append(f"its columns are parted by {'tabs' if comma == chr(9) else comma}")
     sheet, budget = Sheet(name), Budget()

@@ -8,8 +8,8 @@ from exam_desk import mistakes
 from exam_desk.trouble import Trouble
 from exam_desk.workbook.cells import Book
 from exam_desk.workbook.checking import check_files
-from exam_desk.workbook.finding import find_entries, find_tables, named_papers, usable_sheets
-from exam_desk.workbook.headers import KINDS, Given, named_kind
+from exam_desk.workbook.finding import find_entries, find_tables, usable_sheets
+from exam_desk.workbook.headers import KINDS, Given
 from exam_desk.workbook.opening import open_book
 from exam_desk.workbook.report import Report
 from exam_desk.workbook.rows import Record, read_table
@@ -63,18 +63,12 @@ def read_book(book: Book, job: Job, progress: Progress) -> Reading:
     """Finds the tables of a workbook, reads their rows, and checks what comes out as the files of an import."""
     for text in book.notes:
         job.report.note(None, None, None, text)
-    sheets = usable_sheets(job, book.sheets)
-    job.papers = named_papers(job, sheets)
-    tables, rest = find_tables(job, sheets)
+    tables, rest = find_tables(job, usable_sheets(job, book))
     records: dict[str, list[Record]] = {}
     read_tables(job, tables, [kind for kind in KINDS if kind != "entries"], records, progress)
     codes = {code.decode() for code in job.known.keys["papers"] or ()}
     job.papers = codes | {record.fields[0] for record in records.get("papers", [])}
-    lists, rest = find_entries(job, rest, tables)
-    read_tables(job, tables + lists, ["entries"], records, progress)
-    for sheet in rest:
-        if not named_kind(sheet.name):  # of the others a mistake is said
-            job.report.note(sheet, None, None, "is not read: no row is the header of one of the seven kinds")
+    read_tables(job, tables + find_entries(job, rest, tables), ["entries"], records, progress)
     if not any(records.values()) and not job.report.count("mistake"):
         job.report.mistake(None, None, None, "no sheet has rows of one of the seven kinds: see `office template`")
     check_files(job, records, progress)
@@ -87,3 +81,5 @@ def read_tables(job: Job, tables: list[Table], kinds: list[str], records: dict[s
         for table in tables:
             if table.kind == kind:
                 records.setdefault(kind, []).extend(read_table(job, table, progress))
+        if kind == "sessions":
+            job.days = {record.fields[0]: record.fields[1] for record in records.get(kind, [])}

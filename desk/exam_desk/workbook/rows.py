@@ -7,10 +7,10 @@ from exam_desk import files, mistakes
 from exam_desk.trouble import Trouble
 from exam_desk.workbook.cells import MOST_MERGED, Cell, Sheet, letters_of, place_name
 from exam_desk.workbook.days import AS_TEXT, NO_DAY
-from exam_desk.workbook.headers import KINDS, MARKED, all_words, folded, match_header, seen, text_cells
+from exam_desk.workbook.headers import KINDS, MARKED, folded, is_header_word, match_header, seen
 from exam_desk.workbook.tables import Job, Table
 from exam_desk.workbook.texts import Value, Wrong, bare, shown_of
-from exam_desk.workbook.values import is_mark, read_value
+from exam_desk.workbook.values import is_mark
 from exam_desk.words import FEATURES
 
 TOTALS = {"total", "totals", "sum", "summe", "gesamt", "count", "anzahl", "grand total", "subtotal"}
@@ -94,7 +94,7 @@ def look_at_mixed_dates(job: Job, table: Table) -> None:
              if row > table.header.row and place in cells]
     texts = [row for row, cell in cells if cell.kind == "text" and AS_TEXT.fullmatch(bare(cell.text))]
     for row, cell in cells:
-        if texts and cell.kind == "date" and int(cell.text[8:10]) <= 12:
+        if texts and cell.kind == "date" and cell.text[8:10] <= "12":
             beside = place_name(table.sheet, texts[0], place)
             job.report.mistake(table.sheet, row, place, f"date {shown_of(cell)}: a true date, but {beside} is a text: "
                                "such a mixture arises where a spreadsheet turns day and month round; type these dates "
@@ -176,8 +176,7 @@ def is_example(here: Row) -> bool:
 def begins_other(job: Job, sheet: Sheet, row: int) -> bool:
     """Whether a second table begins here, which ends the reading."""
     cells = sheet.rows[row]
-    words = [text for text in text_cells(cells).values() if text.lstrip()[:1].isalpha()]
-    if len(words) < 2 or sum(folded(text) in all_words() for text in words) < 2:
+    if sum(cell.kind == "text" and is_header_word(cell.text) for cell in cells.values()) < 2:
         return False
     for kind in KINDS:
         have = set(match_header(kind, row, cells, {}).columns)
@@ -212,7 +211,8 @@ def is_total(job: Job, table: Table, row: int, here: Row, last: int) -> bool:
             if name in table.header.columns]
     word = any(total_word(cell) for cell in table.sheet.rows[row].values())
     computed = any(cell and cell.formula for cell in here.values())
-    key_is_word = any(cell and cell.kind == "text" and first_word(cell.text) in TOTALS for cell in keys)
+    key_is_word = any(total_word(cell) or cell and may_begin_total(cell) and first_word(cell.text) in TOTALS
+                      for cell in keys)
     if not (key_is_word or word and not all(keys) or computed and not any(keys)):
         return False
     whole = all(any(here.get(place) for place in table.header.columns.get(name, [])) for name in header)
@@ -321,14 +321,7 @@ def above(table: Table, row: int, place: int) -> str:
 
 def check_day(job: Job, table: Table, name: str, here: Row, value: Value) -> None:
     """A time that stands with a day in its cell is taken if that is the day of the session, or no day at all."""
-    if value.day in NO_DAY:
-        return
-    places = table.header.columns.get("date", [])
-    if name == "start" and places and (cell := here[places[0]]):
-        try:
-            if read_value("date", cell, job.way).text == value.day:
-                return
-        except Wrong:
-            pass  # said of its own cell
-        raise Wrong(f"has a date too, {value.day}, which is not that of the session")
-    raise Wrong(f"has a date too, {value.day}: leave the time alone in its cell")
+    column = "date" if name == "start" else "session"
+    said = job.said(column, here.get(table.header.columns.get(column, [0])[0]))
+    if value.day not in (*NO_DAY, said if name == "start" else job.days.get(said)):
+        raise Wrong(f"has a date too, {value.day}, which is not that of the session: leave the time alone in its cell")

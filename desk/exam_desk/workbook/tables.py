@@ -7,8 +7,8 @@ from exam_desk import files, mistakes
 from exam_desk.workbook.cells import Cell, Sheet, letters_of
 from exam_desk.workbook.headers import MARKED, Given, Header, folded, seen, text_cells
 from exam_desk.workbook.report import Report
-from exam_desk.workbook.texts import Value, Way, bare, shown_of
-from exam_desk.workbook.values import read_value
+from exam_desk.workbook.texts import Value, Way, Wrong, shown_of
+from exam_desk.workbook.values import is_mark, read_value
 from exam_desk.words import FEATURES
 
 MOST_VALUES = 50_000  # that are kept, lest they are read again
@@ -35,6 +35,7 @@ class Job:
     choices: Choices = Choices()
     report: Report = field(default_factory=Report)
     papers: set[str] = field(default_factory=set)  # codes that the office or the workbook has
+    days: dict[str, str] = field(default_factory=dict)  # of the sessions of the workbook
     values: dict[tuple[str, Cell | None], Value] = field(default_factory=dict)  # that were read before
 
     def of_kind(self, kind: str) -> Given:
@@ -48,6 +49,18 @@ class Job:
             if len(self.values) < MOST_VALUES:
                 self.values[column, cell] = found
         return found
+
+    def said(self, column: str, cell: Cell | None) -> str:
+        """The value of a cell, or '' where it has none; a line through it counts elsewhere."""
+        try:
+            return self.value(column, cell and cell._replace(struck=False)).text
+        except Wrong:
+            return ""
+
+    def paper(self, name: str) -> str:
+        """The paper whose code the name of a sheet is, or ''."""
+        code = self.said("paper", Cell("text", name, name))
+        return code if code in self.papers else ""
 
 
 class Table(NamedTuple):
@@ -77,7 +90,7 @@ def make_table(job: Job, kind: str, sheet: Sheet, header: Header, marks: Mapping
     tell_header(job.report, table)
     find_features(job.report, table)
     tell_hidden_columns(job.report, table)
-    tell_lacking(job.report, table)
+    tell_lacking(job, table)
     tell_unread(job, table)
     return table
 
@@ -100,14 +113,21 @@ def tell_header(report: Report, table: Table) -> None:
 
 def find_features(report: Report, table: Table) -> None:
     """Columns of crosses below features are read in place of the column of features."""
-    feature = MARKED.get(table.kind)
-    if not feature or feature in table.header.columns or feature in table.fixed:
+    feature, row = MARKED.get(table.kind), table.header.row
+    if not feature or feature in table.fixed:
         return
     short = {name.replace("-", ""): name for name in FEATURES}
-    used = table.places()
-    for place, text in text_cells(table.sheet.rows[table.header.row]).items():
-        if place not in used and folded(text) in short:
-            table.marks[place] = short[folded(text)]
+    marks = {place: short[folded(text)] for place, text in text_cells(table.sheet.rows[row]).items()
+             if place not in table.places() and folded(text) in short}
+    if feature in table.header.columns:
+        for place in sorted(set(marks) & set(first_crosses(table.sheet, row))):
+            report.mistake(table.sheet, row, place, f"{marks[place]} has crosses beside the column {feature}: keep one "
+                                                       "of the two")
+        return
+    for place, name in marks.items():
+        if name in table.marks.values():
+            report.mistake(table.sheet, row, place, f"the feature {name} has two columns")
+        table.marks[place] = name
     if table.marks:
         report.note(table.sheet, table.header.row, min(table.marks),
                     f"crosses below {', '.join(table.marks.values())} are read as {feature}")
@@ -119,18 +139,19 @@ def tell_hidden_columns(report: Report, table: Table) -> None:
             report.note(table.sheet, table.header.row, place, f"column {letters_of(place)} is hidden; it is read")
 
 
-def tell_lacking(report: Report, table: Table) -> None:
+def tell_lacking(job: Job, table: Table) -> None:
     """The columns of the kind that the sheet does not have."""
-    feature = MARKED.get(table.kind)
+    feature, report, asked = MARKED.get(table.kind), job.report, job.of_kind(table.kind)
     for name in files.HEADERS[table.kind]:
         if name in table.header.columns or name in table.fixed or name == feature and table.marks \
                 or name == "paper" and (table.marks or table.paper):
             continue
-        if name == "code":
+        if name == "code" and name not in asked:
             text = "there is no column code: `office codes` fills the empty codes"
             report.note(table.sheet, table.header.row, None, text)
         else:
-            text = f"the column {name} is missing: add it ({mistakes.CURES[name]})"
+            why = f"; no header is {asked[name]!r}, as the file of columns says" if name in asked else ""
+            text = f"the column {name} is missing{why}: add it ({mistakes.CURES[name]})"
             report.mistake(table.sheet, table.header.row, None, text)
 
 
@@ -143,7 +164,7 @@ def tell_unread(job: Job, table: Table) -> None:
         if place not in head:
             text = f"column {letters_of(place)} has values but no header; it is not read"
             job.report.note(table.sheet, there[place], place, text)
-        elif bare(head[place].text).upper() in papers:
+        elif job.said("paper", head[place]) in papers:
             text = f"{shown_of(head[place])} is a paper: put the crosses on a sheet Entries, with the numbers"
             job.report.mistake(table.sheet, table.header.row, place, text)
         else:
@@ -164,3 +185,18 @@ def add_first(there: dict[int, int], row: int, cells: Mapping[int, Cell]) -> Non
     for place, cell in cells.items():
         if place not in there and seen(cell):
             there[place] = row
+
+
+def first_crosses(sheet: Sheet, header: int) -> dict[int, int]:
+    """Of each column with crosses below the header the first row with one. Numbers count as crosses where a column has
+    nothing else than 1 and 0."""
+    found: dict[int, int] = {}
+    others: set[int] = set()
+    for row, cells in sheet.rows.items():
+        if row > header:
+            marks = {place: is_mark(cell) for place, cell in cells.items()}
+            others |= {place for place, mark in marks.items() if mark is None}
+            for place in [place for place, mark in marks.items() if mark and place not in found]:
+                found[place] = row
+    counts = {place for place, row in found.items() if sheet.rows[row][place].kind == "number" and place in others}
+    return {place: row for place, row in found.items() if place not in counts}

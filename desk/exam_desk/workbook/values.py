@@ -108,13 +108,14 @@ def read_name(column: str, cell: Cell | None, way: Way) -> Value:
     """The name of a candidate, or a title."""
     refuse_kinds(cell, "date", "time", "bool", "percent")
     text, done = letters(cell)
-    if re.search("[\n\r\t]", text):
+    if re.search("[\n\r\t\v\f\x85\u2028\u2029]", text):
         raise Wrong("a line end or a tab inside: make it one line")
     note = ""
     if cell is not None and cell.kind == "number":
         note = "is a number in the workbook"
         if cell.shown != text:
             refuse_other_digits(cell)
+            text = cell.shown
     if re.search("[\u200c\u200d]", text) and not noting.has_wrong_letters(text):
         note = "holds a joiner that no eye sees; it is kept"
     return Value(text, reason(done), note)
@@ -143,7 +144,7 @@ def read_features(column: str, cell: Cell | None, way: Way) -> Value:
         return Value("-", reason(done, "empty is none" if not word else "none" if text != "-" else ""))
     taught = {key.lower(): value for key, value in way.words.get(column, {}).items()}
     found: set[str] = set()
-    for part in re.split(r"\s*(?:[+,;/&|\n]|\band\b|\bund\b)\s*", word):
+    for part in re.split(r"\s*(?:[+,;/&|\n\r]|\band\b|\bund\b)\s*", word):
         if part:
             found |= features_of(part, taught)
     value = "+".join(name for name in FEATURES if name in found) or "-"

@@ -8,70 +8,112 @@ import warnings
 import zipfile
 from collections.abc import Callable, Iterator
 from typing import Any
+from xml.etree.ElementTree import Element, iterparse
 
 import openpyxl.styles.numbers
 from openpyxl.cell import Cell as StyledCell
 from openpyxl.packaging import relationship
 from openpyxl.reader.excel import ExcelReader
 from openpyxl.styles import stylesheet
-from openpyxl.worksheet._reader import WorkSheetParser
+from openpyxl.worksheet import _reader
+from openpyxl.xml.constants import SHEET_MAIN_NS
 
 from exam_desk.trouble import Trouble
 from exam_desk.workbook.cells import (MOST_COLUMN, MOST_MERGED, MOST_ROW, MOST_SHEETS, Book, Budget, Cell, Sheet,
                                       area_of, place_name, place_of)
-from exam_desk.workbook.looking import OPEN_AND_SAVE, Look, Lost, Parts, SharedText, SharedTexts, unescaped
+from exam_desk.workbook.looking import OPEN_AND_SAVE, Parts, local
 from exam_desk.workbook.numberformats import BUILT_IN, MACINTOSH, WINDOWS, number_cell, shown_text
 
 COMMENTS = "http://schemas.openxmlformats.org/officeDocument/2006/relationships/comments"
 STYLES = "xl/styles.xml"  # the only place where openpyxl looks for them
+TYPES = ("n", "s", "str", "b", "e", "d", "inlineStr")  # of cells
 openpyxl.styles.numbers.BUILTIN_FORMATS.update(BUILT_IN)
 apply_styles: Callable[[zipfile.ZipFile, Any], object] = stylesheet.apply_stylesheet
 links_beside: Callable[[str], str] = relationship.get_rels_path
 links_of: Callable[[zipfile.ZipFile, str], Any] = relationship.get_dependents
+sheets_reader: Any = _reader
 Style = tuple[str, bool]  # a number format, and whether the font is struck out
 
 
 def read_xlsx(archive: zipfile.ZipFile) -> Book:
     """The workbook of a zip; raises `Trouble` where it cannot be read whole."""
     warnings.simplefilter("ignore")  # on what is lost when openpyxl saves
-    budget = Budget()
-    looks = looked_at(Parts(archive), budget)
+    sheets_reader._cast_number = str  # numbers as they are stored
+    sheets_reader.iterparse = iterparse  # the parser in C: each part has been looked at for entities
+    parts = Parts(archive)
+    roots = {name: parts.look(name) for name in sorted(parts.names) if re.search(r"\.(xml|rels)$", name, re.I)}
     try:
-        return Reader(archive, looks, budget).book()
+        return Reader(parts, roots).book()
     except (Trouble, MemoryError):
         raise
     except Exception as fault:  # openpyxl raises whatever its code comes upon
         raise Trouble(f"a part of it is broken ({type(fault).__name__}: {fault}): {OPEN_AND_SAVE}") from fault
 
 
-def looked_at(parts: Parts, budget: Budget) -> dict[str, Look]:
-    """A look at each part that is XML, by name."""
-    looks = {}
-    for name in sorted(parts.names):
-        if re.search(r"\.(xml|rels)$", name, re.I):
-            look = looks[name] = Look(budget)
-            parts.read(name, look.begin, look.end, look.letters, Look.wanted)
-            if look.root == "styleSheet" and name != STYLES:
-                raise Trouble(f"its styles stand in an unusual part, {name}: {OPEN_AND_SAVE}")
-    return looks
+class SharedText(str):
+    """A text in which nothing is left to be turned; `struck`: a part of it is struck out."""
+
+    struck = False
+
+
+class SharedTexts(list[SharedText]):
+    """The texts to which cells refer by number. No number below 0 is one, nor is one past the last."""
+
+    def __getitem__(self, place: int) -> SharedText:  # type: ignore[override]
+        if not 0 <= place < len(self):
+            raise Trouble("refers to a text that is not there")
+        return super().__getitem__(place)
+
+
+def unescaped(text: str) -> str:
+    """A text in which _x000D_ stands for the letter of this number."""
+    if "_x" not in text:
+        return text
+    turned = re.sub("_x([0-9A-Fa-f]{4})_", lambda match: chr(int(match[1], 16)), text)
+    return turned.encode("utf-16", "surrogatepass").decode("utf-16", "surrogatepass")  # two halves are one letter
+
+
+def letters_of(element: Element | tuple[()]) -> SharedText:
+    """The text of an element <si> or <is>, without the <rPh> that say how it is spoken."""
+    said = [part for child in element if local(child) != "rPh" for part in child.iter()]
+    text = SharedText(unescaped("".join(part.text or "" for part in said if local(part) == "t")))
+    text.struck = any(local(part) == "strike" and part.get("val", "1") not in ("0", "false") for part in said)
+    return text
 
 
 class Reader:
-    """Reads the sheets of one workbook."""
+    """Reads the sheets of one workbook, whose parts have these first elements."""
 
-    def __init__(self, archive: zipfile.ZipFile, looks: dict[str, Look], budget: Budget) -> None:
-        self.archive, self.looks, self.budget = archive, looks, budget
-        reader = ExcelReader(archive.fp, keep_links=False)
+    def __init__(self, parts: Parts, roots: dict[str, str]) -> None:
+        self.parts, self.archive, self.budget = parts, parts.archive, Budget()
+        self.roots = {name: root.rpartition(" ") for name, root in roots.items()}
+        if styles := [name for name in self.of_root("styleSheet") if name != STYLES]:
+            raise Trouble(f"its styles stand in an unusual part, {styles[0]}: {OPEN_AND_SAVE}")
+        reader = ExcelReader(self.archive.fp, keep_links=False)
         reader.read_manifest()
         reader.read_workbook()
-        apply_styles(archive, reader.wb)
+        apply_styles(self.archive, reader.wb)
         self.reader = reader
         self.epoch = MACINTOSH if reader.wb.epoch.year == 1904 else WINDOWS
-        tables = [look for look in looks.values() if look.root == "sst"]
-        self.texts = tables[0].texts if tables else SharedTexts()
-        if len(tables) > 1:
+        self.texts = SharedTexts()
+        if len(tables := self.of_root("sst")) > 1:
             raise Trouble(f"it has two tables of texts, as no spreadsheet writes it: {OPEN_AND_SAVE}")
+        for element in self.elements(tables, "si"):
+            self.texts.append(text := letters_of(element))
+            self.budget.keep(text)
         self.styles: dict[int, Style] = {}
+
+    def of_root(self, root: str) -> list[str]:
+        """The parts with a first element."""
+        return [name for name, (_, _, found) in self.roots.items() if found == root]
+
+    def elements(self, parts: list[str], name: str) -> Iterator[Element]:
+        """The elements of a name in parts."""
+        for part in parts:
+            for _, found, element in self.parts.elements(part, "end"):
+                if found == name:
+                    yield element
+                    element.clear()
 
     def book(self) -> Book:
         notes = []
@@ -84,85 +126,76 @@ class Reader:
         sheets = []
         for named in self.reader.parser.sheets:
             part = self.reader.parser.rels[named.id].target
-            look = self.looks.get(part)
-            if look is None:
+            if part not in self.roots:
                 raise Trouble(f"its part {part} is missing: {OPEN_AND_SAVE}")
-            if look.root == "worksheet":
-                sheets.append(self.sheet(named, part, look))
+            space, _, root = self.roots[part]
+            if root != "worksheet":
+                notes.append(f"the sheet {named.name} is no table ({root}); it is not read")
+            elif space != SHEET_MAIN_NS:
+                raise Trouble(f"openpyxl cannot read the sheet {named.name}: save it as an .xlsx of the usual form, not "
+                              "as Strict Open XML")
             else:
-                notes.append(f"the sheet {named.name} is no table ({look.root}); it is not read")
+                sheets.append(self.sheet(named, part))
         return Book("xlsx", sheets, notes)
 
-    def sheet(self, named: Any, part: str, look: Look) -> Sheet:
+    def sheet(self, named: Any, part: str) -> Sheet:
         sheet = Sheet(named.name, named.state != "visible")
         with self.archive.open(part) as stream:
-            parser = WorkSheetParser(stream, self.texts, data_only=True, epoch=self.reader.wb.epoch)
-            for cell in self.cells(sheet, parser, look):
-                sheet.rows.setdefault(cell[0], {})[cell[1]] = cell[2]
+            parser: Any = sheets_reader.WorkSheetParser(stream, self.texts, data_only=True, epoch=self.reader.wb.epoch)
+            parse = parser.parse_cell
+            parser.parse_cell = lambda element: self.keep(sheet, element, parse, parser)
+            for _ in parser.parse():
+                pass
         if parser.merged_cells is not None:
-            for merged in parser.merged_cells.mergeCell:
-                sheet.merged.append(area_of(merged.ref))
+            sheet.merged = [area_of(merged.ref) for merged in parser.merged_cells.mergeCell]
         if len(sheet.merged) > MOST_MERGED:
             raise Trouble(f"it has more than {MOST_MERGED:,} merged cells")
-        for row, look_of in parser.row_dimensions.items():
-            if is_hidden(look_of, "ht"):
-                sheet.hidden_rows.append((int(row), int(row)))
-        for look_of in parser.column_dimensions.values():
-            if is_hidden(look_of, "width"):
-                sheet.hidden_columns.append((int(look_of["min"]), int(look_of["max"])))
+        sheet.hidden_rows = [(int(row), int(row)) for row, look in parser.row_dimensions.items() if is_hidden(look, "ht")]
+        sheet.hidden_columns = [(int(look["min"]), int(look["max"])) for look in parser.column_dimensions.values()
+                                if is_hidden(look, "width")]
         sheet.comments = [place_of(ref.partition(":")[0]) for ref in self.comments(part)]
         return sheet
 
-    def cells(self, sheet: Sheet, parser: Any, look: Look) -> Iterator[tuple[int, int, Cell]]:
-        """The cells of a sheet with their places."""
-        count, taken = 0, {0: 0}  # of each row a bit for each column
+    def keep(self, sheet: Sheet, element: Any, parse: Callable[[Any], dict[str, Any]], parser: Any) -> None:
+        """Puts a cell into the sheet as openpyxl's parser finds it: no day is computed, a formula is its last result."""
+        text = None
+        if element.get("t") == "inlineStr":
+            text = letters_of(element.find(sheets_reader.INLINE_STRING) or ())
+            element.set("t", "n")  # the parser would make a tree of objects of it
         try:
-            for _, row in parser.parse():
-                count += len(row)
-                for found in row:
-                    place, bit = (found["row"], found["column"]), 1 << found["column"]
-                    if taken.get(place[0], 0) & bit:
-                        raise Trouble(f"it has the cell {place_name(sheet, *place)} twice: {OPEN_AND_SAVE}")
-                    taken[place[0]] = taken.get(place[0], 0) | bit
-                    if cell := self.cell(found, place, look):
-                        self.budget.keep(cell.text)
-                        yield *place, cell
-        except Lost as lost:
-            place = parser.row_counter, parser.col_counter + 1
-            raise Trouble(f"{place_name(sheet, *place)} {lost.sentence}: {OPEN_AND_SAVE}") from lost
-        if count != look.cells:
-            raise Trouble(f"openpyxl finds {count} of the {look.cells} cells of the sheet {sheet.name}: save it as an "
-                          ".xlsx of the usual form, not as Strict Open XML")
-
-    def cell(self, found: dict[str, Any], place: tuple[int, int], look: Look) -> Cell | None:
-        """A cell as openpyxl's parser gives it: no day is computed, and a formula is its last result."""
-        value, formula = found["value"], place in look.formulas
-        if value is None or value == "":
-            pending = formula and found["data_type"] not in ("s", "str", "inlineStr")
-            return Cell("pending", "", "", True) if pending else None
-        if not (0 < place[0] <= MOST_ROW and 0 < place[1] <= MOST_COLUMN):
+            if element.get("t", "n") not in TYPES:
+                raise Trouble(f"is of a kind {element.get('t')[:20]!r} that no spreadsheet writes")
+            found = parse(element)
+        except Trouble as trouble:
+            place = place_name(sheet, parser.row_counter, parser.col_counter)
+            raise Trouble(f"{place} {trouble.sentence}: {OPEN_AND_SAVE}") from trouble
+        row, column = found["row"], found["column"]
+        cell = self.cell(found, text or found["value"], element.find(sheets_reader.FORMULA_TAG) is not None)
+        if cell is None:
+            return
+        if not (0 < row <= MOST_ROW and 0 < column <= MOST_COLUMN):
             raise Trouble("it has a cell beyond the last row or column")
-        form, struck = self.style(found["style_id"])
-        struck = struck or place in look.struck or getattr(value, "struck", False)
-        made = self.made(value, found["data_type"], form)
-        return made and made._replace(formula=formula, struck=struck)
+        cells = sheet.rows.setdefault(row, {})
+        if column in cells:
+            raise Trouble(f"it has the cell {place_name(sheet, row, column)} twice: {OPEN_AND_SAVE}")
+        self.budget.keep(cell.text)
+        cells[column] = cell
 
-    def made(self, value: Any, kind: str, form: str) -> Cell | None:
-        if kind == "e":
-            return Cell("error", value, value)
-        if isinstance(value, bool):
-            return Cell("bool", str(value).lower(), str(value).upper())
-        if isinstance(value, int | float):
-            return number_cell(repr(value), form, self.epoch)
-        if isinstance(value, datetime.datetime | datetime.date):
-            return Cell("date", value.isoformat().removesuffix("T00:00:00"), "")
-        if isinstance(value, datetime.time):
-            return Cell("time", str(value.hour * 3600 + value.minute * 60 + value.second), "")
-        if not isinstance(value, str):
-            raise Trouble(f"openpyxl reads a {type(value).__name__} in it, which is not known here: {OPEN_AND_SAVE}")
-        text = value if isinstance(value, SharedText) else unescaped(value)
-        shown = shown_text(form, text)
-        return Cell("text", str(text), shown or "", unseen=shown is None)
+    def cell(self, found: dict[str, Any], value: Any, formula: bool) -> Cell | None:
+        kind = found["data_type"]
+        if value is None or value == "":
+            return Cell("pending", "", "", True) if formula and kind not in ("s", "str") else None
+        form, struck = self.style(found["style_id"])
+        struck = struck or getattr(value, "struck", False)
+        if kind == "n" and not isinstance(value, SharedText):
+            made = number_cell(value, form, self.epoch)
+        elif kind in ("n", "s"):
+            text = value if isinstance(value, SharedText) else unescaped(value)
+            shown = shown_text(form, text)
+            return Cell("text", str(text), shown or "", formula, struck, shown is None)
+        else:
+            made = other_cell(value, kind)
+        return made._replace(formula=formula, struck=struck) if made and (formula or struck) else made
 
     def style(self, number: int) -> Style:
         if number not in self.styles:
@@ -171,13 +204,26 @@ class Reader:
             self.styles[number] = cell.number_format, bool(cell.font and cell.font.strike)
         return self.styles[number]
 
-    def comments(self, part: str) -> list[str]:
+    def comments(self, part: str) -> Iterator[str]:
         """The cells of a sheet that have comments."""
         beside = links_beside(part)
-        if beside not in self.looks:
-            return []
-        links = links_of(self.archive, beside).find(COMMENTS)
-        return [ref for link in links if link.target in self.looks for ref in self.looks[link.target].refs]
+        links = links_of(self.archive, beside).find(COMMENTS) if beside in self.roots else []
+        for element in self.elements([link.target for link in links if link.target in self.roots], "comment"):
+            self.budget.keep("")
+            yield element.attrib["ref"]
+
+
+def other_cell(value: Any, kind: str) -> Cell:
+    """The cell of an error, a truth value, or a day or a time that is stored as text."""
+    if kind == "e":
+        return Cell("error", value, value)
+    if isinstance(value, bool):
+        return Cell("bool", str(value).lower(), str(value).upper())
+    if isinstance(value, datetime.datetime | datetime.date):
+        return Cell("date", value.isoformat().removesuffix("T00:00:00"), "")
+    if isinstance(value, datetime.time):
+        return Cell("time", str(value.hour * 3600 + value.minute * 60 + value.second), "")
+    raise Trouble(f"openpyxl reads a {type(value).__name__} in it, which is not known here: {OPEN_AND_SAVE}")
 
 
 def is_hidden(look_of: dict[str, str], size: str) -> bool:

@@ -1,6 +1,6 @@
 """The corpus of workbooks: what each is, what must come out of it, and whether a command does that.
 
-`cases` and `harder` write workbooks letter by letter; `made/` has those that LibreOffice wrote, with what must come out
+`cases`, `harder` and `further` write workbooks letter by letter; `made/` has those that LibreOffice wrote, with what must come out
 in made/expected.json. Of a case that ends with status 0 and other files than it must, or with a change that is not told,
 the verdict is that it is silently wrong.
 """
@@ -21,6 +21,7 @@ import time
 from typing import Any, NamedTuple
 
 import cases
+import further
 import harder
 
 HERE = pathlib.Path(__file__).resolve().parent
@@ -59,9 +60,9 @@ class Done(NamedTuple):
 
 
 def all_cases() -> list[Case]:
-    """The cases of both modules and of the folder, by name."""
+    """The cases of these modules and of the folder, by name."""
     found = [Case(case["name"], f"{case['name']}.{case['suffix']}", case["data"], case["expected"])
-             for case in [*cases.CASES, *harder.CASES]]
+             for case in [*cases.CASES, *harder.CASES, *further.CASES]]
     expected = json.loads((HERE / "made" / "expected.json").read_text("utf-8"))
     found += [Case(f"made-{file.replace('.', '-')}", file, (HERE / "made" / file).read_bytes(), what)
               for file, what in expected.items()]
