@@ -2,13 +2,17 @@
 import contextlib
 import os
 import pathlib
+import re
 import shutil
 import socket
 import subprocess
+import sys
 import tempfile
 
+sys.path.insert(0, str(pathlib.Path(__file__).resolve().parent.parent / "desk/tests"))
+import desk_client  # noqa: E402
+
 SUITE = "bookworm"
-NEEDED = ["python3", "python3-markupsafe", "sqlite3"]  # what the package depends on and a bare Debian lacks
 OFFICE = "srv/examoffice"
 KINDS = ["sessions", "papers", "halls", "openings", "candidates", "arrangements", "entries"]
 ADDED = [1, 1, 2, 2, 3, 1, 3]  # rows of each kind in examples/day
@@ -64,6 +68,28 @@ def sample_day(run, examples):
     same(run(f"{examples}/check-office", "office.db"), "right: 1 sessions, 2 seats, 1 without a desk\n", "check-office")
 
 
+def workbook_day(run):
+    """Writes the day's office into a workbook, and reads it back: nothing is another."""
+    run("office", "dump", "--workbook", "day.xlsx")
+    run("office", "read", "day.xlsx", "read")
+    for kind, rows in zip(KINDS, ADDED):
+        same(run("office", "import", kind, f"read/{kind}.csv"), f"added 0 changed 0 same {rows}\n", f"import {kind}, read")
+
+
+def desk_opens(process):
+    """A browser outside comes in by the link that a desk prints, and sees the season. The desk ends here."""
+    try:
+        link = next((line.strip() for line in process.stdout if re.match(desk_client.LINK, line.strip())), None)
+        if link is None:
+            raise Failed(f"the desk prints no link: {process.stderr.read()}")
+        browser = desk_client.Browser(link)
+        same(browser.enter().status, 303, "the answer to a link")
+        same("1 without a desk" in browser.words("/"), True, "a shortage on the desk's first page")
+    finally:
+        process.terminate()
+        process.communicate()
+
+
 def in_empty_folder(tarball, folder):
     """Unpacks a tarball into an empty folder, and runs the day from there with nothing but what Debian has."""
     ran("tar", "-xzf", tarball.resolve(), "-C", folder)
@@ -78,28 +104,66 @@ def in_empty_folder(tarball, folder):
     ran("bash", "-n", release / "share/bash-completion/completions/examoffice")
 
 
+def named(package, *fields):
+    """The packages that a package names in fields such as Depends."""
+    said = ran("dpkg-deb", "-f", package, *fields)
+    return re.findall(r"(?<=[:,] )[a-z][a-z0-9.+-]+", said)
+
+
 def in_fresh_debian(tarball, package):
-    """Installs the package in a fresh Debian, runs the day there and in the tarball, and removes it without a trace."""
-    if os.getuid() or not shutil.which("debootstrap"):
-        raise Failed("a fresh Debian wants root and debootstrap (apt-get install debootstrap)")
-    with fresh_debian() as root:
-        before, users = listing(root), users_of(root)
-        shutil.copy(package, root / "tmp/examoffice.deb")
-        in_root(root, "root", "dpkg", "-i", "/tmp/examoffice.deb")
-        same(oct((root / OFFICE).stat().st_mode & 0o7777), "0o700", "the mode of the office's folder")
-        sample_day(lambda *words: in_root(root, "examoffice", *words), "/usr/share/examoffice/examples")
-        in_root(root, "root", "office", "--help")  # as root python leaves what it made of the scripts
-        in_root(root, "root", "dpkg", "-i", "/tmp/examoffice.deb")
-        same(in_root(root, "examoffice", "office", "check"), "good\n", "check after a second installation")
-        remove(root, users)
-        same(sorted(listing(root) ^ before), [], "left after the removal")
-        tried = root / "tmp/tried"
-        tried.mkdir(mode=0o755)
-        ran("tar", "-xzf", tarball.resolve(), "-C", tried, "--strip-components=1")
-        (tried / "day").mkdir(mode=0o777)
-        place = {"folder": "/tmp/tried/day", "path": f"/tmp/tried/bin:{ENVIRONMENT['PATH']}"}
-        sample_day(lambda *words: in_root(root, "root", *words, **place), "/tmp/tried/share/examoffice/examples")
-    print("a fresh Debian: installed, a day run, removed without a trace; the tarball too")
+    """Tries a release in a fresh Debian with what the package needs alone, and in one with what it recommends too."""
+    needed, wished = named(package, "Depends"), named(package, "Recommends")
+    with fresh_debian(needed) as root:
+        installed(root, package, only_needed)
+        from_tarball(root, tarball)
+    with fresh_debian(needed + wished) as root:
+        installed(root, package, with_all)
+    print("a fresh Debian, without and with what is recommended: installed, a day run, removed without a trace; "
+          "the tarball, the desk in a browser and a workbook too")
+
+
+def only_needed(run, _):
+    """What is recommended is missing: the commands that need it name what to install."""
+    for words, package in ((("desk",), "python3-flask"), (("read", "day.xlsx"), "python3-openpyxl")):
+        try:
+            run("office", *words)
+        except Failed as fault:
+            same(f"apt install {package}" in str(fault), True, f"`office {words[0]}` names its package: {fault}")
+        else:
+            raise Failed(f"`office {words[0]}` needs no {package}")
+
+
+def with_all(run, root):
+    workbook_day(run)
+    desk_opens(subprocess.Popen(entered(root, "examoffice", "office", "desk", "--port", "0"), stdin=subprocess.DEVNULL,
+                                stdout=subprocess.PIPE, stderr=subprocess.PIPE, encoding="utf-8", env=environment()))
+
+
+def installed(root, package, tries):
+    """Installs the package, runs the day and `tries(run, root)`, and removes it without a trace."""
+    before, users = listing(root), users_of(root)
+    shutil.copy(package, root / "tmp/examoffice.deb")
+    in_root(root, "root", "dpkg", "-i", "/tmp/examoffice.deb")
+    same(oct((root / OFFICE).stat().st_mode & 0o7777), "0o700", "the mode of the office's folder")
+
+    def run(*words):
+        return in_root(root, "examoffice", *words)
+    sample_day(run, "/usr/share/examoffice/examples")
+    tries(run, root)
+    in_root(root, "root", "office", "--help")  # as root python leaves what it made of the scripts
+    in_root(root, "root", "dpkg", "-i", "/tmp/examoffice.deb")
+    same(run("office", "check"), "good\n", "check after a second installation")
+    remove(root, users)
+    same(sorted(listing(root) ^ before), [], "left after the removal")
+
+
+def from_tarball(root, tarball):
+    tried = root / "tmp/tried"
+    tried.mkdir(mode=0o755)
+    ran("tar", "-xzf", tarball.resolve(), "-C", tried, "--strip-components=1")
+    (tried / "day").mkdir(mode=0o777)
+    place = {"folder": "/tmp/tried/day", "path": f"/tmp/tried/bin:{ENVIRONMENT['PATH']}"}
+    sample_day(lambda *words: in_root(root, "root", *words, **place), "/tmp/tried/share/examoffice/examples")
 
 
 def remove(root: pathlib.Path, users: str) -> None:
@@ -138,10 +202,17 @@ def processes_in(root: pathlib.Path) -> list[str]:
 
 def in_root(root, user, *words, folder=None, path=ENVIRONMENT["PATH"]):
     """What a command prints in the Debian below a folder, in the folder of its user."""
+    return ran(*entered(root, user, *words, folder=folder), env=environment(path))
+
+
+def entered(root, user, *words, folder=None):
+    """The command that runs another one in the Debian below a folder."""
     place = folder or (f"/{OFFICE}" if user != "root" else "/")
-    environment = {**ENVIRONMENT, "PATH": f"{path}:/usr/sbin:/sbin", "DEBIAN_FRONTEND": "noninteractive"}
-    enter = ["chroot", f"--userspec={user}", root, "/bin/sh", "-c", 'cd "$0" && exec "$@"', place]
-    return ran(*enter, *map(str, words), env=environment)
+    return ["chroot", f"--userspec={user}", root, "/bin/sh", "-c", 'cd "$0" && exec "$@"', place, *map(str, words)]
+
+
+def environment(path=ENVIRONMENT["PATH"]):
+    return {**ENVIRONMENT, "PATH": f"{path}:/usr/sbin:/sbin", "DEBIAN_FRONTEND": "noninteractive"}
 
 
 def listing(root):
@@ -162,13 +233,23 @@ def users_of(root):
 
 
 @contextlib.contextmanager
-def fresh_debian():
-    """A folder with a fresh Debian, which goes again with all that lies in it."""
+def fresh_debian(packages):
+    """A folder with a fresh Debian and these packages, which goes again with all that lies in it."""
+    if os.getuid() or not shutil.which("debootstrap"):
+        raise Failed("a fresh Debian wants root and debootstrap (apt-get install debootstrap)")
+    with new_root() as root:
+        words = ["debootstrap", "--variant=minbase", f"--include={','.join(packages)}", SUITE, root]
+        ran(*words, env={**os.environ, "DEBIAN_FRONTEND": "noninteractive"})
+        yield root
+
+
+@contextlib.contextmanager
+def new_root():
+    """An empty folder for a system, which goes again with all that is mounted and lies in it."""
     folder = pathlib.Path(tempfile.mkdtemp(prefix="release-debian-"))
     try:
         root = folder / "root"
-        words = ["debootstrap", "--variant=minbase", f"--include={','.join(NEEDED)}", SUITE, root]
-        ran(*words, env={**os.environ, "DEBIAN_FRONTEND": "noninteractive"})
+        root.mkdir()
         yield root
     finally:
         for mount in mounts_below(folder):
