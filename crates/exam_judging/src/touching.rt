@@ -74,7 +74,7 @@ fn add_set(command: &Command, codes: &mut Codes) -> Result<(), Refusal>
 fn add_imported(import: &Import, codes: &mut Codes) -> Result<(), Refusal>
     ensures ok { OnOk result ((s : Code) → contains code_cmp codes.new s
         ≡ (list_any (spec.sets_session s) import.now.rows || contains code_cmp codes.old s)) }
-    ensures memory { IfErr result (λ e. e ≡ NoMemory) }
+    ensures memory { OnlyMemory result }
 {
     let rows = import.rows();
     match import.kind() {
