@@ -8,9 +8,9 @@ use Rattle.std.proofs.lemmas.Map.Keys.{sorted_head, sorted_tail}
 use Rattle.std.proofs.lemmas.Map.Lookups.{CmpEqualImpliesEq}
 use Rattle.exam_rules.specs.Orders.{KeysRise}
 use Rattle.exam_rules.specs.Relations.{has_row, put_row, row_at}
+use Rattle.exam_commands.proofs.KeyedRows.{past_all, put_at, put_rises, same_rows}
 use Rattle.exam_commands.specs.Exchanges.{GoBack, HasRows, put_back, set_row}
-use Rattle.exam_changes.proofs.Exchanges.{put_at, same_key, set_at, set_rises}
-use Rattle.exam_commands.proofs.Repeating.{past_all, put_rises, same_rows}
+use Rattle.exam_changes.proofs.Exchanges.{same_key, set_at, set_rises}
 
 -- of what is accepted or refused
 pub either : {A E P Q R : Type 0} (o : Result A E) → OnOk o P → OnErr o Q → (P → R) → (Q → R) → R
@@ -64,10 +64,10 @@ module _ {K X : Type 0} (cmp : K → K → Ordering) (total : IsTotalOrder cmp) 
     -- a row whose key has been changed before
     pub changed_again : has_row cmp was k ≡ true → GoBack cmp was (put_row cmp rows k x) first
     changed_again known = record {
-      there = λ q has. ap is_some (put_at cmp total exact rows k q x) ∙ there q has (is_at (cmp q) k);
+      there = λ q has. ap is_some (put_at cmp total rows k q x) ∙ there q has (is_at (cmp q) k);
       back =
           same_rows cmp total exact (put_back cmp (put_row cmp rows k x) was) first (put_back_rises was (put_row cmp rows k x) up_put) up_first
-          (λ q. put_back_at was (put_row cmp rows k x) q up_was up_put ∙ ap (or_row (row_at cmp was q)) (put_at cmp total exact rows k q x) ∙ at q (is_at (cmp q) k) refl ∙ sym (at_first q));
+          (λ q. put_back_at was (put_row cmp rows k x) q up_was up_put ∙ ap (or_row (row_at cmp was q)) (put_at cmp total rows k q x) ∙ at q (is_at (cmp q) k) refl ∙ sym (at_first q));
     }
       where
         up_put : KeysRise cmp (put_row cmp rows k x)
@@ -88,14 +88,14 @@ module _ {K X : Type 0} (cmp : K → K → Ordering) (total : IsTotalOrder cmp) 
     -- a row whose key has not
     pub changed_first : has_row cmp was k ≡ false → GoBack cmp (put_row cmp was k (row_at cmp rows k)) (put_row cmp rows k x) first
     changed_first new = record {
-      there = λ q has. ap is_some (put_at cmp total exact rows k q x) ∙ there q (is_at (cmp q) k) (sym (ap is_some (put_at cmp total exact was k q (row_at cmp rows k))) ∙ has);
+      there = λ q has. ap is_some (put_at cmp total rows k q x) ∙ there q (is_at (cmp q) k) (sym (ap is_some (put_at cmp total was k q (row_at cmp rows k))) ∙ has);
       back =
           same_rows cmp total exact (put_back cmp (put_row cmp rows k x) (put_row cmp was k (row_at cmp rows k))) first
           (put_back_rises (put_row cmp was k (row_at cmp rows k)) (put_row cmp rows k x) up_put) up_first
           (λ q.
           put_back_at (put_row cmp was k (row_at cmp rows k)) (put_row cmp rows k x) q (put_rises cmp total was k (row_at cmp rows k) up_was) up_put
-          ∙ ap (λ o. or_row o (row_at cmp (put_row cmp rows k x) q)) (put_at cmp total exact was k q (row_at cmp rows k))
-          ∙ ap (or_row (cond (is_at (cmp q) k) (Some (row_at cmp rows k)) (row_at cmp was q))) (put_at cmp total exact rows k q x)
+          ∙ ap (λ o. or_row o (row_at cmp (put_row cmp rows k x) q)) (put_at cmp total was k q (row_at cmp rows k))
+          ∙ ap (or_row (cond (is_at (cmp q) k) (Some (row_at cmp rows k)) (row_at cmp was q))) (put_at cmp total rows k q x)
           ∙ at q (is_at (cmp q) k) refl ∙ sym (at_first q));
     }
       where
@@ -122,7 +122,7 @@ module _ {K X : Type 0} (cmp : K → K → Ordering) (total : IsTotalOrder cmp) 
   set_again rows k x up =
       same_rows cmp total exact (set_row cmp (put_row cmp rows k x) k (row_at cmp rows k)) rows (set_rises cmp total exact (put_row cmp rows k x) k (row_at cmp rows k) up_put) up
       (λ q. set_at cmp total exact (put_row cmp rows k x) k q (row_at cmp rows k) up_put
-      ∙ ap (cond (is_at (cmp q) k) (row_at cmp rows k)) (put_at cmp total exact rows k q x)
+      ∙ ap (cond (is_at (cmp q) k) (row_at cmp rows k)) (put_at cmp total rows k q x)
       ∙ at q (is_at (cmp q) k) refl)
     where
       up_put : KeysRise cmp (put_row cmp rows k x)

@@ -21,9 +21,9 @@ use Rattle.exam_rules.specs.Sessions.{arrangement_in_force, asked_hall, asked_pa
 use Rattle.exam_rules.specs.Sessions.{head_of, is_live, is_live_entry, is_live_paper, is_paper_of, least_live_paper}
 use Rattle.exam_rules.specs.Sessions.{live_papers, members, option_filter, sitting, sitting_row}
 use Rattle.exam_rules.specs.Seatings.{desks, fits, opened_room, room_of, seating, suits_opened, terms_of}
+use Rattle.exam_rules.proofs.Relisting.{entries_exact}
 use Rattle.exam_commands.specs.Steps.{SameSeating}
 use Rattle.exam_commands.proofs.Keeping.{filtered}
-use Rattle.exam_commands.proofs.LiveMarks.{entries_exact}
 use Rattle.exam_commands.proofs.Members.{sitting_paper}
 
 -- ---- rows that pass

@@ -11,13 +11,11 @@ use Rattle.exam_rules.specs.declared.rows.Status.{Status}
 use Rattle.exam_rules.specs.declared.rows.Status.TheVariants as status
 use Rattle.exam_rules.specs.Relations.{Code, appeal_cmp, has_row, put_row, row_at}
 use Rattle.exam_rules.specs.Sessions.{asked_arrangement}
+use Rattle.exam_commands.proofs.KeyedRows.{all_at_row, appeals_exact, appeals_total, put_elsewhere}
 use Rattle.exam_commands.specs.Appeals.{is_open, is_retracted}
 use Rattle.exam_commands.specs.Decisions.{without_mark}
 use Rattle.exam_commands.specs.Good as good
 use Rattle.exam_commands.proofs.Alike.{found_among}
-use Rattle.exam_commands.proofs.AppealKeys.{appeals_exact, appeals_total}
-use Rattle.exam_commands.proofs.LiveMarks.{put_elsewhere}
-use Rattle.exam_commands.proofs.PutAppeals.{all_at_row}
 
 abbrev pub Rows : Type 0
 Rows = List ((ℕ × Code) × Appeal)
@@ -85,7 +83,7 @@ put_borne appeals k v (m ∷ ms) none every =
     let both = and_parts (borne_in appeals m) (list_all (borne_in appeals) ms) every in
     let parts = split (is_at (appeal_cmp k) m.0) refl none in
     ap (λ b. b && list_all (borne_in (put_row appeal_cmp appeals k v)) ms)
-    (ap (λ o. option_map_or good.may_bear o false) (put_elsewhere appeal_cmp appeals_exact appeals k m.0 v (key_elsewhere k m.0 parts.0)) ∙ both.0)
+    (ap (λ o. option_map_or good.may_bear o false) (put_elsewhere appeal_cmp appeals_total appeals k m.0 v (key_elsewhere k m.0 parts.0)) ∙ both.0)
     ∙ put_borne appeals k v ms parts.1 both.1
   where
     split : (b : Bool) → is_at (appeal_cmp k) m.0 ≡ b → is_some (cond b (Some m.1) (row_at appeal_cmp ms k)) ≡ false → (m.0 ≡ k → ⊥) × (has_row appeal_cmp ms k ≡ false)

@@ -11,9 +11,9 @@ use Rattle.exam_commands.specs.declared.import_row.Key.TheVariants as key
 use Rattle.exam_commands.specs.contracts.import_row.KeyOrd.TheImpl as keys
 use Rattle.exam_commands.specs.contracts.import_row.KeyOrd.TheImpl.Laws as key_laws
 use Rattle.exam_commands.specs.Imports.{same_key}
-use Rattle.exam_commands.proofs.Distinct.{flips}
 use Rattle.exam_commands.proofs.ImportRowsEqual.{never, numbers, texts}
 use Rattle.exam_rules.specs.Relations.{Code, same_code}
+use Rattle.exam_commands.proofs.KeyedRows.{flips}
 use Rattle.std.proofs.lemmas.Bool.{and_parts}
 
 two_texts : (a b s t : List ℕ) → (pointwise nat_eq a b && pointwise nat_eq s t) ≡ true → key.OfOpening a s ≡ key.OfOpening b t

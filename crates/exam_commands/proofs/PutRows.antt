@@ -6,31 +6,17 @@ use Rattle.std.specs.List.{AllByRecursion, IsDistinct, cons_option, filter_map, 
 use Rattle.std.specs.Map.{keys_of}
 use Rattle.std.specs.BTreeMap.{insert_entry}
 use Rattle.std.specs.declared.cmp.Ordering.{Ordering}
-use Rattle.std.specs.declared.cmp.Ordering.TheVariants.{Less, Equal, Greater}
-use Rattle.std.specs.Ordering.{is_eq, match_ordering, ordering_reverse}
+use Rattle.std.specs.declared.cmp.Ordering.TheVariants.{Less, Equal}
+use Rattle.std.specs.Ordering.{match_ordering, ordering_reverse}
 use Rattle.std.proofs.lemmas.Map.Keys.{IsDistinct-cons, IsDistinct-head, IsDistinct-tail, sorted_head, sorted_tail}
 use Rattle.std.proofs.lemmas.Map.Lookups.{CmpEqualImpliesEq}
 use Rattle.exam_rules.specs.Orders.{KeysRise}
-use Rattle.exam_rules.specs.Relations.{row_at, put_row}
-use Rattle.exam_commands.proofs.Repeating.{none_above}
+use Rattle.exam_rules.specs.Relations.{put_row}
+use Rattle.exam_commands.proofs.KeyedRows.{put_by}
 
--- ---- the keys stay
+-- ---- rows with greater keys
 
-module _ {K X : Type 0} (cmp : K → K → Ordering) (o : IsTotalOrder cmp) where
-  -- if a row is there already
-  pub put_keys : (rows : List (K × X)) (k : K) (v x : X) → KeysRise cmp rows → row_at cmp rows k ≡ Some x → keys_of (put_row cmp rows k v) ≡ keys_of rows
-  put_keys [] k v x up at = absurd (let differ : None ≡ Some x = at in cc)
-  put_keys (e ∷ es) k v x up at = inner (cmp k e.0) refl (put_keys es k v x (sorted_tail cmp e.0 (keys_of es) up))
-    where
-      inner : (r : Ordering) → cmp k e.0 ≡ r → (row_at cmp es k ≡ Some x → keys_of (put_row cmp es k v) ≡ keys_of es)
-          → keys_of (match_ordering r ((k, v) ∷ e ∷ es) ((e.0, v) ∷ es) (e ∷ insert_entry cmp es k v)) ≡ e.0 ∷ keys_of es
-      inner Less is rest =
-          let none : row_at cmp es k ≡ None = none_above cmp o k e.0 es is (sorted_head cmp e.0 (keys_of es) up) in
-          let here : row_at cmp (e ∷ es) k ≡ row_at cmp es k = ap (λ r. cond (is_eq r) (Some e.1) (row_at cmp es k)) is in
-          absurd (let no_row : Some x ≡ None = sym at ∙ here ∙ none in cc)
-      inner Equal is rest = refl
-      inner Greater is rest = ap (λ ks. e.0 ∷ ks) (rest (ap (λ r. cond (is_eq r) (Some e.1) (row_at cmp es k)) (sym is) ∙ at))
-
+module _ {K X : Type 0} (cmp : K → K → Ordering) where
   -- what is found among rows with greater keys has a greater key
   found_above : (p : K × X → Bool) (k : K) (e : K × X) (es : List (K × X)) → find p es ≡ Some e → AllByRecursion (λ y. cmp k y ≡ Less) (keys_of es) → cmp k e.0 ≡ Less
   found_above p k e [] is above = absurd (let differ : None ≡ Some e = is in cc)
@@ -82,33 +68,28 @@ module _ {K X A : Type 0} (cmp : K → K → Ordering) (exact : CmpEqualImpliesE
   -- a row with another value
   put_apart : (x : A) (rows : List (K × X)) (k : K) (v : X) → ((y : A) → f (k, v) ≡ Some y → same x y ≡ false)
       → IsApartFrom same x (filter_map f rows) → IsApartFrom same x (filter_map f (put_row cmp rows k v))
-  put_apart x [] k v other apart = apart_more same x (f (k, v)) [] other tt
-  put_apart x (e ∷ es) k v other apart = inner (cmp k e.0) refl (put_apart x es k v other (apart_less same x (f e) (filter_map f es) apart))
-    where
-      inner : (r : Ordering) → cmp k e.0 ≡ r → IsApartFrom same x (filter_map f (put_row cmp es k v))
-          → IsApartFrom same x (filter_map f (match_ordering r ((k, v) ∷ e ∷ es) ((e.0, v) ∷ es) (e ∷ insert_entry cmp es k v)))
-      inner Less is rest = apart_more same x (f (k, v)) (filter_map f (e ∷ es)) other apart
-      inner Equal is rest = apart_more same x (f (e.0, v)) (filter_map f es) (λ y at. other y (ap (λ q. f (q, v)) (exact k e.0 is) ∙ at)) (apart_less same x (f e) (filter_map f es) apart)
-      inner Greater is rest = apart_more same x (f e) (filter_map f (put_row cmp es k v)) (λ y at. apart_here same x y (f e) (filter_map f es) at apart) rest
+  put_apart x rows k v other =
+      put_by cmp k v (λ es fs. IsApartFrom same x (filter_map f es) → IsApartFrom same x (filter_map f fs))
+      (λ es is. apart_more same x (f (k, v)) (filter_map f es) other)
+      (λ e es is apart. apart_more same x (f (e.0, v)) (filter_map f es) (λ y at. other y (ap (λ q. f (q, v)) (exact k e.0 is) ∙ at)) (apart_less same x (f e) (filter_map f es) apart))
+      (λ e es is rest apart. apart_more same x (f e) (filter_map f (put_row cmp es k v))
+      (λ y at. apart_here same x y (f e) (filter_map f es) at apart)
+      (rest (apart_less same x (f e) (filter_map f es) apart)))
+      rows
 
   module _ (flips : (x y : A) → same x y ≡ same y x) where
     -- a row without a value, or with one that no row has
     pub put_distinct : (rows : List (K × X)) (k : K) (v : X) → IsFresh same (f (k, v)) (filter_map f rows) → IsDistinct same (filter_map f rows) → IsDistinct same (filter_map f (put_row cmp rows k v))
-    put_distinct [] k v fresh distinct = distinct_more same (f (k, v)) [] fresh distinct
-    put_distinct (e ∷ es) k v fresh distinct =
-        inner (cmp k e.0) refl (put_distinct es k v (λ y at. apart_less same y (f e) (filter_map f es) (fresh y at)) (distinct_less same (f e) (filter_map f es) distinct))
-      where
-        inner : (r : Ordering) → cmp k e.0 ≡ r → IsDistinct same (filter_map f (put_row cmp es k v))
-            → IsDistinct same (filter_map f (match_ordering r ((k, v) ∷ e ∷ es) ((e.0, v) ∷ es) (e ∷ insert_entry cmp es k v)))
-        inner Less is rest = distinct_more same (f (k, v)) (filter_map f (e ∷ es)) fresh distinct
-        inner Equal is rest =
-            distinct_more same (f (e.0, v)) (filter_map f es)
-            (λ y at. apart_less same y (f e) (filter_map f es)
-            (fresh y (ap (λ q. f (q, v)) (exact k e.0 is) ∙ at)))
-            (distinct_less same (f e) (filter_map f es) distinct)
-        inner Greater is rest =
-            distinct_more same (f e) (filter_map f (put_row cmp es k v))
-            (λ z at. put_apart z es k v (λ y here. flips z y ∙ apart_here same y z (f e) (filter_map f es) at (fresh y here)) (distinct_here same (f e) (filter_map f es) distinct z at)) rest
+    put_distinct rows k v =
+        put_by cmp k v (λ es fs. IsFresh same (f (k, v)) (filter_map f es) → IsDistinct same (filter_map f es) → IsDistinct same (filter_map f fs))
+        (λ es is. distinct_more same (f (k, v)) (filter_map f es))
+        (λ e es is fresh distinct. distinct_more same (f (e.0, v)) (filter_map f es)
+        (λ y at. apart_less same y (f e) (filter_map f es) (fresh y (ap (λ q. f (q, v)) (exact k e.0 is) ∙ at)))
+        (distinct_less same (f e) (filter_map f es) distinct))
+        (λ e es is rest fresh distinct. distinct_more same (f e) (filter_map f (put_row cmp es k v))
+        (λ z at. put_apart z es k v (λ y here. flips z y ∙ apart_here same y z (f e) (filter_map f es) at (fresh y here)) (distinct_here same (f e) (filter_map f es) distinct z at))
+        (rest (λ y at. apart_less same y (f e) (filter_map f es) (fresh y at)) (distinct_less same (f e) (filter_map f es) distinct)))
+        rows
 
 -- ---- each row changed at its place
 
@@ -192,4 +173,4 @@ module _ {K X : Type 0} (cmp : K → K → Ordering) (o : IsTotalOrder cmp) (p :
             ap (λ z. z ∷ map g ds) (kept d away) ∙ ap (λ t. d ∷ t) (rest is now)
             ∙ ap (λ r. match_ordering r ((e.0, v) ∷ d ∷ ds) ((d.0, v) ∷ ds) (d ∷ insert_entry cmp ds e.0 v))
             (sym (o.antisymm e.0 d.0
-            ∙ ap ordering_reverse (found_above cmp o p d.0 e ds is (sorted_head cmp d.0 (keys_of ds) up))))
+            ∙ ap ordering_reverse (found_above cmp p d.0 e ds is (sorted_head cmp d.0 (keys_of ds) up))))

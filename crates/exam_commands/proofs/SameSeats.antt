@@ -4,27 +4,19 @@ use Rattle.std.specs.Prelude.{nat_le}
 use Rattle.std.specs.Bool.{Decides}
 use Rattle.std.specs.List.{list_all, list_any}
 use Rattle.std.specs.Map.{keys_of}
-use Rattle.std.specs.Cmp.{IsTotalOrder, nat_cmp_total, then_total, on_total}
-use Rattle.std.specs.Cmp.Lexicographic.{nat_list_cmp_total}
 use Rattle.std.specs.BTreeMap.{IsOrdered}
-use Rattle.std.specs.Ordering.{nat_cmp}
 use Rattle.std.proofs.lemmas.Bool.{and_parts, leb-true}
 use Rattle.std.proofs.lemmas.Bool.Decides.{Decides-and, Decides-eqb}
-use Rattle.std.proofs.lemmas.Map.Lookups.{CmpEqualImpliesEq, exact_pairs, exact_bytes, exact_unsigned, btree_map_from_get}
+use Rattle.std.proofs.lemmas.Map.Lookups.{btree_map_from_get}
 use Rattle.exam_plan.specs.HallSets.{most_halls}
 use Rattle.exam_plan.specs.Problems.{most_members}
 use Rattle.exam_rules.specs.Relations.{Code, Relations, same_code, code_cmp, seat_cmp, has_row}
 use Rattle.exam_rules.specs.Sessions.{members}
 use Rattle.exam_rules.specs.Seatings.{plan_of, open_halls}
 use Rattle.exam_rules.proofs.Naming.{same_code_exact, same_code_itself}
+use Rattle.exam_commands.proofs.KeyedRows.{seats_exact, seats_total}
 use Rattle.exam_commands.specs.Limits.{within_limits, sessions_within, papers_within, halls_within, openings_within, candidates_within, members_within, appeals_within}
 use Rattle.exam_commands.proofs.AllSessions.{known_among}
-
-pub seats_total : IsTotalOrder seat_cmp
-seats_total = then_total (on_total (λ (k : Code × ℕ). k.0) nat_list_cmp_total) (on_total (λ (k : Code × ℕ). k.1) nat_cmp_total)
-
-pub seats_exact : CmpEqualImpliesEq seat_cmp
-seats_exact = exact_pairs code_cmp nat_cmp exact_bytes exact_unsigned
 
 pub codes_decide : (h k : Code) → Decides (same_code h k) (h ≡ k)
 codes_decide h k = (same_code_exact h k, λ e. ap (same_code h) (sym e) ∙ same_code_itself h)

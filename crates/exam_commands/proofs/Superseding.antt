@@ -12,12 +12,12 @@ use Rattle.exam_rules.specs.Orders.{KeysRise}
 use Rattle.exam_rules.specs.Relations.{Code, appeal_cmp, put_row, same_code}
 use Rattle.exam_rules.specs.Sessions.{is_granted}
 use Rattle.exam_rules.proofs.Naming.{same_code_exact, same_code_itself}
+use Rattle.exam_commands.proofs.KeyedRows.{appeals_total}
 use Rattle.exam_commands.specs.declared.single.Single.{Single}
 use Rattle.exam_commands.specs.declared.single.Single.TheVariants as single
 use Rattle.exam_commands.specs.Appeals.{superseded, supersedes}
 use Rattle.exam_commands.specs.Decisions.{gives_way, giving_way, is_earlier}
 use Rattle.exam_commands.specs.Singles.{SingleKey, same_single, same_single_key, single_as, single_key}
-use Rattle.exam_commands.proofs.AppealKeys.{appeals_total}
 use Rattle.exam_commands.proofs.PutRows.{IsApartFrom, mapped_apart, mapped_distinct, none_changed, one_changed}
 
 -- ---- keys of appeals that a candidate may have only once

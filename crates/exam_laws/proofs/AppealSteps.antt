@@ -25,6 +25,7 @@ use Rattle.exam_rules.specs.Sessions.{appeal_count, asked_arrangement, barred_ha
 use Rattle.exam_rules.specs.Seatings.{fits, opened_room, plan_of, seating, sitting_terms, suits_opened}
 use Rattle.exam_rules.proofs.Naming.{same_code_exact}
 use Rattle.exam_rules.specs.Tables as table
+use Rattle.exam_commands.proofs.KeyedRows.{all_at_row, all_put, appeals_exact, appeals_total, count_replaced}
 use Rattle.exam_commands.specs.declared.command.Lodging.{Lodging}
 use Rattle.exam_commands.specs.Appeals.{appeal_at, has_open_appeal, is_open, is_retracted}
 use Rattle.exam_commands.specs.Changes.{first_refusal}
@@ -34,14 +35,12 @@ use Rattle.exam_commands.specs.Lodgings as spec
 use Rattle.exam_commands.specs.Singles.{AreSingle, SingleKey, same_single_key, single_key}
 use Rattle.exam_commands.specs.State.{State}
 use Rattle.exam_commands.specs.Steps.{SameSeating}
-use Rattle.exam_commands.proofs.AppealKeys.{appeals_exact, appeals_total}
 use Rattle.exam_laws.proofs.Appealing.{apart_from_all, open_as, open_key, put_seating_same, single_flips, with_appeals}
 use Rattle.exam_commands.proofs.Borne.{closed_unborne, put_borne, unborne}
 use Rattle.exam_laws.proofs.Commanding.{ArePlansRepaired, DoListsRise}
 use Rattle.exam_commands.proofs.LodgingChecks.{both_passed}
-use Rattle.exam_commands.proofs.PutAppeals.{all_at_row, count_replaced}
 use Rattle.exam_commands.proofs.PutRows.{IsApartFrom, put_distinct}
-use Rattle.exam_commands.proofs.Referring.{all_put, appeals_refer_so, passed, stored_refer, there}
+use Rattle.exam_commands.proofs.Referring.{appeals_refer_so, passed, stored_refer, there}
 use Rattle.exam_commands.proofs.Staying.{best_stays}
 use Rattle.exam_laws.proofs.Stepping.{same_seating}
 

@@ -18,13 +18,12 @@ use Rattle.exam_rules.specs.Sessions.{has_live_entry, head_of, is_granted, is_gr
 use Rattle.exam_rules.specs.Sessions.{is_standing, least_live_paper, option_filter, session_day, standing_grant}
 use Rattle.exam_rules.specs.Sessions.{standing_grants}
 use Rattle.exam_rules.specs.Seatings.{fits, opened_room, seating, suits_opened, terms_of}
+use Rattle.exam_commands.proofs.KeyedRows.{appeals_exact, put_passed_over}
 use Rattle.exam_commands.specs.declared.single.Single.{Single}
 use Rattle.exam_commands.specs.declared.single.Single.TheVariants as single
 use Rattle.exam_commands.specs.Appeals.{is_open, is_open_appeal, same_kind}
 use Rattle.exam_commands.specs.Singles.{SingleKey, same_single, same_single_key, single_as, single_key}
 use Rattle.exam_commands.specs.Steps.{SameSeating}
-use Rattle.exam_commands.proofs.AppealKeys.{appeals_exact}
-use Rattle.exam_commands.proofs.PutAppeals.{put_passed_over}
 use Rattle.exam_commands.proofs.ImportKeys.{code_flips, number_flips}
 
 -- ---- the seating of a session knows of appeals what the granted ones ask

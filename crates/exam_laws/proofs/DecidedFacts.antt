@@ -21,6 +21,8 @@ use Rattle.exam_rules.specs.Orders.{KeysRise}
 use Rattle.exam_rules.specs.Relations.{Code, Relations, appeal_cmp, has_row, is_row_of, put_row, row_at, same_code}
 use Rattle.exam_rules.specs.Sessions.{appeal_count, asked_arrangement, is_granted, is_granted_appeal, is_marked, is_standing, standing_grant, standing_grants}
 use Rattle.exam_rules.specs.Seatings.{desks, fits}
+use Rattle.exam_rules.proofs.Relisting.{put_filtered}
+use Rattle.exam_commands.proofs.KeyedRows.{all_at_row, all_put, appeals_exact, appeals_total, put_elsewhere, put_found, put_keys}
 use Rattle.exam_commands.specs.declared.command.Decision.{Decision}
 use Rattle.exam_commands.specs.declared.command.Outcome.{Outcome}
 use Rattle.exam_commands.specs.declared.command.Outcome.TheVariants as outcome
@@ -34,13 +36,9 @@ use Rattle.exam_commands.specs.Good as good
 use Rattle.exam_commands.specs.Limits.{most_appeals, within_limits, sessions_within, papers_within, halls_within, openings_within, candidates_within, members_within}
 use Rattle.exam_commands.specs.Singles.{AreSingle, SingleKey, same_single_key, single_as, single_key}
 use Rattle.exam_laws.proofs.Appealing.{fits_same, single_flips}
-use Rattle.exam_commands.proofs.AppealKeys.{appeals_exact, appeals_total}
 use Rattle.exam_commands.proofs.Borne.{borne_in, key_elsewhere, mark_gone, open_unborne, other_mark_kept, put_borne, unborne, unmarked_same}
-use Rattle.exam_commands.proofs.LiveMarks.{put_elsewhere, put_filtered}
-use Rattle.exam_commands.proofs.PutAppeals.{all_at_row}
-use Rattle.exam_commands.proofs.PutRows.{IsApartFrom, IsFresh, mapped_filtered, mapped_keys, put_distinct, put_keys}
-use Rattle.exam_commands.proofs.Referring.{all_put, passed}
-use Rattle.exam_commands.proofs.Repeating.{put_found}
+use Rattle.exam_commands.proofs.PutRows.{IsApartFrom, IsFresh, mapped_filtered, mapped_keys, put_distinct}
+use Rattle.exam_commands.proofs.Referring.{passed}
 use Rattle.exam_commands.proofs.Superseding.{given_distinct, places_apart}
 
 -- ---- rows
@@ -202,7 +200,7 @@ module _ (r : Relations) (d : Decision) where
   marked_still k apart = inner (bears_mark d.outcome)
     where
       inner : (b : Bool) → has_row appeal_cmp (cond b (put_row appeal_cmp r.standing key tt) (without_mark key r.standing)) k ≡ is_marked r k
-      inner true = ap is_some (put_elsewhere appeal_cmp appeals_exact r.standing key k tt (key_elsewhere key k apart))
+      inner true = ap is_some (put_elsewhere appeal_cmp appeals_total r.standing key k tt (key_elsewhere key k apart))
       inner false = ap is_some (other_mark_kept r.standing key k apart)
 
   -- the decided appeal bears a mark exactly if the outcome gives it one

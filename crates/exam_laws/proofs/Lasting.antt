@@ -19,6 +19,7 @@ use Rattle.exam_rules.specs.Relations.{Code, Relations, appeal_cmp, has_row, put
 use Rattle.exam_rules.specs.Sessions.{is_marked}
 use Rattle.exam_rules.specs.Seatings.{plan_of, seating}
 use Rattle.exam_rules.proofs.Naming.{same_code_itself}
+use Rattle.exam_commands.proofs.KeyedRows.{appeals_exact, appeals_total, put_found, put_stays, same_rows, seats_exact, seats_total}
 use Rattle.exam_commands.specs.declared.command.Command.{Command}
 use Rattle.exam_commands.specs.declared.command.Command.TheVariants as command
 use Rattle.exam_commands.specs.declared.command.Decision.{Decision}
@@ -41,12 +42,9 @@ use Rattle.exam_commands.specs.Lodgings as spec
 use Rattle.exam_commands.specs.Orders.{IsInOrder}
 use Rattle.exam_commands.specs.State.{State}
 use Rattle.exam_commands.specs.Steps.{MayStep, Run, SameSeating, Step, StepTo, change}
-use Rattle.exam_commands.proofs.AppealKeys.{appeals_exact, appeals_total}
 use Rattle.exam_laws.proofs.AppealSteps.{lodging_settled, retraction_settled}
 use Rattle.exam_laws.proofs.DecidedFacts.{marked_as_made, marked_still}
 use Rattle.exam_commands.proofs.Referring.{import_appeals, import_candidates, import_standing, neither, passed}
-use Rattle.exam_commands.proofs.Repeating.{put_found, put_stays, same_rows}
-use Rattle.exam_commands.proofs.SameSeats.{seats_exact, seats_total}
 
 -- ---- the later states of an appeal
 

@@ -1,12 +1,13 @@
 -- An accepted import repeated later, if no import came between and no hall was closed: its rows are still stored, so it
 -- is accepted, changes nothing, and finds every row the same.
-use Rattle.std.proofs.Common.{◌≡◌, ℕ, Bool, true, false, cond, List, [], ◌∷◌, length, Option, None, Some, Result, Ok, Err, is_none, refl, ap, sym, subst, ◌∙◌, inl, inr}
+use Rattle.std.proofs.Common.{Bool, Err, List, None, Ok, Option, Result, Some, [], ap, cond, false, inl, inr, is_none, is_some, length, refl, subst, sym, true, ℕ, ◌∙◌, ◌∷◌, ◌≡◌}
 use Rattle.std.specs.List.{AllByRecursion}
 use Rattle.std.specs.Ordering.{nat_cmp}
 use Rattle.std.proofs.lemmas.List.Elements.{All-head, All-tail}
 use Rattle.exam_types.specs.declared.refusal.Refusal.{Refusal}
 use Rattle.exam_rules.specs.declared.rows.Appeal.{Appeal}
-use Rattle.exam_rules.specs.Relations.{Code, Relations, code_cmp, entry_cmp, opening_cmp, has_row, row_at}
+use Rattle.exam_rules.specs.Relations.{Code, Relations, code_cmp, entry_cmp, row_at}
+use Rattle.exam_commands.proofs.KeyedRows.{entries_total, has_put}
 use Rattle.exam_commands.specs.declared.command.Command.{Command}
 use Rattle.exam_commands.specs.declared.command.Command.TheVariants as command
 use Rattle.exam_commands.specs.declared.command.Decision.{Decision}
@@ -27,37 +28,25 @@ use Rattle.exam_commands.specs.Orders.{IsInOrder}
 use Rattle.exam_commands.specs.State.{State}
 use Rattle.exam_commands.specs.Steps.{MayStep, Run, Step, StepTo, change}
 use Rattle.exam_laws.proofs.Lasting.{made, new_facts, same_office}
-use Rattle.exam_commands.proofs.Referring.{Grows, has_put, import_refers_still, neither, rows_refer_still}
+use Rattle.exam_commands.proofs.Referring.{Grows, import_refers_still, neither, rows_refer_still}
 use Rattle.exam_laws.proofs.RepeatedImports.{accepted, stored_reply}
 use Rattle.exam_laws.proofs.Stepping.{import_accepted}
 use Rattle.exam_commands.proofs.Stored.{IsStored, rows_again, rows_stored}
 
 -- ---- the rows of imports, and the facts that keep them
 
--- every row is there still, of an entry with any live mark
-record Holds (r t : Relations) : Type 0 where
-  sessions : t.sessions ≡ r.sessions
-  papers : t.papers ≡ r.papers
-  halls : t.halls ≡ r.halls
-  openings : t.openings ≡ r.openings
-  candidates : t.candidates ≡ r.candidates
-  entries : (k : ℕ × Code) → has_row entry_cmp r.entries k ≡ true → has_row entry_cmp t.entries k ≡ true
-  arrangements : t.arrangements ≡ r.arrangements
+-- what an import stored is stored still
+abbrev Holds : Relations → Relations → Type 0
+Holds r t = (x : Row) → IsStored r x → IsStored t x
 
 holds_both : (r t u : Relations) → Holds r t → Holds t u → Holds r u
-holds_both r t u one two = record {
-  sessions = two.sessions ∙ one.sessions;
-  papers = two.papers ∙ one.papers;
-  halls = two.halls ∙ one.halls;
-  openings = two.openings ∙ one.openings;
-  candidates = two.candidates ∙ one.candidates;
-  entries = λ k has. two.entries k (one.entries k has);
-  arrangements = two.arrangements ∙ one.arrangements;
-}
+holds_both r t u one two x at = two x (one x at)
 
 -- if only appeals change
-holds_decisions : (r : Relations) (appeals : List ((ℕ × Code) × Appeal)) (marks : List ((ℕ × Code) × Unit {0})) → Holds r (record r { appeals = appeals; standing = marks })
-holds_decisions r appeals marks = record { sessions = refl; papers = refl; halls = refl; openings = refl; candidates = refl; entries = λ k has. has; arrangements = refl }
+holds_decisions : (r : Relations) (appeals : List ((ℕ × Code) × Appeal)) (marks : List ((ℕ × Code) × Unit {0}))
+    → Holds r (record r { appeals = appeals; standing = marks })
+holds_decisions r appeals marks (row.OfSession s x) at = at
+holds_decisions r appeals marks x at = at
 
 holds_itself : (r : Relations) → Holds r r
 holds_itself r = holds_decisions r r.appeals r.standing
@@ -66,15 +55,8 @@ holds_appeals : (r : Relations) (appeals : List ((ℕ × Code) × Appeal)) → H
 holds_appeals r appeals = holds_decisions r appeals r.standing
 
 holds_live : (r : Relations) (c : ℕ) (p : Code) (live : Bool) → Holds r (with_live r c p live)
-holds_live r c p live = record {
-  sessions = refl;
-  papers = refl;
-  halls = refl;
-  openings = refl;
-  candidates = refl;
-  entries = λ k has. has_put entry_cmp r.entries (c, p) k (record { live = live }) has;
-  arrangements = refl;
-}
+holds_live r c p live (row.OfEntry d q) at = has_put entry_cmp entries_total r.entries (c, p) (d, q) (record { live = live }) at
+holds_live r c p live x at = at
 
 -- ---- by a command
 
@@ -162,25 +144,20 @@ in_order_then done day before answer after step = inner (change done day before)
 -- ---- the rows of the import
 
 module _ (r t : Relations) (holds : Holds r t) where
-  stored_still : (x : Row) → IsStored r x → IsStored t x
-  stored_still (row.OfSession s x) at = ap (λ rows. row_at code_cmp rows s) holds.sessions ∙ at
-  stored_still (row.OfPaper p x) at = ap (λ rows. row_at code_cmp rows p) holds.papers ∙ at
-  stored_still (row.OfHall h x) at = ap (λ rows. row_at code_cmp rows h) holds.halls ∙ at
-  stored_still (row.OfOpening s h x) at = ap (λ rows. row_at opening_cmp rows (s, h)) holds.openings ∙ at
-  stored_still (row.OfCandidate c x) at = ap (λ rows. row_at nat_cmp rows c) holds.candidates ∙ at
-  stored_still (row.OfEntry c p) at = holds.entries (c, p) at
-  stored_still (row.OfArrangement c x) at = ap (λ rows. row_at nat_cmp rows c) holds.arrangements ∙ at
-
   all_stored_still : (rows : List Row) → AllByRecursion (IsStored r) rows → AllByRecursion (IsStored t) rows
   all_stored_still [] every = tt
-  all_stored_still (x ∷ rows) every = (stored_still x every.0, all_stored_still rows every.1)
+  all_stored_still (x ∷ rows) every = (holds x every.0, all_stored_still rows every.1)
+
+  found_still : {X : Type 0} (o p : Option X) → ((x : X) → o ≡ Some x → p ≡ Some x) → is_some o ≡ true → is_some p ≡ true
+  found_still None p stays has = absurd (let differ : false ≡ true = has in cc)
+  found_still (Some x) p stays has = ap is_some (stays x refl)
 
   grows_still : Grows r t
   grows_still = record {
-    sessions = λ s has. ap (λ rows. has_row code_cmp rows s) holds.sessions ∙ has;
-    papers = λ p has. ap (λ rows. has_row code_cmp rows p) holds.papers ∙ has;
-    halls = λ h has. ap (λ rows. has_row code_cmp rows h) holds.halls ∙ has;
-    candidates = λ c has. ap (λ rows. has_row nat_cmp rows c) holds.candidates ∙ has;
+    sessions = λ s. found_still (row_at code_cmp r.sessions s) (row_at code_cmp t.sessions s) (λ x. holds (row.OfSession s x));
+    papers = λ p. found_still (row_at code_cmp r.papers p) (row_at code_cmp t.papers p) (λ x. holds (row.OfPaper p x));
+    halls = λ h. found_still (row_at code_cmp r.halls h) (row_at code_cmp t.halls h) (λ x. holds (row.OfHall h x));
+    candidates = λ c. found_still (row_at nat_cmp r.candidates c) (row_at nat_cmp t.candidates c) (λ x. holds (row.OfCandidate c x));
   }
 
 -- rows that are stored, with references that are there, in an office that is within limits and in order

@@ -11,13 +11,12 @@ use Rattle.exam_plan.specs.Repair.{IsRepair}
 use Rattle.exam_plan.proofs.OneRepair.{one_repair}
 use Rattle.exam_rules.specs.Relations.{Code, Relations, seat_cmp}
 use Rattle.exam_rules.specs.Seatings.{plan_of, seating}
+use Rattle.exam_commands.proofs.KeyedRows.{same_rows, seats_exact, seats_total}
 use Rattle.exam_commands.specs.declared.command.Command.{Command}
 use Rattle.exam_commands.specs.declared.command.Reply.{Reply}
 use Rattle.exam_commands.specs.Replies.{reply_of}
 use Rattle.exam_commands.specs.State.{State}
 use Rattle.exam_commands.specs.Steps.{MayStep, NoneLacksMemory, Run, Step, StepTo, change, first_seated}
-use Rattle.exam_commands.proofs.Repeating.{same_rows}
-use Rattle.exam_commands.proofs.SameSeats.{seats_exact, seats_total}
 
 -- a plan of the session has one repair
 one_plan : (r : Relations) (done : Command) (before one other : State) (s : Code) → IsRepair (seating r s) (first_seated done) (plan_of before.seats s) (plan_of one.seats s)

@@ -1,14 +1,13 @@
 -- What a candidate sees of themselves determines what the office looks up about them: their appeal with a reference,
 -- their session, their live papers, whether one of their appeals is open, and how many they have.
-use Rattle.std.proofs.Common.{◌≡◌, ℕ, suc, ◌&&◌, ◌||◌, Bool, true, false, cond, List, [], ◌∷◌, filter, length, map, nat_eq, Option, None, Some, is_some, eq-eqb, refl, ap, sym, ◌∙◌}
+use Rattle.std.proofs.Common.{◌≡◌, ℕ, ◌&&◌, ◌||◌, Bool, true, false, cond, List, [], ◌∷◌, filter, map, nat_eq, Option, None, Some, is_some, eq-eqb, refl, ap, sym, ◌∙◌}
 use Rattle.std.specs.List.{list_all, list_any, cons_option, filter_map}
-use Rattle.std.specs.BTreeMap.{insert_entry, is_at}
-use Rattle.std.specs.Cmp.{Equal-is, IsTotalOrder, nat_cmp_total}
+use Rattle.std.specs.BTreeMap.{is_at}
+use Rattle.std.specs.Cmp.{Equal-is, nat_cmp_total}
 use Rattle.std.specs.Cmp.Lexicographic.{nat_list_cmp_total, texts_ties}
-use Rattle.std.specs.List.{AllByRecursion}
 use Rattle.std.specs.Map.{keys_of}
 use Rattle.std.specs.Option.{option_and_then, option_map_or}
-use Rattle.std.specs.Ordering.{nat_cmp, is_eq, match_ordering, ordering_then}
+use Rattle.std.specs.Ordering.{nat_cmp, is_eq, ordering_then}
 use Rattle.std.specs.declared.cmp.Ordering.{Ordering}
 use Rattle.std.specs.declared.cmp.Ordering.TheVariants.{Less, Equal, Greater}
 use Rattle.std.proofs.lemmas.Cmp.{tied_itself}
@@ -21,20 +20,14 @@ use Rattle.exam_rules.specs.declared.rows.Entry.{Entry}
 use Rattle.exam_rules.specs.declared.rows.Session.{Session}
 use Rattle.exam_rules.specs.declared.rows.Subject.{Subject}
 use Rattle.exam_rules.specs.Orders.{KeysRise}
-use Rattle.exam_rules.specs.Relations.{Code, Relations, appeal_cmp, code_cmp, entry_cmp, has_row, is_row_of, put_row, row_at, same_code}
+use Rattle.exam_rules.specs.Relations.{Code, Relations, appeal_cmp, code_cmp, entry_cmp, has_row, is_row_of, row_at, same_code}
 use Rattle.exam_rules.specs.Sessions.{is_live_entry, is_paper_of, live_papers_in}
+use Rattle.exam_commands.proofs.KeyedRows.{entries_total, past_all}
 use Rattle.exam_commands.specs.Appeals.{is_open, is_open_appeal, same_kind}
 use Rattle.exam_commands.specs.declared.own.OwnAppeal.{OwnAppeal}
 use Rattle.exam_commands.specs.Own.{OwnSessionRow, own_appeal, own_appeals}
-use Rattle.exam_commands.proofs.Stored.{entry_total}
 
 -- ---- looking up
-
--- none of the rows above a key has it
-pub none_past : {K X : Type 0} (cmp : K → K → Ordering) → IsTotalOrder cmp → (k q : K) (es : List (K × X))
-    → cmp q k ≡ Equal → AllByRecursion (λ y. cmp k y ≡ Less) (keys_of es) → row_at cmp es q ≡ None
-none_past cmp o k q [] tied above = refl
-none_past cmp o k q (e ∷ es) tied above = ap (λ r. cond (is_eq r) (Some e.1) (row_at cmp es q)) (o.congr q k e.0 tied ∙ above.0) ∙ none_past cmp o k q es tied above.1
 
 -- the key of another candidate is another one
 other_key : (c n : ℕ) (p q : Code) → nat_eq n c ≡ false → is_eq (ordering_then (nat_cmp c n) (code_cmp p q)) ≡ false
@@ -131,7 +124,7 @@ live_found r s c p (e ∷ es) up = by_owner (nat_eq e.0.0 c) refl (live_found r 
         → found_with t ≡ list_any (same_code p) (papers_with (e.1.live && is_paper_of r s e.0.1))
     by_paper true here own rest =
         let same : p ≡ e.0.1 = exact_bytes p e.0.1 ((Equal-is (code_cmp p e.0.1)).0 here) in
-        let gone : row_at entry_cmp es (c, p) ≡ None = none_past entry_cmp entry_total e.0 (c, p) es (same_key here own) (sorted_head entry_cmp e.0 (keys_of es) up) in
+        let gone : row_at entry_cmp es (c, p) ≡ None = past_all entry_cmp entries_total e.0 (c, p) es (same_key here own) (sorted_head entry_cmp e.0 (keys_of es) up) in
         let none : list_any (same_code p) (live_papers_in r es s c) ≡ false = sym rest ∙ ap (λ o. option_map_or (λ (entry : Entry). entry.live) o false && is_paper_of r s p) gone in
         at_live e.1.live (is_paper_of r s e.0.1) none (texts_ties p e.0.1 ∙ here) (ap (is_paper_of r s) same)
     by_paper false away own rest = rest ∙ sym (passed_over (e.1.live && is_paper_of r s e.0.1) (texts_ties p e.0.1 ∙ away))
@@ -186,31 +179,12 @@ module _ (q : Code → Bool) (f : Code × Session → Option OwnSessionRow) (nam
       inner true at rest =
           let tied : code_cmp s e.0 ≡ Equal = (Equal-is (code_cmp s e.0)).0 at in
           let key : s ≡ e.0 = exact_bytes s e.0 tied in
-          let gone : row_at code_cmp es s ≡ None = none_past code_cmp nat_list_cmp_total e.0 s es tied (sorted_head code_cmp e.0 (keys_of es) up) in
+          let gone : row_at code_cmp es s ≡ None = past_all code_cmp nat_list_cmp_total e.0 s es tied (sorted_head code_cmp e.0 (keys_of es) up) in
           let none : session_at s (listed es) ≡ None = rest ∙ ap (λ o. option_and_then (λ x. cond (q s) (f (s, x)) None) o) gone in
           here (q e.0) (texts_ties s e.0 ∙ at) none ∙ ap (λ k. cond (q k) (f (k, e.1)) None) (sym key)
       inner false at rest = away (q e.0) (texts_ties s e.0 ∙ at) ∙ rest
 
 -- ---- how many appeals
-
--- a row under a new key is one more
-pub one_more : {K X : Type 0} (cmp : K → K → Ordering) (q : K → Bool) (rows : List (K × X)) (k : K) (v : X) → q k ≡ true → row_at cmp rows k ≡ None
-    → length (filter (λ (e : K × X). q e.0) (put_row cmp rows k v)) ≡ suc (length (filter (λ (e : K × X). q e.0) rows))
-one_more {K} {X} cmp q [] k v own none = let only : List (K × X) = (k, v) ∷ [] in ap (λ b. length (cond b only [])) own
-one_more {K} {X} cmp q (e ∷ es) k v own none = inner (cmp k e.0) refl (one_more cmp q es k v own)
-  where
-    kept : List (K × X) → List (K × X)
-    kept rows = filter (λ (e : K × X). q e.0) rows
-
-    later : (b : Bool) (fs gs : List (K × X)) → length fs ≡ suc (length gs) → length (cond b (e ∷ fs) fs) ≡ suc (length (cond b (e ∷ gs) gs))
-    later true fs gs more = ap (λ n. suc n) more
-    later false fs gs more = more
-
-    inner : (r : Ordering) → cmp k e.0 ≡ r → (row_at cmp es k ≡ None → length (kept (put_row cmp es k v)) ≡ suc (length (kept es)))
-        → length (kept (match_ordering r ((k, v) ∷ e ∷ es) ((e.0, v) ∷ es) (e ∷ insert_entry cmp es k v))) ≡ suc (length (kept (e ∷ es)))
-    inner Less is rest = let more : List (K × X) = (k, v) ∷ kept (e ∷ es) in ap (λ b. length (cond b more (kept (e ∷ es)))) own
-    inner Equal is rest = absurd (let f : Some e.1 ≡ None = ap (λ r. cond (is_eq r) (Some e.1) (row_at cmp es k)) (sym is) ∙ none in cc)
-    inner Greater is rest = later (q e.0) (kept (put_row cmp es k v)) (kept es) (rest (ap (λ r. cond (is_eq r) (Some e.1) (row_at cmp es k)) (sym is) ∙ none))
 
 -- if a test holds for all keys, a test that differs only at one key holds for all exactly if it holds there
 pub all_but_one : {X : Type 0} (p : ℕ → Bool) (b : Bool) (c : ℕ) (rows : List (ℕ × X)) → list_all p (keys_of rows) ≡ true

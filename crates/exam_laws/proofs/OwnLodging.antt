@@ -20,6 +20,7 @@ use Rattle.exam_rules.specs.Relations.{Code, Relations, appeal_cmp, code_cmp, ha
 use Rattle.exam_rules.specs.Sessions.{appeal_count, clash_papers, finish, has_live_entry, is_member, live_papers, sitting}
 use Rattle.exam_rules.proofs.Sitters.{known_listed}
 use Rattle.exam_rules.specs.Tables as table
+use Rattle.exam_commands.proofs.KeyedRows.{appeals_exact, appeals_total, one_more, put_found, put_passed_over}
 use Rattle.exam_commands.specs.declared.command.AppealState.{AppealState}
 use Rattle.exam_commands.specs.declared.command.AppealState.TheVariants as state
 use Rattle.exam_commands.specs.declared.command.Command.TheVariants as command
@@ -36,12 +37,9 @@ use Rattle.exam_commands.specs.Own.{OwnRows, OwnSessionRow, own_of, own_rows, ow
 use Rattle.exam_commands.specs.SameRows.{same_arrangement}
 use Rattle.exam_commands.specs.State.{State}
 use Rattle.exam_commands.specs.Steps.{Step, StepTo}
-use Rattle.exam_commands.proofs.AppealKeys.{appeals_exact, appeals_total}
 use Rattle.exam_commands.proofs.Members.{member_ends, member_sits}
-use Rattle.exam_laws.proofs.OwnFacts.{all_but_one, appeal_found, is_own_open, live_found, one_more, open_found, own_among, pair_of, pairs_own, session_at, session_found}
+use Rattle.exam_laws.proofs.OwnFacts.{all_but_one, appeal_found, is_own_open, live_found, open_found, own_among, pair_of, pairs_own, session_at, session_found}
 use Rattle.exam_laws.proofs.OwnRetracting.{answer_or, same_appeal}
-use Rattle.exam_commands.proofs.PutAppeals.{put_passed_over}
-use Rattle.exam_commands.proofs.Repeating.{put_found}
 
 -- ---- the refusal by what is shown
 

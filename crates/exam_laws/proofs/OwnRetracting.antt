@@ -7,6 +7,7 @@ use Rattle.exam_types.specs.declared.refusal.Refusal.{Refusal}
 use Rattle.exam_rules.specs.declared.rows.Appeal.{Appeal}
 use Rattle.exam_rules.specs.declared.rows.Candidate.{Candidate}
 use Rattle.exam_rules.specs.Relations.{Code, appeal_cmp, code_cmp, has_row, row_at}
+use Rattle.exam_commands.proofs.KeyedRows.{all_at_row, appeals_exact}
 use Rattle.exam_commands.specs.declared.command.Command.TheVariants as command
 use Rattle.exam_commands.specs.declared.command.Reply.{Reply}
 use Rattle.exam_commands.specs.declared.command.Reply.TheVariants as reply
@@ -17,9 +18,7 @@ use Rattle.exam_commands.specs.Lodgings.{retraction_checks, retraction_refusal, 
 use Rattle.exam_commands.specs.Own.{OwnRows, own_of, own_rows}
 use Rattle.exam_commands.specs.State.{State}
 use Rattle.exam_commands.specs.Steps.{Step, StepTo}
-use Rattle.exam_commands.proofs.AppealKeys.{appeals_exact}
 use Rattle.exam_laws.proofs.OwnFacts.{appeal_found, pair_of, pairs_own}
-use Rattle.exam_commands.proofs.PutAppeals.{all_at_row}
 use Rattle.exam_commands.proofs.Referring.{stored_refer}
 
 -- the appeal with the reference among what is shown

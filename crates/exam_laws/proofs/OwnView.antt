@@ -33,6 +33,7 @@ use Rattle.exam_rules.specs.Sessions.{is_clash, is_granted, is_granted_appeal, i
 use Rattle.exam_rules.specs.Sessions.{least_live_paper, live_papers, option_filter, session_day, standing_grants}
 use Rattle.exam_rules.specs.Seatings.{desk_cmp, plan_of, seating}
 use Rattle.exam_rules.specs.Tables as table
+use Rattle.exam_commands.proofs.KeyedRows.{appeals_exact, put_passed_over}
 use Rattle.exam_commands.specs.declared.command.Command.TheVariants as command
 use Rattle.exam_commands.specs.declared.command.Lodging.{Lodging}
 use Rattle.exam_commands.specs.declared.command.Reply.{Reply}
@@ -45,14 +46,12 @@ use Rattle.exam_commands.specs.declared.own.OwnAppeal.{OwnAppeal}
 use Rattle.exam_commands.specs.Own.{OwnRows, OwnSessionRow, own_appeal, own_of, own_rows, own_sessions}
 use Rattle.exam_commands.specs.State.{Seats, State}
 use Rattle.exam_commands.specs.Steps.{Step, StepTo}
-use Rattle.exam_commands.proofs.AppealKeys.{appeals_exact}
 use Rattle.exam_laws.proofs.Appealing.{not_granted, put_standing_same, with_appeals}
 use Rattle.exam_commands.proofs.Borne.{closed_unborne, unborne}
 use Rattle.exam_laws.proofs.Lasting.{lodging_moves_nobody, retraction_moves_nobody}
 use Rattle.exam_laws.proofs.OwnFacts.{AppealRows, map_twice}
 use Rattle.exam_laws.proofs.OwnLodging.{same_lodging_refusal}
 use Rattle.exam_laws.proofs.OwnRetracting.{same_appeal, same_retraction_refusal}
-use Rattle.exam_commands.proofs.PutAppeals.{put_passed_over}
 use Rattle.exam_commands.proofs.Referring.{passed}
 use Rattle.exam_laws.proofs.AppealSteps.{closed_granted}
 use Rattle.std.proofs.lemmas.Bool.{ne_eqb}

@@ -25,6 +25,7 @@ use Rattle.exam_rules.specs.Seatings.{plan_of, seating}
 use Rattle.exam_rules.specs.Sessions.{option_filter}
 use Rattle.exam_rules.proofs.InOrder.{lists_rise}
 use Rattle.exam_rules.proofs.Naming.{same_code_itself}
+use Rattle.exam_commands.proofs.KeyedRows.{past_all, same_rows, seats_exact, seats_total, sorted_from}
 use Rattle.exam_commands.specs.declared.command.Command.{Command}
 use Rattle.exam_commands.specs.declared.command.Command.TheVariants as command
 use Rattle.exam_commands.specs.declared.command.Lodging.{Lodging}
@@ -48,8 +49,6 @@ use Rattle.exam_laws.proofs.AppealSteps.{all_stay}
 use Rattle.exam_laws.proofs.Commanding.{ArePlansRepaired, DoListsRise, others_seated}
 use Rattle.exam_laws.proofs.DecisionSteps as decisions
 use Rattle.exam_laws.proofs.Lasting.{made}
-use Rattle.exam_commands.proofs.Repeating.{past_all, same_rows, sorted_from}
-use Rattle.exam_commands.proofs.SameSeats.{seats_exact, seats_total}
 use Rattle.exam_commands.proofs.Staying.{best_is_repaired, kept_stays}
 use Rattle.exam_laws.proofs.Stepping.{accepted_step, refused_step, same_seating}
 use Rattle.exam_laws.proofs.Untouched.{spared}

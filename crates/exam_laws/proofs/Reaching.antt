@@ -9,9 +9,11 @@ use Rattle.exam_rules.specs.declared.rows.Appeal.{Appeal}
 use Rattle.exam_rules.specs.declared.rows.Entry.{Entry}
 use Rattle.exam_rules.specs.declared.rows.Opening.{Opening}
 use Rattle.exam_rules.specs.declared.rows.Paper.{Paper}
+use Rattle.exam_rules.specs.Tables as table
 use Rattle.exam_rules.specs.Relations.{Code, Relations, appeal_cmp, code_cmp, has_row, opening_cmp, row_at, same_code}
 use Rattle.exam_rules.specs.Sessions.{has_live_entry, is_granted, is_live_entry, is_marked, is_member, is_paper_of}
 use Rattle.exam_rules.proofs.Naming.{same_code_exact}
+use Rattle.exam_commands.proofs.KeyedRows.{all_at_row, appeals_exact, openings_exact}
 use Rattle.exam_commands.specs.Appeals.{appeal_at, bears_mark, is_grant}
 use Rattle.exam_commands.specs.Good.{appeal_refers, refers, subject_refers}
 use Rattle.exam_commands.specs.declared.command.Command.{Command}
@@ -19,8 +21,6 @@ use Rattle.exam_commands.specs.declared.command.Command.TheVariants as command
 use Rattle.exam_commands.specs.declared.import_row.Row.{Row}
 use Rattle.exam_commands.specs.declared.import_row.Row.TheVariants as row
 use Rattle.exam_commands.specs.Touched.{ends_standing, grant_reaches, has_standing_member, is_appeal_for, is_of_sessions, is_set_by, names, reaches, row_reaches, stands_in, touches}
-use Rattle.exam_commands.proofs.AppealKeys.{appeals_exact, openings_exact}
-use Rattle.exam_commands.proofs.PutAppeals.{all_at_row}
 use Rattle.exam_commands.proofs.Referring.{parted}
 
 pub and_none : (b : Bool) → (b && false) ≡ false
@@ -30,7 +30,7 @@ and_none false = refl
 module _ (r : Relations) (refer : refers r ≡ true) where
   appeal_known : (key : ℕ × Code) (a : Appeal) → row_at appeal_cmp r.appeals key ≡ Some a → has_row code_cmp r.sessions a.session ≡ true
   appeal_known key a at =
-      let whole = all_at_row appeal_cmp appeals_exact (λ (x : (ℕ × Code) × Appeal). has_row nat_cmp r.candidates x.0.0 && appeal_refers r x.1) r.appeals key a (parted r refer).appeals at in
+      let whole = all_at_row appeal_cmp appeals_exact (λ (x : (ℕ × Code) × Appeal). has_row nat_cmp r.candidates x.0.0 && appeal_refers r x.1) r.appeals key a (parted r refer table.Appeals) at in
       (and_parts (has_row code_cmp r.sessions a.session) (subject_refers r a.subject) (and_parts (has_row nat_cmp r.candidates key.0) (appeal_refers r a) whole).1).0
 
   -- the session of an appeal is read
@@ -49,7 +49,7 @@ module _ (r : Relations) (refer : refers r ≡ true) (s : Code) where
     where
       inner : (o : Option Paper) → row_at code_cmp r.papers p ≡ o → option_map_or (λ (paper : Paper). same_code paper.session s) o false ≡ true → Exists
       inner None at is = cc
-      inner (Some x) at is = same_exists x.session is (all_at_row code_cmp exact_bytes (λ (e : Code × Paper). has_row code_cmp r.sessions e.1.session) r.papers p x (parted r refer).papers at)
+      inner (Some x) at is = same_exists x.session is (all_at_row code_cmp exact_bytes (λ (e : Code × Paper). has_row code_cmp r.sessions e.1.session) r.papers p x (parted r refer table.Papers) at)
 
   of_entries : (c : ℕ) (es : List ((ℕ × Code) × Entry)) → list_any (is_live_entry r s c) es ≡ true → Exists
   of_entries c [] some = cc
@@ -73,7 +73,7 @@ module _ (r : Relations) (refer : refers r ≡ true) (s : Code) where
           (and_parts (has_row code_cmp r.sessions s) (has_row code_cmp r.halls h)
           (all_at_row opening_cmp openings_exact
           (λ (e : (Code × Code) × Opening). has_row code_cmp r.sessions e.0.0 && has_row code_cmp r.halls e.0.1)
-          r.openings (s, h) x (parted r refer).openings at)).0
+          r.openings (s, h) x (parted r refer table.Openings) at)).0
 
   of_standing : (rows : List ((ℕ × Code) × Appeal)) → list_any (stands_in r s) rows ≡ true → Exists
   of_standing [] some = cc

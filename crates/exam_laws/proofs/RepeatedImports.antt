@@ -17,6 +17,7 @@ use Rattle.exam_rules.specs.declared.rows.Session.{Session}
 use Rattle.exam_rules.specs.Orders.{AreInOrder}
 use Rattle.exam_rules.specs.Relations.{Relations, entry_cmp, row_at, seat_cmp}
 use Rattle.exam_rules.proofs.Naming.{same_code_itself}
+use Rattle.exam_commands.proofs.KeyedRows.{same_rows, seats_exact, seats_total}
 use Rattle.exam_commands.specs.declared.command.Command.TheVariants as command
 use Rattle.exam_commands.specs.declared.command.Reply.{Reply}
 use Rattle.exam_commands.specs.declared.command.Reply.TheVariants as reply
@@ -31,8 +32,6 @@ use Rattle.exam_commands.specs.Replies as replies
 use Rattle.exam_commands.specs.Replies.{import_reply, is_changed, is_new, is_same}
 use Rattle.exam_commands.specs.State.{State}
 use Rattle.exam_commands.specs.Steps.{Step, StepTo}
-use Rattle.exam_commands.proofs.Repeating.{same_rows}
-use Rattle.exam_commands.proofs.SameSeats.{seats_exact, seats_total}
 use Rattle.exam_commands.proofs.Referring.{import_refers_still, neither, there}
 use Rattle.exam_laws.proofs.Stepping.{import_accepted}
 use Rattle.exam_commands.proofs.Stored.{IsStored, rows_again, rows_in_order, rows_stored}

@@ -3,12 +3,10 @@ use Rattle.std.proofs.Common.{◌≡◌, ℕ, ◌==◌, ◌&&◌, ◌||◌, not,
 use Rattle.std.specs.List.{filter_map, list_all, list_any}
 use Rattle.std.specs.Map.{keys_of}
 use Rattle.std.specs.Option.{option_map, option_map_or}
-use Rattle.std.specs.BTreeMap.{insert_entry, is_at}
+use Rattle.std.specs.BTreeMap.{is_at}
 use Rattle.std.specs.Cmp.{Equal-is, nat_cmp_total}
 use Rattle.std.specs.Cmp.Lexicographic.{nat_list_cmp_total}
-use Rattle.std.specs.declared.cmp.Ordering.{Ordering}
-use Rattle.std.specs.declared.cmp.Ordering.TheVariants.{Less, Equal, Greater}
-use Rattle.std.specs.Ordering.{nat_cmp, match_ordering}
+use Rattle.std.specs.Ordering.{nat_cmp}
 use Rattle.std.proofs.lemmas.Bool.{and_parts, eqb-true, not-false}
 use Rattle.std.proofs.lemmas.Map.Lookups.{exact_bytes, exact_unsigned}
 use Rattle.exam_types.specs.declared.refusal.Refusal.TheVariants as refusal
@@ -29,6 +27,8 @@ use Rattle.exam_rules.specs.Seatings.{fits, opened_room, plan_of, seating, sitti
 use Rattle.exam_laws.proofs.Reaching.{untouched_is_unreached, untouched_is_unset}
 use Rattle.exam_rules.proofs.Naming.{same_code_exact, same_code_itself}
 use Rattle.exam_rules.specs.Tables as table
+use Rattle.exam_rules.proofs.Relisting.{entries_exact, put_filtered}
+use Rattle.exam_commands.proofs.KeyedRows.{appeals_exact, key_apart, openings_exact, openings_total, put_by, put_elsewhere, put_found, put_keys, put_passed_over, removed_elsewhere}
 use Rattle.exam_commands.specs.declared.command.Command.{Command}
 use Rattle.exam_commands.specs.declared.command.Command.TheVariants as command
 use Rattle.exam_commands.specs.declared.command.Decision.{Decision}
@@ -49,21 +49,19 @@ use Rattle.exam_commands.specs.Lodgings as lodgings
 use Rattle.exam_commands.specs.Orders.{IsInOrder}
 use Rattle.exam_commands.specs.State.{State}
 use Rattle.exam_commands.specs.Steps.{SameSeating, Step, StepTo, change}
-use Rattle.exam_commands.specs.Touched.{decision_reaches, ends_standing, grant_reaches, has_standing_member, is_ended, is_of_sessions, is_set_by, names, reaches, row_reaches, sets_session, stands_in, touches}
+use Rattle.exam_commands.specs.Touched.{decision_reaches, ends_standing, grant_reaches, has_standing_member, is_ended}
+use Rattle.exam_commands.specs.Touched.{is_of_sessions, is_set_by, names, reaches, row_reaches, sets_session, stands_in}
+use Rattle.exam_commands.specs.Touched.{touches}
 use Rattle.exam_commands.proofs.Alike.{SpeakAlike, alike_itself, alike_seating}
-use Rattle.exam_commands.proofs.AppealKeys.{appeals_exact, openings_exact}
 use Rattle.exam_laws.proofs.Appealing.{fits_same, never_marked, not_granted, put_seating_same, seating_by, with_appeals, with_decisions}
 use Rattle.exam_laws.proofs.AppealSteps.{lodging_settled, retraction_settled}
 use Rattle.exam_commands.proofs.Borne.{unmarked_same}
 use Rattle.exam_laws.proofs.DecidedFacts.{others_standing_grants, unmarked_open}
 use Rattle.exam_laws.proofs.Lasting.{made, new_facts, unrefused}
-use Rattle.exam_commands.proofs.LiveMarks.{entries_exact, put_elsewhere, put_filtered}
-use Rattle.exam_commands.proofs.PutAppeals.{put_passed_over}
-use Rattle.exam_commands.proofs.PutRows.{mapped_filtered, put_keys}
+use Rattle.exam_commands.proofs.PutRows.{mapped_filtered}
 use Rattle.exam_commands.proofs.Referring.{Grows, appeals_row, grows_both, grows_none, grows_row, neither, parted, passed, standing_row, there}
-use Rattle.exam_commands.proofs.Repeating.{put_found, put_rises}
-use Rattle.exam_commands.proofs.OtherRows.{key_apart, removed_elsewhere}
 use Rattle.exam_commands.proofs.Superseding.{superseded_ungranted}
+use Rattle.exam_commands.proofs.Entering.{rows_with_by, table_in_order}
 
 -- ---- rows at other keys
 
@@ -73,14 +71,12 @@ neither_any false b e = (refl, e)
 
 -- the new number does not pass the filter
 numbers_filtered : {X : Type 0} (p : ℕ → Bool) (rows : List (ℕ × X)) (c : ℕ) (x : X) → p c ≡ false → filter p (keys_of (put_row nat_cmp rows c x)) ≡ filter p (keys_of rows)
-numbers_filtered p [] c x out = ap (λ b. cond b (c ∷ []) []) out
-numbers_filtered {X} p (e ∷ es) c x out = inner (nat_cmp c e.0) (numbers_filtered p es c x out)
-  where
-    inner : (o : Ordering) → filter p (keys_of (put_row nat_cmp es c x)) ≡ filter p (keys_of es)
-        → filter p (keys_of (match_ordering o ((c, x) ∷ e ∷ es) ((e.0, x) ∷ es) (e ∷ insert_entry nat_cmp es c x))) ≡ filter p (e.0 ∷ keys_of es)
-    inner Less rest = ap (λ b. cond b (c ∷ filter p (e.0 ∷ keys_of es)) (filter p (e.0 ∷ keys_of es))) out
-    inner Equal rest = refl
-    inner Greater rest = ap (λ ns. cond (p e.0) (e.0 ∷ ns) ns) rest
+numbers_filtered p rows c x out =
+    put_by nat_cmp c x (λ es fs. filter p (keys_of fs) ≡ filter p (keys_of es))
+    (λ es is. ap (λ b. cond b (c ∷ filter p (keys_of es)) (filter p (keys_of es))) out)
+    (λ e es is. refl)
+    (λ e es is rest. ap (λ ns. cond (p e.0) (e.0 ∷ ns) ns) rest)
+    rows
 
 -- a code that does not name the session is another
 other_code : (s t : Code) → same_code t s ≡ false → s ≡ t → ⊥
@@ -138,7 +134,7 @@ module _ (r0 : Relations) (refer : refers r0 ≡ true) (s : Code) where
     standing : r.standing ≡ r0.standing
 
   known : (c : ℕ) → has_live_entry r0 s c ≡ true → has_row nat_cmp r0.candidates c ≡ true
-  known = entered_known r0 (parted r0 refer).entries s
+  known = entered_known r0 (parted r0 refer table.Entries) s
 
   spared_row : (r : Relations) → IsSpared r → (x : Row) → sets_session s x ≡ false → row_reaches r0 x s ≡ false → first_refusal (row_checks r0 x) ≡ None → SpeakAlike r0 (with_row r x) s
   spared_row r so (row.OfSession named x) unset away ok = record {
@@ -159,7 +155,7 @@ module _ (r0 : Relations) (refer : refers r0 ≡ true) (s : Code) where
   }
     where
       kept : row_at code_cmp (put_row code_cmp r.sessions named x) s ≡ row_at code_cmp r.sessions s
-      kept = put_elsewhere code_cmp exact_bytes r.sessions named s x (key_apart code_cmp exact_bytes s named (other_code s named unset))
+      kept = put_elsewhere code_cmp nat_list_cmp_total r.sessions named s x (key_apart code_cmp exact_bytes s named (other_code s named unset))
 
       session_same : row_at code_cmp (put_row code_cmp r.sessions named x) s ≡ row_at code_cmp r0.sessions s
       session_same = kept ∙ so.alike.session
@@ -177,7 +173,7 @@ module _ (r0 : Relations) (refer : refers r0 ≡ true) (s : Code) where
   spared_row r so (row.OfPaper p x) unset away ok = record {
     session = so.alike.session;
     papers = λ q. papers q (is_at (code_cmp q) p) refl;
-    paper_rows = λ q of. put_elsewhere code_cmp exact_bytes r.papers p q x (key_apart code_cmp exact_bytes q p (other q of)) ∙ so.alike.paper_rows q of;
+    paper_rows = λ q of. put_elsewhere code_cmp nat_list_cmp_total r.papers p q x (key_apart code_cmp exact_bytes q p (other q of)) ∙ so.alike.paper_rows q of;
     entries = so.alike.entries;
     openings = so.alike.openings;
     halls = so.alike.halls;
@@ -213,14 +209,16 @@ module _ (r0 : Relations) (refer : refers r0 ≡ true) (s : Code) where
           ∙ ap (λ (o : Option Paper). option_map_or (λ (paper : Paper). same_code paper.session s) o false)
           (put_found code_cmp nat_list_cmp_total r.papers p x) ∙ moved ∙ sym parts.0
           ∙ ap (is_paper_of r0 s) (sym same)
-      papers q false at = ap (λ (o : Option Paper). option_map_or (λ (paper : Paper). same_code paper.session s) o false) (put_elsewhere code_cmp exact_bytes r.papers p q x at) ∙ so.alike.papers q
+      papers q false at = ap
+          (λ (o : Option Paper). option_map_or (λ (paper : Paper). same_code paper.session s) o false)
+          (put_elsewhere code_cmp nat_list_cmp_total r.papers p q x at) ∙ so.alike.papers q
   spared_row r so (row.OfHall h x) unset away ok = record {
     session = so.alike.session;
     papers = so.alike.papers;
     paper_rows = so.alike.paper_rows;
     entries = so.alike.entries;
     openings = so.alike.openings;
-    halls = λ k opened. put_elsewhere code_cmp exact_bytes r.halls h k x
+    halls = λ k opened. put_elsewhere code_cmp nat_list_cmp_total r.halls h k x
         (key_apart code_cmp exact_bytes k h
         (λ same. let differ : true ≡ false =
         sym opened ∙ ap (λ z. has_row opening_cmp r0.openings (s, z)) same ∙ away in cc)) ∙ so.alike.halls k opened;
@@ -233,7 +231,7 @@ module _ (r0 : Relations) (refer : refers r0 ≡ true) (s : Code) where
     papers = so.alike.papers;
     paper_rows = so.alike.paper_rows;
     entries = so.alike.entries;
-    openings = λ k. put_elsewhere opening_cmp openings_exact r.openings (named, h) (s, k) x
+    openings = λ k. put_elsewhere opening_cmp openings_total r.openings (named, h) (s, k) x
         (key_apart opening_cmp openings_exact (s, k) (named, h) (λ same. other (ap (λ (z : Code × Code). z.0) same)))
         ∙ so.alike.openings k;
     halls = so.alike.halls;
@@ -270,21 +268,22 @@ module _ (r0 : Relations) (refer : refers r0 ≡ true) (s : Code) where
           there_at None some = absurd (let differ : false ≡ true = some in cc)
           there_at (Some a) some = (a, refl)
       candidates false out = numbers_filtered (has_live_entry r0 s) r.candidates c x out
-  spared_row r so (row.OfEntry c p) unset away ok = inner (has_row entry_cmp r.entries (c, p))
+  spared_row r so (row.OfEntry c p) unset away ok = record {
+    session = so.alike.session;
+    papers = so.alike.papers;
+    paper_rows = so.alike.paper_rows;
+    entries =
+        rows_with_by table.Entries r.entries (c, p) (record { live = true }) (λ es. of_session es ≡ of_session r.entries) refl
+        (put_filtered entry_cmp entries_exact (λ (e : (ℕ × Code) × Entry). is_paper_of r0 s e.0.1) r.entries (c, p) (record { live = true }) (λ w. away)) ∙ so.alike.entries;
+    openings = so.alike.openings;
+    halls = so.alike.halls;
+    candidates = so.alike.candidates;
+    in_force = so.alike.in_force;
+    granted = so.alike.granted;
+  }
     where
-      inner : (b : Bool) → SpeakAlike r0 (cond b r (record r { entries = put_row entry_cmp r.entries (c, p) (record { live = true }) })) s
-      inner true = so.alike
-      inner false = record {
-        session = so.alike.session;
-        papers = so.alike.papers;
-        paper_rows = so.alike.paper_rows;
-        entries = put_filtered entry_cmp entries_exact (λ (e : (ℕ × Code) × Entry). is_paper_of r0 s e.0.1) r.entries (c, p) (record { live = true }) (λ w. away) ∙ so.alike.entries;
-        openings = so.alike.openings;
-        halls = so.alike.halls;
-        candidates = so.alike.candidates;
-        in_force = so.alike.in_force;
-        granted = so.alike.granted;
-      }
+      of_session : List ((ℕ × Code) × Entry) → List ((ℕ × Code) × Entry)
+      of_session es = filter (λ (e : (ℕ × Code) × Entry). is_paper_of r0 s e.0.1) es
   spared_row r so (row.OfArrangement c x) unset away ok = record {
     session = so.alike.session;
     papers = so.alike.papers;
@@ -295,7 +294,7 @@ module _ (r0 : Relations) (refer : refers r0 ≡ true) (s : Code) where
     candidates = so.alike.candidates;
     in_force = λ d entered.
         ap (arrangement_by (granted_arrangement r s d) (session_day r s) (standing_grants r d))
-        (put_elsewhere nat_cmp exact_unsigned r.arrangements c d x
+        (put_elsewhere nat_cmp nat_cmp_total r.arrangements c d x
         (key_apart nat_cmp exact_unsigned d c (other d entered)))
         ∙ so.alike.in_force d entered;
     granted = so.alike.granted;
@@ -305,19 +304,6 @@ module _ (r0 : Relations) (refer : refers r0 ≡ true) (s : Code) where
       other d entered same =
           let member : is_member r0 s d ≡ true = ap (λ b. b && has_live_entry r0 s d) (known d entered) ∙ entered in
           let differ : true ≡ false = sym member ∙ ap (is_member r0 s) same ∙ away in cc
-
-  spared_rises : (r : Relations) → KeysRise nat_cmp r.candidates → (x : Row) → KeysRise nat_cmp (with_row r x).candidates
-  spared_rises r up (row.OfSession named x) = up
-  spared_rises r up (row.OfPaper p x) = up
-  spared_rises r up (row.OfHall h x) = up
-  spared_rises r up (row.OfOpening named h x) = up
-  spared_rises r up (row.OfCandidate c x) = put_rises nat_cmp nat_cmp_total r.candidates c x up
-  spared_rises r up (row.OfEntry c p) = inner (has_row entry_cmp r.entries (c, p))
-    where
-      inner : (b : Bool) → KeysRise nat_cmp (cond b r (record r { entries = put_row entry_cmp r.entries (c, p) (record { live = true }) })).candidates
-      inner true = up
-      inner false = up
-  spared_rises r up (row.OfArrangement c x) = up
 
   spared_rows : (r : Relations) → IsSpared r → (rows : List Row) → list_any (sets_session s) rows ≡ false
       → list_any (λ (x : Row). row_reaches r0 x s) rows ≡ false → rows_refusal r0 rows ≡ None
@@ -330,7 +316,7 @@ module _ (r0 : Relations) (refer : refers r0 ≡ true) (s : Code) where
       let next : IsSpared (with_row r x) = record {
         alike = spared_row r so x others.0 apart.0 checked.0;
         grows = grows_both r0 r (with_row r x) so.grows (grows_row r x);
-        rising = spared_rises r so.rising x;
+        rising = table_in_order r x table.Candidates so.rising;
         appeals = appeals_row r x ∙ so.appeals;
         standing = standing_row r x ∙ so.standing;
       } in
@@ -573,7 +559,7 @@ module _ (r : Relations) (refer : refers r ≡ true) (stand : marks_were_granted
       -- the appellant, if they are a member
       of_member : (h : Code) → has_live_entry r s d.number ≡ true → fits t s d.number h ≡ fits r s d.number h
       of_member h entered =
-          let member : is_member r s d.number ≡ true = ap (λ b. b && has_live_entry r s d.number) (entered_known r (parted r refer).entries s d.number entered) ∙ entered in
+          let member : is_member r s d.number ≡ true = ap (λ b. b && has_live_entry r s d.number) (entered_known r (parted r refer table.Entries) s d.number entered) ∙ entered in
           let none = neither_any (bears_mark d.outcome) (ends_standing r d a)
           (only_first (bears_mark d.outcome || ends_standing r d a) (is_member r s d.number) member parts.1) in
           fits_same r (put_row appeal_cmp given_rows key granted_row) (with_mark d r.standing) s d.number (granted_same d.number)

@@ -5,6 +5,7 @@ use Rattle.exam_rules.specs.Lists.{AreListsOf}
 use Rattle.exam_rules.specs.Orders.{AreInOrder, KeysRise}
 use Rattle.exam_rules.specs.Relations.{Code, Relations, has_row, relations_of, row_at, seat_cmp}
 use Rattle.exam_rules.specs.Seatings.{plan_of}
+use Rattle.exam_commands.proofs.KeyedRows.{seats_exact, seats_total}
 use Rattle.exam_commands.specs.declared.command.Command.{Command}
 use Rattle.exam_commands.specs.declared.command.Reply.{Reply}
 use Rattle.exam_office.specs.declared.part.Part.{Part}
@@ -25,7 +26,6 @@ use Rattle.exam_changes.proofs.Exchanges.{all_put_at, all_put_rises, back_again,
 use Rattle.exam_laws.proofs.FactsMade.{made_marks, made_refers, made_single}
 use Rattle.exam_laws.proofs.Lasting.{new_facts}
 use Rattle.exam_laws.proofs.Parting.{made_back, touched_read}
-use Rattle.exam_commands.proofs.SameSeats.{seats_exact, seats_total}
 
 -- the seats once the new plans are put: those of the office if there are no new plans
 abbrev pub seats_put : Option Plans → Seats → Seats → Seats

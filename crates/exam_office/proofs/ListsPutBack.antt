@@ -13,9 +13,9 @@ use Rattle.exam_rules.specs.Lists.{AreListsOf, listed}
 use Rattle.exam_rules.specs.Orders.{KeysRise}
 use Rattle.exam_rules.specs.Relations.{Code, Relations, code_cmp, has_row, row_at, same_code}
 use Rattle.exam_rules.proofs.Naming.{same_code_exact, same_code_itself}
+use Rattle.exam_commands.proofs.KeyedRows.{past_all}
 use Rattle.exam_office.specs.declared.relisting.ListUndo.TheVariants as undo
 use Rattle.exam_office.specs.Relisting.{ListsBack, SameLists, list_before}
-use Rattle.exam_commands.proofs.Repeating.{past_all}
 
 abbrev Rows : Type 0
 Rows = List (Code × Vec Entrant Global)

@@ -2,12 +2,12 @@
 use Rattle.std.proofs.Common.{◌≡◌, ℕ, ◌&&◌, ◌||◌, not, Bool, true, false, cond, Option, None, Some, is_some, refl, ap, sym, ◌∙◌}
 use Rattle.exam_rules.specs.Orders.{KeysRise}
 use Rattle.exam_rules.specs.Relations.{Code, has_row, row_at, seat_cmp}
+use Rattle.exam_commands.proofs.KeyedRows.{seats_exact, seats_total}
 use Rattle.exam_office.specs.Drafts.{MixesPlans}
 use Rattle.exam_commands.specs.State.{Seats}
 use Rattle.exam_commands.specs.Exchanges.{taken_back, without_old}
 use Rattle.exam_changes.specs.TablesBefore.{AreOf}
 use Rattle.exam_changes.proofs.Exchanges.{taken_back_at, without_old_at}
-use Rattle.exam_commands.proofs.SameSeats.{seats_exact, seats_total}
 
 none_if : {A : Type 0} (o : Option A) → is_some o ≡ false → o ≡ None
 none_if None away = refl

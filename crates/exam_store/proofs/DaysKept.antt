@@ -12,7 +12,7 @@ use Rattle.exam_types.specs.Days.{IsDay}
 use Rattle.exam_rules.specs.declared.rows.Appeal.{Appeal}
 use Rattle.exam_rules.specs.declared.rows.Session.{Session}
 use Rattle.exam_rules.specs.declared.rows.Subject.{Subject}
-use Rattle.exam_rules.specs.Relations.{Code, Relations, appeal_cmp, code_cmp, entry_cmp, has_row, put_row}
+use Rattle.exam_rules.specs.Relations.{Code, Relations, appeal_cmp, code_cmp, put_row}
 use Rattle.exam_rules.specs.Tables as table
 use Rattle.exam_commands.specs.declared.command.Command.{Command}
 use Rattle.exam_commands.specs.declared.command.Command.TheVariants as command
@@ -69,15 +69,7 @@ one_of false r t here there = there
 
 with_row_days : (r : Relations) (x : Row) → HasDays r → HasRowDay x → HasDays (with_row r x)
 with_row_days r (row.OfSession s x) days day = record { sessions = All-values-insert_entry code_cmp s x OfSession r.sessions days.sessions day; appeals = days.appeals }
-with_row_days r (row.OfPaper p x) days day = record { sessions = days.sessions; appeals = days.appeals }
-with_row_days r (row.OfHall h x) days day = record { sessions = days.sessions; appeals = days.appeals }
-with_row_days r (row.OfOpening s h x) days day = record { sessions = days.sessions; appeals = days.appeals }
-with_row_days r (row.OfCandidate c x) days day = record { sessions = days.sessions; appeals = days.appeals }
-with_row_days r (row.OfEntry c p) days day =
-    one_of (has_row entry_cmp r.entries (c, p)) r
-    (record r { entries = put_row entry_cmp r.entries (c, p) (record { live = true }) }) days
-    (record { sessions = days.sessions; appeals = days.appeals })
-with_row_days r (row.OfArrangement c x) days day = record { sessions = days.sessions; appeals = days.appeals }
+with_row_days r x days day = record { sessions = days.sessions; appeals = days.appeals }
 
 with_rows_days : (r : Relations) (xs : List Row) → HasDays r → All HasRowDay xs → HasDays (with_rows r xs)
 with_rows_days r [] days each = days

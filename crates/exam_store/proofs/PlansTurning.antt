@@ -19,10 +19,9 @@ use Rattle.std.proofs.lemmas.Map.Lookups.{CmpEqualImpliesEq}
 use Rattle.sqlite_trees.proofs.ListLemmas.{IsPermutation-filter}
 use Rattle.exam_rules.specs.Orders.{KeysRise}
 use Rattle.exam_rules.specs.Relations.{Code, has_row, row_at, seat_cmp}
+use Rattle.exam_commands.proofs.KeyedRows.{same_rows, seats_exact, seats_total}
 use Rattle.exam_commands.specs.State.{Seats}
 use Rattle.exam_changes.specs.TablesBefore.{AreOf}
-use Rattle.exam_commands.proofs.Repeating.{same_rows}
-use Rattle.exam_commands.proofs.SameSeats.{seats_exact, seats_total}
 use Rattle.exam_tables.specs.declared.differences.Difference.{Difference}
 use Rattle.exam_tables.specs.Differences.{has_key, is_one_of, Differs, Turns}
 use Rattle.exam_tables.proofs.RowTurning.{stays}

@@ -36,10 +36,10 @@ use Rattle.exam_rules.specs.declared.rows.Hall.{Hall}
 use Rattle.exam_rules.specs.declared.rows.Opening.{Opening}
 use Rattle.exam_rules.specs.declared.rows.Candidate.{Candidate}
 use Rattle.exam_rules.specs.Tables as table
+use Rattle.exam_commands.proofs.KeyedRows.{seats_total}
 use Rattle.exam_commands.specs.Good.{IsGood, papers_refer, openings_refer, entries_refer, arrangements_refer, appeals_refer, may_bear}
 use Rattle.exam_commands.specs.State.{State}
 use Rattle.exam_commands.proofs.Members.{kept_from}
-use Rattle.exam_commands.proofs.SameSeats.{seats_total}
 use Rattle.exam_tables.specs.Held.{HoldsRows}
 use Rattle.exam_store.specs.Kept.{HoldsOffice}
 use Rattle.exam_tables.specs.Rows.{session_row, paper_row, hall_row, candidate_row, opening_row, entry_row, arrangement_row, appeal_row, standing_row, seat_row}

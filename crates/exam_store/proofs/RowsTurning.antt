@@ -11,10 +11,10 @@ use Rattle.std.proofs.lemmas.Map.Keys.{sorted_tail}
 use Rattle.std.proofs.lemmas.Map.Lookups.{CmpEqualImpliesEq}
 use Rattle.exam_rules.specs.Orders.{KeysRise}
 use Rattle.exam_rules.specs.Relations.{has_row, row_at}
+use Rattle.exam_commands.proofs.KeyedRows.{same_rows}
 use Rattle.exam_commands.specs.Exchanges.{HasRows, put_back}
 use Rattle.exam_changes.proofs.Exchanges.{has_first, has_later}
 use Rattle.exam_changes.proofs.GoingBack.{or_row, put_back_at}
-use Rattle.exam_commands.proofs.Repeating.{same_rows}
 use Rattle.exam_tables.specs.Differences.{has_key, Turns}
 use Rattle.exam_tables.proofs.RowTurning.{stays}
 use Rattle.exam_store.proofs.PlansTurning.{key_is_row, rises_left, row_left}

@@ -23,7 +23,7 @@ use Rattle.exam_rules.specs.Sessions.{has_live_entry, head_of, is_live_entry, is
 use Rattle.exam_rules.proofs.Listed.{counts_for}
 use Rattle.exam_rules.proofs.Sitters.{known_listed}
 use Rattle.exam_rules.proofs.Turns.{push_step}
-use Rattle.exam_commands.proofs.Repeating.{past_all, same_rows}
+use Rattle.exam_commands.proofs.KeyedRows.{past_all, same_rows}
 
 -- ---- the lists, entry by entry
 

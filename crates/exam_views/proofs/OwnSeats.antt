@@ -28,9 +28,9 @@ use Rattle.exam_rules.specs.Relations.{Code, Relations, code_cmp, same_code, sea
 use Rattle.exam_rules.specs.Sessions.{members, has_live_entry}
 use Rattle.exam_rules.specs.Seatings.{seating, plan_of, comes_before, desk_cmp, desk_key}
 use Rattle.exam_rules.proofs.Naming.{same_code_exact, same_code_itself}
+use Rattle.exam_commands.proofs.KeyedRows.{seats_exact, seats_total}
 use Rattle.exam_commands.specs.State.{Seats}
 use Rattle.exam_commands.proofs.Members.{kept_from}
-use Rattle.exam_commands.proofs.SameSeats.{seats_total, seats_exact}
 
 -- ---- lists
 

@@ -1,5 +1,5 @@
 use Rattle.exam_rules.specs.Tables as table
-use Rattle.exam_commands.proofs.AppealKeys.{appeals_exact}
+use Rattle.exam_commands.proofs.KeyedRows.{appeals_exact}
 use Rattle.exam_changes.proofs.deciding.put_mark.Goals as goal
 
 pub returns-clause-back : goal.returns-clause-back

@@ -1,6 +1,6 @@
 use Rattle.std.proofs.lemmas.Map.Lookups.{exact_bytes, exact_unsigned}
 use Rattle.exam_rules.specs.Tables as table
-use Rattle.exam_commands.proofs.AppealKeys.{appeals_exact, openings_exact}
+use Rattle.exam_commands.proofs.KeyedRows.{appeals_exact, openings_exact}
 use Rattle.exam_changes.proofs.importing.set_row.Goals as goal
 
 pub returns-in-OfSession-clause-back : goal.returns-in-OfSession-clause-back

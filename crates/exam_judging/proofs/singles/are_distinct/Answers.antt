@@ -9,7 +9,8 @@ use Rattle.std.specs.BTreeSet.{contains}
 use Rattle.std.proofs.lemmas.List.{take_more, take-append-drop}
 use Rattle.std.proofs.lemmas.Map.Keys.{IsDistinct-push}
 use Rattle.std.proofs.Math.Seq.{drop-cons}
-use Rattle.exam_commands.proofs.Distinct.{distinct_none, apart_before, flips, seen_more}
+use Rattle.exam_commands.proofs.KeyedRows.{flips}
+use Rattle.exam_commands.proofs.Distinct.{distinct_none, apart_before, seen_more}
 use Rattle.exam_judging.proofs.singles.are_distinct.Goals as goal
 
 pub loop-key-init : goal.loop-key-init

@@ -1,9 +1,8 @@
 use Rattle.std.proofs.Common.{◌≡◌, ℕ, true, List, ◌∷◌, ap, subst, ◌∙◌}
 use Rattle.exam_rules.specs.Relations.{Code, has_row, row_at, seat_cmp}
+use Rattle.exam_commands.proofs.KeyedRows.{has_put, seats_exact, seats_total}
 use Rattle.exam_commands.specs.Exchanges.{all_put}
 use Rattle.exam_changes.proofs.Exchanges.{others_put, has_first, has_later}
-use Rattle.exam_commands.proofs.Referring.{has_put}
-use Rattle.exam_commands.proofs.SameSeats.{seats_exact, seats_total}
 use Rattle.exam_office.proofs.seat_changes.put_seats.Goals as goal
 
 pub loop-key-preserved : goal.loop-key-preserved
@@ -25,6 +24,6 @@ loop-key-preserved c =
           ∙ others_put seat_cmp seats_total seats_exact new c.loop-key.seats.entries seat k here away
           ∙ c.loop-key.invariant.others k away;
       stays = λ k has. ap (λ (held : List ((Code × ℕ) × Code)). has_row seat_cmp held k) c.in_ok-insert.ensures.entries
-          ∙ has_put seat_cmp c.loop-key.seats.entries seat.0 k seat.1 (c.loop-key.invariant.stays k has);
+          ∙ has_put seat_cmp seats_total c.loop-key.seats.entries seat.0 k seat.1 (c.loop-key.invariant.stays k has);
       rises = c.insert.ensures.ordered;
     }

@@ -1,8 +1,8 @@
 use Rattle.std.proofs.Common.{◌≡◌, ℕ, List, ap, subst, ◌∙◌}
 use Rattle.exam_rules.specs.Relations.{Code, has_row, row_at, seat_cmp}
+use Rattle.exam_commands.proofs.KeyedRows.{seats_exact, seats_total}
 use Rattle.exam_commands.specs.Exchanges.{set_row, taken_back}
 use Rattle.exam_changes.proofs.Exchanges.{set_keeps}
-use Rattle.exam_commands.proofs.SameSeats.{seats_exact, seats_total}
 use Rattle.exam_office.proofs.seat_changes.take_back_seats.Goals as goal
 
 pub loop-key-preserved : goal.loop-key-preserved

@@ -5,8 +5,8 @@ use Rattle.std.specs.Map.Iter.{deref_pair}
 use Rattle.std.proofs.lemmas.Map.Lookups.{CmpEqualImpliesEq}
 use Rattle.exam_rules.specs.Relations.{Relations}
 use Rattle.exam_rules.specs.Tables as table
+use Rattle.exam_commands.proofs.KeyedRows.{appeals_total}
 use Rattle.exam_commands.specs.KeptRows.{KeepsKeys}
-use Rattle.exam_commands.proofs.AppealKeys.{appeals_total}
 use Rattle.exam_changes.specs.declared.before.Before.{Before}
 use Rattle.exam_changes.specs.TablesBefore.{WasTable}
 use Rattle.exam_tables.specs.declared.differences.Difference.{Difference}

@@ -1,9 +1,9 @@
 use Rattle.std.proofs.Common.{None, Some, refl, subst}
 use Rattle.exam_rules.specs.Relations.{appeal_cmp, entry_cmp}
 use Rattle.exam_rules.specs.Tables as table
+use Rattle.exam_commands.proofs.KeyedRows.{appeals_exact, appeals_total}
 use Rattle.exam_changes.specs.declared.undo.Undo.{Undo}
 use Rattle.exam_changes.specs.Undoing.{IsThere}
-use Rattle.exam_commands.proofs.AppealKeys.{appeals_exact, appeals_total}
 use Rattle.exam_changes.proofs.Exchanges.{set_others}
 use Rattle.exam_changes.proofs.undo.Undo.tables_before.Goals as goal
 
