@@ -96,7 +96,13 @@ module _ {S A B : Type 0} (g : Ghosts S) (old mid new : Held S) (one : Part A) (
     rows = λ clean. tt;
     bad = λ clean.
         let same = first.left (next.early clean) in
-        part_failed e (λ fails. (fails.0, still_then (state g old) (state g mid) (state g fails.0) same fails.1, fails.2, fails.3, (fails.4.0, λ there. fails.4.1 (there.0, there.1.1))))
+        part_failed e (λ fails. (
+          fails.0,
+          still_then (state g old) (state g mid) (state g fails.0) same first.survives fails.1,
+          fails.2,
+          fails.3,
+          (fails.4.0, λ there. fails.4.1 (there.0, there.1.1)),
+        ))
         (λ none all was. inr (subst (λ (db : Database). more.HasNone db all) same.0.now_is (none all (subst (λ (db : Database). more.Holds db all) (sym same.0.now_is) was.1)))) (next.bad clean);
     left = λ clean. left_then (state g old) (state g mid) (state g new) (first.left (next.early clean)) (next.left clean);
     understood = λ clean. tt;

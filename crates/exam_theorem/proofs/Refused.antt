@@ -34,7 +34,8 @@ module _ {S : Type 0} (g : Ghosts S) where
   module _ (old mid new : Held S) (s : Survives (state g old) (state g mid) (λ _. ⊥)) (clean : HasCleanDisk (state g mid))
       (up : (state g mid).faults ≤ (state g new).faults) (same : IsUnchanged (state g old) (state g mid)) (e : Refusal) where
     failed_later : FailsThen g mid new e → FailsThen g old new e
-    failed_later (at, still, text, loads, fails) = (at, still_then (state g old) (state g mid) (state g at) same still, text, loads, fails)
+    failed_later (at, still, text, loads, fails) =
+        (at, still_then (state g old) (state g mid) (state g at) same s still, text, loads, fails)
 
     -- nor where a call before had only read
     pub refused_later : FailsToMigrate g mid new e → FailsToMigrate g old new e

@@ -33,13 +33,21 @@ module _ {S W : Type 0} (g : Ghosts S) (contents : W → Option (List ℕ)) (tod
   job_keeps (line.print s which) asks h = sheet_keeps s which h
   job_keeps other asks h = absurd cc
 
-  printed : (s : Code) (which : Sheet) → Does g contents (line.print s which) today input rest old before result new after → PrintsAsked g contents new (Some (s, which)) before (told result) after
+  printed : (s : Code) (which : Sheet)
+      → Does g contents (line.print s which) today input rest old before result new after
+      → PrintsAsked g contents old new (Some (s, which)) before (told result) after
   printed s sheet.Appeals h =
-      inr (result, refl, subst (λ (o : State). Streams (BreaksOff g new) contents (register_of o s) before result after) (sym h.1.read.office) h.1.sheet)
+      inr (
+        result,
+        refl,
+        subst
+            (λ (o : State). Streams (BreaksOff g old new) contents (register_of o s) before result after)
+            (sym h.1.read.office) h.1.sheet,
+      )
   printed s which h = inr (result, refl, subst (λ (it : OfficeIn S). PrintsSheet contents it.office s which before result after) (sym h.1) h.2)
 
   pub job_printed : (job : Job) → is_some (sheet_of job) ≡ true
       → Does g contents job today input rest old before result new after
-      → PrintsAsked g contents new (sheet_of job) before (told result) after
+      → PrintsAsked g contents old new (sheet_of job) before (told result) after
   job_printed (line.print s which) asks h = printed s which h
   job_printed other asks h = absurd cc
