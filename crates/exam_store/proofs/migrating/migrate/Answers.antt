@@ -87,7 +87,7 @@ returns-then-not-is_autocommit-clause-refused g c = λ clean.
     let open_already : c.args.conn.now.in_transaction ≡ true = search rules in
     record {
       refusal = inl (refl, search rules);
-      unlisted = λ calm none. absurd (both_ways _ open_already calm);
+      unlisted = λ calm none. absurd (both_ways _ calm open_already);
       still = λ bad. let same : Store ≡ BadStore = bad in absurd cc;
     }
 
