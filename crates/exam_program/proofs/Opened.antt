@@ -22,10 +22,10 @@ use Rattle.exam_tables.specs.Inside.{IsOurs}
 use Rattle.exam_tables.specs.Loaded.{IsLeft}
 use Rattle.exam_tables.specs.Transactions.{Commits, IsSound}
 use Rattle.exam_tables.specs.Versions.{FailsToCreate, IsBlank}
-use Rattle.exam_store.specs.Found.{Finds, MakesEmpty, is_open_refusal}
+use Rattle.exam_store.specs.Found.{FailsToFind, Finds, MakesEmpty, RefusesCreating, RefusesOpening, is_open_refusal}
 use Rattle.exam_store.specs.Kept.{IsKept, Keeps}
 use Rattle.exam_store.specs.Stores.{OfficeIn}
-use Rattle.exam_program.specs.Opening.{FailsToFind, FailsToOpenFor, IsNotOpened, MakesNew, OpensFor}
+use Rattle.exam_program.specs.Opening.{FailsToOpenFor, IsNotOpened, MakesNew, OpensFor}
 use Rattle.exam_program.specs.Running.{IsReady}
 
 -- ---- a database with no table
@@ -90,40 +90,35 @@ module _ {S : Type 0} (g : Ghosts S) (was : Held S) where
 
   pub not_made : (result : Result (OfficeIn S) (Refusal × Held S))
       → (IsBlank (state g was).now → MatchResult result (λ it. Commits (state g was) (state g it.database) result MakesEmpty) (λ e. Commits (state g was) (state g e.1) result MakesEmpty))
-      → IfErr result (λ e. HasCleanDisk (state g e.1) → IsBlank (state g was).now → FailsToCreate (state g was) (state g e.1) e.0)
-      → IfErr result (λ e. HasCleanDisk (state g e.1) → (IsBlank (state g was).now → ⊥) → FailsToFind g was e.1 e.0)
-      → IfErr result (λ e. HasCleanDisk (state g e.1) → (IsBlank (state g was).now → ⊥) → IsLeft (state g was) (state g e.1))
-      → IfErr result (λ e. (IsBlank (state g was).now → ⊥) → Survives (state g was) (state g e.1) (λ _. ⊥)) → IfErr result (λ e. IsTrue (is_open_refusal e.0))
+      → IfErr result (λ e. RefusesCreating g was e.1 e.0) → IfErr result (λ e. IsTrue (is_open_refusal e.0))
       → IfErr result (λ e. IsNotOpened g line.init was e.0 e.1)
-  not_made (Ok it) made blank refusal same survives told = tt
-  not_made (Err e) made blank refusal same survives told = record {
+  not_made (Ok it) made refused told = tt
+  not_made (Err e) made refused told = record {
     told = told;
-    reason = λ clean. (blank clean, refusal clean);
+    reason = λ clean. (refused.blank clean, λ other. (refused.other other).refusal clean);
     same = λ sound. elim (blank_or_not (state g was).now) [
       | inl none ↦ ((made none).same sound).1
-      | inr other ↦ left_commit e.1 (same sound.0 other) sound
+      | inr other ↦ left_commit e.1 ((refused.other other).same sound.0) sound
     ];
     survives = elim (blank_or_not (state g was).now) [
       | inl none ↦ survives_weaker (state g was) (state g e.1) _ _ (λ clean trees it. (none, it.0, it.1, it.2)) (made none).survives
-      | inr other ↦ survives_weaker (state g was) (state g e.1) _ _ (λ clean trees nothing. absurd nothing) (survives other)
+      | inr other ↦ survives_weaker (state g was) (state g e.1) _ _ (λ clean trees nothing. absurd nothing) (refused.other other).survives
     ];
   }
 
-  module _ (result : Result (OfficeIn S) (Refusal × Held S)) (refusal : IfErr result (λ e. HasCleanDisk (state g e.1) → FailsToFind g was e.1 e.0))
-      (same : IfErr result (λ e. HasCleanDisk (state g e.1) → IsLeft (state g was) (state g e.1))) (survives : IfErr result (λ e. Survives (state g was) (state g e.1) (λ _. ⊥)))
+  module _ (result : Result (OfficeIn S) (Refusal × Held S)) (refused : IfErr result (λ e. RefusesOpening g was e.1 e.0))
       (told : IfErr result (λ e. IsTrue (is_open_refusal e.0))) where
     not_found : (j : Job) → ((now : Held S) (e : Refusal) → FailsToFind g was now e → FailsToOpenFor g j was now e) → IfErr result (λ e. IsNotOpened g j was e.0 e.1)
-    not_found j reason = by result refusal same survives told
+    not_found j reason = by result refused told
       where
-        by : (r : Result (OfficeIn S) (Refusal × Held S)) → IfErr r (λ e. HasCleanDisk (state g e.1) → FailsToFind g was e.1 e.0)
-            → IfErr r (λ e. HasCleanDisk (state g e.1) → IsLeft (state g was) (state g e.1)) → IfErr r (λ e. Survives (state g was) (state g e.1) (λ _. ⊥))
+        by : (r : Result (OfficeIn S) (Refusal × Held S)) → IfErr r (λ e. RefusesOpening g was e.1 e.0)
             → IfErr r (λ e. IsTrue (is_open_refusal e.0)) → IfErr r (λ e. IsNotOpened g j was e.0 e.1)
-        by (Ok it) refusal same survives told = tt
-        by (Err e) refusal same survives told = record {
+        by (Ok it) refused told = tt
+        by (Err e) refused told = record {
           told = told;
-          reason = λ clean. reason e.1 e.0 (refusal clean);
-          same = λ sound. left_commit e.1 (same sound.0) sound;
-          survives = survives_weaker (state g was) (state g e.1) _ _ (λ clean trees nothing. absurd nothing) survives;
+          reason = λ clean. reason e.1 e.0 (refused.refusal clean);
+          same = λ sound. left_commit e.1 (refused.same sound.0) sound;
+          survives = survives_weaker (state g was) (state g e.1) _ _ (λ clean trees nothing. absurd nothing) refused.survives;
         }
 
     pub not_found_for : (j : coded.Job) → (j ≡ job.Init → ⊥) → IfErr result (λ e. IsNotOpened g (job_shown j) was e.0 e.1)

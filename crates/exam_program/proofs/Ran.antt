@@ -159,7 +159,7 @@ module _ {D O E : Type 0} (g : disk.Ghosts D) (contents : Contents O) (errors : 
             let turned = m.made.turned copied.was_clean in
             in_newest g files office (files_keep files office live copied (turned.0.kept v older office kept, turned.1))
         by (inr newest) =
-            let good = m.found copied.was_clean kept.all (made_of v (file_state was).now kept.all kept.contains) in
+            let good = (m.found copied.was_clean).good kept.all (made_of v (file_state was).now kept.all kept.contains) in
             let number : versions.0 ≡ version = one_version versions.0 v kept.all good.1 kept.version ∙ newest in
             let same = (m.newest number).0 copied.was_clean in
             subst (λ (w : ℕ). HoldOfficeIn g w files office) newest (hold_same same.0.committed_is)

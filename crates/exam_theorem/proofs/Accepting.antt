@@ -18,7 +18,7 @@ use Rattle.exam_commands.specs.State.{State as Office}
 use Rattle.exam_tables.specs.Faults.{refusal_of}
 use Rattle.exam_tables.specs.Loaded.{FailsThen, FailsToLoad, IsLoadRefusal}
 use Rattle.exam_tables.specs.Versions.{IsVersion, version}
-use Rattle.exam_store.specs.Found.{FailsToMigrate, FailsToOpen, HoldsGood}
+use Rattle.exam_store.specs.Found.{FailsToFind, FailsToMigrate, FailsToOpen, HoldsGood}
 use Rattle.exam_store.specs.Kept.{HoldsOffice, Keeps}
 use Rattle.exam_tables.specs.Transactions.{Commits}
 use Rattle.exam_store.specs.Stores.{OfficeIn}
@@ -90,13 +90,13 @@ module _ {S : Type 0} (g : Ghosts S) where
         let older = old_one.1 all (made_of version (state g mid).now all good.0) in
         absurd (no_older older.0 older.1 (one_version older.0 version all older.2 good.1))
 
-    pub opening_failed : (new : Held S) (e : Refusal) → IsAccepted old.now → ((e ≡ refusal.Store) × IsTrue new.in_transaction) ⊎ FailsToOpen g mid new e → IsFailing e
+    pub opening_failed : (new : Held S) (e : Refusal) → IsAccepted old.now → FailsToFind g mid new e → IsFailing e
     opening_failed new e accepted (inl busy) = inr busy.0
     opening_failed new e accepted (inr fails) = let good = brought_good accepted in failed_in new e good.0 good.1 fails
 
   pub refused_only : (old : State) (mid : Held S) → Commits {A = Unit {0}} {E = Refusal} old (state g mid) (Ok tt) BringsOver → (result : Result (OfficeIn S) (Refusal × Held S))
       → IfErr result (λ e. Survives (state g mid) (state g e.1) (λ _. ⊥))
-      → IfErr result (λ e. HasCleanDisk (state g e.1) → ((e.0 ≡ refusal.Store) × IsTrue e.1.in_transaction) ⊎ FailsToOpen g mid e.1 e.0)
+      → IfErr result (λ e. HasCleanDisk (state g e.1) → FailsToFind g mid e.1 e.0)
       → IfErr result (λ e. HasCleanDisk (state g e.1) → IsAccepted old.now → IsFailing e.0)
   refused_only old mid made (Ok new) survives fails = tt
   refused_only old mid made (Err e) survives fails = λ clean accepted.

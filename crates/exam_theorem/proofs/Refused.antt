@@ -7,7 +7,6 @@ use Rattle.sqlite.specs.Effect.{Database}
 use Rattle.sqlite.specs.Held.{Held, state}
 use Rattle.sqlite.specs.State.{HasCleanDisk, IsUnchanged, Survives}
 use Rattle.exam_types.specs.declared.refusal.Refusal.{Refusal}
-use Rattle.exam_types.specs.declared.refusal.Refusal.TheVariants.{Store}
 use Rattle.exam_sql.specs.Made.{ContainsMade}
 use Rattle.exam_sql.specs.Texts.{held_texts, load_office}
 use Rattle.exam_tables.specs.Loaded.{AreUnderstood, FailsThen, FailsToLoad, IsLoadRefusal}
@@ -17,7 +16,7 @@ use Rattle.exam_tables.specs.Versions.{HasVersion, IsVersion}
 use Rattle.exam_tables.proofs.Creating.{made_later}
 use Rattle.exam_tables.proofs.Leaving.{still_itself, still_then}
 use Rattle.exam_tables.proofs.Refusing.{part_failed}
-use Rattle.exam_store.specs.Found.{FailsToMigrate, FailsToOpen}
+use Rattle.exam_store.specs.Found.{FailsToFind, FailsToMigrate}
 use Rattle.exam_store.specs.Stores.{OfficeIn}
 use Rattle.exam_store.proofs.Marking.{made_of, still_made, still_of}
 use Rattle.exam_theorem.specs.Resting.{BringsOver, FailsToCarry}
@@ -52,7 +51,7 @@ module _ {S : Type 0} (g : Ghosts S) where
   -- it was brought there, and was not opened
   pub not_opened : (old mid : Held S) → Commits {A = Unit {0}} {E = Refusal} (state g old) (state g mid) (Ok tt) BringsOver → (result : Result (OfficeIn S) (Refusal × Held S))
       → IfErr result (λ e. Survives (state g mid) (state g e.1) (λ _. ⊥))
-      → IfErr result (λ e. HasCleanDisk (state g e.1) → ((e.0 ≡ Store) × IsTrue e.1.in_transaction) ⊎ FailsToOpen g mid e.1 e.0)
+      → IfErr result (λ e. HasCleanDisk (state g e.1) → FailsToFind g mid e.1 e.0)
       → IfErr result (λ e. HasCleanDisk (state g e.1) → FailsToCarry g old e.1 e.0)
   not_opened old mid made (Ok new) survives fails = tt
   not_opened old mid made (Err e) survives fails = λ clean. inr (mid, made, survives, fails clean)

@@ -80,7 +80,7 @@ returns-in_err-migrate-clause-only g c = λ clean.
     let early : HasCleanDisk (state g.S.Store mid) = omega (arith, c.in_err-migrate.ensures.made.survives.clean, clean) in
     rw is (λ accepted. migration_failed g.S.Store mid c.migrate.new.conn e
     (subst IsAccepted (sym (c.in_ok-version.ensures.reads.left early).0.now_is) accepted)
-    (c.in_err-migrate.ensures.refusal clean))
+    (c.in_err-migrate.ensures.refused clean).refusal)
 
 pub returns-clause-made : goal.returns-clause-made
 returns-clause-made g c =
@@ -102,7 +102,7 @@ returns-clause-had g c = λ clean versioned.
     let v = c.in_ok-version.version.number in
     let older : v ≢ version = search rules in
     inl (migrated_had old mid new v c.in_ok-version.ensures.reads.left c.version_of.ensures.reads.survives c.in_ok-version.ensures.reads.rows older
-    c.in_ok-migrate.field-0 c.in_ok-migrate.ensures.versions.0 (λ after. omega (arith, c.in_ok-migrate.ensures.made.survives.clean, after)) c.in_ok-migrate.ensures.found clean versioned)
+    c.in_ok-migrate.field-0 c.in_ok-migrate.ensures.versions.0 (λ after. omega (arith, c.in_ok-migrate.ensures.made.survives.clean, after)) (λ after. (c.in_ok-migrate.ensures.found after).good) clean versioned)
 
 -- why not
 
@@ -119,4 +119,4 @@ returns-in_err-migrate-clause-why g c = λ clean.
     let is : c.from_residual-in_err-migrate.result ≡ Err e = search rules in
     let early : HasCleanDisk (state g.S.Store mid) = omega (arith, c.in_err-migrate.ensures.made.survives.clean, clean) in
     rw is (refused_later g.S.Store c.args.conn.now mid c.migrate.new.conn c.version_of.ensures.reads.survives early
-    c.in_err-migrate.ensures.made.survives.counts (c.in_ok-version.ensures.reads.left early) e (c.in_err-migrate.ensures.refusal clean))
+    c.in_err-migrate.ensures.made.survives.counts (c.in_ok-version.ensures.reads.left early) e (c.in_err-migrate.ensures.refused clean).refusal)
