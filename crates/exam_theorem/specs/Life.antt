@@ -2,7 +2,8 @@
 use Rattle.std.specs.Prelude.{◌≡◌, ⊤, ℕ, List, [], ◌∷◌, Ok}
 use Rattle.sqlite_trees.specs.declared.store.Store.{Ghosts}
 use Rattle.sqlite_trees.specs.Tree.{Trees}
-use Rattle.sqlite.specs.Held.{state}
+use Rattle.sqlite.specs.Effect.{Database}
+use Rattle.sqlite.specs.Held.{Held, state}
 use Rattle.sqlite.specs.State.{State as Shown, HasCleanDisk}
 use Rattle.exam_rules.specs.Relations.{Code}
 use Rattle.exam_commands.specs.Good.{IsGood}
@@ -14,12 +15,14 @@ use Rattle.exam_line.specs.Lines as line
 use Rattle.exam_request.specs.Answer.{Told}
 use Rattle.exam_request.specs.Asked.{Asks, Request}
 use Rattle.exam_http.specs.Answering.{own_named}
+use Rattle.exam_tables.specs.Transactions.{IsSound}
+use Rattle.exam_store.specs.Kept.{HaveSameTables, Keeps}
 use Rattle.exam_store.specs.Stops.{HasRowDays}
 use Rattle.exam_store.specs.Stores.{OfficeIn}
-use Rattle.exam_theorem.specs.Following.{AreFollowed, Follows, FollowsWords, IsFailure, LineEnd, Spares}
+use Rattle.exam_theorem.specs.Following.{AreFollowed, EndsInOne, Follows, FollowsWords, IsFailure, LineEnd, Spares}
 use Rattle.exam_theorem.specs.Orders.{Given, of_line, of_request}
 use Rattle.exam_theorem.specs.Requests.{Tells}
-use Rattle.exam_theorem.specs.Resting.{IsAtRest, LeavesOffice, Rests, Settles}
+use Rattle.exam_theorem.specs.Resting.{HasOffice, IsAtRest, IsVersioned, LeavesOffice, Rests, Settles}
 use Rattle.exam_theorem.specs.declared.orders.Outcome.{Outcome}
 use Rattle.exam_theorem.specs.declared.orders.Outcome.TheVariants as outcome
 
@@ -98,3 +101,33 @@ pub record Lives {S : Type 0} (g : Ghosts S) (orders : List Given) (old : Shown)
   pub followed : AreFollowed orders first outcomes new.office
   -- the sheet changes nothing
   pub printed : Stays g last new
+
+-- ---- what a life comes to, from a database
+
+-- there was a good office, if the tables were those of a version
+abbrev pub HadFirst : {S : Type 0} → Ghosts S → Held S → OfficeIn S → Type 0
+HadFirst g old new =
+    HasCleanDisk (state g new.database) → IsVersioned (state g old).now
+    → (first : State) × IsGood first × HasOffice (state g old).now first
+
+-- the office that was there lives through the orders
+abbrev pub LivesFrom : {S : Type 0} → Ghosts S → List Given → Held S → List Outcome → OfficeIn S → Type 0
+LivesFrom g orders old outcomes new =
+    HasCleanDisk (state g new.database) → (first : State) → HasOffice (state g old).now first
+    → Lives g orders (state g old) first outcomes new
+
+-- from the office that was there the same orders lead to no other office
+abbrev pub EndsAlike : {S : Type 0} → Ghosts S → List Given → Held S → List Outcome → OfficeIn S → Type 0
+EndsAlike g orders old outcomes new =
+    HasCleanDisk (state g new.database) → (first : State) → HasOffice (state g old).now first
+    → EndsInOne orders first outcomes new.office
+
+-- the life can go on from the database that it leaves
+abbrev pub GoesOn : {S : Type 0} → Ghosts S → Held S → OfficeIn S → Type 0
+GoesOn g old new = IsSound (state g new.database) → IsVersioned (state g old).now → IsAtRest g new
+
+-- a database that keeps the same office has the same tables
+abbrev pub HasItsTables : {S : Type 0} → Ghosts S → Held S → OfficeIn S → Type 0
+HasItsTables g old new =
+    IsSound (state g new.database) → IsVersioned (state g old).now → (there : Database) → Keeps there new.office
+    → HaveSameTables (state g new.database).now there

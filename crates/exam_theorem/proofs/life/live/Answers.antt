@@ -1,4 +1,4 @@
-use Rattle.std.proofs.Common.{inl, inr}
+use Rattle.std.proofs.Common.{inl, inr, rules}
 use Rattle.std.specs.Prelude.{map}
 use Rattle.sqlite.specs.Held.{state}
 use Rattle.exam_theorem.specs.Orders.{shown}
@@ -40,9 +40,13 @@ returns-in-Ok-print_after-clause-tables g c =
     c.in-Ok.ensures.same
     c.in-Ok.ensures.had
 
-pub returns-in-Err-print_after-clause-still : goal.returns-in-Err-print_after-clause-still
-returns-in-Err-print_after-clause-still g c =
-    rw (c.close.ensures, c.in-Err-print_after.ensures.same.0) (opened_rests_on g.S.Store (state g.S.Store c.args.conn) c.in-Ok.store c.in-Ok.ensures.same)
-
-pub returns-in-Err-print_after-clause-why : goal.returns-in-Err-print_after-clause-why
-returns-in-Err-print_after-clause-why g c = λ clean. inl (inr (inl (inl c.in-Err-print_after.ensures.memory)))
+pub returns-in-Err-print_after-clause-refused : goal.returns-in-Err-print_after-clause-refused
+returns-in-Err-print_after-clause-refused g c =
+    let memory = c.in-Err-print_after.ensures.memory in
+    rw (c.close.ensures, c.in-Err-print_after.ensures.same.0) (record {
+      rests = opened_rests_on g.S.Store (state g.S.Store c.args.conn) c.in-Ok.store c.in-Ok.ensures.same;
+      stopped = c.in-Ok.ensures.stops;
+      why = λ clean. inl (inr (inl (inl memory)));
+      only = λ clean accepted. inl memory;
+      told = rw memory (search rules);
+    })
