@@ -18,14 +18,17 @@ module _ (r : Relations) (d : Decision) (a : Appeal) where
   abbrev key : ℕ × Code
   key = (d.number, d.reference)
 
-  pub rows_of_outcome : (earlier : Option ((ℕ × Code) × Appeal)) → undoing.with_earlier earlier r.appeals ≡ with_superseded d.number a d.outcome r.appeals
+  pub rows_of_outcome : (earlier : Option ((ℕ × Code) × Appeal))
+      → undoing.with_earlier earlier r.appeals ≡ with_superseded d.number a d.outcome r.appeals
       → has_row appeal_cmp r.standing key ≡ false
-      → undoing.with_decided earlier key (record a { status = decided d.outcome d.answer }) (bears_mark d.outcome) r ≡ with_outcome r d a
+      → undoing.with_decided earlier key (record a { status = decided d.outcome d.answer }) (bears_mark d.outcome) r
+      ≡ with_outcome r d a
   rows_of_outcome earlier superseded unmarked = λ i. record r {
     appeals = put_row appeal_cmp (superseded i) key (record a { status = decided d.outcome d.answer });
     standing = marks (bears_mark d.outcome) i;
   }
     where
-      marks : (b : Bool) → cond b (put_row appeal_cmp r.standing key tt) r.standing ≡ cond b (put_row appeal_cmp r.standing key tt) (without_mark key r.standing)
+      marks : (b : Bool) → cond b (put_row appeal_cmp r.standing key tt) r.standing
+          ≡ cond b (put_row appeal_cmp r.standing key tt) (without_mark key r.standing)
       marks true = refl
       marks false = sym (unmarked_same r.standing key unmarked)

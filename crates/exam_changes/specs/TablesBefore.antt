@@ -2,7 +2,8 @@
 use Rattle.std.specs.Prelude.{◌≡◌, ℕ, true, false, IsTrue, List, ◌||◌}
 use Rattle.std.specs.declared.cmp.Ordering.{Ordering}
 use Rattle.exam_rules.specs.Relations.{Code, Relations, has_row, remove_row, row_at, seat_cmp}
-use Rattle.exam_rules.specs.Tables.{Table, Sessions, Papers, Halls, Openings, Candidates, Entries, Arrangements, Appeals, Standing, KeyOf, RowOf, cmp_of, rows_of}
+use Rattle.exam_rules.specs.Tables.{Table, Sessions, Papers, Halls, Openings, Candidates, Entries, Arrangements}
+use Rattle.exam_rules.specs.Tables.{Appeals, Standing, KeyOf, RowOf, cmp_of, rows_of}
 use Rattle.exam_changes.specs.declared.before.Before.{Before}
 use Rattle.exam_changes.specs.declared.before.Before.TheVariants as was
 use Rattle.exam_changes.specs.declared.before.PlansBefore.{PlansBefore}

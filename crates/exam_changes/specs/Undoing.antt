@@ -2,8 +2,10 @@
 use Rattle.std.specs.Prelude.{◌≡◌, ⊤, ℕ, Bool, IsTrue, List, [], Option, None, Some, if◌then◌else◌}
 use Rattle.std.specs.Ordering.{nat_cmp}
 use Rattle.exam_rules.specs.declared.rows.Appeal.{Appeal}
-use Rattle.exam_rules.specs.Relations.{Code, Relations, appeal_cmp, code_cmp, entry_cmp, has_row, opening_cmp, put_row, remove_row}
-use Rattle.exam_rules.specs.Tables.{Table, Sessions, Papers, Halls, Openings, Candidates, Entries, Arrangements, Appeals, Standing, KeyOf, RowOf, cmp_of, rows_of}
+use Rattle.exam_rules.specs.Relations.{Code, Relations, appeal_cmp, code_cmp, entry_cmp, has_row, opening_cmp, put_row}
+use Rattle.exam_rules.specs.Relations.{remove_row}
+use Rattle.exam_rules.specs.Tables.{Table, Sessions, Papers, Halls, Openings, Candidates, Entries, Arrangements}
+use Rattle.exam_rules.specs.Tables.{Appeals, Standing, KeyOf, RowOf, cmp_of, rows_of}
 use Rattle.exam_changes.specs.declared.kept.KeptRows.{KeptRows}
 use Rattle.exam_changes.specs.declared.undo.Undo.{Undo}
 use Rattle.exam_changes.specs.declared.undo.Undo.TheVariants as undo

@@ -2,6 +2,7 @@
 ghost use Rattle.std.specs.Prelude.{◌≡◌, ◌⊎◌, None, Some, IfOk, IfErr, OnOk, OnErr};
 ghost use Rattle.std.specs.Result.{result_err};
 ghost use Rattle.exam_types.specs.declared.refusal.Refusal.TheVariants.{NoMemory};
+ghost use Rattle.exam_types.specs.Refusals.{OnlyMemory};
 ghost use Rattle.exam_rules.specs.Relations.{relations_of};
 ghost use Rattle.exam_commands.specs.Changes as changes;
 ghost use Rattle.exam_changes.specs.Undoing as spec;
@@ -35,7 +36,7 @@ fn remove_opening(facts: &mut Facts, session: SessionCode, hall: HallCode) -> Re
         ≡ changes.without_opening (relations_of facts.old) session hall) }
     ensures back { IfOk result (λ undo.
         spec.TakesBack undo (relations_of facts.new) (relations_of facts.old)) }
-    ensures memory { IfErr result (λ e. e ≡ NoMemory) }
+    ensures memory { OnlyMemory result }
     ensures same { OnErr result (relations_of facts.new ≡ relations_of facts.old) }
 {
     let mut openings = facts.openings.clone()?;

@@ -3,6 +3,7 @@ ghost use Rattle.std.specs.Prelude.{◌≡◌, ◌⊎◌, ◌∷◌, [], None, S
 ghost use Rattle.std.specs.Option.{option_and_then};
 ghost use Rattle.std.specs.Result.{result_err};
 ghost use Rattle.exam_types.specs.declared.refusal.Refusal.TheVariants.{NoMemory};
+ghost use Rattle.exam_types.specs.Refusals.{OnlyMemory};
 ghost use Rattle.exam_rules.specs.Relations.{Relations, appeal_cmp, put_row, relations_of};
 ghost use Rattle.exam_rules.specs.declared.rows.Subject.TheVariants as subjects;
 ghost use Rattle.exam_commands.specs.Appeals as appeals;
@@ -22,10 +23,10 @@ use exam_rules::{Appeal, Facts, Seats, Status, Subject, is_live_paper, is_member
 use exam_types::{Day, Number, PaperCode, Reason, Reference, Refusal, SessionCode};
 use std::alloc::Global;
 
-/// Decides the appeal; a grant of a clash or an arrangement supersedes an earlier grant of its kind. Returns how to take
-/// this back; nothing changes if the decision is already made. Refused, in this order, for an unknown appeal; for one
-/// that is not open; from the session's day on; for a standing grant of anything but an arrangement; for a grant if the
-/// candidate is no longer a member, or has no live entry for the paper; and if there is not enough memory. After a
+/// Decides the appeal; a grant of a clash or an arrangement supersedes an earlier grant of its kind. Returns how to
+/// take this back; nothing changes if the decision is already made. Refused, in this order, for an unknown appeal; for
+/// one that is not open; from the session's day on; for a standing grant of anything but an arrangement; for a grant if
+/// the candidate is no longer a member, or has no live entry for the paper; and if there is not enough memory. After a
 /// refusal the facts are as before. It never passes a limit.
 pub fn decide(
     alloc: Global,
@@ -75,7 +76,7 @@ fn superseded_grant(
     requires { AreSingle (relations_of facts.now) }
     ensures ok { IfOk result (λ earlier. undoing.with_earlier earlier facts.now.appeals.entries
         ≡ spec.with_superseded number appeal.now outcome facts.now.appeals.entries) }
-    ensures memory { IfErr result (λ e. e ≡ NoMemory) }
+    ensures memory { OnlyMemory result }
 {
     facts.show_order();
     if !is_grant(outcome) {
@@ -104,7 +105,7 @@ fn put_decided(
         ≡ undoing.with_decided earlier key appeal mark (relations_of facts.old)) }
     ensures back { IfOk result (λ undo.
         undoing.TakesBack undo (relations_of facts.new) (relations_of facts.old)) }
-    ensures memory { IfErr result (λ e. e ≡ NoMemory) }
+    ensures memory { OnlyMemory result }
     ensures same { OnErr result (relations_of facts.new ≡ relations_of facts.old) }
 {
     let mut kept = KeptRows::none(alloc);
@@ -130,7 +131,7 @@ fn put_rows(
         ≡ undoing.with_decided earlier key appeal mark (relations_of facts.old)) }
     ensures back { (first : Relations) → undoing.RowsGoBack kept.old (relations_of facts.old) first
         → undoing.RowsGoBack kept.new (relations_of facts.new) first }
-    ensures memory { IfErr result (λ e. e ≡ NoMemory) }
+    ensures memory { OnlyMemory result }
 {
     put_earlier(facts, kept, earlier)?;
     put_appeal(facts, kept, &key, appeal)?;
@@ -149,7 +150,7 @@ fn put_appeal(
     }) }
     ensures back { (first : Relations) → undoing.RowsGoBack kept.old (relations_of facts.old) first
         → undoing.RowsGoBack kept.new (relations_of facts.new) first }
-    ensures memory { IfErr result (λ e. e ≡ NoMemory) }
+    ensures memory { OnlyMemory result }
 {
     put_kept(&mut facts.appeals, &mut kept.appeals, *key, appeal)
 }
@@ -165,7 +166,7 @@ fn put_earlier(
     }) }
     ensures back { (first : Relations) → undoing.RowsGoBack kept.old (relations_of facts.old) first
         → undoing.RowsGoBack kept.new (relations_of facts.new) first }
-    ensures memory { IfErr result (λ e. e ≡ NoMemory) }
+    ensures memory { OnlyMemory result }
 {
     match earlier {
         Some((key, appeal)) => put_appeal(facts, kept, &key, appeal),
@@ -185,7 +186,7 @@ fn put_mark(
     }) }
     ensures back { (first : Relations) → undoing.RowsGoBack kept.old (relations_of facts.old) first
         → undoing.RowsGoBack kept.new (relations_of facts.new) first }
-    ensures memory { IfErr result (λ e. e ≡ NoMemory) }
+    ensures memory { OnlyMemory result }
 {
     if !mark {
         return Ok(());
@@ -357,7 +358,7 @@ fn check_paper(
 
 fn status_of(outcome: Outcome, answer: &Reason) -> Result<Status, Refusal>
     ensures ok { IfOk result (λ status. status ≡ appeals.decided outcome answer.now) }
-    ensures memory { IfErr result (λ e. e ≡ NoMemory) }
+    ensures memory { OnlyMemory result }
 {
     if is_grant(outcome) {
         Ok(Status::Granted(answer.copy()?))
@@ -369,7 +370,7 @@ fn status_of(outcome: Outcome, answer: &Reason) -> Result<Status, Refusal>
 /// A copy of the appeal with this status.
 pub fn with_status(appeal: &Appeal, status: Status) -> Result<Appeal, Refusal>
     ensures ok { IfOk result (λ changed. changed ≡ record appeal.now { status = status }) }
-    ensures memory { IfErr result (λ e. e ≡ NoMemory) }
+    ensures memory { OnlyMemory result }
 {
     Ok(Appeal {
         reason: appeal.reason.copy()?,
@@ -380,7 +381,7 @@ pub fn with_status(appeal: &Appeal, status: Status) -> Result<Appeal, Refusal>
 
 fn superseded_status(status: &Status) -> Result<Status, Refusal>
     ensures ok { IfOk result (λ changed. changed ≡ appeals.superseded status.now) }
-    ensures memory { IfErr result (λ e. e ≡ NoMemory) }
+    ensures memory { OnlyMemory result }
 {
     match status {
         Status::Granted(answer) => Ok(Status::Superseded(answer.copy()?)),

@@ -1,9 +1,11 @@
 //! What an import makes of the facts.
-ghost use Rattle.std.specs.Prelude.{◌≡◌, ◌⊎◌, ◌<◌, ◌^◌, ◌+◌, ◌-◌, is_none, not, false, if◌then◌else◌, length, None, Some, IfOk, IfErr, OnOk, OnErr};
+ghost use Rattle.std.specs.Prelude.{◌≡◌, ◌⊎◌, ◌<◌, ◌^◌, ◌+◌, ◌-◌, is_none, not, false, if◌then◌else◌, length, None};
+ghost use Rattle.std.specs.Prelude.{Some, IfOk, IfErr, OnOk, OnErr};
 ghost use Rattle.std.specs.Option.{option_map, option_map_or};
 ghost use Rattle.std.specs.Result.{result_err};
 ghost use Rattle.exam_rules.specs.Relations.{Relations, opening_cmp, relations_of, row_at};
 ghost use Rattle.exam_types.specs.declared.refusal.Refusal.TheVariants.{NoMemory};
+ghost use Rattle.exam_types.specs.Refusals.{OnlyMemory};
 ghost use Rattle.exam_commands.specs.Changes as changes;
 ghost use Rattle.exam_commands.specs.Replies as replies;
 ghost use Rattle.exam_commands.specs.SameRows.{same_opening};
@@ -46,7 +48,7 @@ fn set_rows(alloc: Global, facts: &mut Facts, rows: &[Row]) -> Result<Undo, Refu
     ensures ok { OnOk result (relations_of facts.new ≡ changes.with_rows (relations_of facts.old) rows.now) }
     ensures back { IfOk result (λ undo.
         undoing.TakesBack undo (relations_of facts.new) (relations_of facts.old)) }
-    ensures memory { IfErr result (λ e. e ≡ NoMemory) }
+    ensures memory { OnlyMemory result }
     ensures same { OnErr result (relations_of facts.new ≡ relations_of facts.old) }
 {
     let mut kept = KeptRows::none(alloc);
@@ -94,7 +96,7 @@ fn put_rows(facts: &mut Facts, kept: &mut KeptRows, rows: &[Row]) -> Result<(), 
     ensures ok { OnOk result (relations_of facts.new ≡ changes.with_rows (relations_of facts.old) rows.now) }
     ensures back { (first : Relations) → undoing.RowsGoBack kept.old (relations_of facts.old) first
         → undoing.RowsGoBack kept.new (relations_of facts.new) first }
-    ensures memory { IfErr result (λ e. e ≡ NoMemory) }
+    ensures memory { OnlyMemory result }
 {
     for row in rows {
         put_row(facts, kept, row)?;
@@ -108,7 +110,7 @@ fn put_row(facts: &mut Facts, kept: &mut KeptRows, row: &Row) -> Result<(), Refu
     ensures ok { OnOk result (relations_of facts.new ≡ changes.with_row (relations_of facts.old) row.now) }
     ensures back { (first : Relations) → undoing.RowsGoBack kept.old (relations_of facts.old) first
         → undoing.RowsGoBack kept.new (relations_of facts.new) first }
-    ensures memory { IfErr result (λ e. e ≡ NoMemory) }
+    ensures memory { OnlyMemory result }
 {
     facts.show_order();
     match is_stored(facts, row) {
@@ -123,7 +125,7 @@ fn set_row(facts: &mut Facts, kept: &mut KeptRows, row: &Row) -> Result<(), Refu
     ensures ok { OnOk result (relations_of facts.new ≡ changes.with_row (relations_of facts.old) row.now) }
     ensures back { (first : Relations) → undoing.RowsGoBack kept.old (relations_of facts.old) first
         → undoing.RowsGoBack kept.new (relations_of facts.new) first }
-    ensures memory { IfErr result (λ e. e ≡ NoMemory) }
+    ensures memory { OnlyMemory result }
 {
     match row {
         Row::OfSession(code, session) => {

@@ -1,6 +1,6 @@
 //! Rows that replace others, which are kept so that they can be put back.
-ghost use Rattle.std.specs.Prelude.{◌≡◌, List, IfErr, OnErr, OnOk};
-ghost use Rattle.exam_types.specs.declared.refusal.Refusal.TheVariants.{NoMemory};
+ghost use Rattle.std.specs.Prelude.{◌≡◌, List, OnErr, OnOk};
+ghost use Rattle.exam_types.specs.Refusals.{OnlyMemory};
 ghost use Rattle.exam_rules.specs.Relations.{Relations, put_row, relations_of};
 ghost use Rattle.exam_commands.specs.Exchanges as exchanges;
 ghost use Rattle.exam_changes.specs.TablesBefore.{WereTables};
@@ -97,7 +97,7 @@ pub fn put_kept<K: Ord + Copy, V: Drop>(
         → exchanges.GoBack K.cmp kept.new.entries rows.new.entries first }
     ensures err { exchanges.TellsApart K.cmp → OnErr result (rows.new.entries ≡ rows.old.entries) }
     ensures err_kept { OnErr result (kept.new.entries ≡ kept.old.entries) }
-    ensures memory { IfErr result (λ e. e ≡ NoMemory) }
+    ensures memory { OnlyMemory result }
 {
     // The contract of `len` says that the keys rise.
     let (_, _) = (rows.len(), kept.len());

@@ -2,6 +2,7 @@
 ghost use Rattle.std.specs.Prelude.{◌≡◌, ◌⊎◌, ◌==◌, length, not, [], ◌∷◌, ◌++◌, None, Some, IfOk, IfErr, OnOk, OnErr};
 ghost use Rattle.std.specs.Result.{result_err};
 ghost use Rattle.exam_types.specs.declared.refusal.Refusal.TheVariants.{NoMemory};
+ghost use Rattle.exam_types.specs.Refusals.{OnlyMemory};
 ghost use Rattle.exam_rules.specs.Relations.{relations_of};
 ghost use Rattle.exam_rules.specs.Sessions as sessions;
 ghost use Rattle.exam_commands.specs.Appeals.{appeal_at};
@@ -57,7 +58,7 @@ fn store(facts: &mut Facts, today: Day, lodging: &Lodging) -> Result<Undo, Refus
         ≡ spec.with_appeal (relations_of facts.old) today lodging.now) }
     ensures back { IfOk result (λ undo.
         undoing.TakesBack undo (relations_of facts.new) (relations_of facts.old)) }
-    ensures memory { IfErr result (λ e. e ≡ NoMemory) }
+    ensures memory { OnlyMemory result }
     ensures same { OnErr result (relations_of facts.new ≡ relations_of facts.old) }
 {
     let appeal = Appeal {

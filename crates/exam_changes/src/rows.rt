@@ -1,7 +1,7 @@
 //! One row of a table.
-ghost use Rattle.std.specs.Prelude.{◌≡◌, IsSome, IsTrue, Some, IfErr, OnOk, OnErr};
+ghost use Rattle.std.specs.Prelude.{◌≡◌, IsSome, IsTrue, Some, OnOk, OnErr};
 ghost use Rattle.std.specs.BTreeMap.{insert_entry};
-ghost use Rattle.exam_types.specs.declared.refusal.Refusal.TheVariants.{NoMemory};
+ghost use Rattle.exam_types.specs.Refusals.{OnlyMemory};
 ghost use Rattle.exam_rules.specs.Orders.{KeysRise};
 ghost use Rattle.exam_rules.specs.Relations.{has_row, put_row, row_at};
 ghost use Rattle.exam_commands.specs.Exchanges.{set_row};
@@ -12,7 +12,7 @@ use std::collections::BTreeMap;
 /// Sets a key to a row. After a refusal the rows are as before.
 pub fn put<K: Ord + Copy, V: Drop>(rows: &mut BTreeMap<K, V>, key: K, row: V) -> Result<(), Refusal>
     ensures ok { OnOk result (rows.new.entries ≡ insert_entry K.cmp rows.old.entries key row) }
-    ensures memory { IfErr result (λ e. e ≡ NoMemory) }
+    ensures memory { OnlyMemory result }
     ensures err { OnErr result (rows.new.entries ≡ rows.old.entries) }
 {
     rows.insert(key, row)?;

@@ -19,19 +19,32 @@ pub still_contains : (old mid : State) (all : Trees) → IsUnchanged old mid →
 still_contains old mid all same was = subst (λ (db : Database). Contains db all) (sym same.0.now_is) was
 
 -- and is understood as it was
-pub all_before : (old mid : State) (texts : List (List ℕ)) → IsUnchanged old mid → AreUnderstood mid.now texts → AreUnderstood old.now texts
+pub all_before : (old mid : State) (texts : List (List ℕ)) → IsUnchanged old mid → AreUnderstood mid.now texts
+    → AreUnderstood old.now texts
 all_before old mid texts same is = subst (λ (db : Database). AreUnderstood db texts) same.0.now_is is
 
 -- what loads the tables is understood, in whichever order it is said
-pub in_load_order : (db : Database) → IsUnderstood db load_office → AreUnderstood db table_texts → AreUnderstood db load_texts
-in_load_order db version (session, (paper, (hall, (opening, (candidate, (entry, (arrangement, (appeal, (standing, (seat, none)))))))))) =
-    (version, (session, (paper, (hall, (candidate, (opening, (entry, (arrangement, (appeal, (seat, (standing, none)))))))))))
+pub in_load_order : (db : Database) → IsUnderstood db load_office → AreUnderstood db table_texts
+    → AreUnderstood db load_texts
+in_load_order db version
+    (session, (paper, (hall, (opening, (candidate, (entry, (arrangement, (appeal, (standing, (seat, none)))))))))) = (
+      version,
+      (
+        session,
+        (
+          paper,
+          (hall, (candidate, (opening, (entry, (arrangement, (appeal, (seat, (standing, none)))))))),
+        ),
+      ),
+    )
 
 -- a table that was read, or that is noted since its rows are those of no entries, and so of no office
-pub noted_as : {K X : Type 0} (form : Form K X) (t : OfficeTable) (all : Trees) (rows : Option (BTreeMap K X)) (made : BTreeMap K X) (before after : Option OfficeTable) {HoldsNone : Type 0}
+pub noted_as : {K X : Type 0} (form : Form K X) (t : OfficeTable) (all : Trees) (rows : Option (BTreeMap K X))
+    (made : BTreeMap K X) (before after : Option OfficeTable) {HoldsNone : Type 0}
     → MatchOption rows (after ≡ Some (first_unread before t)) (λ table. (made ≡ table) × (after ≡ before))
     → scanned.IsReadAs form.cmp form (all form.tree) rows
     → (((entries : List (K × X)) → HasTable form entries all → ⊥) → HoldsNone)
     → IsReadAs t before after (HasTable form made.entries all) HoldsNone
 noted_as {K} {X} form t all None made before after told is none = inr (none is, told)
-noted_as {K} {X} form t all (Some table) made before after told is none = inl (subst (λ (m : BTreeMap K X). HasTable form m.entries all) (sym told.0) is, told.1)
+noted_as {K} {X} form t all (Some table) made before after told is none =
+    inl (subst (λ (m : BTreeMap K X). HasTable form m.entries all) (sym told.0) is, told.1)

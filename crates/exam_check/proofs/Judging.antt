@@ -1,5 +1,6 @@
 -- No table is bad exactly where the tables of the newest version hold a good office.
-use Rattle.std.proofs.Common.{◌≡◌, ◌≢◌, ◌⊎◌, List, [], ◌∷◌, Option, None, Some, Result, Ok, Err, Bool, true, false, IsTrue, inl, inr, refl, sym, subst, ◌∙◌}
+use Rattle.std.proofs.Common.{◌≡◌, ◌≢◌, ◌⊎◌, List, [], ◌∷◌, Option, None, Some, Result, Ok, Err, Bool, true, false}
+use Rattle.std.proofs.Common.{IsTrue, inl, inr, refl, sym, subst, ◌∙◌}
 use Rattle.std.specs.Prelude.{option_map}
 use Rattle.std.specs.Cmp.Derive.{both_true}
 use Rattle.std.specs.List.{AllByRecursion}
@@ -58,7 +59,10 @@ no_table None is = refl
 no_table (Some t) is = absurd (none_is_some (table_of t) is)
 
 good_office : (all : Trees) (o : State) → AreGood all o tables → HoldsFormed all o × IsGood o
-good_office all o (sessions, (papers, (halls, (openings, (candidates, (entries, (arrangements, (appeals, (standing, (seats, end)))))))))) =
+good_office all o (
+  sessions,
+  (papers, (halls, (openings, (candidates, (entries, (arrangements, (appeals, (standing, (seats, end))))))))),
+) =
     let paper = and_parts _ _ papers.1 in
     let opening = and_parts _ _ openings.1 in
     let entry = and_parts _ _ entries.1 in
@@ -79,7 +83,9 @@ good_office all o (sessions, (papers, (halls, (openings, (candidates, (entries, 
       ),
       record {
         refer = both_true paper.1 (both_true opening.1 (both_true entry.1 (both_true arrangements.1 appeal.1)));
-        limits = both_true sessions.1 (both_true paper.0 (both_true halls.1 (both_true opening.0 (both_true candidates.1 (both_true entry.0 appeal.0)))));
+        limits = both_true sessions.1
+            (both_true paper.0 (both_true halls.1
+            (both_true opening.0 (both_true candidates.1 (both_true entry.0 appeal.0)))));
         single = appeals.1.1;
         marks = standing.1;
         best = seats.1;
@@ -128,7 +134,9 @@ office_good all o (facts, seats) good =
     )
 
 -- what is found of an office's tables is found of the database
-pub found_as : (db : Database) (all : Trees) (bad : Option OfficeTable) → HasGoodVersion db all × (o : State) × IsFirstBadIn all o tables bad → IsFirstBadTable db all (option_map table_of bad)
+pub found_as : (db : Database) (all : Trees) (bad : Option OfficeTable)
+    → HasGoodVersion db all × (o : State) × IsFirstBadIn all o tables bad
+    → IsFirstBadTable db all (option_map table_of bad)
 found_as db all bad (good, o, judged) = inr (good, o, bad, judged, refl)
 
 pub holds_good : (db : Database) (all : Trees) → IsFirstBadTable db all None → HoldsGood version db all
@@ -138,7 +146,8 @@ holds_good db all (inr (good, o, bad, judged, is)) =
     (good.0, good.1, o, it.0, (it.1, refl))
 
 pub none_found : (db : Database) (all : Trees) → HoldsGood version db all → IsFirstBadTable db all None
-none_found db all (contains, has, o, formed, good) = inr ((contains, has), o, None, none_bad all o tables (office_good all o formed good.0), refl)
+none_found db all (contains, has, o, formed, good) =
+    inr ((contains, has), o, None, none_bad all o tables (office_good all o formed good.0), refl)
 
 -- ---- opening
 
@@ -150,10 +159,12 @@ named (SqlInputError NoSuchColumn) = inl refl
 named _ = inr (inr refl)
 
 -- two lists of rows of the table `office`, both as it has them
-version_of_all : (db : Database) (one other : Trees) → Contains db one → Contains db other → HasVersion version one → HasVersion version other
+version_of_all : (db : Database) (one other : Trees) → Contains db one → Contains db other → HasVersion version one
+    → HasVersion version other
 unfolding store_schema
 version_of_all db one other a b has =
-    let same : IsPermutation (other 0) (one 0) = IsPermutation-trans _ _ _ (IsPermutation-sym _ _ b.rows.0.same) a.rows.0.same in
+    let same : IsPermutation (other 0) (one 0) =
+    IsPermutation-trans _ _ _ (IsPermutation-sym _ _ b.rows.0.same) a.rows.0.same in
     version_held version (other 0) (version_row version ∷ []) (subst (IsPermutation (other 0)) has same) refl
 
 module _ {S : Type 0} (g : Ghosts S) (old new : Held S) (all : Trees) where
@@ -166,16 +177,24 @@ module _ {S : Type 0} (g : Ghosts S) (old new : Held S) (all : Trees) where
       let listed = finds.listed clean in
       let contains = (is_of version db all (marks_newest db.schema listed) (was listed)).0 in
       let kept = finds.kept clean (all, contains) in
-      none_found db all (of_newest db all contains, version_of_all db kept.all all kept.contains contains kept.version, o, finds.formed clean all contains, (good, refl))
+      none_found db all (
+        of_newest db all contains,
+        version_of_all db kept.all all kept.contains contains kept.version,
+        o,
+        finds.formed clean all contains,
+        (good, refl),
+      )
 
   none_held : (e : Refusal) → HoldsNone version all → HoldsGood version (state g old).now all → ⊥
   none_held e (inl none) (contains, has, o, formed, good) = none has
   none_held e (inr (inl none)) (contains, has, o, formed, good) = none o.relations formed.0
   none_held e (inr (inr (inl none))) (contains, has, o, formed, good) = none o.seats formed.1
-  none_held e (inr (inr (inr (p, held, wrong)))) (contains, has, o, formed, good) = wrong (subst (IsGoodIn version) (one_office all o p formed held) good)
+  none_held e (inr (inr (inr (p, held, wrong)))) (contains, has, o, formed, good) =
+      wrong (subst (IsGoodIn version) (one_office all o p formed held) good)
 
   -- what is refused has one, unless the refusal is `NoMemory` or `Store`
-  pub refused : (e : Refusal) → FailsToOpen g old new e → e ≢ NoMemory → e ≢ Store → IsFirstBadTable (state g old).now all None → ⊥
+  pub refused : (e : Refusal) → FailsToOpen g old new e → e ≢ NoMemory → e ≢ Store
+      → IsFirstBadTable (state g old).now all None → ⊥
   refused e (inl (inl lacks)) some sound none = some lacks
   refused e (inl (inr (inl (mid, still, text, loads, fails)))) some sound none = told fails.0.0 fails.0.1
     where
@@ -205,5 +224,6 @@ module _ {S : Type 0} (g : Ghosts S) (old new : Held S) (all : Trees) where
     office_bad found (inl (wrong, is)) = is
     office_bad found (inr (good, o, bad, judged, is)) =
         let db = (state g old).now in
-        let listed = newest_listed db.schema (tables_listed db all (made_of version db all good.0)) (listed_of version db all good.0) in
+        let listed = newest_listed db.schema (tables_listed db all (made_of version db all good.0))
+        (listed_of version db all good.0) in
         absurd (both_ways _ none listed)

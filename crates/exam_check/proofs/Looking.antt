@@ -1,5 +1,6 @@
 -- Calls that only read, one after the other.
-use Rattle.std.proofs.Common.{◌≡◌, ◌⊎◌, ℕ, false, List, [], inl, inr, Option, Result, Ok, Err, IfOk, IfErr, IsTrue, refl, sym, ap, subst, ◌∙◌}
+use Rattle.std.proofs.Common.{◌≡◌, ◌⊎◌, ℕ, false, List, [], inl, inr, Option, Result, Ok, Err, IfOk, IfErr, IsTrue}
+use Rattle.std.proofs.Common.{refl, sym, ap, subst, ◌∙◌}
 use Rattle.std.proofs.lemmas.Bool.{both_ways}
 use Rattle.std.proofs.lemmas.Result.{IfErr-weaker}
 use Rattle.std.specs.BTreeMap.{BTreeMap}
@@ -39,37 +40,59 @@ fails_later g old mid new same e (inr (inl lacks)) = inr (inl lacks)
 fails_later g old mid new same e (inr (inr (inl ((at, still, text, loads, fails), store)))) =
     inr (inr (inl ((at, still_then (state g old) (state g mid) (state g at) same still, text, loads, fails), store)))
 fails_later g old mid new same e (inr (inr (inr (is, old_one)))) =
-    inr (inr (inr (is, λ all was. old_one all (subst (λ (db : Database). ContainsMade db all) (sym same.0.now_is) was))))
+    inr (inr (inr (
+      is,
+      λ all was. old_one all
+          (subst (λ (db : Database). ContainsMade db all) (sym same.0.now_is) was),
+    )))
 
 -- a refusal, whatever the value would have been
-pub fails_still : {S A B : Type 0} (g : Ghosts S) (old new : Held S) (e : Refusal) → Looks {A = A} g old new (Err e) → Looks {A = B} g old new (Err e)
-fails_still g old new e fails = record { early = fails.early; survives = fails.survives; left = fails.left; bad = fails.bad; refused = fails.refused; told = fails.told }
+pub fails_still : {S A B : Type 0} (g : Ghosts S) (old new : Held S) (e : Refusal) → Looks {A = A} g old new (Err e)
+    → Looks {A = B} g old new (Err e)
+fails_still g old new e fails =
+    record {
+      early = fails.early;
+      survives = fails.survives;
+      left = fails.left;
+      bad = fails.bad;
+      refused = fails.refused;
+      told = fails.told;
+    }
 
 module _ {S : Type 0} (g : Ghosts S) (old mid new : Held S) where
-  pub looks_then : {A B : Type 0} (x : A) (result : Result B Refusal) → Looks {A = A} g old mid (Ok x) → Looks g mid new result → Looks g old new result
+  pub looks_then : {A B : Type 0} (x : A) (result : Result B Refusal) → Looks {A = A} g old mid (Ok x)
+      → Looks g mid new result → Looks g old new result
   looks_then x result first next = record {
     early = λ clean. first.early (next.early clean);
     survives = both_survive (state g old) (state g mid) (state g new) first.survives next.survives;
-    left = λ clean. then_reads (state g old) (state g mid) (state g new) result (first.left (next.early clean)) (next.left clean);
+    left = λ clean. then_reads (state g old) (state g mid) (state g new) result (first.left (next.early clean))
+        (next.left clean);
     bad = λ clean.
         let same = first.left (next.early clean) in
         IfErr-weaker result _ _ (λ e why bad.
-        let it = why bad in
-        (unchanged_then (state g old) (state g mid) (state g new) same it.0, λ all good. it.1 all (subst (λ (db : Database). HasGoodVersion db all) (sym same.0.now_is) good))) (next.bad clean);
-    refused = λ clean. IfErr-weaker result _ _ (fails_later g old mid new (first.left (next.early clean))) (next.refused clean);
+        let it = why bad in (
+          unchanged_then (state g old) (state g mid) (state g new) same it.0,
+          λ all good. it.1 all (subst (λ (db : Database). HasGoodVersion db all) (sym same.0.now_is) good),
+        ))
+        (next.bad clean);
+    refused = λ clean. IfErr-weaker result _ _ (fails_later g old mid new (first.left (next.early clean)))
+        (next.refused clean);
     told = next.told;
   }
 
-  pub fails_then : {A B C : Type 0} (x : A) (e : Refusal) → Looks {A = A} g old mid (Ok x) → Looks {A = B} g mid new (Err e) → Looks {A = C} g old new (Err e)
+  pub fails_then : {A B C : Type 0} (x : A) (e : Refusal) → Looks {A = A} g old mid (Ok x)
+      → Looks {A = B} g mid new (Err e) → Looks {A = C} g old new (Err e)
   fails_then x e first next = looks_then x (Err e) first (fails_still g mid new e next)
 
 -- what is made of what was read, which may want memory
-pub looks_on : {S A B : Type 0} (g : Ghosts S) (old new : Held S) (x : A) (result : Result B Refusal) → Looks {A = A} g old new (Ok x) → IfErr result (λ e. e ≡ NoMemory) → Looks g old new result
+pub looks_on : {S A B : Type 0} (g : Ghosts S) (old new : Held S) (x : A) (result : Result B Refusal)
+    → Looks {A = A} g old new (Ok x) → IfErr result (λ e. e ≡ NoMemory) → Looks g old new result
 looks_on g old new x result read lacks = record {
   early = read.early;
   survives = read.survives;
   left = λ clean. reads_only (state g old) (state g new) result (read.left clean);
-  bad = λ clean. IfErr-weaker result _ _ (λ e lack bad. absurd (let same : NoMemory ≡ BadStore = sym lack ∙ bad in cc)) lacks;
+  bad = λ clean. IfErr-weaker result _ _
+      (λ e lack bad. absurd (let same : NoMemory ≡ BadStore = sym lack ∙ bad in cc)) lacks;
   refused = λ clean. IfErr-weaker result _ _ (λ e lack. inr (inl lack)) lacks;
   told = IfErr-weaker result _ _ (λ e lack. rw lack refl) lacks;
 }
@@ -88,14 +111,32 @@ module _ {S : Type 0} (g : Ghosts S) (old new : Held S) where
   fails_as text loads e told (inl bad) = inl bad
   fails_as text loads e told (inr (inl lacks)) = inr (inl lacks)
   fails_as text loads e told (inr (inr store)) =
-      inr (inr (inl ((old, still_itself (state g old), text, loads, (told, λ there bad. let same : Store ≡ BadStore = sym store ∙ bad in absurd cc)), store)))
+      inr (inr (inl (
+        (
+          old,
+          still_itself (state g old),
+          text,
+          loads,
+          (told, λ there bad. let same : Store ≡ BadStore = sym store ∙ bad in absurd cc),
+        ),
+        store,
+      )))
 
   -- the scan of a table
-  pub scan_looks : {K X : Type 0} {cmp : K → K → Ordering} (form : Form K X) (result : Result (Option (BTreeMap K X)) Refusal) → IsOurTable cmp form
+  pub scan_looks : {K X : Type 0} {cmp : K → K → Ordering} (form : Form K X)
+      (result : Result (Option (BTreeMap K X)) Refusal) → IsOurTable cmp form
       → (HasCleanDisk (state g new) → HasCleanDisk (state g old)) → Survives (state g old) (state g new) (λ _. ⊥)
-      → (HasCleanDisk (state g new) → Scans g cmp form old new result) → IfErr result (λ e. IsTrue (is_store_refusal e)) → Looks g old new result
+      → (HasCleanDisk (state g new) → Scans g cmp form old new result)
+      → IfErr result (λ e. IsTrue (is_store_refusal e)) → Looks g old new result
   scan_looks form (Ok found) ours early survives scans told =
-      record { early = early; survives = survives; left = λ clean. (scans clean).0; bad = λ clean. tt; refused = λ clean. tt; told = tt }
+      record {
+        early = early;
+        survives = survives;
+        left = λ clean. (scans clean).0;
+        bad = λ clean. tt;
+        refused = λ clean. tt;
+        told = tt;
+      }
   scan_looks form (Err e) ours early survives scans told =
       record {
         early = early;
@@ -114,11 +155,13 @@ module _ {S : Type 0} (g : Ghosts S) (old new : Held S) where
         λ all good. fails.1 (all, ours.newest (state g old).now all good.0.0) is,
       )
 
-      refused : (e ≡ NoMemory) ⊎ FailsToLoadFrom form.Holds form.load (state g old) (state g new) e → (e ≡ BadStore) ⊎ FailsToCheck g old new e
+      refused : (e ≡ NoMemory) ⊎ FailsToLoadFrom form.Holds form.load (state g old) (state g new) e
+          → (e ≡ BadStore) ⊎ FailsToCheck g old new e
       refused (inl lacks) = inr (inl lacks)
       refused (inr fails) = fails_as form.load ours.loads e fails.0 (one_of e told)
 
-  pub scan_reads : {K X : Type 0} {cmp : K → K → Ordering} (form : Form K X) (result : Result (Option (BTreeMap K X)) Refusal) → IsOurTable cmp form
+  pub scan_reads : {K X : Type 0} {cmp : K → K → Ordering} (form : Form K X)
+      (result : Result (Option (BTreeMap K X)) Refusal) → IsOurTable cmp form
       → Scans g cmp form old new result → IfOk result (IsRead (read_part cmp form) (state g old).now)
   scan_reads form (Ok found) ours scans = (scans.1, λ all was. scans.2 all (ours.newest (state g old).now all was))
   scan_reads form (Err e) ours scans = tt
@@ -128,17 +171,20 @@ module _ {S : Type 0} (g : Ghosts S) (old new : Held S) where
       ((all : Trees) → ContainsMade (state g old).now all → (v : ℕ) → IsVersion v → HasVersion v all → ⊥)
 
   -- where no version could be read, the tables have the row of none
-  no_version : (e : Refusal) → IsNoVersion e → e ≡ BadStore → (all : Trees) → ContainsMade (state g old).now all → (v : ℕ) → IsVersion v → HasVersion v all → ⊥
+  no_version : (e : Refusal) → IsNoVersion e → e ≡ BadStore → (all : Trees) → ContainsMade (state g old).now all
+      → (v : ℕ) → IsVersion v → HasVersion v all → ⊥
   no_version e (inl lacks) bad all was v known has = let same : NoMemory ≡ BadStore = sym lacks ∙ bad in absurd cc
   no_version e (inr (inl fails)) bad all was v known has = fails.1 (all, was) bad
   no_version e (inr (inr (is, none))) bad all was v known has = none all was v known has
 
   -- so none of an older version
-  pub unread_newest : (e : Refusal) → LoadingBy load_office g old new (Err e) version_part → HasCleanDisk (state g new) → e ≡ BadStore → IsNoOlder (state g old).now
+  pub unread_newest : (e : Refusal) → LoadingBy load_office g old new (Err e) version_part → HasCleanDisk (state g new)
+      → e ≡ BadStore → IsNoOlder (state g old).now
   unread_newest e read clean bad v known all was has = absurd (no_version e (read.bad clean) bad all was v known has)
 
   -- the version that could not be read
-  pub version_looks : {A : Type 0} (e : Refusal) → (HasCleanDisk (state g new) → e ≡ BadStore → IsUnchanged (state g old) (state g new))
+  pub version_looks : {A : Type 0} (e : Refusal)
+      → (HasCleanDisk (state g new) → e ≡ BadStore → IsUnchanged (state g old) (state g new))
       → LoadingBy load_office g old new (Err e) version_part → Looks {A = A} g old new (Err e)
   version_looks e unchanged read = record {
     early = read.early;
@@ -146,7 +192,8 @@ module _ {S : Type 0} (g : Ghosts S) (old new : Held S) where
     left = read.left;
     bad = λ clean bad. (
       unchanged clean bad,
-      λ all good. no_version e (read.bad clean) bad all (made_of version (state g old).now all good.0) version (inr refl) good.1,
+      λ all good. no_version e (read.bad clean) bad all (made_of version (state g old).now all good.0) version
+          (inr refl) good.1,
     );
     refused = λ clean. unread (read.bad clean);
     told = opens_as e read.told;
@@ -160,11 +207,19 @@ module _ {S : Type 0} (g : Ghosts S) (old new : Held S) where
   module _ (v : Version) (read : LoadingBy load_office g old new (Ok v) version_part) where
     -- the version that was read
     pub looks_ok : Looks g old new (Ok v)
-    looks_ok = record { early = read.early; survives = read.survives; left = read.left; bad = λ clean. tt; refused = λ clean. tt; told = tt }
+    looks_ok = record {
+      early = read.early;
+      survives = read.survives;
+      left = read.left;
+      bad = λ clean. tt;
+      refused = λ clean. tt;
+      told = tt;
+    }
 
     -- if it is the newest, the row is that of no older one
     pub read_newest : HasCleanDisk (state g new) → v.number ≡ version → IsNoOlder (state g old).now
-    read_newest clean is w known all was has = one_version w version all has (subst (λ n. HasVersion n all) is (read.rows clean all was))
+    read_newest clean is w known all was has =
+        one_version w version all has (subst (λ n. HasVersion n all) is (read.rows clean all was))
 
     -- the office of an older version
     pub looks_old : {A : Type 0} → IsOlder v.number → Looks {A = A} g old new (Err OldSchema)
@@ -178,14 +233,17 @@ module _ {S : Type 0} (g : Ghosts S) (old new : Held S) where
     }
 
     -- no table has the name of the marks, as one has since version 2
-    pub looks_unmarked : {A : Type 0} → lists_marks (state g new).now.schema ≡ false → Looks {A = A} g old new (Err BadStore)
+    pub looks_unmarked : {A : Type 0} → lists_marks (state g new).now.schema ≡ false
+        → Looks {A = A} g old new (Err BadStore)
     looks_unmarked none = record {
       early = read.early;
       survives = read.survives;
       left = λ clean. inl (read.left clean);
       bad = λ clean bad. (
         read.left clean,
-        λ all good. both_ways _ none (ap (λ (db : Database). lists_marks db.schema) (read.left clean).0.now_is ∙ listed_of version (state g old).now all good.0),
+        λ all good. both_ways _ none
+            (ap (λ (db : Database). lists_marks db.schema) (read.left clean).0.now_is
+            ∙ listed_of version (state g old).now all good.0),
       );
       refused = λ clean. inl refl;
       told = refl;

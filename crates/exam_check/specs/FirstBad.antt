@@ -1,14 +1,18 @@
 -- The first bad table of a database.
-use Rattle.std.specs.Prelude.{◌≡◌, ◌⊎◌, ◌<◌, ℕ, List, [], ◌∷◌, Option, None, Some, option_map}
+use Rattle.std.specs.Prelude.{◌≡◌, ◌⊎◌, ◌<◌, ℕ, IsTrue, List, [], ◌∷◌, Option, None, Some, option_map}
 use Rattle.sqlite_trees.specs.Tree.{Trees}
 use Rattle.sqlite.specs.Effect.{Database}
 use Rattle.exam_commands.specs.Good.{IsTableGood, tables}
 use Rattle.exam_commands.specs.State.{State}
 use Rattle.exam_commands.specs.declared.table.Table.{Table as OfficeTable}
 use Rattle.exam_commands.specs.declared.table.Table.TheVariants as office
+use Rattle.exam_sql.specs.Made.{ContainsMade, lists_newest}
+use Rattle.exam_sql.specs.Texts.{load_texts}
 use Rattle.exam_tables.specs.Forms as forms
 use Rattle.exam_tables.specs.Held.{HasTable}
+use Rattle.exam_tables.specs.Loaded.{AreUnderstood}
 use Rattle.exam_tables.specs.Versions.{ContainsOf, HasVersion, version}
+use Rattle.exam_store.specs.Found.{IsNoOlder}
 use Rattle.exam_check.specs.declared.tables.Table.{Table}
 use Rattle.exam_check.specs.declared.tables.Table.TheVariants as table
 
@@ -60,6 +64,14 @@ IsFirstBadTable db all found =
     ((HasGoodVersion db all → ⊥) × (found ≡ Some table.Office))
     ⊎ (HasGoodVersion db all × (o : State) × (bad : Option OfficeTable)
     × IsFirstBadIn all o tables bad × (found ≡ option_map table_of bad))
+
+-- This was found, in a database of no older version. It is the first bad table, whichever rows the tables have.
+pub record FindsBad (db : Database) (found : Option Table) : Type 0 where
+  pub bad : (all : Trees) → ContainsMade db all → IsFirstBadTable db all found
+  -- unless it is `office`, no column is missing, and each of the eleven names is that of a table
+  pub understood : (found ≡ Some table.Office) ⊎ AreUnderstood db load_texts
+  pub listed : (found ≡ Some table.Office) ⊎ IsTrue (lists_newest db.schema)
+  pub newest : IsNoOlder db
 
 -- ---- the first of two tables
 

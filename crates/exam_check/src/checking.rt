@@ -1,5 +1,5 @@
 //! The first bad table of a database.
-ghost use Rattle.std.specs.Prelude.{◌≡◌, ◌⊎◌, false, IsTrue, IfOk, IfErr, MatchResult, OnOk};
+ghost use Rattle.std.specs.Prelude.{◌≡◌, false, IsTrue, IfOk, IfErr, MatchResult, OnOk};
 ghost use Rattle.sqlite.specs.Held.{state};
 ghost use Rattle.sqlite.specs.State.{HasCleanDisk, Survives};
 ghost use Rattle.exam_types.specs.declared.refusal.Refusal.TheVariants.{BadStore};
@@ -8,11 +8,11 @@ ghost use Rattle.exam_commands.specs.State.{State};
 ghost use Rattle.exam_sql.specs.Made.{ContainsMade, lists_newest, lists_tables};
 ghost use Rattle.exam_sql.specs.Texts.{load_texts};
 ghost use Rattle.exam_tables.specs.Loaded.{AreUnderstood, OnlyReads};
-ghost use Rattle.exam_tables.specs.Unasked.{FailsToAsk, IsUnasked};
+ghost use Rattle.exam_tables.specs.Unasked.{IsUnasked};
 ghost use Rattle.exam_store.specs.Found.{IsNoOlder};
-ghost use Rattle.exam_check.specs.FirstBad.{HasGoodVersion, IsFirstBadIn, IsFirstBadTable};
+ghost use Rattle.exam_check.specs.FirstBad.{FindsBad, HasGoodVersion, IsFirstBadIn};
 ghost use Rattle.exam_check.specs.Reading.{Looks};
-ghost use Rattle.exam_check.specs.Refused.{FailsToCheck, is_check_refusal};
+ghost use Rattle.exam_check.specs.Refused.{AnswersUnlisted, FailsToCheck, is_check_refusal};
 
 use crate::reading::read_tables;
 use crate::tables::{Table, first_of, table_of};
@@ -25,19 +25,9 @@ use std::alloc::Global;
 /// The first bad table of the database, or none if it holds a good office. Only reads. Refused with `OldSchema` if the
 /// office is of an older version, whatever is wrong with its rows.
 pub fn check<S: Alter>(alloc: Global, conn: &mut Connection<S>) -> Result<Option<Table>, Refusal>
-    ensures found { HasCleanDisk (state S.Store conn.new) → IfOk result (λ found. (all : _)
-        → ContainsMade (state S.Store conn.old).now all
-        → IsFirstBadTable (state S.Store conn.old).now all found) }
-    ensures understood { HasCleanDisk (state S.Store conn.new) → IfOk result (λ found.
-        (found ≡ Some Table.Office) ⊎ AreUnderstood (state S.Store conn.old).now load_texts) }
-    ensures listed { HasCleanDisk (state S.Store conn.new) → IfOk result (λ found.
-        (found ≡ Some Table.Office) ⊎ IsTrue (lists_newest (state S.Store conn.old).now.schema)) }
-    ensures unlisted { HasCleanDisk (state S.Store conn.new)
-        → lists_tables (state S.Store conn.old).now.schema ≡ false
-        → MatchResult result (λ found. found ≡ Some Table.Office)
-        (FailsToAsk (state S.Store conn.old) (state S.Store conn.new)) }
-    ensures newest { HasCleanDisk (state S.Store conn.new)
-        → OnOk result (IsNoOlder (state S.Store conn.old).now) }
+    ensures found { HasCleanDisk (state S.Store conn.new)
+        → IfOk result (FindsBad (state S.Store conn.old).now) }
+    ensures unlisted { AnswersUnlisted (state S.Store conn.old) (state S.Store conn.new) result }
     ensures left { HasCleanDisk (state S.Store conn.new)
         → OnlyReads (state S.Store conn.old) (state S.Store conn.new) result }
     ensures survives { Survives (state S.Store conn.old) (state S.Store conn.new) (λ _. ⊥) }

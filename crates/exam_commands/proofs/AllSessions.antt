@@ -1,5 +1,6 @@
 -- Sessions that are there, and sessions that are not there: in these nobody sits, before a repair and after it.
-use Rattle.std.proofs.Common.{◌≡◌, ℕ, ◌≤◌, ◌&&◌, ◌||◌, not, Bool, true, false, IsTrue, cond, List, [], ◌∷◌, length, filter, Option, None, Some, IfSome, is_some, refl, ap, sym, subst, ◌∙◌, inr, arith}
+use Rattle.std.proofs.Common.{◌≡◌, ℕ, ◌≤◌, ◌&&◌, ◌||◌, not, Bool, true, false, IsTrue, cond, List, [], ◌∷◌, length}
+use Rattle.std.proofs.Common.{filter, Option, None, Some, IfSome, is_some, refl, ap, sym, subst, ◌∙◌, inr, arith}
 use Rattle.std.specs.List.{list_any, AllByRecursion}
 use Rattle.std.specs.Map.{keys_of}
 use Rattle.std.specs.Option.{option_and_then, option_map}
@@ -10,7 +11,8 @@ use Rattle.std.specs.Cmp.Lexicographic.{texts_ties}
 use Rattle.std.proofs.Math.Path.{fun_ext}
 use Rattle.exam_plan.specs.Matching.{Seating, Plan, IsLawful, IsBest, is_hall, size}
 use Rattle.exam_plan.specs.Chains.{Chain, IsChain, Leads}
-use Rattle.exam_plan.specs.Repair.{is_member as is_member_of, kept_part, where_fitting, where_room, fitting_part, Sweeps, IsRepair, sweep_order}
+use Rattle.exam_plan.specs.Repair.{is_member as is_member_of, kept_part, where_fitting, where_room, fitting_part}
+use Rattle.exam_plan.specs.Repair.{Sweeps, IsRepair, sweep_order}
 use Rattle.exam_rules.specs.declared.rows.Session.{Session}
 use Rattle.exam_rules.specs.Relations.{Code, Relations, code_cmp, same_code, row_at, has_row}
 use Rattle.exam_rules.specs.declared.fit.Terms.{Terms}
@@ -38,7 +40,11 @@ module _ {C H : Type 0} (g : Seating C H) (nothing : (c : C) (h : H) → g.fits 
 
   best_empty : IsBest g (λ c. None)
   best_empty = record {
-    lawful = record { members = λ c some. absurd (let e : false ≡ true = some in cc); fitting = λ c. tt; within_desks = λ h. no_occupants h g.members };
+    lawful = record {
+      members = λ c some. absurd (let e : false ≡ true = some in cc);
+      fitting = λ c. tt;
+      within_desks = λ h. no_occupants h g.members;
+    };
     greatest = λ other lawful. subst (λ q. size g q ≤ size g (λ c. None)) (sym (empty other lawful)) (omega arith);
   }
 
@@ -54,7 +60,8 @@ module _ {C H : Type 0} (g : Seating C H) (nothing : (c : C) (h : H) → g.fits 
     where
       unfit : (c : C) (o : Option H) → where_fitting g c o ≡ None
       unfit c None = refl
-      unfit c (Some h) = ap (λ b. cond (is_member_of g c && b) (Some h) None) (nothing c h) ∙ no_place (is_member_of g c)
+      unfit c (Some h) = ap (λ b. cond (is_member_of g c && b) (Some h) None) (nothing c h)
+          ∙ no_place (is_member_of g c)
         where
           no_place : (b : Bool) → cond (b && false) (Some h) None ≡ None
           no_place true = refl
@@ -68,14 +75,21 @@ module _ {C H : Type 0} (g : Seating C H) (nothing : (c : C) (h : H) → g.fits 
   sweeps_empty (c ∷ cs) = (λ d. None, inr (no_chain (λ d. None) c, λ d. refl), sweeps_empty cs)
 
   pub repair_empty : (first : Option C) (before : Plan C H) → IsRepair g first before (λ c. None)
-  repair_empty first before = subst (λ q. Sweeps g q (sweep_order g first) (λ c. None)) (sym (kept_empty before)) (sweeps_empty (sweep_order g first))
+  repair_empty first before =
+      subst (λ q. Sweeps g q (sweep_order g first) (λ c. None)) (sym (kept_empty before))
+      (sweeps_empty (sweep_order g first))
 
 -- ---- a session that is not there has no seats
 
-pub unknown_fits : (r : Relations) (s : Code) → has_row code_cmp r.sessions s ≡ false → (c : ℕ) (h : Code) → fits r s c h ≡ false
-unknown_fits r s unknown c h = none (has_live_entry r s c) (not (list_any (same_code h) (barred_halls r s c))) (sitting_terms r s c) (terms (row_at code_cmp r.sessions s) unknown)
+pub unknown_fits : (r : Relations) (s : Code) → has_row code_cmp r.sessions s ≡ false → (c : ℕ) (h : Code)
+    → fits r s c h ≡ false
+unknown_fits r s unknown c h =
+    none (has_live_entry r s c) (not (list_any (same_code h) (barred_halls r s c))) (sitting_terms r s c)
+    (terms (row_at code_cmp r.sessions s) unknown)
   where
-    terms : (o : Option Session) → is_some o ≡ false → option_and_then (λ session. option_map (λ paper. terms_of session paper (arrangement_in_force r s c)) (sitting_row r s c)) o ≡ None
+    terms : (o : Option Session) → is_some o ≡ false
+        → option_and_then (λ session. option_map (λ paper. terms_of session paper (arrangement_in_force r s c))
+        (sitting_row r s c)) o ≡ None
     terms None e = refl
     terms (Some x) e = cc
 
@@ -88,7 +102,8 @@ pub unknown_repaired : (r : Relations) (first : Option ℕ) (before after : Seat
 unknown_repaired r first before after s unknown none =
     let same : (λ c. None) ≡ plan_of after s = sym (fun_ext none) in
     record {
-      repair = subst (IsRepair (seating r s) first (plan_of before s)) same (repair_empty (seating r s) (unknown_fits r s unknown) first (plan_of before s));
+      repair = subst (IsRepair (seating r s) first (plan_of before s)) same
+          (repair_empty (seating r s) (unknown_fits r s unknown) first (plan_of before s));
       best = subst (IsBest (seating r s)) same (best_empty (seating r s) (unknown_fits r s unknown));
     }
 
@@ -100,14 +115,18 @@ is_among s rows = list_any (same_code s) (keys_of rows)
 
 pub known_among : {X : Type 0} (s : Code) (rows : List (Code × X)) → has_row code_cmp rows s ≡ is_among s rows
 known_among s [] = refl
-known_among {X} s (row ∷ rows) = inner (is_at (code_cmp s) row.0) (same_code s row.0) (sym (texts_ties s row.0)) (known_among s rows)
+known_among {X} s (row ∷ rows) =
+    inner (is_at (code_cmp s) row.0) (same_code s row.0) (sym (texts_ties s row.0)) (known_among s rows)
   where
-    inner : (a b : Bool) → a ≡ b → has_row code_cmp rows s ≡ is_among s rows → is_some (cond a (Some row.1) (row_at code_cmp rows s)) ≡ (b || is_among s rows)
+    inner : (a b : Bool) → a ≡ b → has_row code_cmp rows s ≡ is_among s rows
+        → is_some (cond a (Some row.1) (row_at code_cmp rows s)) ≡ (b || is_among s rows)
     inner true true e rest = refl
     inner false false e rest = rest
     inner true false e rest = cc
     inner false true e rest = cc
 
-pub none_later : (s : Code) (keys : List Code) → AllByRecursion (λ y. code_cmp s y ≡ Less) keys → list_any (same_code s) keys ≡ false
+pub none_later : (s : Code) (keys : List Code) → AllByRecursion (λ y. code_cmp s y ≡ Less) keys
+    → list_any (same_code s) keys ≡ false
 none_later s [] less = refl
-none_later s (k ∷ keys) less = ap (λ b. b || list_any (same_code s) keys) (texts_ties s k ∙ ap is_eq less.0) ∙ none_later s keys less.1
+none_later s (k ∷ keys) less =
+    ap (λ b. b || list_any (same_code s) keys) (texts_ties s k ∙ ap is_eq less.0) ∙ none_later s keys less.1

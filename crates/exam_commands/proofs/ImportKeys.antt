@@ -11,16 +11,20 @@ use Rattle.exam_commands.specs.declared.import_row.Key.TheVariants as key
 use Rattle.exam_commands.specs.contracts.import_row.KeyOrd.TheImpl as keys
 use Rattle.exam_commands.specs.contracts.import_row.KeyOrd.TheImpl.Laws as key_laws
 use Rattle.exam_commands.specs.Imports.{same_key}
-use Rattle.exam_commands.proofs.Distinct.{flips}
 use Rattle.exam_commands.proofs.ImportRowsEqual.{never, numbers, texts}
 use Rattle.exam_rules.specs.Relations.{Code, same_code}
+use Rattle.exam_commands.proofs.KeyedRows.{flips}
 use Rattle.std.proofs.lemmas.Bool.{and_parts}
 
-two_texts : (a b s t : List ℕ) → (pointwise nat_eq a b && pointwise nat_eq s t) ≡ true → key.OfOpening a s ≡ key.OfOpening b t
-two_texts a b s t e = ap (λ k. key.OfOpening k s) (texts a b (and_parts _ _ e).0) ∙ ap (key.OfOpening b) (texts s t (and_parts _ _ e).1)
+two_texts : (a b s t : List ℕ) → (pointwise nat_eq a b && pointwise nat_eq s t) ≡ true
+    → key.OfOpening a s ≡ key.OfOpening b t
+two_texts a b s t e =
+    ap (λ k. key.OfOpening k s) (texts a b (and_parts _ _ e).0) ∙ ap (key.OfOpening b) (texts s t (and_parts _ _ e).1)
 
-number_and_text : (a b : ℕ) (s t : List ℕ) → (nat_eq a b && pointwise nat_eq s t) ≡ true → key.OfEntry a s ≡ key.OfEntry b t
-number_and_text a b s t e = ap (λ k. key.OfEntry k s) (numbers a b (and_parts _ _ e).0) ∙ ap (key.OfEntry b) (texts s t (and_parts _ _ e).1)
+number_and_text : (a b : ℕ) (s t : List ℕ) → (nat_eq a b && pointwise nat_eq s t) ≡ true
+    → key.OfEntry a s ≡ key.OfEntry b t
+number_and_text a b s t e =
+    ap (λ k. key.OfEntry k s) (numbers a b (and_parts _ _ e).0) ∙ ap (key.OfEntry b) (texts s t (and_parts _ _ e).1)
 
 pub key_exact : (a b : Key) → same_key a b ≡ true → a ≡ b
 key_exact (key.OfSession a) (key.OfSession b) e = ap key.OfSession (texts a b e)

@@ -1,7 +1,7 @@
+pub mod KeyedRows
 pub mod LodgingChecks
-pub mod PutAppeals
 pub mod Borne
-pub mod AppealKeys
+pub mod Entering
 pub mod Referring
 pub mod SameSeats
 pub mod Staying
@@ -14,12 +14,10 @@ pub mod ImportConflicts
 pub mod ImportKeys
 pub mod ImportPlaces
 pub mod ImportRowsEqual
-pub mod Repeating
 pub mod PutRows
 pub mod Superseding
 pub mod Stored
 pub mod Seated
 pub mod Members
 pub mod Alike
-pub mod OtherRows
 pub mod AmongOwn

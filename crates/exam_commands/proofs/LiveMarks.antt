@@ -1,79 +1,31 @@
 -- What another live mark of an entry changes: nothing of other candidates, and a withdrawal makes no new member.
-use Rattle.std.proofs.Common.{◌≡◌, ℕ, ◌≤◌, ◌&&◌, ◌||◌, not, Bool, true, false, cond, List, [], ◌∷◌, map, filter, length, nat_eq, nat_le, Option, None, Some, is_some, refl, ap, sym, ◌∙◌, arith}
+use Rattle.std.proofs.Common.{◌≡◌, ℕ, ◌≤◌, ◌&&◌, not, Bool, true, false, map, length, nat_eq, nat_le, Option, is_some}
+use Rattle.std.proofs.Common.{refl, ap, sym, ◌∙◌, arith}
 use Rattle.std.specs.List.{list_any}
-use Rattle.std.specs.Map.{keys_of, lookup}
+use Rattle.std.specs.Map.{keys_of}
 use Rattle.std.specs.Option.{option_map, option_map_or, option_and_then, option_or}
-use Rattle.std.specs.BTreeMap.{insert_entry, is_at}
+use Rattle.std.specs.BTreeMap.{is_at}
 use Rattle.std.specs.Cmp.{Equal-is}
-use Rattle.std.specs.declared.cmp.Ordering.{Ordering}
-use Rattle.std.specs.declared.cmp.Ordering.TheVariants.{Less, Equal, Greater}
-use Rattle.std.specs.Ordering.{nat_cmp, match_ordering}
 use Rattle.std.proofs.Math.Path.{fun_ext}
-use Rattle.std.proofs.lemmas.Bool.{and_right, eq-eqb, le-leb, leb-true, or_right}
-use Rattle.std.proofs.lemmas.Map.Lookups.{CmpEqualImpliesEq, exact_pairs, exact_bytes, exact_unsigned}
+use Rattle.std.proofs.lemmas.Bool.{and_right, eq-eqb, le-leb, leb-true}
 use Rattle.exam_plan.specs.Problems.{most_members}
 use Rattle.exam_rules.specs.declared.rows.Entry.{Entry}
 use Rattle.exam_rules.specs.declared.rows.Session.{Session}
 use Rattle.exam_rules.specs.declared.rows.Paper.{Paper}
-use Rattle.exam_rules.specs.Relations.{Code, Relations, code_cmp, same_code, entry_cmp, row_at, put_row}
+use Rattle.exam_rules.specs.Relations.{Code, Relations, code_cmp, same_code, entry_cmp, row_at}
 use Rattle.exam_rules.specs.Sessions.{members, has_live_entry, is_live, is_live_entry, is_live_paper, is_paper_of}
 use Rattle.exam_rules.specs.Sessions.{live_papers, granted_paper, head_of, option_filter, sitting, arrangement_in_force}
 use Rattle.exam_rules.specs.Sessions.{barred_halls}
 use Rattle.exam_rules.specs.Seatings.{fits, suits_opened, terms_of, opened_room}
 use Rattle.exam_rules.proofs.Sitters.{members_sit}
+use Rattle.exam_rules.proofs.Relisting.{entries_exact, put_filtered}
+use Rattle.exam_commands.proofs.KeyedRows.{entries_total, put_elsewhere, put_none}
 use Rattle.exam_commands.specs.Changes.{with_live}
-use Rattle.exam_commands.specs.Limits.{within_limits, sessions_within, papers_within, halls_within, openings_within, candidates_within, members_within, appeals_within}
+use Rattle.exam_commands.specs.Limits.{within_limits, sessions_within, papers_within, halls_within, openings_within}
+use Rattle.exam_commands.specs.Limits.{candidates_within, members_within, appeals_within}
 use Rattle.exam_commands.proofs.Keeping.{no_more}
 use Rattle.exam_commands.proofs.Referring.{all_more}
 use Rattle.exam_commands.proofs.SameSeats.{within_members}
-
--- ---- a row that is put
-
-module _ {K X : Type 0} (cmp : K → K → Ordering) (exact : CmpEqualImpliesEq cmp) where
-  -- at another key the row is the same as before
-  pub put_elsewhere : (rows : List (K × X)) (k q : K) (v : X) → is_at (cmp q) k ≡ false → row_at cmp (put_row cmp rows k v) q ≡ row_at cmp rows q
-  put_elsewhere [] k q v away = ap (λ b. cond b (Some v) None) away
-  put_elsewhere (e ∷ es) k q v away = inner (cmp k e.0) refl (put_elsewhere es k q v away)
-    where
-      inner : (o : Ordering) → cmp k e.0 ≡ o → row_at cmp (put_row cmp es k v) q ≡ row_at cmp es q
-          → lookup (is_at (cmp q)) (match_ordering o ((k, v) ∷ e ∷ es) ((e.0, v) ∷ es) (e ∷ insert_entry cmp es k v)) ≡ row_at cmp (e ∷ es) q
-      inner Less is rest = ap (λ b. cond b (Some v) (row_at cmp (e ∷ es) q)) away
-      inner Equal is rest =
-          let past : is_at (cmp q) e.0 ≡ false = ap (λ z. is_at (cmp q) z) (sym (exact k e.0 is)) ∙ away in
-          ap (λ b. cond b (Some v) (row_at cmp es q)) past ∙ sym (ap (λ b. cond b (Some e.1) (row_at cmp es q)) past)
-      inner Greater is rest = ap (λ o. cond (is_at (cmp q) e.0) (Some e.1) o) rest
-
-  -- rows among which none has the key are the same
-  pub put_filtered : (p : K × X → Bool) (rows : List (K × X)) (k : K) (v : X) → ((w : X) → p (k, w) ≡ false) → filter p (put_row cmp rows k v) ≡ filter p rows
-  put_filtered p [] k v none = ap (λ b. cond b ((k, v) ∷ []) []) (none v)
-  put_filtered p (e ∷ es) k v none = inner (cmp k e.0) refl (put_filtered p es k v none)
-    where
-      inner : (o : Ordering) → cmp k e.0 ≡ o → filter p (put_row cmp es k v) ≡ filter p es
-          → filter p (match_ordering o ((k, v) ∷ e ∷ es) ((e.0, v) ∷ es) (e ∷ insert_entry cmp es k v)) ≡ filter p (e ∷ es)
-      inner Less is rest = ap (λ b. cond b ((k, v) ∷ filter p (e ∷ es)) (filter p (e ∷ es))) (none v)
-      inner Equal is rest =
-          let now : p (e.0, v) ≡ false = ap (λ z. p (z, v)) (sym (exact k e.0 is)) ∙ none v in
-          let then : p e ≡ false = ap (λ z. p (z, e.1)) (sym (exact k e.0 is)) ∙ none e.1 in
-          ap (λ b. cond b ((e.0, v) ∷ filter p es) (filter p es)) now ∙ sym (ap (λ b. cond b (e ∷ filter p es) (filter p es)) then)
-      inner Greater is rest = ap (λ fs. cond (p e) (e ∷ fs) fs) rest
-
-  -- a row that does not pass makes none pass
-  put_none : (p : K × X → Bool) (rows : List (K × X)) (k : K) (v : X) → ((q : K) → p (q, v) ≡ false) → list_any p (put_row cmp rows k v) ≡ true → list_any p rows ≡ true
-  put_none p [] k v none some = ap (λ b. b || false) (sym (none k)) ∙ some
-  put_none p (e ∷ es) k v none some = inner (cmp k e.0) some (put_none p es k v none)
-    where
-      later : (b : Bool) → (b || list_any p (put_row cmp es k v)) ≡ true → (list_any p (put_row cmp es k v) ≡ true → list_any p es ≡ true) → (b || list_any p es) ≡ true
-      later true any rest = refl
-      later false any rest = rest any
-
-      inner : (o : Ordering) → list_any p (match_ordering o ((k, v) ∷ e ∷ es) ((e.0, v) ∷ es) (e ∷ insert_entry cmp es k v)) ≡ true
-          → (list_any p (put_row cmp es k v) ≡ true → list_any p es ≡ true) → list_any p (e ∷ es) ≡ true
-      inner Less any rest = ap (λ b. b || list_any p (e ∷ es)) (sym (none k)) ∙ any
-      inner Equal any rest = or_right (p e) (list_any p es) (ap (λ b. b || list_any p es) (sym (none e.0)) ∙ any)
-      inner Greater any rest = later (p e) any rest
-
-pub entries_exact : CmpEqualImpliesEq entry_cmp
-entries_exact = exact_pairs nat_cmp code_cmp exact_unsigned exact_bytes
 
 -- an entry of another candidate is another
 apart : (d c : ℕ) (p q : Code) → nat_eq d c ≡ false → is_at (entry_cmp (c, q)) (d, p) ≡ false
@@ -90,17 +42,21 @@ apart d c p q other = inner (is_at (entry_cmp (c, q)) (d, p)) refl
 module _ (r : Relations) (d : ℕ) (p : Code) (live : Bool) (s : Code) where
   module _ (c : ℕ) (other : nat_eq d c ≡ false) where
     live_same : (q : Code) → is_live (with_live r d p live) c q ≡ is_live r c q
-    live_same q = ap (λ o. option_map_or (λ (entry : Entry). entry.live) o false) (put_elsewhere entry_cmp entries_exact r.entries (d, p) (c, q) (record { live = live }) (apart d c p q other))
+    live_same q = ap (λ o. option_map_or (λ (entry : Entry). entry.live) o false)
+        (put_elsewhere entry_cmp entries_total r.entries (d, p) (c, q) (record { live = live }) (apart d c p q other))
 
     papers_same : live_papers (with_live r d p live) s c ≡ live_papers r s c
     papers_same =
         ap (map (λ (e : (ℕ × Code) × Entry). e.0.1))
-        (put_filtered entry_cmp entries_exact (is_live_entry r s c) r.entries (d, p) (record { live = live }) (λ w. ap (λ b. b && (w.live && is_paper_of r s p)) other))
+        (put_filtered entry_cmp entries_exact (is_live_entry r s c) r.entries (d, p) (record { live = live })
+        (λ w. ap (λ b. b && (w.live && is_paper_of r s p)) other))
 
     sitting_same : sitting (with_live r d p live) s c ≡ sitting r s c
     sitting_same =
-        let live_papers_same : (λ q. is_live (with_live r d p live) c q && is_paper_of r s q) ≡ is_live_paper r s c = fun_ext (λ q. ap (λ b. b && is_paper_of r s q) (live_same q)) in
-        ap (λ f. option_or (option_filter f (granted_paper r s c)) (head_of (live_papers (with_live r d p live) s c))) live_papers_same
+        let live_papers_same : (λ q. is_live (with_live r d p live) c q && is_paper_of r s q) ≡ is_live_paper r s c =
+        fun_ext (λ q. ap (λ b. b && is_paper_of r s q) (live_same q)) in
+        ap (λ f. option_or (option_filter f (granted_paper r s c)) (head_of (live_papers (with_live r d p live) s c)))
+        live_papers_same
         ∙ ap (λ ps. option_or (option_filter (is_live_paper r s c) (granted_paper r s c)) (head_of ps)) papers_same
 
     member_same : has_live_entry (with_live r d p live) s c ≡ has_live_entry r s c
@@ -115,20 +71,24 @@ module _ (r : Relations) (d : ℕ) (p : Code) (live : Bool) (s : Code) where
         && not (list_any (same_code h) (barred_halls r s c)))
 
     pub fits_same : (h : Code) → fits (with_live r d p live) s c h ≡ fits r s c h
-    fits_same h = ap (λ m. fits_with h m (sitting (with_live r d p live) s c)) member_same ∙ ap (fits_with h (has_live_entry r s c)) sitting_same
+    fits_same h = ap (λ m. fits_with h m (sitting (with_live r d p live) s c)) member_same
+        ∙ ap (fits_with h (has_live_entry r s c)) sitting_same
 
 -- ---- a withdrawal
 
 module _ (r : Relations) (d : ℕ) (p : Code) where
   member_before : (s : Code) (c : ℕ) → has_live_entry (with_live r d p false) s c ≡ true → has_live_entry r s c ≡ true
-  member_before s c = put_none entry_cmp entries_exact (is_live_entry r s c) r.entries (d, p) (record { live = false }) (λ k. and_right (nat_eq k.0 c) (false && is_paper_of r s k.1) refl)
+  member_before s c = put_none entry_cmp (is_live_entry r s c) r.entries (d, p) (record { live = false })
+      (λ k. and_right (nat_eq k.0 c) (false && is_paper_of r s k.1) refl)
 
   members_fewer : (s : Code) → length (members (with_live r d p false) s) ≤ length (members r s)
-  members_fewer s = no_more (has_live_entry (with_live r d p false) s) (has_live_entry r s) (member_before s) (keys_of r.candidates)
+  members_fewer s = no_more (has_live_entry (with_live r d p false) s) (has_live_entry r s) (member_before s)
+      (keys_of r.candidates)
 
   members_still_within : members_within r ≡ true → members_within (with_live r d p false) ≡ true
   members_still_within within =
-      all_more (λ s. nat_le (length (members r s)) most_members) (λ s. nat_le (length (members (with_live r d p false) s)) most_members) (keys_of r.sessions)
+      all_more (λ s. nat_le (length (members r s)) most_members)
+      (λ s. nat_le (length (members (with_live r d p false) s)) most_members) (keys_of r.sessions)
       (λ s most. let few = leb-true (length (members r s)) most_members most in let fewer =
       members_fewer s in le-leb (length (members (with_live r d p false) s)) most_members
       (omega (arith, few, fewer)))
@@ -138,4 +98,7 @@ module _ (r : Relations) (d : ℕ) (p : Code) where
   pub withdrawal_within : within_limits r ≡ true → within_limits (with_live r d p false) ≡ true
   withdrawal_within within =
       let few : members_within r ≡ true = within_members r within in
-      ap (λ b. sessions_within r && (papers_within r && (halls_within r && (openings_within r && (candidates_within r && (b && appeals_within r)))))) (members_still_within few ∙ sym few) ∙ within
+      ap (λ b. sessions_within r
+      && (papers_within r &&
+      (halls_within r && (openings_within r && (candidates_within r && (b && appeals_within r))))))
+      (members_still_within few ∙ sym few) ∙ within

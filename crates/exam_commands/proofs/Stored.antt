@@ -1,6 +1,7 @@
 -- After an import each of its rows is stored, and put again they change nothing.
-use Rattle.std.proofs.Common.{◌≡◌, ℕ, ◌&&◌, not, Bool, true, false, cond, List, [], ◌∷◌, Option, None, Some, eq-eqb, refl, sym, ap, ◌∙◌, is_some}
-use Rattle.std.specs.Cmp.{IsTotalOrder, nat_cmp_total, then_total, on_total}
+use Rattle.std.proofs.Common.{Bool, List, None, Option, Some, [], ap, eq-eqb, false, is_some, not, refl, subst, sym}
+use Rattle.std.proofs.Common.{true, ◌&&◌, ◌∙◌, ◌∷◌, ◌≡◌}
+use Rattle.std.specs.Cmp.{nat_cmp_total}
 use Rattle.std.specs.Cmp.Lexicographic.{nat_list_cmp_total}
 use Rattle.std.specs.List.{AllByRecursion}
 use Rattle.std.specs.Ordering.{is_eq, nat_cmp}
@@ -10,64 +11,34 @@ use Rattle.exam_rules.specs.declared.rows.Entry.{Entry}
 use Rattle.exam_rules.proofs.Naming.{same_code_itself}
 use Rattle.exam_rules.specs.Orders.{AreInOrder}
 use Rattle.exam_rules.specs.Tables as table
-use Rattle.exam_rules.specs.Relations.{Code, Relations, code_cmp, entry_cmp, opening_cmp, has_row, put_row, row_at}
+use Rattle.exam_rules.specs.Relations.{Relations, code_cmp, entry_cmp, opening_cmp, row_at}
+use Rattle.exam_commands.proofs.KeyedRows.{openings_total, put_stays}
+use Rattle.exam_rules.specs.Tables.{rows_of}
 use Rattle.exam_commands.specs.declared.import_row.Row.{Row}
 use Rattle.exam_commands.specs.declared.import_row.Row.TheVariants as row
-use Rattle.exam_commands.specs.Changes.{with_row, with_rows}
+use Rattle.exam_commands.specs.Changes.{rows_with, target, with_row, with_rows, with_table}
 use Rattle.exam_commands.specs.Imports.{conflicts, has_key, is_consistent, key_of, same_row}
 use Rattle.exam_commands.specs.Replies.{is_stored}
-use Rattle.exam_commands.specs.SameRows.{same_arrangement, same_candidate, same_hall, same_opening, same_paper, same_session}
+use Rattle.exam_commands.specs.SameRows.{same_arrangement, same_candidate, same_hall, same_opening, same_paper}
+use Rattle.exam_commands.specs.SameRows.{same_session}
 use Rattle.exam_commands.specs.contracts.import_row.KeyOrd.TheImpl as keys
 use Rattle.exam_commands.proofs.ImportKeys.{cmp_same}
 use Rattle.exam_commands.proofs.ImportRowsEqual.{row_exact}
-use Rattle.exam_commands.proofs.Referring.{has_put}
-use Rattle.exam_commands.proofs.Repeating.{put_found, put_rises, put_same, put_stays}
+use Rattle.exam_commands.proofs.Entering.{IsHeld, held_again, held_still, held_then, table_as_is, table_in_order}
+use Rattle.exam_commands.proofs.Entering.{table_itself}
 
 -- the row is there as it is, an entry live or withdrawn
 abbrev pub IsStored : Relations → Row → Type 0
-IsStored r (row.OfSession s x) = row_at code_cmp r.sessions s ≡ Some x
-IsStored r (row.OfPaper p x) = row_at code_cmp r.papers p ≡ Some x
-IsStored r (row.OfHall h x) = row_at code_cmp r.halls h ≡ Some x
-IsStored r (row.OfOpening s h x) = row_at opening_cmp r.openings (s, h) ≡ Some x
-IsStored r (row.OfCandidate c x) = row_at nat_cmp r.candidates c ≡ Some x
-IsStored r (row.OfEntry c p) = has_row entry_cmp r.entries (c, p) ≡ true
-IsStored r (row.OfArrangement c x) = row_at nat_cmp r.arrangements c ≡ Some x
-
-opening_total : IsTotalOrder opening_cmp
-opening_total = then_total (on_total (λ (k : Code × Code). k.0) nat_list_cmp_total) (on_total (λ (k : Code × Code). k.1) nat_list_cmp_total)
-
-pub entry_total : IsTotalOrder entry_cmp
-entry_total = then_total (on_total (λ (k : ℕ × Code). k.0) nat_cmp_total) (on_total (λ (k : ℕ × Code). k.1) nat_list_cmp_total)
-
--- ---- the tables stay in order
-
-row_in_order : (r : Relations) (x : Row) → AreInOrder r → AreInOrder (with_row r x)
-row_in_order r (row.OfSession s x) up =
-    elim [ table.Sessions ↦ put_rises code_cmp nat_list_cmp_total r.sessions s x (up table.Sessions) | t ↦ up t ]
-row_in_order r (row.OfPaper p x) up =
-    elim [ table.Papers ↦ put_rises code_cmp nat_list_cmp_total r.papers p x (up table.Papers) | t ↦ up t ]
-row_in_order r (row.OfHall h x) up =
-    elim [ table.Halls ↦ put_rises code_cmp nat_list_cmp_total r.halls h x (up table.Halls) | t ↦ up t ]
-row_in_order r (row.OfOpening s h x) up =
-    elim [ table.Openings ↦ put_rises opening_cmp opening_total r.openings (s, h) x (up table.Openings) | t ↦ up t ]
-row_in_order r (row.OfCandidate c x) up =
-    elim [ table.Candidates ↦ put_rises nat_cmp nat_cmp_total r.candidates c x (up table.Candidates) | t ↦ up t ]
-row_in_order r (row.OfEntry c p) up = inner (has_row entry_cmp r.entries (c, p))
-  where
-    inner : (b : Bool) → AreInOrder (cond b r (record r { entries = put_row entry_cmp r.entries (c, p) (record { live = true }) }))
-    inner true = up
-    inner false =
-        elim [ table.Entries ↦ put_rises entry_cmp entry_total r.entries (c, p) (record { live = true }) (up table.Entries) | t ↦ up t ]
-row_in_order r (row.OfArrangement c x) up =
-    elim [ table.Arrangements ↦ put_rises nat_cmp nat_cmp_total r.arrangements c x (up table.Arrangements) | t ↦ up t ]
+IsStored r x = IsHeld (target x).0 (rows_of r (target x).0) (target x).1 (target x).2
 
 pub rows_in_order : (r : Relations) (rows : List Row) → AreInOrder r → AreInOrder (with_rows r rows)
 rows_in_order r [] up = up
-rows_in_order r (x ∷ rows) up = rows_in_order (with_row r x) rows (row_in_order r x up)
+rows_in_order r (x ∷ rows) up = rows_in_order (with_row r x) rows (λ t. table_in_order r x t (up t))
 
 -- ---- a row that is found the same is stored
 
-found_same : {X : Type 0} (agree : X → X → Bool) (x : X) → ((y : X) → agree x y ≡ true → x ≡ y) → (o : Option X) → option_map (agree x) o ≡ Some true → o ≡ Some x
+found_same : {X : Type 0} (agree : X → X → Bool) (x : X) → ((y : X) → agree x y ≡ true → x ≡ y) → (o : Option X)
+    → option_map (agree x) o ≡ Some true → o ≡ Some x
 found_same agree x exact None e = absurd (let differ : None ≡ Some true = e in cc)
 found_same agree x exact (Some y) e = let same : agree x y ≡ true = cc in ap Some (sym (exact y same))
 
@@ -112,70 +83,62 @@ stored_same r (row.OfArrangement c x) e =
 -- ---- a stored row put again
 
 pub row_again : (r : Relations) (x : Row) → AreInOrder r → IsStored r x → with_row r x ≡ r
-row_again r (row.OfSession s x) up at = ap (λ rows. record r { sessions = rows }) (put_same code_cmp nat_list_cmp_total r.sessions s x (up table.Sessions) at)
-row_again r (row.OfPaper p x) up at = ap (λ rows. record r { papers = rows }) (put_same code_cmp nat_list_cmp_total r.papers p x (up table.Papers) at)
-row_again r (row.OfHall h x) up at = ap (λ rows. record r { halls = rows }) (put_same code_cmp nat_list_cmp_total r.halls h x (up table.Halls) at)
-row_again r (row.OfOpening s h x) up at = ap (λ rows. record r { openings = rows }) (put_same opening_cmp opening_total r.openings (s, h) x (up table.Openings) at)
-row_again r (row.OfCandidate c x) up at = ap (λ rows. record r { candidates = rows }) (put_same nat_cmp nat_cmp_total r.candidates c x (up table.Candidates) at)
-row_again r (row.OfEntry c p) up at = ap (λ b. cond b r (record r { entries = put_row entry_cmp r.entries (c, p) (record { live = true }) })) at
-row_again r (row.OfArrangement c x) up at = ap (λ rows. record r { arrangements = rows }) (put_same nat_cmp nat_cmp_total r.arrangements c x (up table.Arrangements) at)
+row_again r x up at =
+    let to = target x in
+    ap (with_table r to.0) (held_again to.0 (rows_of r to.0) to.1 to.2 (up to.0) at) ∙ table_as_is r to.0
 
-pub rows_again : (r : Relations) (rows : List Row) → AreInOrder r → AllByRecursion (IsStored r) rows → with_rows r rows ≡ r
+pub rows_again : (r : Relations) (rows : List Row) → AreInOrder r → AllByRecursion (IsStored r) rows
+    → with_rows r rows ≡ r
 rows_again r [] up every = refl
 rows_again r (x ∷ rows) up every = ap (λ t. with_rows t rows) (row_again r x up every.0) ∙ rows_again r rows up every.1
 
 -- ---- each row of an import is stored
 
 row_stored : (r : Relations) (x : Row) → IsStored (with_row r x) x
-row_stored r (row.OfSession s x) = put_found code_cmp nat_list_cmp_total r.sessions s x
-row_stored r (row.OfPaper p x) = put_found code_cmp nat_list_cmp_total r.papers p x
-row_stored r (row.OfHall h x) = put_found code_cmp nat_list_cmp_total r.halls h x
-row_stored r (row.OfOpening s h x) = put_found opening_cmp opening_total r.openings (s, h) x
-row_stored r (row.OfCandidate c x) = put_found nat_cmp nat_cmp_total r.candidates c x
-row_stored r (row.OfEntry c p) = inner (has_row entry_cmp r.entries (c, p)) refl
-  where
-    inner : (b : Bool) → has_row entry_cmp r.entries (c, p) ≡ b
-        → has_row entry_cmp (cond b r
-        (record r { entries = put_row entry_cmp r.entries (c, p) (record { live = true }) })).entries (c, p) ≡ true
-    inner true has = has
-    inner false has = ap is_some (put_found entry_cmp entry_total r.entries (c, p) (record { live = true }))
-row_stored r (row.OfArrangement c x) = put_found nat_cmp nat_cmp_total r.arrangements c x
+row_stored r x =
+    let to = target x in
+    subst (λ rows. IsHeld to.0 rows to.1 to.2) (sym (table_itself r to.0 (rows_with to.0 (rows_of r to.0) to.1 to.2)))
+    (held_then to.0 (rows_of r to.0) to.1 to.2)
 
--- a new entry leaves what is stored
-entry_keeps : (r : Relations) (c : ℕ) (p : Code) (x : Row) → IsStored r x → IsStored (record r { entries = put_row entry_cmp r.entries (c, p) (record { live = true }) }) x
-entry_keeps r c p (row.OfEntry d q) at = has_put entry_cmp r.entries (c, p) (d, q) (record { live = true }) at
-entry_keeps r c p x at = at
-
--- so does a row that does not contradict it
-row_keeps : (r : Relations) (y x : Row) → (is_eq (keys.ghosts.cmp (key_of y) (key_of x)) ≡ true → y ≡ x) → IsStored r x → IsStored (with_row r y) x
-row_keeps r (row.OfEntry c p) x agrees at = inner (has_row entry_cmp r.entries (c, p))
-  where
-    inner : (b : Bool) → IsStored (cond b r (record r { entries = put_row entry_cmp r.entries (c, p) (record { live = true }) })) x
-    inner true = at
-    inner false = entry_keeps r c p x at
-row_keeps r (row.OfSession s v) (row.OfSession t x) agrees at = put_stays code_cmp nat_list_cmp_total r.sessions s t v x (λ e. let same : row.OfSession s v ≡ row.OfSession t x = agrees e in cc) at
-row_keeps r (row.OfPaper s v) (row.OfPaper t x) agrees at = put_stays code_cmp nat_list_cmp_total r.papers s t v x (λ e. let same : row.OfPaper s v ≡ row.OfPaper t x = agrees e in cc) at
-row_keeps r (row.OfHall s v) (row.OfHall t x) agrees at = put_stays code_cmp nat_list_cmp_total r.halls s t v x (λ e. let same : row.OfHall s v ≡ row.OfHall t x = agrees e in cc) at
+-- a row that does not contradict it leaves it so
+row_keeps : (r : Relations) (y x : Row) → (is_eq (keys.ghosts.cmp (key_of y) (key_of x)) ≡ true → y ≡ x) → IsStored r x
+    → IsStored (with_row r y) x
+row_keeps r (row.OfEntry c p) (row.OfEntry d q) agrees at =
+    held_still table.Entries r.entries (c, p) (d, q) (record { live = true }) (record { live = true }) (λ e. refl) at
+row_keeps r (row.OfSession s v) (row.OfSession t x) agrees at =
+    put_stays code_cmp nat_list_cmp_total r.sessions s t v x
+    (λ e. let same : row.OfSession s v ≡ row.OfSession t x = agrees e in cc) at
+row_keeps r (row.OfPaper s v) (row.OfPaper t x) agrees at =
+    put_stays code_cmp nat_list_cmp_total r.papers s t v x
+    (λ e. let same : row.OfPaper s v ≡ row.OfPaper t x = agrees e in cc) at
+row_keeps r (row.OfHall s v) (row.OfHall t x) agrees at =
+    put_stays code_cmp nat_list_cmp_total r.halls s t v x
+    (λ e. let same : row.OfHall s v ≡ row.OfHall t x = agrees e in cc) at
 row_keeps r (row.OfOpening s h v) (row.OfOpening t k x) agrees at =
-    put_stays opening_cmp opening_total r.openings (s, h) (t, k) v x
+    put_stays opening_cmp openings_total r.openings (s, h) (t, k) v x
     (λ e. let same : row.OfOpening s h v ≡ row.OfOpening t k x = agrees e in cc) at
-row_keeps r (row.OfCandidate s v) (row.OfCandidate t x) agrees at = put_stays nat_cmp nat_cmp_total r.candidates s t v x (λ e. let same : row.OfCandidate s v ≡ row.OfCandidate t x = agrees e in cc) at
+row_keeps r (row.OfCandidate s v) (row.OfCandidate t x) agrees at =
+    put_stays nat_cmp nat_cmp_total r.candidates s t v x
+    (λ e. let same : row.OfCandidate s v ≡ row.OfCandidate t x = agrees e in cc) at
 row_keeps r (row.OfArrangement s v) (row.OfArrangement t x) agrees at =
     put_stays nat_cmp nat_cmp_total r.arrangements s t v x
     (λ e. let same : row.OfArrangement s v ≡ row.OfArrangement t x = agrees e in cc) at
 row_keeps r y x agrees at = at
 
-rows_keep : (r : Relations) (x : Row) (rows : List Row) → conflicts x rows ≡ false → IsStored r x → IsStored (with_rows r rows) x
+rows_keep : (r : Relations) (x : Row) (rows : List Row) → conflicts x rows ≡ false → IsStored r x
+    → IsStored (with_rows r rows) x
 rows_keep r x [] none at = at
 rows_keep r x (y ∷ rows) none at =
     let both = or_parts _ _ none in
-    rows_keep (with_row r y) x rows both.1 (row_keeps r y x (λ e. agreed (has_key (key_of x) y) both.0 (sym (cmp_same (key_of y) (key_of x)) ∙ e)) at)
+    rows_keep (with_row r y) x rows both.1
+    (row_keeps r y x (λ e. agreed (has_key (key_of x) y) both.0 (sym (cmp_same (key_of y) (key_of x)) ∙ e)) at)
   where
     agreed : (b : Bool) → (b && not (same_row y x)) ≡ false → b ≡ true → y ≡ x
     agreed true agrees e = row_exact y x (not-false (same_row y x) agrees)
     agreed false agrees e = cc
 
-pub rows_stored : (r : Relations) (rows : List Row) → is_consistent rows ≡ true → AllByRecursion (IsStored (with_rows r rows)) rows
+pub rows_stored : (r : Relations) (rows : List Row) → is_consistent rows ≡ true
+    → AllByRecursion (IsStored (with_rows r rows)) rows
 rows_stored r [] agree = tt
 rows_stored r (x ∷ rows) agree =
     let both = and_parts (not (conflicts x rows)) (is_consistent rows) agree in

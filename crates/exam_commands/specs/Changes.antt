@@ -1,11 +1,14 @@
 -- What a command makes of the facts, or why it is refused.
-use Rattle.std.specs.Prelude.{ℕ, not, Bool, true, false, List, [], ◌∷◌, ◌++◌, fold, Option, None, Some, Result, Ok, Err, if◌then◌else◌}
+use Rattle.std.specs.Prelude.{ℕ, not, Bool, true, false, List, [], ◌∷◌, ◌++◌, fold, Option, None, Some, Result, Ok, Err}
+use Rattle.std.specs.Prelude.{if◌then◌else◌}
 use Rattle.std.specs.Option.{option_or}
 use Rattle.std.specs.Ordering.{nat_cmp}
 use Rattle.exam_types.specs.declared.refusal.Refusal.{Refusal}
 use Rattle.exam_types.specs.declared.refusal.Refusal.TheVariants as refusal
 use Rattle.exam_rules.specs.Relations.{Code, Relations, code_cmp, opening_cmp, entry_cmp, has_row, put_row, remove_row}
 use Rattle.exam_rules.specs.Sessions.{is_live}
+use Rattle.exam_rules.specs.Tables as table
+use Rattle.exam_rules.specs.Tables.{KeyOf, RowOf, Table, cmp_of, rows_of}
 use Rattle.exam_commands.specs.Limits.{within_limits}
 use Rattle.exam_commands.specs.declared.import_row.Row.{Row}
 use Rattle.exam_commands.specs.declared.import_row.Row.TheVariants as row
@@ -46,17 +49,38 @@ abbrev pub rows_refusal : Relations → List Row → Option Refusal
 rows_refusal r [] = None
 rows_refusal r (row ∷ rows) = option_or (first_refusal (row_checks r row)) (rows_refusal r rows)
 
+-- with these rows in the table
+abbrev pub with_table : Relations → (t : Table) → List (KeyOf t × RowOf t) → Relations
+with_table r table.Sessions rows = record r { sessions = rows }
+with_table r table.Papers rows = record r { papers = rows }
+with_table r table.Halls rows = record r { halls = rows }
+with_table r table.Openings rows = record r { openings = rows }
+with_table r table.Candidates rows = record r { candidates = rows }
+with_table r table.Entries rows = record r { entries = rows }
+with_table r table.Arrangements rows = record r { arrangements = rows }
+with_table r table.Appeals rows = record r { appeals = rows }
+with_table r table.Standing rows = record r { standing = rows }
+
+-- the table of a row, its key, and what an import puts there
+abbrev pub target : Row → (t : Table) × KeyOf t × RowOf t
+target (row.OfSession s x) = (table.Sessions, s, x)
+target (row.OfPaper p x) = (table.Papers, p, x)
+target (row.OfHall h x) = (table.Halls, h, x)
+target (row.OfOpening s h x) = (table.Openings, (s, h), x)
+target (row.OfCandidate c x) = (table.Candidates, c, x)
+target (row.OfEntry c p) = (table.Entries, (c, p), record { live = true })
+target (row.OfArrangement c x) = (table.Arrangements, c, x)
+
 -- a new key is added, and a present one is set to the row; an entry that exists is left as it is
+abbrev pub rows_with : (t : Table) → List (KeyOf t × RowOf t) → KeyOf t → RowOf t → List (KeyOf t × RowOf t)
+rows_with table.Entries rows k x = if has_row entry_cmp rows k then rows else put_row entry_cmp rows k x
+rows_with t rows k x = put_row (cmp_of t) rows k x
+
+abbrev pub with_target : Relations → (t : Table) × KeyOf t × RowOf t → Relations
+with_target r to = with_table r to.0 (rows_with to.0 (rows_of r to.0) to.1 to.2)
+
 abbrev pub with_row : Relations → Row → Relations
-with_row r (row.OfSession s x) = record r { sessions = put_row code_cmp r.sessions s x }
-with_row r (row.OfPaper p x) = record r { papers = put_row code_cmp r.papers p x }
-with_row r (row.OfHall h x) = record r { halls = put_row code_cmp r.halls h x }
-with_row r (row.OfOpening s h x) = record r { openings = put_row opening_cmp r.openings (s, h) x }
-with_row r (row.OfCandidate c x) = record r { candidates = put_row nat_cmp r.candidates c x }
-with_row r (row.OfEntry c p) =
-    if has_row entry_cmp r.entries (c, p) then r
-    else record r { entries = put_row entry_cmp r.entries (c, p) (record { live = true }) }
-with_row r (row.OfArrangement c x) = record r { arrangements = put_row nat_cmp r.arrangements c x }
+with_row r x = with_target r (target x)
 
 abbrev pub with_rows : Relations → List Row → Relations
 with_rows r rows = fold with_row r rows

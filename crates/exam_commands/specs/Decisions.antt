@@ -1,5 +1,6 @@
 -- What the decision of an appeal makes of the facts, or why it is refused.
-use Rattle.std.specs.Prelude.{ℕ, ◌==◌, ◌&&◌, nat_le, not, is_none, Bool, true, List, [], ◌∷◌, map, filter, Option, None, Some, Result, if◌then◌else◌}
+use Rattle.std.specs.Prelude.{ℕ, ◌==◌, ◌&&◌, nat_le, not, is_none, Bool, true, List, [], ◌∷◌, map, filter, Option, None}
+use Rattle.std.specs.Prelude.{Some, Result, if◌then◌else◌}
 use Rattle.std.specs.Option.{option_map_or}
 use Rattle.std.specs.Ordering.{is_eq}
 use Rattle.exam_types.specs.declared.refusal.Refusal.{Refusal}
@@ -12,7 +13,8 @@ use Rattle.exam_rules.specs.Relations.{Code, Relations, appeal_cmp, code_cmp, pu
 use Rattle.exam_rules.specs.Sessions.{asked_arrangement, is_granted, is_live_paper, is_marked}
 use Rattle.exam_commands.specs.declared.command.Decision.{Decision}
 use Rattle.exam_commands.specs.declared.command.Outcome.{Outcome}
-use Rattle.exam_commands.specs.Appeals.{appeal_at, bears_mark, decided, is_decided, is_grant, is_open, superseded, supersedes}
+use Rattle.exam_commands.specs.Appeals.{appeal_at, bears_mark, decided, is_decided, is_grant, is_open, superseded}
+use Rattle.exam_commands.specs.Appeals.{supersedes}
 use Rattle.exam_commands.specs.Changes.{first_refusal, unless}
 use Rattle.exam_commands.specs.Lodgings.{not_member}
 

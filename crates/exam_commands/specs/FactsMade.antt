@@ -5,7 +5,8 @@ use Rattle.exam_rules.specs.Orders.{AreInOrder}
 use Rattle.exam_rules.specs.Relations.{Relations}
 use Rattle.exam_commands.specs.declared.command.Command.{Command}
 use Rattle.exam_commands.specs.declared.command.Command.TheVariants as command
-use Rattle.exam_commands.specs.Changes.{closing_refusal, revival_refusal, rows_refusal, with_live, with_rows, without_opening, withdrawal_refusal}
+use Rattle.exam_commands.specs.Changes.{closing_refusal, revival_refusal, rows_refusal, with_live, with_rows}
+use Rattle.exam_commands.specs.Changes.{without_opening, withdrawal_refusal}
 use Rattle.exam_commands.specs.Decisions.{decision_refusal, with_decision}
 use Rattle.exam_commands.specs.Good.{IsGood}
 use Rattle.exam_commands.specs.Lodgings.{retraction_refusal, lodging_refusal_but_limits, with_lodging, with_retraction}

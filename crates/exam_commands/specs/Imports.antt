@@ -2,13 +2,16 @@
 use Rattle.std.specs.Prelude.{◌≡◌, ℕ, Option, Bool, true, false, not, ◌==◌, ◌&&◌, List, [], ◌∷◌, All, filter}
 use Rattle.std.specs.List.{list_any, position_from}
 use Rattle.exam_rules.specs.Relations.{same_code}
-use Rattle.exam_commands.specs.SameRows.{same_arrangement, same_candidate, same_hall, same_opening, same_paper, same_session}
+use Rattle.exam_commands.specs.SameRows.{same_arrangement, same_candidate, same_hall, same_opening, same_paper}
+use Rattle.exam_commands.specs.SameRows.{same_session}
 use Rattle.exam_commands.specs.declared.import_row.Key.{Key}
 use Rattle.exam_commands.specs.declared.import_row.Key.TheVariants as key
 use Rattle.exam_commands.specs.declared.import_row.Kind.{Kind}
-use Rattle.exam_commands.specs.declared.import_row.Kind.TheVariants.{Sessions, Papers, Halls, Openings, Candidates, Entries, Arrangements}
+use Rattle.exam_commands.specs.declared.import_row.Kind.TheVariants.{Sessions, Papers, Halls, Openings, Candidates}
+use Rattle.exam_commands.specs.declared.import_row.Kind.TheVariants.{Entries, Arrangements}
 use Rattle.exam_commands.specs.declared.import_row.Row.{Row}
-use Rattle.exam_commands.specs.declared.import_row.Row.TheVariants.{OfSession, OfPaper, OfHall, OfOpening, OfCandidate, OfEntry, OfArrangement}
+use Rattle.exam_commands.specs.declared.import_row.Row.TheVariants.{OfSession, OfPaper, OfHall, OfOpening, OfCandidate}
+use Rattle.exam_commands.specs.declared.import_row.Row.TheVariants.{OfEntry, OfArrangement}
 
 -- an import: its kind, and its rows in the order of the file
 pub record ImportRows : Type 0 where

@@ -10,7 +10,8 @@
 --   appeal of each kind
 -- - Good: a good office: references, limits, appeals that a candidate may have only once, every session's plan best;
 --   a good office table by table, and the first table that is bad
--- - Changes: the checks of a command in their order, the first refusal, the facts after it
+-- - Changes: the checks of a command in their order, the first refusal, the facts after it; the table, the key and the
+--   row that a row of an import puts
 -- - Appeals: kinds, closing days and states of appeals; what is stored of one; whether one of a
 --   kind is open
 -- - Lodgings: the checks of a lodging and of a retraction in their order, and the facts after them

@@ -17,7 +17,8 @@ use Rattle.exam_rules.specs.declared.rows.Appeal.{Appeal}
 use Rattle.exam_rules.specs.Seatings.{plan_of}
 use Rattle.exam_commands.specs.Imports.{distinct_rows}
 use Rattle.exam_commands.specs.State.{State}
-use Rattle.exam_commands.specs.SameRows.{same_arrangement, same_candidate, same_hall, same_opening, same_paper, same_session}
+use Rattle.exam_commands.specs.SameRows.{same_arrangement, same_candidate, same_hall, same_opening, same_paper}
+use Rattle.exam_commands.specs.SameRows.{same_session}
 
 -- whether the stored row is the same, or none if there is none
 abbrev pub is_stored : Relations → Row → Option Bool

@@ -1,9 +1,11 @@
 //! The rows of an import file.
-ghost use Rattle.std.specs.Prelude.{◌≤◌, ◌≡◌, ◌⊎◌, ◌<◌, ◌+◌, ◌++◌, ◌∷◌, ◌==◌, [], length, true, false, Some, None, OnOk, OnErr, IfErr, option_copied};
+ghost use Rattle.std.specs.Prelude.{◌≤◌, ◌≡◌, ◌⊎◌, ◌<◌, ◌+◌, ◌++◌, ◌∷◌, ◌==◌, [], length, true, false, Some, None};
+ghost use Rattle.std.specs.Prelude.{OnOk, OnErr, IfErr, option_copied};
 ghost use Rattle.std.specs.List.{find};
 ghost use Rattle.std.specs.Option.{option_map_or};
 ghost use Rattle.exam_commands.specs.Imports as spec;
 ghost use Rattle.exam_types.specs.declared.refusal.Refusal.TheVariants as refusals;
+ghost use Rattle.exam_types.specs.Refusals.{OnlyMemory};
 
 use crate::import_row::{Key, Kind, Row};
 use exam_types::Refusal;
@@ -76,7 +78,7 @@ impl Import {
         requires room { length self.old.rows < spec.most_rows }
         requires repeated { find (spec.has_key (spec.key_of row)) self.old.rows ≡ Some row }
         ensures ok { OnOk result (self.new ≡ record self.old { rows = self.old.rows ++ row ∷ [] }) }
-        ensures memory { IfErr result (λ e. e ≡ refusals.NoMemory) }
+        ensures memory { OnlyMemory result }
         ensures err { OnErr result (self.new ≡ self.old) }
     {
         self.rows.push(row)?;
@@ -89,7 +91,7 @@ impl Import {
         requires room { length self.old.rows < spec.most_rows }
         requires new { find (spec.has_key (spec.key_of row)) self.old.rows ≡ None }
         ensures ok { OnOk result (self.new ≡ record self.old { rows = self.old.rows ++ row ∷ [] }) }
-        ensures memory { IfErr result (λ e. e ≡ refusals.NoMemory) }
+        ensures memory { OnlyMemory result }
         ensures err { OnErr result (self.new ≡ self.old) }
     {
         // Make room for the row first, so that nothing fails once its place is kept.

@@ -1,7 +1,7 @@
 //! The words for the kinds, the states and the subjects of appeals.
-ghost use Rattle.std.specs.Prelude.{◌≡◌, ◌≤◌, ◌++◌, length, IfErr, OnOk, OnErr};
+ghost use Rattle.std.specs.Prelude.{◌≡◌, ◌≤◌, ◌++◌, length, OnOk, OnErr};
 ghost use Rattle.std.specs.Io.{StartsWith};
-ghost use Rattle.exam_types.specs.declared.refusal.Refusal.TheVariants.{NoMemory};
+ghost use Rattle.exam_types.specs.Refusals.{OnlyMemory};
 ghost use Rattle.exam_commands.specs.Appeals as appeals;
 ghost use Rattle.exam_commands.specs.Words as spec;
 
@@ -46,7 +46,7 @@ pub fn status_word(status: &Status) -> &'static [u8]
 pub fn write_subject(subject: &Subject, out: &mut Vec<u8>) -> Result<(), Refusal>
     ensures ok { OnOk result (out.new.items ≡ out.old.items ++ spec.subject_text subject.now) }
     ensures err { OnErr result (out.new.items ≡ out.old.items) }
-    ensures memory { IfErr result (λ e. e ≡ NoMemory) }
+    ensures memory { OnlyMemory result }
 {
     match subject {
         Subject::Hall(hall) => hall.write_to(out),
@@ -59,7 +59,7 @@ pub fn write_subject(subject: &Subject, out: &mut Vec<u8>) -> Result<(), Refusal
 fn write_arrangement(asked: Arrangement, out: &mut Vec<u8>) -> Result<(), Refusal>
     ensures ok { OnOk result (out.new.items ≡ out.old.items ++ spec.arrangement_text asked) }
     ensures err { OnErr result (out.new.items ≡ out.old.items) }
-    ensures memory { IfErr result (λ e. e ≡ NoMemory) }
+    ensures memory { OnlyMemory result }
 {
     let before = out.len();
     if let Err(refusal) = write_parts(asked, out) {
@@ -73,7 +73,7 @@ fn write_arrangement(asked: Arrangement, out: &mut Vec<u8>) -> Result<(), Refusa
 fn write_parts(asked: Arrangement, out: &mut Vec<u8>) -> Result<(), Refusal>
     ensures ok { OnOk result (out.new.items ≡ out.old.items ++ spec.arrangement_text asked) }
     ensures err { OnErr result (StartsWith out.new.items out.old.items) }
-    ensures memory { IfErr result (λ e. e ≡ NoMemory) }
+    ensures memory { OnlyMemory result }
 {
     asked.needs.write_to(out)?;
     out.push(b' ')?;

@@ -40,7 +40,8 @@ settled true false e h = sym e
 settled false b e h = cc h
 
 agrees : (row other : Row) → differs row other ≡ false → AgreeOnKey other row
-agrees row other apart same = row_exact other row (settled (has_key (key_of row) other) (same_row other row) apart (own_key row other same))
+agrees row other apart same =
+    row_exact other row (settled (has_key (key_of row) other) (same_row other row) apart (own_key row other same))
 
 agreed : (row other : Row) → AgreeOnKey other row → differs row other ≡ false
 agreed row other same = step (has_key (key_of row) other) refl
@@ -53,7 +54,8 @@ agreed row other same = step (has_key (key_of row) other) refl
         rw equal refl
 
 -- a row that contradicts none of those before it agrees with each
-pub one_more : (row : Row) (before : List Row) → conflicts row before ≡ false → AllPairs AgreeOnKey before → AllPairs AgreeOnKey (before ++ row ∷ [])
+pub one_more : (row : Row) (before : List Row) → conflicts row before ≡ false → AllPairs AgreeOnKey before
+    → AllPairs AgreeOnKey (before ++ row ∷ [])
 one_more row before none agree = all_pairs_push AgreeOnKey before row agree at
   where
     at : (k : ℕ) (d : Row) → k < length before → AgreeOnKey (get_or before k d) row
@@ -63,8 +65,10 @@ one_more row before none agree = all_pairs_push AgreeOnKey before row agree at
     ]
 
 -- and the other way round
-pub clear : (before : List Row) (row : Row) (after : List Row) → AllPairs AgreeOnKey (before ++ row ∷ after) → conflicts row before ≡ false
-clear before row after agree = list_any_none (differs row) before (All-from_get_or (λ other. differs row other ≡ false) before row at)
+pub clear : (before : List Row) (row : Row) (after : List Row) → AllPairs AgreeOnKey (before ++ row ∷ after)
+    → conflicts row before ≡ false
+clear before row after agree =
+    list_any_none (differs row) before (All-from_get_or (λ other. differs row other ≡ false) before row at)
   where
     here : (xs : List Row) → get_or (xs ++ row ∷ after) (length xs) row ≡ row
     here [] = refl
@@ -91,26 +95,36 @@ import_rows kind rows others e =
     let other : ImportRows = record { kind = kind; rows = others } in
     let same : one ≡ other = cc in ap (λ (v : ImportRows). v.rows) same
 
-adds : (kind : Kind) (first : ℕ) (before : List Row) (rest : List (List (List ℕ))) (rows : List Row) → rows_from kind first before rest ≡ import kind rows → AllPairs AgreeOnKey before
+adds : (kind : Kind) (first : ℕ) (before : List Row) (rest : List (List (List ℕ))) (rows : List Row)
+    → rows_from kind first before rest ≡ import kind rows → AllPairs AgreeOnKey before
     → Adds kind first before rest rows
 unfolding rows_from
 adds kind first before [] rows e agree =
     let same = import_rows kind before rows e in
-    record { after = []; is = sym same ∙ sym (append-nil before); denoted = refl; agree = subst (AllPairs AgreeOnKey) same agree }
-adds kind first before (fields ∷ rest) rows e agree = by_row (row_of kind first fields) refl e (λ row. adds kind (first + 1) (before ++ row ∷ []) rest rows)
+    record {
+      after = [];
+      is = sym same ∙ sym (append-nil before);
+      denoted = refl;
+      agree = subst (AllPairs AgreeOnKey) same agree;
+    }
+adds kind first before (fields ∷ rest) rows e agree =
+    by_row (row_of kind first fields) refl e (λ row. adds kind (first + 1) (before ++ row ∷ []) rest rows)
   where
     -- one more row, and what the rest adds
-    more : (row : Row) → row_of kind first fields ≡ Ok row → Adds kind (first + 1) (before ++ row ∷ []) rest rows → Adds kind first before (fields ∷ rest) rows
+    more : (row : Row) → row_of kind first fields ≡ Ok row → Adds kind (first + 1) (before ++ row ∷ []) rest rows
+        → Adds kind first before (fields ∷ rest) rows
     more row is w = record {
       after = row ∷ w.after;
       is = w.is ∙ append_assoc before (row ∷ []) w.after;
-      denoted = ap (λ (r : Result Row Refusal). r ∷ map ok w.after) (sym is) ∙ ap (λ (rs : List (Result Row Refusal)). row_of kind first fields ∷ rs) w.denoted;
+      denoted = ap (λ (r : Result Row Refusal). r ∷ map ok w.after) (sym is)
+          ∙ ap (λ (rs : List (Result Row Refusal)). row_of kind first fields ∷ rs) w.denoted;
       agree = w.agree;
     }
 
     by_conflict : (row : Row) → row_of kind first fields ≡ Ok row → (b : Bool) → conflicts row before ≡ b
         → cond b (Err (RowConflict first)) (rows_from kind (first + 1) (before ++ row ∷ []) rest) ≡ import kind rows
-        → (rows_from kind (first + 1) (before ++ row ∷ []) rest ≡ import kind rows → AllPairs AgreeOnKey (before ++ row ∷ []) → Adds kind (first + 1) (before ++ row ∷ []) rest rows)
+        → (rows_from kind (first + 1) (before ++ row ∷ []) rest ≡ import kind rows
+        → AllPairs AgreeOnKey (before ++ row ∷ []) → Adds kind (first + 1) (before ++ row ∷ []) rest rows)
         → Adds kind first before (fields ∷ rest) rows
     by_conflict row is true clash e next = cc e
     by_conflict row is false none e next = more row is (next e (one_more row before none agree))
@@ -118,22 +132,26 @@ adds kind first before (fields ∷ rest) rows e agree = by_row (row_of kind firs
     by_row : (r : Result Row Refusal) → row_of kind first fields ≡ r
         → and_then r (λ row. cond (conflicts row before) (Err (RowConflict first))
         (rows_from kind (first + 1) (before ++ row ∷ []) rest)) ≡ import kind rows
-        → ((row : Row) → rows_from kind (first + 1) (before ++ row ∷ []) rest ≡ import kind rows → AllPairs AgreeOnKey (before ++ row ∷ []) → Adds kind (first + 1) (before ++ row ∷ []) rest rows)
+        → ((row : Row) → rows_from kind (first + 1) (before ++ row ∷ []) rest ≡ import kind rows
+        → AllPairs AgreeOnKey (before ++ row ∷ []) → Adds kind (first + 1) (before ++ row ∷ []) rest rows)
         → Adds kind first before (fields ∷ rest) rows
     by_row (Err x) is e next = cc e
     by_row (Ok row) is e next = by_conflict row is (conflicts row before) refl e (next row)
 
-gives : (kind : Kind) (first : ℕ) (before : List Row) (rest : List (List (List ℕ))) (after : List Row) → map ok after ≡ denoted_from kind first rest → AllPairs AgreeOnKey (before ++ after)
+gives : (kind : Kind) (first : ℕ) (before : List Row) (rest : List (List (List ℕ))) (after : List Row)
+    → map ok after ≡ denoted_from kind first rest → AllPairs AgreeOnKey (before ++ after)
     → rows_from kind first before rest ≡ import kind (before ++ after)
 unfolding rows_from
 gives kind first before [] [] denoted agree = rw (append-nil before) refl
 gives kind first before [] (row ∷ after) denoted agree = cc denoted
 gives kind first before (fields ∷ rest) [] denoted agree = cc denoted
 gives kind first before (fields ∷ rest) (row ∷ after) denoted agree =
-    let parts = cons_parts (ok row) (row_of kind first fields) (map ok after) (denoted_from kind (first + 1) rest) denoted in
+    let parts = cons_parts (ok row) (row_of kind first fields) (map ok after)
+    (denoted_from kind (first + 1) rest) denoted in
     let same = append_assoc before (row ∷ []) after in
     rw (← parts.0, clear before row after agree)
-    (gives kind (first + 1) (before ++ row ∷ []) rest after parts.1 (subst (AllPairs AgreeOnKey) (sym same) agree) ∙ ap (import kind) same)
+    (gives kind (first + 1) (before ++ row ∷ []) rest after parts.1 (subst (AllPairs AgreeOnKey) (sym same) agree)
+    ∙ ap (import kind) same)
 
 -- ---- files
 
@@ -141,18 +159,31 @@ module _ (kind : Kind) (bytes : List ℕ) (rows : List Row) where
   no_pairs : AllPairs AgreeOnKey []
   no_pairs i j d low high = absurd (omega arith)
 
-  of_header : is_too_long bytes ≡ false → (header : List (List ℕ)) (rest : List (List (List ℕ))) → records default_config (strip_bom bytes) ≡ header ∷ rest
-      → (b : Bool) → is_header kind header ≡ b → cond b (rows_from kind 1 [] rest) (Err BadHeader) ≡ import kind rows → Accepts kind bytes rows
+  of_header : is_too_long bytes ≡ false → (header : List (List ℕ)) (rest : List (List (List ℕ)))
+      → records default_config (strip_bom bytes) ≡ header ∷ rest
+      → (b : Bool) → is_header kind header ≡ b → cond b (rows_from kind 1 [] rest) (Err BadHeader) ≡ import kind rows
+      → Accepts kind bytes rows
   of_header short header rest are false other e = cc e
   of_header short header rest are true begins e =
       let w = adds kind 1 [] rest rows e no_pairs in
-      record { short = short; header = header; rest = rest; records = are; begins = begins; denoted = ap (map ok) w.is ∙ w.denoted; agree = w.agree }
+      record {
+        short = short;
+        header = header;
+        rest = rest;
+        records = are;
+        begins = begins;
+        denoted = ap (map ok) w.is ∙ w.denoted;
+        agree = w.agree;
+      }
 
-  of_records : is_too_long bytes ≡ false → (all : List (List (List ℕ))) → records default_config (strip_bom bytes) ≡ all → rows_of kind all ≡ import kind rows → Accepts kind bytes rows
+  of_records : is_too_long bytes ≡ false → (all : List (List (List ℕ)))
+      → records default_config (strip_bom bytes) ≡ all → rows_of kind all ≡ import kind rows → Accepts kind bytes rows
   of_records short [] are e = cc e
   of_records short (header ∷ rest) are e = of_header short header rest are (is_header kind header) refl e
 
-  of_file : (b : Bool) → is_too_long bytes ≡ b → cond b (Err TooMany) (rows_of kind (records default_config (strip_bom bytes))) ≡ import kind rows → Accepts kind bytes rows
+  of_file : (b : Bool) → is_too_long bytes ≡ b
+      → cond b (Err TooMany) (rows_of kind (records default_config (strip_bom bytes))) ≡ import kind rows
+      → Accepts kind bytes rows
   of_file true long e = cc e
   of_file false short e = of_records short (records default_config (strip_bom bytes)) refl e
 

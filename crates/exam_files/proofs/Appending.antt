@@ -1,5 +1,6 @@
 -- Texts that grow at their end.
-use Rattle.std.proofs.Common.{◌≡◌, ◌∙◌, ◌+◌, ◌-◌, ◌<◌, ℕ, suc, List, [], ◌∷◌, ◌++◌, refl, sym, ap, arith, append_assoc, append-nil, ◌≤◌}
+use Rattle.std.proofs.Common.{◌≡◌, ◌∙◌, ◌+◌, ◌-◌, ◌<◌, ℕ, suc, List, [], ◌∷◌, ◌++◌, refl, sym, ap, arith, append_assoc}
+use Rattle.std.proofs.Common.{append-nil, ◌≤◌}
 use Rattle.std.specs.Prelude.{replicate}
 use Rattle.std.specs.List.{flat_map, range_with_len}
 
@@ -8,7 +9,8 @@ pub more : (t s u p q : List ℕ) → s ≡ t ++ p → u ≡ s ++ q → u ≡ t 
 more t s u p q before now = now ∙ ap (λ x. x ++ q) before ∙ append_assoc t p q
 
 -- one more space of n
-pub more_spaces : (s all : List ℕ) (i n : ℕ) → i < n → s ++ replicate (n - i) 32 ≡ all → (s ++ 32 ∷ []) ++ replicate (n - (i + 1)) 32 ≡ all
+pub more_spaces : (s all : List ℕ) (i n : ℕ) → i < n → s ++ replicate (n - i) 32 ≡ all
+    → (s ++ 32 ∷ []) ++ replicate (n - (i + 1)) 32 ≡ all
 more_spaces s all i n below is =
     let left : n - i ≡ suc (n - (i + 1)) = omega arith in
     append_assoc s (32 ∷ []) (replicate (n - (i + 1)) 32) ∙ ap (λ k. s ++ replicate k 32) (sym left) ∙ is

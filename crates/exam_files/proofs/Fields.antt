@@ -1,5 +1,6 @@
 -- Fields that csv writes as they are.
-use Rattle.std.proofs.Common.{◌≡◌, ◌<◌, ◌^◌, ◌+◌, ◌-◌, ◌*◌, ◌&&◌, ℕ, List, [], ◌∷◌, ◌++◌, Bool, true, false, codes, fold, refl, arith, rules, append_assoc}
+use Rattle.std.proofs.Common.{◌≡◌, ◌<◌, ◌^◌, ◌+◌, ◌-◌, ◌*◌, ◌&&◌, ℕ, List, [], ◌∷◌, ◌++◌, Bool, true, false, codes}
+use Rattle.std.proofs.Common.{fold, refl, arith, rules, append_assoc}
 use Rattle.std.specs.List.{list_all}
 use Rattle.std.specs.Fmt.{decimal}
 use Rattle.std.proofs.lemmas.Fmt.{digits_decimal}
@@ -15,7 +16,8 @@ both true b e = (refl, e)
 both false b e = cc e
 
 -- what one test lets through, another does
-pub all_pass : (p q : ℕ → Bool) → ((b : ℕ) → p b ≡ true → q b ≡ true) → (bytes : List ℕ) → list_all p bytes ≡ true → list_all q bytes ≡ true
+pub all_pass : (p q : ℕ → Bool) → ((b : ℕ) → p b ≡ true → q b ≡ true) → (bytes : List ℕ) → list_all p bytes ≡ true
+    → list_all q bytes ≡ true
 all_pass p q one [] all = refl
 all_pass p q one (b ∷ rest) all =
     let parts = both (p b) (list_all p rest) all in
@@ -38,11 +40,13 @@ digit_dashed : (b : ℕ) → is_digit b ≡ true → is_dashed b ≡ true
 digit_dashed b is = grind arith
 
 -- a code has only bytes of its alphabet
-pub all_allowed : (allowed : ℕ → Bool) (low high : ℕ) (code : List ℕ) → is_code allowed low high code ≡ true → list_all allowed code ≡ true
+pub all_allowed : (allowed : ℕ → Bool) (low high : ℕ) (code : List ℕ) → is_code allowed low high code ≡ true
+    → list_all allowed code ≡ true
 all_allowed allowed low high code is = (both _ (list_all allowed code) is).1
 
 pub hall_dashed : (code : List ℕ) → is_hall_code code ≡ true → list_all is_dashed code ≡ true
-hall_dashed code is = all_pass is_capital_or_digit is_dashed capital_dashed code (all_allowed is_capital_or_digit 1 8 code is)
+hall_dashed code is =
+    all_pass is_capital_or_digit is_dashed capital_dashed code (all_allowed is_capital_or_digit 1 8 code is)
 
 pub number_dashed : (n : ℕ) → list_all is_dashed (number_text n) ≡ true
 unfolding number_text
@@ -56,7 +60,8 @@ pub desk_dashed : (n : ℕ) → n < 2 ^ 64 → list_all is_dashed (decimal n) �
 desk_dashed n small = all_pass is_digit is_dashed digit_dashed (decimal n) (digits_decimal own n small)
 
 -- a record of five such fields is these, joined by commas
-pub joined : (a b c d e : List ℕ) → needs_quotes default_writer a ≡ false → needs_quotes default_writer b ≡ false → needs_quotes default_writer c ≡ false
+pub joined : (a b c d e : List ℕ) → needs_quotes default_writer a ≡ false → needs_quotes default_writer b ≡ false
+    → needs_quotes default_writer c ≡ false
     → needs_quotes default_writer d ≡ false → needs_quotes default_writer e ≡ false
     → row_text default_writer (a ∷ b ∷ c ∷ d ∷ e ∷ [])
     ≡ a ++ codes "," ++ b ++ codes "," ++ c ++ codes "," ++ d ++ codes "," ++ e ++ codes "\n"

@@ -10,8 +10,10 @@ use Rattle.exam_files.specs.declared.sheet_fault.SheetFault.{SheetFault}
 use Rattle.exam_files.specs.declared.sheet_fault.SheetFault.TheVariants.{Refused, Write}
 
 -- the text was sent
-pub written : {W : Type 0} (contents : W → Option (List ℕ)) (r : Result (Unit {0}) SheetFault) (old new : W) (text : List ℕ) (sheet : Result (List ℕ) Refusal) → sheet ≡ Ok text
-    → OnOk r (Appends (contents old) (contents new) text) → OnErr r (AppendsPart (contents old) (contents new) text) → IfErr r (λ e. e ≡ Write)
+pub written : {W : Type 0} (contents : W → Option (List ℕ)) (r : Result (Unit {0}) SheetFault) (old new : W)
+    (text : List ℕ) (sheet : Result (List ℕ) Refusal) → sheet ≡ Ok text
+    → OnOk r (Appends (contents old) (contents new) text) → OnErr r (AppendsPart (contents old) (contents new) text)
+    → IfErr r (λ e. e ≡ Write)
     → Writes contents r old new sheet
 written contents (Ok done) old new text sheet is ok err fault = (text, is, ok)
 written contents (Err (Refused e)) old new text sheet is ok err fault = cc fault
@@ -23,4 +25,5 @@ pub unsent : {W : Type 0} (contents : W → Option (List ℕ)) (w : W) (r : Resu
     → IsErrAnd r (λ fault. fault ≡ Refused refusal) → refusal ≡ NoMemory → sheet ≡ Ok text
     → Writes contents r w w sheet
 unsent contents w (Ok done) refusal text sheet given memory is = absurd given
-unsent contents w (Err fault) refusal text sheet given memory is = subst (λ (f : SheetFault). Writes contents (Err f) w w sheet) (sym given) (refl, inl (memory, (text, is)))
+unsent contents w (Err fault) refusal text sheet given memory is =
+    subst (λ (f : SheetFault). Writes contents (Err f) w w sheet) (sym given) (refl, inl (memory, (text, is)))

@@ -1,5 +1,6 @@
 -- The text of a door list.
-use Rattle.std.specs.Prelude.{ℕ, Bool, false, List, [], ◌++◌, Option, Some, None, Result, Err, ◌==◌, ◌&&◌, nat_eq, codes, count_by, if◌then◌else◌}
+use Rattle.std.specs.Prelude.{ℕ, Bool, false, List, [], ◌++◌, Option, Some, None, Result, Err, ◌==◌, ◌&&◌, nat_eq}
+use Rattle.std.specs.Prelude.{codes, count_by, if◌then◌else◌}
 use Rattle.std.specs.Cmp.Lexicographic.{pointwise}
 use Rattle.std.specs.Fmt.{decimal}
 use Rattle.std.specs.Option.{ok_or}

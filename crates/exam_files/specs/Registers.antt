@@ -1,5 +1,6 @@
 -- The text of an appeal register.
-use Rattle.std.specs.Prelude.{◌≡◌, ◌⊎◌, ◌≤◌, ⊤, ℕ, IsTrue, List, ◌++◌, length, drop, codes, Option, Result, Ok, Err}
+use Rattle.std.specs.Prelude.{◌≡◌, ◌⊎◌, ◌≤◌, ⊤, ℕ, IsTrue, List, [], ◌∷◌, ◌++◌, length}
+use Rattle.std.specs.Prelude.{drop, codes, Option, Result, Ok, Err}
 use Rattle.std.specs.Fmt.{decimal}
 use Rattle.std.specs.List.{flat_map}
 use Rattle.exam_views.specs.declared.view.AppealRow.{AppealRow}
@@ -39,6 +40,17 @@ appeal_register view = register_text view.code view.appeals
 abbrev pub Streams : {W : Type 0} → (W → Option (List ℕ)) → Result (Unit {0}) SheetFault → W → W → List ℕ → Type 0
 Streams contents (Ok done) old new text = Appends (contents old) (contents new) text
 Streams contents (Err fault) old new text = AppendsBeginning (contents old) (contents new) text
+
+-- the first of the appeals to come was taken, and its line written
+abbrev pub SendsNext : List AppealRow → List AppealRow → Option (List ℕ) → Option (List ℕ) → Type 0
+SendsNext coming later before after =
+    (row : AppealRow) × (coming ≡ row ∷ later) × Appends before after (appeal_line row)
+
+-- nothing was written, or the first of the appeals to come was taken and a beginning of its line written
+abbrev pub StopsAtNext : List AppealRow → List AppealRow → Option (List ℕ) → Option (List ℕ) → Type 0
+StopsAtNext coming later before after =
+    Appends before after []
+    ⊎ ((row : AppealRow) × (coming ≡ row ∷ later) × AppendsBeginning before after (appeal_line row))
 
 -- Why a register that is written line by line breaks off: writing failed, memory ran out, the source refused, or it
 -- ended before the count.

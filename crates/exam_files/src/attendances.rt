@@ -1,9 +1,9 @@
 //! The attendance sheet of a paper.
-ghost use Rattle.std.specs.Prelude.{◌≡◌, ◌++◌, OnOk, IfOk, IfErr, count_by};
+ghost use Rattle.std.specs.Prelude.{◌≡◌, ◌++◌, OnOk, IfOk, count_by};
 ghost use Rattle.std.specs.List.{flat_map};
+ghost use Rattle.exam_types.specs.Refusals.{OnlyMemory};
 ghost use Rattle.exam_files.specs.Attendances as spec;
 ghost use Rattle.exam_files.specs.Writing.{Writes};
-ghost use Rattle.exam_types.specs.declared.refusal.Refusal.TheVariants.{NoMemory};
 
 use crate::sending::send;
 use crate::sheet_fault::SheetFault;
@@ -50,7 +50,7 @@ fn attendance_text(
 ) -> Result<Vec<u8>, Refusal>
     ensures ok { IfOk result (λ text. text.items
         ≡ spec.attendance_text code session paper.now seats.now) }
-    ensures memory { IfErr result (λ e. e ≡ NoMemory) }
+    ensures memory { OnlyMemory result }
 {
     let mut text = Vec::new(alloc);
     push_heading(&mut text, code, session, paper, sitters(seats, paper))?;
@@ -74,7 +74,7 @@ fn push_heading(
 ) -> Result<(), Refusal>
     ensures ok { OnOk result (text.new.items
         ≡ text.old.items ++ spec.attendance_heading code session paper.now count) }
-    ensures memory { IfErr result (λ e. e ≡ NoMemory) }
+    ensures memory { OnlyMemory result }
 {
     push_bytes(text, b"ATTENDANCE session ")?;
     code.write_to(text)?;
@@ -94,7 +94,7 @@ fn push_heading(
 fn push_lines(text: &mut Vec<u8>, seats: &[Seat], paper: &PaperCode) -> Result<(), Refusal>
     ensures ok { OnOk result (text.new.items
         ≡ text.old.items ++ flat_map (spec.line_for paper.now) seats.now) }
-    ensures memory { IfErr result (λ e. e ≡ NoMemory) }
+    ensures memory { OnlyMemory result }
 {
     for seat in seats {
         if seat.paper == *paper {
@@ -106,7 +106,7 @@ fn push_lines(text: &mut Vec<u8>, seats: &[Seat], paper: &PaperCode) -> Result<(
 
 fn push_line(text: &mut Vec<u8>, seat: &Seat) -> Result<(), Refusal>
     ensures ok { OnOk result (text.new.items ≡ text.old.items ++ spec.attendance_line seat.now) }
-    ensures memory { IfErr result (λ e. e ≡ NoMemory) }
+    ensures memory { OnlyMemory result }
 {
     seat.number.write_to(text)?;
     push_bytes(text, b" ")?;

@@ -1,9 +1,9 @@
 //! The clash list of a session.
-ghost use Rattle.std.specs.Prelude.{◌≡◌, ◌++◌, Ok, OnOk, IfOk, IfErr};
+ghost use Rattle.std.specs.Prelude.{◌≡◌, ◌++◌, Ok, OnOk, IfOk};
 ghost use Rattle.std.specs.List.{flat_map};
+ghost use Rattle.exam_types.specs.Refusals.{OnlyMemory};
 ghost use Rattle.exam_files.specs.Clashes as spec;
 ghost use Rattle.exam_files.specs.Writing.{Writes};
-ghost use Rattle.exam_types.specs.declared.refusal.Refusal.TheVariants.{NoMemory};
 
 use crate::sending::send;
 use crate::sheet_fault::SheetFault;
@@ -35,7 +35,7 @@ fn clash_text(
     clashes: &[Clash],
 ) -> Result<Vec<u8>, Refusal>
     ensures ok { IfOk result (λ text. text.items ≡ spec.clash_text code session clashes.now) }
-    ensures memory { IfErr result (λ e. e ≡ NoMemory) }
+    ensures memory { OnlyMemory result }
 {
     let mut text = Vec::new(alloc);
     push_heading(&mut text, code, session, clashes.len())?;
@@ -50,7 +50,7 @@ fn push_heading(
     count: usize,
 ) -> Result<(), Refusal>
     ensures ok { OnOk result (text.new.items ≡ text.old.items ++ spec.clash_heading code session count) }
-    ensures memory { IfErr result (λ e. e ≡ NoMemory) }
+    ensures memory { OnlyMemory result }
 {
     push_bytes(text, b"CLASHES session ")?;
     code.write_to(text)?;
@@ -64,7 +64,7 @@ fn push_heading(
 
 fn push_clashes(text: &mut Vec<u8>, clashes: &[Clash]) -> Result<(), Refusal>
     ensures ok { OnOk result (text.new.items ≡ text.old.items ++ flat_map spec.clash_line clashes.now) }
-    ensures memory { IfErr result (λ e. e ≡ NoMemory) }
+    ensures memory { OnlyMemory result }
 {
     for clash in clashes {
         push_line(text, clash)?;
@@ -74,7 +74,7 @@ fn push_clashes(text: &mut Vec<u8>, clashes: &[Clash]) -> Result<(), Refusal>
 
 fn push_line(text: &mut Vec<u8>, clash: &Clash) -> Result<(), Refusal>
     ensures ok { OnOk result (text.new.items ≡ text.old.items ++ spec.clash_line clash.now) }
-    ensures memory { IfErr result (λ e. e ≡ NoMemory) }
+    ensures memory { OnlyMemory result }
 {
     clash.number.write_to(text)?;
     push_bytes(text, b" sits ")?;

@@ -1,9 +1,9 @@
 //! The door list of a hall.
-ghost use Rattle.std.specs.Prelude.{◌≡◌, ◌++◌, ◌⊎◌, ℕ, List, Ok, Err, OnOk, IfOk, IfErr, count_by};
+ghost use Rattle.std.specs.Prelude.{◌≡◌, ◌++◌, ◌⊎◌, ℕ, List, Ok, Err, OnOk, IfOk, count_by};
 ghost use Rattle.std.specs.List.{flat_map};
+ghost use Rattle.exam_types.specs.Refusals.{OnlyMemory};
 ghost use Rattle.exam_files.specs.Doors as spec;
 ghost use Rattle.exam_files.specs.Writing.{Writes};
-ghost use Rattle.exam_types.specs.declared.refusal.Refusal.TheVariants.{NoMemory};
 
 use crate::sending::send;
 use crate::sheet_fault::SheetFault;
@@ -50,7 +50,7 @@ fn door_list_text(
 ) -> Result<Vec<u8>, Refusal>
     ensures ok { IfOk result (λ text. text.items
         ≡ spec.door_text code session hall.now opening.now seats.now) }
-    ensures memory { IfErr result (λ e. e ≡ NoMemory) }
+    ensures memory { OnlyMemory result }
 {
     let mut text = Vec::new(alloc);
     push_heading(&mut text, code, session, hall, opening, seats)?;
@@ -70,7 +70,7 @@ fn push_heading(
 ) -> Result<(), Refusal>
     ensures ok { OnOk result (text.new.items
         ≡ text.old.items ++ spec.door_heading code session hall.now opening.now seats.now) }
-    ensures memory { IfErr result (λ e. e ≡ NoMemory) }
+    ensures memory { OnlyMemory result }
 {
     push_bytes(text, b"DOOR LIST session ")?;
     code.write_to(text)?;
@@ -99,7 +99,7 @@ fn seated(seats: &[Seat], hall: &HallCode) -> usize
 fn push_desk(text: &mut Vec<u8>, seats: &[Seat], hall: &HallCode, desk: u32) -> Result<(), Refusal>
     ensures ok { OnOk result (text.new.items
         ≡ text.old.items ++ flat_map (spec.line_at hall.now desk) seats.now) }
-    ensures memory { IfErr result (λ e. e ≡ NoMemory) }
+    ensures memory { OnlyMemory result }
 {
     for seat in seats {
         if sits_in(seat, hall) && has_desk(seat, desk) {
@@ -111,7 +111,7 @@ fn push_desk(text: &mut Vec<u8>, seats: &[Seat], hall: &HallCode, desk: u32) -> 
 
 fn push_line(text: &mut Vec<u8>, seat: &Seat, desk: u32) -> Result<(), Refusal>
     ensures ok { OnOk result (text.new.items ≡ text.old.items ++ spec.door_line desk seat.now) }
-    ensures memory { IfErr result (λ e. e ≡ NoMemory) }
+    ensures memory { OnlyMemory result }
 {
     push_right(text, 4, desk)?;
     push_bytes(text, b" ")?;

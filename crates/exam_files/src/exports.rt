@@ -1,10 +1,10 @@
 //! The seat export of a session.
-ghost use Rattle.std.specs.Prelude.{◌≡◌, ◌++◌, ℕ, List, Ok, OnOk, IfOk, IfErr, map};
+ghost use Rattle.std.specs.Prelude.{◌≡◌, ◌++◌, ℕ, List, Ok, OnOk, IfOk, map};
 ghost use Rattle.csv.specs.Writing.{default_writer, row_text};
+ghost use Rattle.exam_types.specs.Refusals.{OnlyMemory};
 ghost use Rattle.exam_files.specs.Exports as spec;
 ghost use Rattle.exam_files.specs.Held.{Holds};
 ghost use Rattle.exam_files.specs.Writing.{Writes};
-ghost use Rattle.exam_types.specs.declared.refusal.Refusal.TheVariants.{NoMemory};
 
 use crate::sending::send;
 use crate::sheet_fault::SheetFault;
@@ -34,7 +34,7 @@ pub fn export_seats<W: Write>(
 /// Makes the whole text in memory, so that nothing is written if memory runs out.
 fn export_text(alloc: Global, code: SessionCode, seats: &[Seat]) -> Result<Vec<u8>, Refusal>
     ensures ok { IfOk result (λ text. text.items ≡ spec.export_text code seats.now) }
-    ensures memory { IfErr result (λ e. e ≡ NoMemory) }
+    ensures memory { OnlyMemory result }
 {
     let mut records = Writer::from_writer(Vec::new(alloc));
     write_record(
@@ -56,7 +56,7 @@ fn write_seat(
 ) -> Result<(), Refusal>
     ensures ok { (bytes : List ℕ) → Holds records.old bytes
         → OnOk result (Holds records.new (bytes ++ spec.export_line code.now seat.now)) }
-    ensures memory { IfErr result (λ e. e ≡ NoMemory) }
+    ensures memory { OnlyMemory result }
 {
     let mut number = Vec::new(alloc);
     seat.number.write_to(&mut number)?;
@@ -77,7 +77,7 @@ fn write_seat(
 fn write_record(records: &mut Writer<Vec<u8>>, fields: &[&[u8]]) -> Result<(), Refusal>
     ensures ok { (bytes : List ℕ) → Holds records.old bytes → OnOk result (Holds records.new
         (bytes ++ row_text default_writer (map (λ field. field.now) fields.now))) }
-    ensures memory { IfErr result (λ e. e ≡ NoMemory) }
+    ensures memory { OnlyMemory result }
 {
     records.write_fields(fields).map_err(|_| Refusal::NoMemory)
 }

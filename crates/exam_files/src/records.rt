@@ -1,10 +1,10 @@
 //! The records of a file (RFC 4180, section 2), as the CSV reader finds them.
-ghost use Rattle.std.specs.Prelude.{◌≡◌, ℕ, List, Some, IsTrue, IfOk, IfErr};
+ghost use Rattle.std.specs.Prelude.{◌≡◌, ℕ, List, Some, IsTrue, IfOk};
 ghost use Rattle.csv.specs.Reading.{default_config, is_flexible, records, strip_bom};
 ghost use Rattle.csv.specs.Records.{fields_of};
+ghost use Rattle.exam_types.specs.Refusals.{OnlyMemory};
 ghost use Rattle.exam_files.specs.Left.{Leaves, StepsBy};
 ghost use Rattle.exam_files.specs.ImportFiles as spec;
-ghost use Rattle.exam_types.specs.declared.refusal.Refusal.TheVariants.{NoMemory};
 
 use csv::{ByteRecord, Reader, ReaderBuilder};
 use exam_types::Refusal;
@@ -27,7 +27,7 @@ pub fn reader_of(alloc: Global, bytes: &[u8]) -> Reader<&[u8]>
 pub fn take_record<R: Read>(reader: &mut Reader<R>, row: &mut ByteRecord) -> Result<bool, Refusal>
     ensures steps { IfOk result (λ found. (rs : List (List (List ℕ))) → Leaves R.remaining reader.old rs
         → StepsBy R.remaining found row.new reader.new rs) }
-    ensures memory { IfErr result (λ e. e ≡ NoMemory) }
+    ensures memory { OnlyMemory result }
 {
     reader.read_byte_record(row).map_err(|_| Refusal::NoMemory)
 }

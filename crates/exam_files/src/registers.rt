@@ -1,9 +1,9 @@
 //! The appeal register of a session.
-ghost use Rattle.std.specs.Prelude.{◌≡◌, ◌++◌, Ok, OnOk, IfOk, IfErr};
+ghost use Rattle.std.specs.Prelude.{◌≡◌, ◌++◌, Ok, OnOk, IfOk};
 ghost use Rattle.std.specs.List.{flat_map};
+ghost use Rattle.exam_types.specs.Refusals.{OnlyMemory};
 ghost use Rattle.exam_files.specs.Registers as spec;
 ghost use Rattle.exam_files.specs.Writing.{Writes};
-ghost use Rattle.exam_types.specs.declared.refusal.Refusal.TheVariants.{NoMemory};
 
 use crate::sending::send;
 use crate::sheet_fault::SheetFault;
@@ -33,7 +33,7 @@ fn register_text(
     appeals: &[AppealRow],
 ) -> Result<Vec<u8>, Refusal>
     ensures ok { IfOk result (λ text. text.items ≡ spec.register_text code appeals.now) }
-    ensures memory { IfErr result (λ e. e ≡ NoMemory) }
+    ensures memory { OnlyMemory result }
 {
     let mut text = Vec::new(alloc);
     push_heading(&mut text, code, appeals.len())?;
@@ -47,7 +47,7 @@ pub(crate) fn push_heading(
     count: usize,
 ) -> Result<(), Refusal>
     ensures ok { OnOk result (text.new.items ≡ text.old.items ++ spec.register_heading code count) }
-    ensures memory { IfErr result (λ e. e ≡ NoMemory) }
+    ensures memory { OnlyMemory result }
 {
     push_bytes(text, b"APPEALS session ")?;
     code.write_to(text)?;
@@ -59,7 +59,7 @@ pub(crate) fn push_heading(
 
 fn push_appeals(text: &mut Vec<u8>, appeals: &[AppealRow]) -> Result<(), Refusal>
     ensures ok { OnOk result (text.new.items ≡ text.old.items ++ flat_map spec.appeal_line appeals.now) }
-    ensures memory { IfErr result (λ e. e ≡ NoMemory) }
+    ensures memory { OnlyMemory result }
 {
     for appeal in appeals {
         push_line(text, appeal)?;
@@ -69,7 +69,7 @@ fn push_appeals(text: &mut Vec<u8>, appeals: &[AppealRow]) -> Result<(), Refusal
 
 pub(crate) fn push_line(text: &mut Vec<u8>, appeal: &AppealRow) -> Result<(), Refusal>
     ensures ok { OnOk result (text.new.items ≡ text.old.items ++ spec.appeal_line appeal.now) }
-    ensures memory { IfErr result (λ e. e ≡ NoMemory) }
+    ensures memory { OnlyMemory result }
 {
     appeal.number.write_to(text)?;
     push_bytes(text, b" ")?;

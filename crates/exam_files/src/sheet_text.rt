@@ -1,11 +1,11 @@
 //! Pieces of a sheet's text.
-ghost use Rattle.std.specs.Prelude.{◌≡◌, ◌++◌, OnOk, IfErr, IsTrue, replicate};
+ghost use Rattle.std.specs.Prelude.{◌≡◌, ◌++◌, OnOk, IsTrue, replicate};
 ghost use Rattle.std.specs.List.{list_all};
 ghost use Rattle.std.specs.Fmt.{decimal};
 ghost use Rattle.exam_files.specs.Padding.{left_in, right_in};
 ghost use Rattle.exam_files.specs.Places.{hall_word, desk_word};
 ghost use Rattle.exam_types.specs.Codes.{is_dashed};
-ghost use Rattle.exam_types.specs.declared.refusal.Refusal.TheVariants.{NoMemory};
+ghost use Rattle.exam_types.specs.Refusals.{OnlyMemory};
 
 use exam_types::{HallCode, Refusal};
 use itoa::{Buffer, Integer};
@@ -13,7 +13,7 @@ use itoa::{Buffer, Integer};
 /// Appends the bytes.
 pub fn push_bytes(text: &mut Vec<u8>, bytes: &[u8]) -> Result<(), Refusal>
     ensures ok { OnOk result (text.new.items ≡ text.old.items ++ bytes.now) }
-    ensures memory { IfErr result (λ e. e ≡ NoMemory) }
+    ensures memory { OnlyMemory result }
 {
     Ok(text.extend_from_slice(bytes)?)
 }
@@ -21,7 +21,7 @@ pub fn push_bytes(text: &mut Vec<u8>, bytes: &[u8]) -> Result<(), Refusal>
 /// Appends a number in decimal.
 pub fn push_decimal<I: Integer>(text: &mut Vec<u8>, number: I) -> Result<(), Refusal>
     ensures ok { OnOk result (text.new.items ≡ text.old.items ++ I.text number) }
-    ensures memory { IfErr result (λ e. e ≡ NoMemory) }
+    ensures memory { OnlyMemory result }
 {
     let mut buffer = Buffer::new();
     push_bytes(text, buffer.format(number).as_bytes())
@@ -30,7 +30,7 @@ pub fn push_decimal<I: Integer>(text: &mut Vec<u8>, number: I) -> Result<(), Ref
 /// Appends a number in decimal, with spaces on the left up to the width.
 pub fn push_right(text: &mut Vec<u8>, width: usize, number: u32) -> Result<(), Refusal>
     ensures ok { OnOk result (text.new.items ≡ text.old.items ++ right_in width (decimal number)) }
-    ensures memory { IfErr result (λ e. e ≡ NoMemory) }
+    ensures memory { OnlyMemory result }
 {
     let mut buffer = Buffer::new();
     push_word_right(text, width, buffer.format(number).as_bytes())
@@ -39,7 +39,7 @@ pub fn push_right(text: &mut Vec<u8>, width: usize, number: u32) -> Result<(), R
 /// Appends a word, with spaces on the left up to the width.
 fn push_word_right(text: &mut Vec<u8>, width: usize, word: &[u8]) -> Result<(), Refusal>
     ensures ok { OnOk result (text.new.items ≡ text.old.items ++ right_in width word.now) }
-    ensures memory { IfErr result (λ e. e ≡ NoMemory) }
+    ensures memory { OnlyMemory result }
 {
     push_spaces(text, width.saturating_sub(word.len()))?;
     push_bytes(text, word)?;
@@ -49,7 +49,7 @@ fn push_word_right(text: &mut Vec<u8>, width: usize, word: &[u8]) -> Result<(), 
 /// Appends the desk number, or a dash if there is none, with spaces on the left up to the width.
 pub fn push_desk(text: &mut Vec<u8>, width: usize, desk: Option<u32>) -> Result<(), Refusal>
     ensures ok { OnOk result (text.new.items ≡ text.old.items ++ right_in width (desk_word desk)) }
-    ensures memory { IfErr result (λ e. e ≡ NoMemory) }
+    ensures memory { OnlyMemory result }
 {
     let mut buffer = Buffer::new();
     push_word_right(text, width, desk_bytes(&mut buffer, desk))
@@ -80,7 +80,7 @@ pub fn hall_bytes(hall: &Option<HallCode>) -> &[u8]
 /// Appends the bytes, with spaces on the right up to the width.
 pub fn push_left(text: &mut Vec<u8>, width: usize, bytes: &[u8]) -> Result<(), Refusal>
     ensures ok { OnOk result (text.new.items ≡ text.old.items ++ left_in width bytes.now) }
-    ensures memory { IfErr result (λ e. e ≡ NoMemory) }
+    ensures memory { OnlyMemory result }
 {
     push_bytes(text, bytes)?;
     push_spaces(text, width.saturating_sub(bytes.len()))?;
@@ -89,7 +89,7 @@ pub fn push_left(text: &mut Vec<u8>, width: usize, bytes: &[u8]) -> Result<(), R
 
 fn push_spaces(text: &mut Vec<u8>, count: usize) -> Result<(), Refusal>
     ensures ok { OnOk result (text.new.items ≡ text.old.items ++ replicate count 32) }
-    ensures memory { IfErr result (λ e. e ≡ NoMemory) }
+    ensures memory { OnlyMemory result }
 {
     for _space in 0..count {
         text.push(b' ')?;

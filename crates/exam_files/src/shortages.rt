@@ -1,10 +1,10 @@
 //! The shortage sheet.
-ghost use Rattle.std.specs.Prelude.{◌≡◌, ◌++◌, Ok, OnOk, IfOk, IfErr, sum_by};
+ghost use Rattle.std.specs.Prelude.{◌≡◌, ◌++◌, Ok, OnOk, IfOk, sum_by};
 ghost use Rattle.std.specs.List.{flat_map};
+ghost use Rattle.exam_types.specs.Refusals.{OnlyMemory};
 ghost use Rattle.exam_views.specs.Views.{Report, ShowsShortage, report_of};
 ghost use Rattle.exam_files.specs.Shortages as spec;
 ghost use Rattle.exam_files.specs.Writing.{Writes};
-ghost use Rattle.exam_types.specs.declared.refusal.Refusal.TheVariants.{NoMemory};
 
 use crate::sending::send;
 use crate::sheet_fault::SheetFault;
@@ -37,7 +37,7 @@ fn shortage_text(
     shortage: &SessionShortage,
 ) -> Result<Vec<u8>, Refusal>
     ensures ok { IfOk result (λ text. text.items ≡ spec.shortage_text session (report_of shortage.now)) }
-    ensures memory { IfErr result (λ e. e ≡ NoMemory) }
+    ensures memory { OnlyMemory result }
 {
     let mut text = Vec::new(alloc);
     push_heading(&mut text, session, shortage)?;
@@ -56,7 +56,7 @@ fn push_heading(
 ) -> Result<(), Refusal>
     ensures ok { OnOk result (text.new.items
         ≡ text.old.items ++ spec.shortage_heading session (report_of shortage.now)) }
-    ensures memory { IfErr result (λ e. e ≡ NoMemory) }
+    ensures memory { OnlyMemory result }
 {
     push_bytes(text, b"SHORTAGE session ")?;
     session.write_to(text)?;
@@ -83,7 +83,7 @@ fn desk_count(halls: &[(HallCode, u32)]) -> u128
 
 fn push_halls(text: &mut Vec<u8>, halls: &[(HallCode, u32)]) -> Result<(), Refusal>
     ensures ok { OnOk result (text.new.items ≡ text.old.items ++ flat_map spec.hall_line halls.now) }
-    ensures memory { IfErr result (λ e. e ≡ NoMemory) }
+    ensures memory { OnlyMemory result }
 {
     for hall in halls {
         push_hall(text, hall)?;
@@ -93,7 +93,7 @@ fn push_halls(text: &mut Vec<u8>, halls: &[(HallCode, u32)]) -> Result<(), Refus
 
 fn push_hall(text: &mut Vec<u8>, hall: &(HallCode, u32)) -> Result<(), Refusal>
     ensures ok { OnOk result (text.new.items ≡ text.old.items ++ spec.hall_line hall.now) }
-    ensures memory { IfErr result (λ e. e ≡ NoMemory) }
+    ensures memory { OnlyMemory result }
 {
     push_bytes(text, b"hall ")?;
     hall.0.write_to(text)?;
@@ -105,7 +105,7 @@ fn push_hall(text: &mut Vec<u8>, hall: &(HallCode, u32)) -> Result<(), Refusal>
 
 fn push_candidates(text: &mut Vec<u8>, numbers: &[Number]) -> Result<(), Refusal>
     ensures ok { OnOk result (text.new.items ≡ text.old.items ++ flat_map spec.candidate_line numbers.now) }
-    ensures memory { IfErr result (λ e. e ≡ NoMemory) }
+    ensures memory { OnlyMemory result }
 {
     for number in numbers {
         push_candidate(text, *number)?;
@@ -115,7 +115,7 @@ fn push_candidates(text: &mut Vec<u8>, numbers: &[Number]) -> Result<(), Refusal
 
 fn push_candidate(text: &mut Vec<u8>, number: Number) -> Result<(), Refusal>
     ensures ok { OnOk result (text.new.items ≡ text.old.items ++ spec.candidate_line number) }
-    ensures memory { IfErr result (λ e. e ≡ NoMemory) }
+    ensures memory { OnlyMemory result }
 {
     number.write_to(text)?;
     push_bytes(text, b"\n")?;

@@ -1,8 +1,5 @@
 //! The appeal register of a session, from a source that gives the appeals one by one.
-ghost use Rattle.std.specs.Prelude.{◌≡◌, ◌⊎◌, ◌∷◌, ◌++◌, ◌<◌, ◌≤◌, [], length, drop, OnOk, OnErr, IfErr};
-ghost use Rattle.std.specs.Io.KnownBytes.{Appends};
-ghost use Rattle.exam_send.specs.Sending.{AppendsBeginning};
-ghost use Rattle.exam_views.specs.declared.view.AppealRow.{AppealRow as Row};
+ghost use Rattle.std.specs.Prelude.{◌≡◌, ◌<◌, ◌≤◌, [], length, drop, OnOk, OnErr, IfErr};
 ghost use Rattle.exam_files.specs.Registers as spec;
 
 use crate::registers::{push_heading, push_line};
@@ -64,13 +61,10 @@ fn send_next<A: AppealSource, W: Write>(
     source: &mut A,
     writer: &mut W,
 ) -> Result<(), SheetFault>
-    ensures ok { A.IsHonest source.new → OnOk result ((row : Row)
-        × (A.coming source.old ≡ row ∷ A.coming source.new)
-        × Appends (W.contents writer.old) (W.contents writer.new) (spec.appeal_line row)) }
-    ensures err { A.IsHonest source.new → OnErr result (
-        Appends (W.contents writer.old) (W.contents writer.new) []
-        ⊎ ((row : Row) × (A.coming source.old ≡ row ∷ A.coming source.new)
-        × AppendsBeginning (W.contents writer.old) (W.contents writer.new) (spec.appeal_line row))) }
+    ensures ok { A.IsHonest source.new → OnOk result (spec.SendsNext (A.coming source.old)
+        (A.coming source.new) (W.contents writer.old) (W.contents writer.new)) }
+    ensures err { A.IsHonest source.new → OnErr result (spec.StopsAtNext (A.coming source.old)
+        (A.coming source.new) (W.contents writer.old) (W.contents writer.new)) }
     ensures honest { A.IsHonest source.new → A.IsHonest source.old }
     ensures asked { A.IsHonest source.new → IfErr result (
         spec.AsksFor 1 (A.Refuses source.new) (A.coming source.old) (A.coming source.new)) }

@@ -43,38 +43,46 @@ shown body None first second a b = absurd a
 shown body (Some rows) first second a b = inr (inr (a ∙ sym b))
 
 -- equal replies have equal answers
-replied : (a : Result Reply Refusal) (first second : Told) → TellsReply a first → TellsReply a second → AreAlike first second
+replied : (a : Result Reply Refusal) (first second : Told) → TellsReply a first → TellsReply a second
+    → AreAlike first second
 replied (Ok r) first second a b = inr (inr (a ∙ sym b))
 replied (Err e) first second a b = inr (inr (a ∙ sym b))
 
 -- ---- a command
 
 -- it is its step, or a refusal of the store
-stepped : (done : Command) (today : ℕ) (before after : State) (a : Result Reply Refusal) → MayApply done today before a after
+stepped : (done : Command) (today : ℕ) (before after : State) (a : Result Reply Refusal)
+    → MayApply done today before a after
     → ((end : State) × Step done today before a end) ⊎ ((e : Refusal) × (a ≡ Err e) × IsTrue (is_store_refusal e))
 stepped done today before after (Ok r) may = inl (after, may)
 stepped done today before after (Err e) (same, inl step) = inl (before, step)
 stepped done today before after (Err e) (same, inr is) = inr (e, refl, is)
 
-told_failure : (a : Result Reply Refusal) (e : Refusal) (told : Told) → a ≡ Err e → IsTrue (is_store_refusal e) → TellsReply a told → IsFailure told
+told_failure : (a : Result Reply Refusal) (e : Refusal) (told : Told) → a ≡ Err e → IsTrue (is_store_refusal e)
+    → TellsReply a told → IsFailure told
 told_failure a e told at is tells = failed e told is (subst (λ r. TellsReply r told) at tells)
 
 -- own rows are equal at an equal number
-at_number : (one other : State) (candidate number : ℕ) → candidate ≡ number → own_of one number ≡ own_of other number → own_of one candidate ≡ own_of other candidate
+at_number : (one other : State) (candidate number : ℕ) → candidate ≡ number → own_of one number ≡ own_of other number
+    → own_of one candidate ≡ own_of other candidate
 at_number one other candidate number is same = subst (λ c. own_of one c ≡ own_of other c) (sym is) same
 
 module _ (one other : State) where
   -- the command answers the same in both offices
   abbrev AnswersSame : Command → ℕ → Type 0
-  AnswersSame done today = (a b : Result Reply Refusal) (end last : State) → Step done today one a end → Step done today other b last → a ≡ b
+  AnswersSame done today = (a b : Result Reply Refusal) (end last : State) → Step done today one a end
+      → Step done today other b last → a ≡ b
 
-  applied : (done : Command) (today : ℕ) (a b : Result Reply Refusal) (one_after other_after : State) (first second : Told) → AnswersSame done today
-      → MayApply done today one a one_after → MayApply done today other b other_after → TellsReply a first → TellsReply b second → AreAlike first second
+  applied : (done : Command) (today : ℕ) (a b : Result Reply Refusal) (one_after other_after : State)
+      (first second : Told) → AnswersSame done today
+      → MayApply done today one a one_after → MayApply done today other b other_after → TellsReply a first
+      → TellsReply b second → AreAlike first second
   applied done today a b one_after other_after first second same may might tells told =
       join (stepped done today one one_after a may) (stepped done today other other_after b might)
     where
       join : ((end : State) × Step done today one a end) ⊎ ((e : Refusal) × (a ≡ Err e) × IsTrue (is_store_refusal e))
-          → ((end : State) × Step done today other b end) ⊎ ((e : Refusal) × (b ≡ Err e) × IsTrue (is_store_refusal e)) → AreAlike first second
+          → ((end : State) × Step done today other b end) ⊎ ((e : Refusal) × (b ≡ Err e) × IsTrue (is_store_refusal e))
+          → AreAlike first second
       join (inr (e, at, is)) either = inl (told_failure a e first at is tells)
       join (inl p) (inr (e, at, is)) = inr (inl (told_failure b e second at is told))
       join (inl (end, step)) (inl (last, next)) =
@@ -82,13 +90,16 @@ module _ (one other : State) where
 
 -- ---- a request
 
-module _ {S T : Type 0} (g : Ghosts S) (h : Ghosts T) (today : ℕ) (request : Request) (one one_after : OfficeIn S) (other other_after : OfficeIn T) (first second : Told)
-    (good : IsGood one.office) (up : IsInOrder one.office) (sound : IsGood other.office) (rise : IsInOrder other.office) where
+module _ {S T : Type 0} (g : Ghosts S) (h : Ghosts T) (today : ℕ) (request : Request) (one one_after : OfficeIn S)
+    (other other_after : OfficeIn T) (first second : Told)
+    (good : IsGood one.office) (up : IsInOrder one.office) (sound : IsGood other.office)
+    (rise : IsInOrder other.office) where
   commanded : (done : Command) → AnswersSame one.office other.office done today
       → DoesCommand g today one done first one_after → DoesCommand h today other done second other_after
       → AreAlike first second
   commanded done same a b =
-      applied one.office other.office done today a.0 b.0 one_after.office other_after.office first second same a.1.step b.1.step a.2 b.2
+      applied one.office other.office done today a.0 b.0 one_after.office other_after.office first second same a.1.step
+      b.1.step a.2 b.2
 
   -- a choice for a number for which both show the same
   own_chosen : (c : Choice) (number : ℕ) → IsBy number c → own_of one.office number ≡ own_of other.office number
@@ -98,10 +109,12 @@ module _ {S T : Type 0} (g : Ghosts S) (h : Ghosts T) (today : ℕ) (request : R
   own_chosen (choice.Refused refused) number is same a b = absurd is
   own_chosen (choice.Show candidate page) number is same a b =
       shown (page_body page) (own_of one.office candidate) first second a.0
-      (subst (λ own. IsSomeAnd own (λ rows. second ≡ ok_told (page_body page rows))) (sym (at_number one.office other.office candidate number is same)) b.0)
+      (subst (λ own. IsSomeAnd own (λ rows. second ≡ ok_told (page_body page rows)))
+      (sym (at_number one.office other.office candidate number is same)) b.0)
   own_chosen (choice.Lodge lodging) number is same a b =
       commanded (command.Lodge lodging)
-      (λ x y end last step next. same_lodging_answer one.office other.office end last today lodging x y good up sound rise (at_number one.office other.office lodging.number number is same) step next)
+      (λ x y end last step next. same_lodging_answer one.office other.office end last today lodging x y good up sound
+      rise (at_number one.office other.office lodging.number number is same) step next)
       a b
   own_chosen (choice.Retract candidate reference) number is same a b =
       commanded (command.Retract candidate reference)
@@ -109,7 +122,8 @@ module _ {S T : Type 0} (g : Ghosts S) (h : Ghosts T) (today : ℕ) (request : R
       today x y good sound (at_number one.office other.office candidate number is same) step next)
       a b
 
-  idle_chosen : (c : Choice) → IsIdle c → Does g today one c first one_after → Does h today other c second other_after → AreAlike first second
+  idle_chosen : (c : Choice) → IsIdle c → Does g today one c first one_after → Does h today other c second other_after
+      → AreAlike first second
   idle_chosen (choice.Fault fault) idle a b = inr (inr (a.0 ∙ sym b.0))
   idle_chosen (choice.OtherMethod route) idle a b = inr (inr (a.0 ∙ sym b.0))
   idle_chosen (choice.Refused refused) idle a b = inr (inr (a.0 ∙ sym b.0))
@@ -117,14 +131,18 @@ module _ {S T : Type 0} (g : Ghosts S) (h : Ghosts T) (today : ℕ) (request : R
   idle_chosen (choice.Lodge lodging) idle a b = absurd idle
   idle_chosen (choice.Retract number reference) idle a b = absurd idle
 
-  chosen : own_named one.office request ≡ own_named other.office request → (c : Choice) → IsIdle c ⊎ Caller one.office request c
+  chosen : own_named one.office request ≡ own_named other.office request → (c : Choice)
+      → IsIdle c ⊎ Caller one.office request c
       → Does g today one c first one_after → Does h today other c second other_after → AreAlike first second
   chosen same c (inl idle) a b = idle_chosen c idle a b
   chosen same c (inr caller) a b =
       own_chosen c caller.rows.number caller.is_by
-      (own_numbered one.office request caller.rows caller.named ∙ sym (own_numbered other.office request caller.rows (sym same ∙ caller.named))) a b
+      (own_numbered one.office request caller.rows caller.named
+      ∙ sym (own_numbered other.office request caller.rows (sym same ∙ caller.named))) a b
 
-  pub alike : own_named one.office request ≡ own_named other.office request → Answers g today one request first one_after → Answers h today other request second other_after → AreAlike first second
+  pub alike : own_named one.office request ≡ own_named other.office request
+      → Answers g today one request first one_after → Answers h today other request second other_after
+      → AreAlike first second
   alike same (inl busy) b = inl (inl busy.0)
   alike same a (inl busy) = inr (inl (inl busy.0))
   alike same (inr a) (inr b) =

@@ -1,5 +1,6 @@
 -- From what a call gives to what is answered.
-use Rattle.std.proofs.Common.{◌≡◌, ◌∙◌, ℕ, List, [], ◌∷◌, ◌++◌, map, Option, None, Some, true, false, refl, ap, sym, subst}
+use Rattle.std.proofs.Common.{◌≡◌, ◌∙◌, ℕ, List, [], ◌∷◌, ◌++◌, map, Option, None, Some, true, false, refl, ap, sym}
+use Rattle.std.proofs.Common.{subst}
 use Rattle.std.proofs.Common.{inl, inr}
 use Rattle.std.specs.Prelude.{◌⊎◌, IfOk, IsSome, IsSomeAnd, Result, Ok, Err, codes, option_and_then}
 use Rattle.exam_types.specs.declared.refusal.Refusal.{Refusal}
@@ -29,22 +30,29 @@ abbrev pub with_code : ℕ → Code → Named
 with_code number code = record { number = number; code = code }
 
 known : (office : State) (number : ℕ) (row : Option Candidate)
-    → option_map (with_code number) (option_map (λ (own : OwnRows). own.code) (option_map (own_rows office number) row)) ≡ option_map named_as (option_map (own_rows office number) row)
+    → option_map (with_code number)
+    (option_map (λ (own : OwnRows). own.code) (option_map (own_rows office number) row))
+    ≡ option_map named_as (option_map (own_rows office number) row)
 known office number None = refl
 known office number (Some row) = refl
 
 -- the code of this number, if the office has a candidate of it
-pub named_at : (office : State) (number : ℕ) (code : Option Code) → code ≡ option_map (λ (own : OwnRows). own.code) (own_of office number)
+pub named_at : (office : State) (number : ℕ) (code : Option Code)
+    → code ≡ option_map (λ (own : OwnRows). own.code) (own_of office number)
     → option_map (with_code number) code ≡ option_map named_as (own_of office number)
-named_at office number code is = ap (option_map (with_code number)) is ∙ known office number (row_at nat_cmp office.relations.candidates number)
+named_at office number code is =
+    ap (option_map (with_code number)) is ∙ known office number (row_at nat_cmp office.relations.candidates number)
 
 -- the code of the number that a target names, if the office has a candidate of it
-pub named_by : (office : State) (target : Option ℕ) (number : ℕ) (code : Option Code) → Some number ≡ target → code ≡ option_map (λ (own : OwnRows). own.code) (own_of office number)
+pub named_by : (office : State) (target : Option ℕ) (number : ℕ) (code : Option Code) → Some number ≡ target
+    → code ≡ option_map (λ (own : OwnRows). own.code) (own_of office number)
     → option_map (with_code number) code ≡ option_map named_as (option_and_then (own_of office) target)
-named_by office target number code at is = named_at office number code is ∙ ap (λ n. option_map named_as (option_and_then (own_of office) n)) at
+named_by office target number code at is =
+    named_at office number code is ∙ ap (λ n. option_map named_as (option_and_then (own_of office) n)) at
 
 -- a target that names no number names nobody
-pub nobody : (office : State) (target : Option ℕ) → None ≡ target → None ≡ option_map named_as (option_and_then (own_of office) target)
+pub nobody : (office : State) (target : Option ℕ) → None ≡ target
+    → None ≡ option_map named_as (option_and_then (own_of office) target)
 nobody office target at = ap (λ n. option_map named_as (option_and_then (own_of office) n)) at
 
 -- ---- a page
@@ -66,27 +74,34 @@ same_clashes : (own : OwnRows) → page_body page.Clashes (rows_without_desks ow
 same_clashes own = ap (λ missed. list_body (codes "clashes") (map clash_object missed)) (same_missed own.sessions)
 
 -- a page of all rows of whoever is viewed
-pub whole_viewed : (page : Page) (viewed : Result (Option Own) Refusal) (rows : Option OwnRows) → IfOk viewed (λ own. option_map shown own ≡ rows)
+pub whole_viewed : (page : Page) (viewed : Result (Option Own) Refusal) (rows : Option OwnRows)
+    → IfOk viewed (λ own. option_map shown own ≡ rows)
     → IfOk viewed (λ own. option_map (λ own. page_body page (shown own)) own ≡ option_map (page_body page) rows)
 whole_viewed page (Err refusal) rows is = is
 whole_viewed page (Ok own) rows is = through own ∙ ap (option_map (page_body page)) is
   where
-    through : (own : Option Own) → option_map (λ own. page_body page (shown own)) own ≡ option_map (page_body page) (option_map shown own)
+    through : (own : Option Own)
+        → option_map (λ own. page_body page (shown own)) own ≡ option_map (page_body page) (option_map shown own)
     through None = refl
     through (Some own) = refl
 
 -- a page without desks, of all rows but the desks of whoever is viewed
-pub deskless_viewed : (shows : Page) → (shows ≡ page.Clashes) ⊎ (shows ≡ page.Appeals) → (viewed : Result (Option Own) Refusal) (rows : Option OwnRows)
+pub deskless_viewed : (shows : Page) → (shows ≡ page.Clashes) ⊎ (shows ≡ page.Appeals)
+    → (viewed : Result (Option Own) Refusal) (rows : Option OwnRows)
     → IfOk viewed (λ own. option_map shown own ≡ option_map rows_without_desks rows)
     → IfOk viewed (λ own. option_map (λ own. page_body shows (shown own)) own ≡ option_map (page_body shows) rows)
 deskless_viewed shows which (Err refusal) rows is = is
-deskless_viewed shows which (Ok own) rows is = whole_viewed shows (Ok own) (option_map rows_without_desks rows) is ∙ by which rows
+deskless_viewed shows which (Ok own) rows is =
+    whole_viewed shows (Ok own) (option_map rows_without_desks rows) is ∙ by which rows
   where
-    same : (shows ≡ page.Clashes) ⊎ (shows ≡ page.Appeals) → (rows : OwnRows) → page_body shows (rows_without_desks rows) ≡ page_body shows rows
-    same (inl clashes) rows = subst (λ p. page_body p (rows_without_desks rows) ≡ page_body p rows) (sym clashes) (same_clashes rows)
+    same : (shows ≡ page.Clashes) ⊎ (shows ≡ page.Appeals) → (rows : OwnRows)
+        → page_body shows (rows_without_desks rows) ≡ page_body shows rows
+    same (inl clashes) rows =
+        subst (λ p. page_body p (rows_without_desks rows) ≡ page_body p rows) (sym clashes) (same_clashes rows)
     same (inr appeals) rows = subst (λ p. page_body p (rows_without_desks rows) ≡ page_body p rows) (sym appeals) refl
 
-    by : (shows ≡ page.Clashes) ⊎ (shows ≡ page.Appeals) → (rows : Option OwnRows) → option_map (page_body shows) (option_map rows_without_desks rows) ≡ option_map (page_body shows) rows
+    by : (shows ≡ page.Clashes) ⊎ (shows ≡ page.Appeals) → (rows : Option OwnRows)
+        → option_map (page_body shows) (option_map rows_without_desks rows) ≡ option_map (page_body shows) rows
     by which None = refl
     by which (Some rows) = ap Some (same which rows)
 
@@ -98,7 +113,8 @@ page_told (Some rows) page body told is tells = tells ∙ ap ok_told is
 
 -- ---- a request
 
-pub answered : {S : Type 0} (g : Ghosts S) (today : ℕ) (old : OfficeIn S) (request : Request) (told : Told) (new : OfficeIn S)
+pub answered : {S : Type 0} (g : Ghosts S) (today : ℕ) (old : OfficeIn S) (request : Request) (told : Told)
+    (new : OfficeIn S)
     → AnswersFound g today old request told new → Answers g today old request told new
 answered g today old request told new (inl (shows, busy)) = inl busy
 answered g today old request told new (inr does) = inr does

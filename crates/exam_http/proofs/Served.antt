@@ -11,10 +11,14 @@ use Rattle.exam_http.specs.declared.serving.HttpFault.{HttpFault}
 use Rattle.exam_http.specs.declared.serving.HttpFault.TheVariants.{Read, Write}
 use Rattle.exam_request.specs.Sizes.{most_request}
 
-pub served : {S W : Type 0} (g : Ghosts S) (contents : W → Option (List ℕ)) (today : ℕ) (input rest : Option (List ℕ)) (a : Asked)
+pub served : {S W : Type 0} (g : Ghosts S) (contents : W → Option (List ℕ)) (today : ℕ) (input rest : Option (List ℕ))
+    (a : Asked)
     (old : OfficeIn S) (before : W) (result : Result (Unit {0}) HttpFault) (new : OfficeIn S) (after : W)
-    → Gave most_request input rest (IsAnswerTo (Ok a)) → Replies g contents today (asked_of a) old before result new after
+    → Gave most_request input rest (IsAnswerTo (Ok a))
+    → Replies g contents today (asked_of a) old before result new after
     → Serves g contents today input rest old before result new after
-served g contents today input rest a old before (Ok done) new after read h = (h.0, record { asked = asked_of a; gave = read; answers = h.1 }, h.2)
+served g contents today input rest a old before (Ok done) new after read h =
+    (h.0, record { asked = asked_of a; gave = read; answers = h.1 }, h.2)
 served g contents today input rest a old before (Err Read) new after read h = absurd h
-served g contents today input rest a old before (Err Write) new after read h = (h.0, record { asked = asked_of a; gave = read; answers = h.1 }, h.2)
+served g contents today input rest a old before (Err Write) new after read h =
+    (h.0, record { asked = asked_of a; gave = read; answers = h.1 }, h.2)

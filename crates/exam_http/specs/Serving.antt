@@ -1,5 +1,5 @@
 -- One request, read and answered.
-use Rattle.std.specs.Prelude.{◌≡◌, ◌⊎◌, ⊤, ℕ, List, [], ◌∷◌, Option, Result, Ok, Err}
+use Rattle.std.specs.Prelude.{◌≡◌, ◌⊎◌, ⊤, ℕ, List, Option, Result, Ok, Err}
 use Rattle.std.specs.Io.KnownBytes.{Appends}
 use Rattle.sqlite_trees.specs.declared.store.Store.{Ghosts}
 use Rattle.exam_store.specs.Stores.{OfficeIn}
@@ -55,14 +55,3 @@ Serves g contents today input rest old before (Err Write) new after =
 abbrev pub ServedOn : {S : Type 0} → Ghosts S → ℕ → OfficeIn S → OfficeIn S → Type 0
 ServedOn g today old new =
     (new ≡ old) ⊎ ((asked : Result Request Fault) × (told : Told) × AnswersAsked g today old asked told new)
-
--- what was asked is answered in turn, all of it on this day, and nothing else changes anything
-abbrev pub AnsweredInTurn : {S : Type 0} → Ghosts S → ℕ → OfficeIn S → List (Result Request Fault) → OfficeIn S → Type 0
-AnsweredInTurn g today old [] new = new ≡ old
-AnsweredInTurn {S} g today old (asked ∷ rest) new =
-    (told : Told) × (between : OfficeIn S) × AnswersAsked g today old asked told between
-    × AnsweredInTurn g today between rest new
-
--- some requests are answered in turn, all of them on this day, and nothing else changes anything
-abbrev pub AreServedOn : {S : Type 0} → Ghosts S → ℕ → OfficeIn S → OfficeIn S → Type 0
-AreServedOn g today old new = (asked : List (Result Request Fault)) × AnsweredInTurn g today old asked new

@@ -1,6 +1,7 @@
 //! Answers a request, by what it asks and the office.
-ghost use Rattle.std.specs.Prelude.{◌≡◌, ◌⊎◌, option_and_then, option_map, IsSome, IsSomeAnd, IfOk, IfErr};
+ghost use Rattle.std.specs.Prelude.{◌≡◌, ◌⊎◌, option_and_then, option_map, IsSome, IsSomeAnd, IfOk};
 ghost use Rattle.exam_types.specs.declared.refusal.Refusal.TheVariants.{NoMemory};
+ghost use Rattle.exam_types.specs.Refusals.{OnlyMemory};
 ghost use Rattle.exam_rules.specs.Relations.{Code};
 ghost use Rattle.exam_commands.specs.Headline.{IsSeated};
 ghost use Rattle.exam_commands.specs.Own.{own_of, shown};
@@ -124,7 +125,7 @@ fn own_page<S: Alter>(
     requires { IsSome (own_of store.old.office number) }
     ensures body { IfOk result (λ body. IsSomeAnd (own_of store.old.office number)
         (λ own. body.items ≡ bodies.page_body page own)) }
-    ensures memory { IfErr result (λ e. e ≡ NoMemory) }
+    ensures memory { OnlyMemory result }
     ensures same { store.new ≡ store.old }
 {
     let own = viewed(alloc, store, number, page)?.unwrap();
@@ -140,7 +141,7 @@ fn viewed<S: Alter>(
 ) -> Result<Option<Own>, Refusal>
     ensures ok { IfOk result (λ own. option_map (λ own. bodies.page_body page (shown own)) own
         ≡ option_map (bodies.page_body page) (own_of store.old.office number)) }
-    ensures memory { IfErr result (λ e. e ≡ NoMemory) }
+    ensures memory { OnlyMemory result }
     ensures same { store.new ≡ store.old }
 {
     match page {

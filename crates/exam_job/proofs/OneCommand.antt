@@ -22,15 +22,19 @@ module _ {S : Type 0} (g : Ghosts S) (done : Command) (today : ℕ) (old new : O
   one_answer : (answers : List (Result Reply Refusal)) → AreApplied g ((done, today) ∷ []) old answers new
       → (answer : Result Reply Refusal) × (answers ≡ answer ∷ []) × IsApplied g done today old answer new
   one_answer [] each = absurd each
-  one_answer (answer ∷ []) each = (answer, refl, subst (λ (o : OfficeIn S). IsApplied g done today old answer o) (sym each.2) each.1)
+  one_answer (answer ∷ []) each =
+      (answer, refl, subst (λ (o : OfficeIn S). IsApplied g done today old answer o) (sym each.2) each.1)
   one_answer (answer ∷ other ∷ answers) each = absurd each.2
 
-  pub is_one : (answers : List (Result Reply Refusal)) → AreApplied g ((done, today) ∷ []) old answers new → length answers ≡ 1
+  pub is_one : (answers : List (Result Reply Refusal)) → AreApplied g ((done, today) ∷ []) old answers new
+      → length answers ≡ 1
   is_one answers each = ap length (one_answer answers each).1
 
   -- the answer that is popped is the command's
-  pub carried : (answers rest : List (Result Reply Refusal)) (popped : Option (Result Reply Refusal)) (answer : Result Reply Refusal) → AreApplied g ((done, today) ∷ []) old answers new
-      → (IsSound (state g new.database) → Rekeeps old.office new.office (state g old.database).now (state g new.database).now)
+  pub carried : (answers rest : List (Result Reply Refusal)) (popped : Option (Result Reply Refusal))
+      (answer : Result Reply Refusal) → AreApplied g ((done, today) ∷ []) old answers new
+      → (IsSound (state g new.database)
+      → Rekeeps old.office new.office (state g old.database).now (state g new.database).now)
       → answers ≡ rest ++ option_to_list popped → popped ≡ Some answer → IsCarriedOut g done today old answer new
   carried answers rest popped answer each kept split is =
       let one = one_answer answers each in
@@ -38,6 +42,7 @@ module _ {S : Type 0} (g : Ghosts S) (done : Command) (today : ℕ) (old new : O
       subst (λ (o : Option (Result Reply Refusal)). one.0 ∷ [] ≡ rest ++ option_to_list o) is
       (subst (λ (l : List (Result Reply Refusal)). l ≡ rest ++ option_to_list popped) one.1 split) in
       record {
-        applied = subst (λ (a : Result Reply Refusal). IsApplied g done today old a new) (last_of_one answer one.0 rest last) one.2;
+        applied = subst (λ (a : Result Reply Refusal). IsApplied g done today old a new)
+            (last_of_one answer one.0 rest last) one.2;
         kept = kept;
       }

@@ -1,16 +1,12 @@
 -- What the command `migrate` does, which brings an office of an earlier version to the newest, and what it prints.
-use Rattle.std.specs.Prelude.{◌≡◌, ◌∷◌, ℕ, List, Option, Result, Ok, Err, IfOk, IfErr}
+use Rattle.std.specs.Prelude.{◌≡◌, ℕ, List, Option, Result, Ok, Err, IfOk, IfErr}
 use Rattle.sqlite_trees.specs.declared.store.Store.{Ghosts}
 use Rattle.sqlite.specs.Held.{Held, state}
-use Rattle.sqlite.specs.State.{HasCleanDisk, IsUnchanged, Survives}
+use Rattle.sqlite.specs.State.{HasCleanDisk}
 use Rattle.exam_types.specs.declared.refusal.Refusal.{Refusal}
-use Rattle.exam_types.specs.declared.refusal.Refusal.TheVariants.{BadStore}
-use Rattle.exam_sql.specs.Made.{ContainsMade}
-use Rattle.exam_sql.specs.Texts.{load_office as office_text}
-use Rattle.exam_tables.specs.Loaded.{AreUnderstood}
 use Rattle.exam_tables.specs.Transactions.{Commits}
 use Rattle.exam_tables.specs.Versions.{IsVersion, version}
-use Rattle.exam_store.specs.Found.{FailsToMigrate, HoldsGood, version_texts}
+use Rattle.exam_store.specs.Found.{HadGood, RefusesMigrating, StaysNewest}
 use Rattle.exam_store.specs.Found as store
 use Rattle.exam_job.specs.Printed.{Prints, migration_text}
 use Rattle.exam_job.specs.declared.report.JobFault.{JobFault}
@@ -22,17 +18,10 @@ use Rattle.exam_job.specs.declared.report.JobFault.TheVariants.{Refused}
 pub record IsMigrated {S : Type 0} (g : Ghosts S) (old : Held S) (answered : Result (ℕ × ℕ) Refusal) (new : Held S)
     : Type 0 where
   pub versions : IfOk answered (λ v. IsVersion v.0 × (v.1 ≡ version))
-  pub found : HasCleanDisk (state g new) → IfOk answered (λ v. (all : _)
-      → ContainsMade (state g old).now all → HoldsGood v.0 (state g old).now all)
-  pub understood : HasCleanDisk (state g new) → IfOk answered (λ v.
-      AreUnderstood (state g old).now (office_text ∷ version_texts v.0))
-  pub newest : IfOk answered (λ v. v.0 ≡ version
-      → (HasCleanDisk (state g new) → IsUnchanged (state g old) (state g new))
-      × Survives (state g old) (state g new) (λ _. ⊥))
+  pub found : HasCleanDisk (state g new) → IfOk answered (λ v. HadGood (state g old).now v.0)
+  pub newest : IfOk answered (λ v. StaysNewest (state g old) (state g new) v.0)
   pub made : Commits (state g old) (state g new) answered store.Migrates
-  pub still : HasCleanDisk (state g new) → IfErr answered (λ e. e ≡ BadStore
-      → Survives (state g old) (state g new) (λ _. ⊥))
-  pub refusal : HasCleanDisk (state g new) → IfErr answered (FailsToMigrate g old new)
+  pub refused : HasCleanDisk (state g new) → IfErr answered (RefusesMigrating g old new)
 
 -- the versions before and after are printed on standard output; for a refusal nothing is
 abbrev pub TellsVersions : {W : Type 0} → (W → Option (List ℕ)) → Result (ℕ × ℕ) Refusal

@@ -57,13 +57,13 @@ fn lodged_line(state: AppealState) -> ShortLine
 }
 
 /// What a decision made of the appeal, where the appellant now sits, and how many others sit in another hall.
-fn decided_line(state: AppealState, seat: &Option<HallCode>, moved: usize) -> ShortLine
-    ensures { result.items ≡ spec.decided_text state seat.now moved }
+fn decided_line(state: AppealState, hall: &Option<HallCode>, moved: usize) -> ShortLine
+    ensures { result.items ≡ spec.decided_text state hall.now moved }
 {
     let mut line = line_of(b"decided ");
     put(&mut line, state_word(state));
     put(&mut line, b" hall ");
-    put_hall(&mut line, seat);
+    put_hall(&mut line, hall);
     put(&mut line, b" moved ");
     put_number(&mut line, moved);
     put(&mut line, b"\n");
@@ -190,13 +190,13 @@ pub fn connection_fault_line(number: u16) -> ShortLine
 }
 
 /// Appends the hall, or a dash for none.
-fn put_hall(line: &mut ShortLine, seat: &Option<HallCode>)
+fn put_hall(line: &mut ShortLine, hall: &Option<HallCode>)
     requires { array_vec_len line.old + 8 ≤ 64 }
-    ensures text { line.new.items ≡ line.old.items ++ spec.hall_word seat.now }
+    ensures text { line.new.items ≡ line.old.items ++ spec.hall_word hall.now }
     ensures len { array_vec_len line.new ≤ array_vec_len line.old + 8 }
 {
-    match seat {
-        Some(hall) => put(line, hall.as_bytes()),
+    match hall {
+        Some(code) => put(line, code.as_bytes()),
         None => put(line, b"-"),
     }
 }

@@ -33,7 +33,8 @@ key_cmp x y =
     ∙ ap (λ b. b && is_eq (singles.ghosts.cmp x.2 y.2))
     (both (code_cmp x.0 y.0) (nat_cmp x.1 y.1) ∙ ap (λ b. b && is_eq (nat_cmp x.1 y.1)) (text_cmp x.0 y.0)
     ∙ ap (λ b. same_code x.0 y.0 && b) (number_cmp x.1 y.1))
-    ∙ ap (λ b. (same_code x.0 y.0 && nat_eq x.1 y.1) && b) (kind_cmp x.2 y.2) ∙ from_right (same_code x.0 y.0) (nat_eq x.1 y.1) (same_single x.2 y.2)
+    ∙ ap (λ b. (same_code x.0 y.0 && nat_eq x.1 y.1) && b) (kind_cmp x.2 y.2)
+    ∙ from_right (same_code x.0 y.0) (nat_eq x.1 y.1) (same_single x.2 y.2)
 
 pub compared_same : eq_by_cmp single_cmp ≡ same_single_key
 compared_same = fun_ext (λ x. fun_ext (λ y. key_cmp x y))

@@ -1,7 +1,7 @@
 //! What is wrong, table by table, with facts and plans that are no good office.
-ghost use Rattle.std.specs.Prelude.{◌≡◌, ◌&&◌, ◌∷◌, [], ℕ, None, IsTrue, IfOk, IfErr};
+ghost use Rattle.std.specs.Prelude.{◌≡◌, ◌&&◌, ◌∷◌, [], ℕ, None, IsTrue, IfOk};
 ghost use Rattle.std.specs.Bool.{Decides};
-ghost use Rattle.exam_types.specs.declared.refusal.Refusal.TheVariants.{NoMemory};
+ghost use Rattle.exam_types.specs.Refusals.{OnlyMemory};
 ghost use Rattle.exam_plan.specs.Matching.{IsBest};
 ghost use Rattle.exam_rules.specs.Relations.{Code, relations_of};
 ghost use Rattle.exam_rules.specs.Lists.{AreListsOf};
@@ -10,6 +10,7 @@ ghost use Rattle.exam_commands.specs.Good as good;
 ghost use Rattle.exam_commands.specs.Limits as spec;
 ghost use Rattle.exam_commands.specs.Singles.{AreSingle};
 ghost use Rattle.exam_commands.specs.State as state;
+ghost use Rattle.exam_commands.specs.State.{office_of};
 ghost use Rattle.exam_commands.specs.declared.table.Table.TheVariants as table;
 
 use crate::repair::repaired_among;
@@ -25,9 +26,8 @@ pub fn first_bad_table(
     facts: &Facts,
     seats: &Seats,
 ) -> Result<Option<Table>, Refusal>
-    ensures ok { IfOk result (λ found. good.IsFirstBad
-        (record { relations = relations_of facts.now; seats = seats.now.entries }) found) }
-    ensures memory { IfErr result (λ e. e ≡ NoMemory) }
+    ensures ok { IfOk result (λ found. good.IsFirstBad (office_of facts.now seats.now) found) }
+    ensures memory { OnlyMemory result }
 {
     let lists = session_lists(alloc, facts)?;
     first_bad_listed(alloc, facts, &lists, seats)
@@ -41,9 +41,8 @@ pub fn first_bad_listed(
     seats: &Seats,
 ) -> Result<Option<Table>, Refusal>
     requires { AreListsOf (relations_of facts.now) lists.now }
-    ensures ok { IfOk result (λ found. good.IsFirstBad
-        (record { relations = relations_of facts.now; seats = seats.now.entries }) found) }
-    ensures memory { IfErr result (λ e. e ≡ NoMemory) }
+    ensures ok { IfOk result (λ found. good.IsFirstBad (office_of facts.now seats.now) found) }
+    ensures memory { OnlyMemory result }
 {
     match first_bad_of_imports(facts, lists) {
         Some(table) => Ok(Some(table)),
@@ -95,10 +94,9 @@ fn first_bad_of_others(
     requires lists { AreListsOf (relations_of facts.now) lists.now }
     requires few { IsTrue (spec.members_within (relations_of facts.now)) }
     requires few_halls { IsTrue (spec.openings_within (relations_of facts.now)) }
-    ensures ok { IfOk result (λ found. good.IsFirstBadOf
-        (record { relations = relations_of facts.now; seats = seats.now.entries })
+    ensures ok { IfOk result (λ found. good.IsFirstBadOf (office_of facts.now seats.now)
         (table.Appeals ∷ table.Standing ∷ table.Seats ∷ []) found) }
-    ensures memory { IfErr result (λ e. e ≡ NoMemory) }
+    ensures memory { OnlyMemory result }
 {
     if !are_appeals_good(alloc, facts)? {
         return Ok(Some(Table::Appeals));
@@ -138,7 +136,7 @@ fn are_entries_good(facts: &Facts, lists: &SessionLists) -> bool
 fn are_appeals_good(alloc: Global, facts: &Facts) -> Result<bool, Refusal>
     ensures ok { IfOk result (λ b. Decides b (IsTrue (spec.appeals_within (relations_of facts.now)
         && good.appeals_refer (relations_of facts.now)) × AreSingle (relations_of facts.now))) }
-    ensures memory { IfErr result (λ e. e ≡ NoMemory) }
+    ensures memory { OnlyMemory result }
 {
     if !limits::are_appeals_within(facts) || !references::appeals_refer(facts) {
         return Ok(false);
@@ -158,7 +156,7 @@ fn are_seats_good(
     requires few_halls { IsTrue (spec.openings_within (relations_of facts.now)) }
     ensures ok { IfOk result (λ b. Decides b ((s : Code)
         → IsBest (seating (relations_of facts.now) s) (plan_of seats.now.entries s))) }
-    ensures memory { IfErr result (λ e. e ≡ NoMemory) }
+    ensures memory { OnlyMemory result }
 {
     let sessions: Vec<SessionCode> = facts.sessions.keys().copied().collect(alloc)?;
     let repaired = repaired_among(alloc, facts, lists, &sessions, seats, None)?;

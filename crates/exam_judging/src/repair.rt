@@ -1,8 +1,8 @@
 //! The repair of the plans after a change of the facts.
 ghost use Rattle.std.specs.Prelude.{◌≡◌, ◌<◌, ◌≤◌, nat_eq, position, ℕ, false, length, IsTrue, None};
-ghost use Rattle.std.specs.Prelude.{IfOk, IfErr, OnOk, IfSome};
+ghost use Rattle.std.specs.Prelude.{IfOk, OnOk, IfSome};
 ghost use Rattle.std.specs.Option.{option_and_then};
-ghost use Rattle.exam_types.specs.declared.refusal.Refusal.TheVariants.{NoMemory};
+ghost use Rattle.exam_types.specs.Refusals.{OnlyMemory};
 ghost use Rattle.exam_plan.specs.Matching.{IsBest};
 ghost use Rattle.exam_plan.specs.HallSets.{most_halls};
 ghost use Rattle.exam_plan.specs.Problems.{IsPlan, most_members, seating_of, plan_at};
@@ -37,7 +37,7 @@ pub fn repaired_among(
         → length (open_halls (relations_of facts.now) s) ≤ most_halls }
     ensures ok { IfOk result (λ new. AreRepaired (relations_of facts.now) first sessions.now
         seats.now.entries new.entries) }
-    ensures memory { IfErr result (λ e. e ≡ NoMemory) }
+    ensures memory { OnlyMemory result }
 {
     let mut repaired = BTreeMap::new(alloc);
     for (session, _) in &facts.sessions {
@@ -66,7 +66,7 @@ fn repair_session(
         (relations_of facts.now) first.now seats.now.entries repaired.new.entries session.now) }
     ensures others { OnOk result ((s : Code) (c : ℕ) → same_code session.now s ≡ false
         → plan_of repaired.new.entries s c ≡ plan_of repaired.old.entries s c) }
-    ensures memory { IfErr result (λ e. e ≡ NoMemory) }
+    ensures memory { OnlyMemory result }
 {
     let listed = indexed_problem(alloc, facts, lists, session)?;
     let plan = stored_plan(alloc, &listed.numbers, &listed.halls, session, seats)?;
@@ -88,7 +88,7 @@ fn repaired_plan(
     ensures repair { IfOk result (λ new.
         IsRepair (seating_of problem.now) first (plan_at plan.items) (plan_at new.items)) }
     ensures best { IfOk result (λ new. IsBest (seating_of problem.now) (plan_at new.items)) }
-    ensures memory { IfErr result (λ e. e ≡ NoMemory) }
+    ensures memory { OnlyMemory result }
 {
     let plan = keep_lawful(problem, plan)?;
     sweep(alloc, problem, plan, first)

@@ -1,9 +1,9 @@
 //! Which appeals a candidate may have only once.
-ghost use Rattle.std.specs.Prelude.{◌≡◌, IfOk, IfErr};
+ghost use Rattle.std.specs.Prelude.{◌≡◌, IfOk};
 ghost use Rattle.std.specs.Bool.{Decides};
 ghost use Rattle.std.specs.List.{IsDistinct};
 ghost use Rattle.std.specs.Ordering.{eq_by_cmp};
-ghost use Rattle.exam_types.specs.declared.refusal.Refusal.TheVariants.{NoMemory};
+ghost use Rattle.exam_types.specs.Refusals.{OnlyMemory};
 ghost use Rattle.exam_rules.specs.Relations.{Code, relations_of};
 ghost use Rattle.exam_commands.specs.Singles as spec;
 
@@ -17,7 +17,7 @@ use std::collections::BTreeSet;
 /// appeal of a kind in each session.
 pub fn are_single(alloc: Global, facts: &Facts) -> Result<bool, Refusal>
     ensures ok { IfOk result (λ b. Decides b (spec.AreSingle (relations_of facts.now))) }
-    ensures memory { IfErr result (λ e. e ≡ NoMemory) }
+    ensures memory { OnlyMemory result }
 {
     let mut keys = Vec::new(alloc);
     for (key, appeal) in &facts.appeals {
@@ -39,7 +39,7 @@ fn single_key(number: Number, appeal: &Appeal) -> Option<(SessionCode, Number, S
 /// Whether no two of the keys are equal.
 fn are_distinct<K: Ord + Copy + Drop>(alloc: Global, keys: &[K]) -> Result<bool, Refusal>
     ensures ok { IfOk result (λ b. Decides b (IsDistinct (eq_by_cmp K.cmp) keys.now)) }
-    ensures memory { IfErr result (λ e. e ≡ NoMemory) }
+    ensures memory { OnlyMemory result }
 {
     let mut seen = BTreeSet::new(alloc);
     for key in keys {

@@ -1,10 +1,10 @@
 //! Which sessions a command touches.
-ghost use Rattle.std.specs.Prelude.{◌≡◌, ◌↔◌, ◌&&◌, ◌||◌, false, ℕ, Contains, IsTrue, IfOk, IfErr, OnOk};
+ghost use Rattle.std.specs.Prelude.{◌≡◌, ◌↔◌, ◌&&◌, ◌||◌, false, ℕ, Contains, IsTrue, IfOk, OnOk};
 ghost use Rattle.std.specs.BTreeSet.{contains};
 ghost use Rattle.std.specs.List.{list_any};
 ghost use Rattle.std.specs.Option.{option_map_or};
 ghost use Rattle.std.specs.List.Sorted.{IsStrictlySortedBy};
-ghost use Rattle.exam_types.specs.declared.refusal.Refusal.TheVariants.{NoMemory};
+ghost use Rattle.exam_types.specs.Refusals.{OnlyMemory};
 ghost use Rattle.exam_rules.specs.declared.rows.Appeal.{Appeal as AppealRow};
 ghost use Rattle.exam_rules.specs.declared.rows.Opening.{Opening as OpeningRow};
 ghost use Rattle.exam_rules.specs.Relations.{Code, code_cmp, has_row, relations_of, same_code};
@@ -29,7 +29,7 @@ pub fn touched(alloc: Global, facts: &Facts, command: &Command) -> Result<Vec<Se
     ensures rising { IfOk result (λ codes. IsStrictlySortedBy code_cmp codes.items) }
     ensures exact { IfOk result (λ codes. (s : Code)
         → Contains codes.items s ↔ IsTrue (spec.touches (relations_of facts.now) command.now s)) }
-    ensures memory { IfErr result (λ e. e ≡ NoMemory) }
+    ensures memory { OnlyMemory result }
 {
     let mut reached = BTreeSet::new(alloc);
     add_reached(alloc, facts, command, &mut reached)?;
@@ -45,7 +45,7 @@ fn add_existing(facts: &Facts, reached: &Codes, codes: &mut Codes) -> Result<(),
     ensures ok { OnOk result ((s : Code) → contains code_cmp codes.new s
         ≡ ((has_row code_cmp facts.now.sessions.entries s && contains code_cmp reached.now s)
         || contains code_cmp codes.old s)) }
-    ensures memory { IfErr result (λ e. e ≡ NoMemory) }
+    ensures memory { OnlyMemory result }
 {
     for code in reached {
         add_known(facts, code, codes)?;
@@ -57,10 +57,10 @@ fn add_existing(facts: &Facts, reached: &Codes, codes: &mut Codes) -> Result<(),
 fn add_set(command: &Command, codes: &mut Codes) -> Result<(), Refusal>
     ensures ok { OnOk result ((s : Code) → contains code_cmp codes.new s
         ≡ (spec.is_set_by command.now s || contains code_cmp codes.old s)) }
-    ensures memory { IfErr result (λ e. e ≡ NoMemory) }
+    ensures memory { OnlyMemory result }
 {
     match command {
-        Command::Import(import) => add_imported(import.rows(), codes),
+        Command::Import(import) => add_imported(import, codes),
         Command::Withdraw(_, _)
         | Command::Reinstate(_, _)
         | Command::CloseHall(_, _)
@@ -70,11 +70,29 @@ fn add_set(command: &Command, codes: &mut Codes) -> Result<(), Refusal>
     }
 }
 
+/// Adds the sessions that an import sets: all its rows are of its kind.
+fn add_imported(import: &Import, codes: &mut Codes) -> Result<(), Refusal>
+    ensures ok { OnOk result ((s : Code) → contains code_cmp codes.new s
+        ≡ (list_any (spec.sets_session s) import.now.rows || contains code_cmp codes.old s)) }
+    ensures memory { OnlyMemory result }
+{
+    let rows = import.rows();
+    match import.kind() {
+        Kind::Sessions => add_sessions(rows, codes),
+        Kind::Papers
+        | Kind::Halls
+        | Kind::Openings
+        | Kind::Candidates
+        | Kind::Entries
+        | Kind::Arrangements => Ok(()),
+    }
+}
+
 /// Adds the sessions that these rows set.
-fn add_imported(rows: &[Row], codes: &mut Codes) -> Result<(), Refusal>
+fn add_sessions(rows: &[Row], codes: &mut Codes) -> Result<(), Refusal>
     ensures ok { OnOk result ((s : Code) → contains code_cmp codes.new s
         ≡ (list_any (spec.sets_session s) rows.now || contains code_cmp codes.old s)) }
-    ensures memory { IfErr result (λ e. e ≡ NoMemory) }
+    ensures memory { OnlyMemory result }
 {
     for row in rows {
         if let Row::OfSession(session, _) = row {
@@ -93,7 +111,7 @@ fn add_reached(
 ) -> Result<(), Refusal>
     ensures ok { OnOk result ((s : Code) → contains code_cmp codes.new s
         ≡ (spec.reaches (relations_of facts.now) command.now s || contains code_cmp codes.old s)) }
-    ensures memory { IfErr result (λ e. e ≡ NoMemory) }
+    ensures memory { OnlyMemory result }
 {
     match command {
         Command::Import(import) => add_import(alloc, facts, import, codes),
@@ -106,8 +124,8 @@ fn add_reached(
     }
 }
 
-/// Adds the sessions that an import reaches. The openings are walked once for all halls that its rows name, and the
-/// appeals once for all sessions.
+/// Adds the sessions that an import reaches. All its rows are of its kind, so they are walked once: the appeals are for
+/// all rows of sessions, the openings for all rows of halls.
 fn add_import(
     alloc: Global,
     facts: &Facts,
@@ -116,38 +134,36 @@ fn add_import(
 ) -> Result<(), Refusal>
     ensures ok { OnOk result ((s : Code) → contains code_cmp codes.new s
         ≡ (spec.import_reaches (relations_of facts.now) import.now s || contains code_cmp codes.old s)) }
-    ensures memory { IfErr result (λ e. e ≡ NoMemory) }
+    ensures memory { OnlyMemory result }
 {
     let rows = import.rows();
-    add_rows(facts, rows, codes)?;
-    let halls = named_halls(alloc, rows)?;
-    add_opened(facts, &halls, codes)?;
-    add_dated(facts, import.kind(), codes)
+    match import.kind() {
+        Kind::Sessions => add_standing(facts, codes),
+        Kind::Halls => add_halls(alloc, facts, rows, codes),
+        Kind::Candidates => Ok(()),
+        Kind::Papers | Kind::Openings | Kind::Entries | Kind::Arrangements => {
+            add_rows(facts, rows, codes)
+        }
+    }
 }
 
-/// If an import of this kind may change dates, adds the sessions that have a member with a standing grant.
-fn add_dated(facts: &Facts, kind: Kind, codes: &mut Codes) -> Result<(), Refusal>
+/// Adds the sessions that open a hall that these rows name.
+fn add_halls(alloc: Global, facts: &Facts, rows: &[Row], codes: &mut Codes) -> Result<(), Refusal>
     ensures ok { OnOk result ((s : Code) → contains code_cmp codes.new s
-        ≡ ((spec.is_of_sessions kind && spec.has_standing_member (relations_of facts.now) s)
+        ≡ (list_any (λ (o : (Code × Code) × OpeningRow). same_code o.0.0 s
+        && list_any (λ (x : ImportRow). spec.names_hall x o.0.1) rows.now) facts.now.openings.entries
         || contains code_cmp codes.old s)) }
-    ensures memory { IfErr result (λ e. e ≡ NoMemory) }
+    ensures memory { OnlyMemory result }
 {
-    match kind {
-        Kind::Sessions => add_standing(facts, codes),
-        Kind::Papers
-        | Kind::Halls
-        | Kind::Openings
-        | Kind::Candidates
-        | Kind::Entries
-        | Kind::Arrangements => Ok(()),
-    }
+    let halls = named_halls(alloc, rows)?;
+    add_opened(facts, &halls, codes)
 }
 
 /// Adds the sessions that have a member with a standing grant.
 fn add_standing(facts: &Facts, codes: &mut Codes) -> Result<(), Refusal>
     ensures ok { OnOk result ((s : Code) → contains code_cmp codes.new s
         ≡ (spec.has_standing_member (relations_of facts.now) s || contains code_cmp codes.old s)) }
-    ensures memory { IfErr result (λ e. e ≡ NoMemory) }
+    ensures memory { OnlyMemory result }
 {
     for (key, appeal) in &facts.appeals {
         if is_standing(facts, key, appeal) {
@@ -162,7 +178,7 @@ fn add_rows(facts: &Facts, rows: &[Row], codes: &mut Codes) -> Result<(), Refusa
     ensures ok { OnOk result ((s : Code) → contains code_cmp codes.new s
         ≡ (list_any (λ (x : ImportRow). spec.names_session (relations_of facts.now) x s) rows.now
         || contains code_cmp codes.old s)) }
-    ensures memory { IfErr result (λ e. e ≡ NoMemory) }
+    ensures memory { OnlyMemory result }
 {
     for row in rows {
         add_row(facts, row, codes)?;
@@ -174,7 +190,7 @@ fn add_rows(facts: &Facts, rows: &[Row], codes: &mut Codes) -> Result<(), Refusa
 fn add_row(facts: &Facts, row: &Row, codes: &mut Codes) -> Result<(), Refusal>
     ensures ok { OnOk result ((s : Code) → contains code_cmp codes.new s
         ≡ (spec.names_session (relations_of facts.now) row.now s || contains code_cmp codes.old s)) }
-    ensures memory { IfErr result (λ e. e ≡ NoMemory) }
+    ensures memory { OnlyMemory result }
 {
     match row {
         Row::OfPaper(code, paper) => add_both(facts, code, &paper.session, codes),
@@ -189,7 +205,7 @@ fn add_row(facts: &Facts, row: &Row, codes: &mut Codes) -> Result<(), Refusal>
 fn named_halls(alloc: Global, rows: &[Row]) -> Result<BTreeSet<HallCode>, Refusal>
     ensures ok { IfOk result (λ halls. (h : Code) → contains code_cmp halls h
         ≡ list_any (λ (x : ImportRow). spec.names_hall x h) rows.now) }
-    ensures memory { IfErr result (λ e. e ≡ NoMemory) }
+    ensures memory { OnlyMemory result }
 {
     let mut halls = BTreeSet::new(alloc);
     for row in rows {
@@ -202,7 +218,7 @@ fn named_halls(alloc: Global, rows: &[Row]) -> Result<BTreeSet<HallCode>, Refusa
 fn add_named(row: &Row, halls: &mut BTreeSet<HallCode>) -> Result<(), Refusal>
     ensures ok { OnOk result ((h : Code) → contains code_cmp halls.new h
         ≡ (spec.names_hall row.now h || contains code_cmp halls.old h)) }
-    ensures memory { IfErr result (λ e. e ≡ NoMemory) }
+    ensures memory { OnlyMemory result }
 {
     match row {
         Row::OfHall(hall, _) => add_code(*hall, halls),
@@ -219,7 +235,7 @@ fn add_named(row: &Row, halls: &mut BTreeSet<HallCode>) -> Result<(), Refusal>
 fn add_code(hall: HallCode, halls: &mut BTreeSet<HallCode>) -> Result<(), Refusal>
     ensures ok { OnOk result ((h : Code) → contains code_cmp halls.new h
         ≡ (same_code hall h || contains code_cmp halls.old h)) }
-    ensures memory { IfErr result (λ e. e ≡ NoMemory) }
+    ensures memory { OnlyMemory result }
 {
     halls.insert(hall)?;
     Ok(())
@@ -229,7 +245,7 @@ fn add_code(hall: HallCode, halls: &mut BTreeSet<HallCode>) -> Result<(), Refusa
 fn add_session(session: &SessionCode, codes: &mut Codes) -> Result<(), Refusal>
     ensures ok { OnOk result ((s : Code) → contains code_cmp codes.new s
         ≡ (same_code session.now s || contains code_cmp codes.old s)) }
-    ensures memory { IfErr result (λ e. e ≡ NoMemory) }
+    ensures memory { OnlyMemory result }
 {
     codes.insert(*session)?;
     Ok(())
@@ -239,7 +255,7 @@ fn add_session(session: &SessionCode, codes: &mut Codes) -> Result<(), Refusal>
 fn add_known(facts: &Facts, session: &SessionCode, codes: &mut Codes) -> Result<(), Refusal>
     ensures ok { OnOk result ((s : Code) → contains code_cmp codes.new s
         ≡ (spec.names (relations_of facts.now) session.now s || contains code_cmp codes.old s)) }
-    ensures memory { IfErr result (λ e. e ≡ NoMemory) }
+    ensures memory { OnlyMemory result }
 {
     if facts.sessions.contains_key(session) {
         add_session(session, codes)
@@ -252,7 +268,7 @@ fn add_known(facts: &Facts, session: &SessionCode, codes: &mut Codes) -> Result<
 fn add_paper(facts: &Facts, paper: &PaperCode, codes: &mut Codes) -> Result<(), Refusal>
     ensures ok { OnOk result ((s : Code) → contains code_cmp codes.new s
         ≡ (is_paper_of (relations_of facts.now) s paper.now || contains code_cmp codes.old s)) }
-    ensures memory { IfErr result (λ e. e ≡ NoMemory) }
+    ensures memory { OnlyMemory result }
 {
     match facts.papers.get(paper) {
         Some(row) => add_session(&row.session, codes),
@@ -270,7 +286,7 @@ fn add_both(
     ensures ok { OnOk result ((s : Code) → contains code_cmp codes.new s
         ≡ ((is_paper_of (relations_of facts.now) s paper.now || spec.names (relations_of facts.now) session.now s)
         || contains code_cmp codes.old s)) }
-    ensures memory { IfErr result (λ e. e ≡ NoMemory) }
+    ensures memory { OnlyMemory result }
 {
     add_known(facts, session, codes)?;
     add_paper(facts, paper, codes)
@@ -281,7 +297,7 @@ fn add_opened(facts: &Facts, halls: &BTreeSet<HallCode>, codes: &mut Codes) -> R
     ensures ok { OnOk result ((s : Code) → contains code_cmp codes.new s
         ≡ (list_any (λ (o : (Code × Code) × OpeningRow). same_code o.0.0 s && contains code_cmp halls.now o.0.1)
         facts.now.openings.entries || contains code_cmp codes.old s)) }
-    ensures memory { IfErr result (λ e. e ≡ NoMemory) }
+    ensures memory { OnlyMemory result }
 {
     for (key, _) in &facts.openings {
         if halls.contains(&key.1) {
@@ -295,7 +311,7 @@ fn add_opened(facts: &Facts, halls: &BTreeSet<HallCode>, codes: &mut Codes) -> R
 fn add_candidate(facts: &Facts, number: Number, codes: &mut Codes) -> Result<(), Refusal>
     ensures ok { OnOk result ((s : Code) → contains code_cmp codes.new s
         ≡ (is_member (relations_of facts.now) s number || contains code_cmp codes.old s)) }
-    ensures memory { IfErr result (λ e. e ≡ NoMemory) }
+    ensures memory { OnlyMemory result }
 {
     if facts.candidates.contains_key(&number) {
         add_entered(facts, number, codes)
@@ -308,7 +324,7 @@ fn add_candidate(facts: &Facts, number: Number, codes: &mut Codes) -> Result<(),
 fn add_entered(facts: &Facts, number: Number, codes: &mut Codes) -> Result<(), Refusal>
     ensures ok { OnOk result ((s : Code) → contains code_cmp codes.new s
         ≡ (has_live_entry (relations_of facts.now) s number || contains code_cmp codes.old s)) }
-    ensures memory { IfErr result (λ e. e ≡ NoMemory) }
+    ensures memory { OnlyMemory result }
 {
     for (key, entry) in entries_of(facts, number) {
         if entry.live {
@@ -322,7 +338,7 @@ fn add_entered(facts: &Facts, number: Number, codes: &mut Codes) -> Result<(), R
 fn add_decision(facts: &Facts, decision: &Decision, codes: &mut Codes) -> Result<(), Refusal>
     ensures ok { OnOk result ((s : Code) → contains code_cmp codes.new s
         ≡ (spec.decision_reaches (relations_of facts.now) decision.now s || contains code_cmp codes.old s)) }
-    ensures memory { IfErr result (λ e. e ≡ NoMemory) }
+    ensures memory { OnlyMemory result }
 {
     if is_grant(decision.outcome) {
         add_appeal(facts, decision, codes)
@@ -337,7 +353,7 @@ fn add_appeal(facts: &Facts, decision: &Decision, codes: &mut Codes) -> Result<(
         ≡ (option_map_or (λ (a : AppealRow). spec.grant_reaches (relations_of facts.now) decision.now a s)
         (appeal_at (relations_of facts.now) decision.now.number decision.now.reference) false
         || contains code_cmp codes.old s)) }
-    ensures memory { IfErr result (λ e. e ≡ NoMemory) }
+    ensures memory { OnlyMemory result }
 {
     match facts.appeals.get(&(decision.number, decision.reference)) {
         Some(appeal) => add_appellant(facts, decision, appeal, codes),
@@ -355,7 +371,7 @@ fn add_appellant(
     ensures ok { OnOk result ((s : Code) → contains code_cmp codes.new s
         ≡ (spec.grant_reaches (relations_of facts.now) decision.now appeal.now s
         || contains code_cmp codes.old s)) }
-    ensures memory { IfErr result (λ e. e ≡ NoMemory) }
+    ensures memory { OnlyMemory result }
 {
     add_others(facts, decision, appeal, codes)?;
     add_session(&appeal.session, codes)
@@ -372,7 +388,7 @@ fn add_others(
         ≡ (((bears_mark decision.now.outcome
         || spec.ends_standing (relations_of facts.now) decision.now appeal.now)
         && is_member (relations_of facts.now) s decision.now.number) || contains code_cmp codes.old s)) }
-    ensures memory { IfErr result (λ e. e ≡ NoMemory) }
+    ensures memory { OnlyMemory result }
 {
     if granting::bears_mark(decision.outcome) || ends_standing(facts, decision, appeal) {
         add_candidate(facts, decision.number, codes)

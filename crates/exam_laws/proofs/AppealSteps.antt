@@ -21,27 +21,28 @@ use Rattle.exam_rules.specs.declared.rows.Subject.{Subject}
 use Rattle.exam_rules.specs.declared.rows.Subject.TheVariants as subject
 use Rattle.exam_rules.specs.Orders.{AreInOrder}
 use Rattle.exam_rules.specs.Relations.{Code, Relations, appeal_cmp, code_cmp, has_row, put_row, row_at, same_code}
-use Rattle.exam_rules.specs.Sessions.{appeal_count, asked_arrangement, barred_halls, clash_papers, has_live_entry, is_granted, is_live, is_live_paper, is_member, is_paper_of, sitting}
+use Rattle.exam_rules.specs.Sessions.{appeal_count, asked_arrangement, barred_halls, clash_papers, has_live_entry}
+use Rattle.exam_rules.specs.Sessions.{is_granted, is_live, is_live_paper, is_member, is_paper_of, sitting}
 use Rattle.exam_rules.specs.Seatings.{fits, opened_room, plan_of, seating, sitting_terms, suits_opened}
 use Rattle.exam_rules.proofs.Naming.{same_code_exact}
 use Rattle.exam_rules.specs.Tables as table
+use Rattle.exam_commands.proofs.KeyedRows.{all_at_row, all_put, appeals_exact, appeals_total, count_replaced}
 use Rattle.exam_commands.specs.declared.command.Lodging.{Lodging}
 use Rattle.exam_commands.specs.Appeals.{appeal_at, has_open_appeal, is_open, is_retracted}
 use Rattle.exam_commands.specs.Changes.{first_refusal}
 use Rattle.exam_commands.specs.Good.{IsGood, appeal_refers, marks_were_granted, may_bear, refers, subject_refers}
-use Rattle.exam_commands.specs.Limits.{most_appeals, within_limits, sessions_within, papers_within, halls_within, openings_within, candidates_within, members_within}
+use Rattle.exam_commands.specs.Limits.{most_appeals, within_limits, sessions_within, papers_within, halls_within}
+use Rattle.exam_commands.specs.Limits.{openings_within, candidates_within, members_within}
 use Rattle.exam_commands.specs.Lodgings as spec
 use Rattle.exam_commands.specs.Singles.{AreSingle, SingleKey, same_single_key, single_key}
 use Rattle.exam_commands.specs.State.{State}
 use Rattle.exam_commands.specs.Steps.{SameSeating}
-use Rattle.exam_commands.proofs.AppealKeys.{appeals_exact, appeals_total}
 use Rattle.exam_laws.proofs.Appealing.{apart_from_all, open_as, open_key, put_seating_same, single_flips, with_appeals}
 use Rattle.exam_commands.proofs.Borne.{closed_unborne, put_borne, unborne}
 use Rattle.exam_laws.proofs.Commanding.{ArePlansRepaired, DoListsRise}
 use Rattle.exam_commands.proofs.LodgingChecks.{both_passed}
-use Rattle.exam_commands.proofs.PutAppeals.{all_at_row, count_replaced}
 use Rattle.exam_commands.proofs.PutRows.{IsApartFrom, put_distinct}
-use Rattle.exam_commands.proofs.Referring.{all_put, appeals_refer_so, passed, stored_refer, there}
+use Rattle.exam_commands.proofs.Referring.{appeals_refer_so, passed, stored_refer, there}
 use Rattle.exam_commands.proofs.Staying.{best_stays}
 use Rattle.exam_laws.proofs.Stepping.{same_seating}
 
@@ -64,11 +65,16 @@ same_relations before good = record {
 }
 
 -- everybody keeps their place
-module _ (before after : State) (good : IsGood before) (t : Relations) (same : (s : Code) → SameSeating (seating before.relations s) (seating t s)) where
-  pub all_stay : DoListsRise t → ArePlansRepaired t before after → (N : ℕ → Type 0) (s : Code) → Keeps N (seating t s) (plan_of before.seats s) (plan_of after.seats s)
+module _ (before after : State) (good : IsGood before) (t : Relations)
+    (same : (s : Code) → SameSeating (seating before.relations s) (seating t s)) where
+  pub all_stay : DoListsRise t → ArePlansRepaired t before after → (N : ℕ → Type 0) (s : Code)
+      → Keeps N (seating t s) (plan_of before.seats s) (plan_of after.seats s)
   all_stay up plans N s =
-      let best : IsBest (seating t s) (plan_of before.seats s) = subst (λ g. IsBest g (plan_of before.seats s)) (same_seating before.relations t s (same s)) (good.best s) in
-      λ c some member other. subst (λ (o : Option Code). IsSome o) (sym (best_stays t s (up s) None (plan_of before.seats s) (plan_of after.seats s) best (plans s).repair c)) some
+      let best : IsBest (seating t s) (plan_of before.seats s) =
+      subst (λ g. IsBest g (plan_of before.seats s)) (same_seating before.relations t s (same s)) (good.best s) in
+      λ c some member other. subst (λ (o : Option Code). IsSome o)
+      (sym (best_stays t s (up s) None (plan_of before.seats s) (plan_of after.seats s) best (plans s).repair c))
+      some
 
 -- ---- what a lodging names is there
 
@@ -81,36 +87,48 @@ suits_some t (Some room) at = refl
 suits_some (Some terms) None at = at
 suits_some None None at = at
 
-paper_known : (r : Relations) (s : Code) (c : ℕ) (p : Code) → is_live_paper r s c p ≡ true → has_row code_cmp r.papers p ≡ true
+paper_known : (r : Relations) (s : Code) (c : ℕ) (p : Code) → is_live_paper r s c p ≡ true
+    → has_row code_cmp r.papers p ≡ true
 paper_known r s c p at = inner (row_at code_cmp r.papers p) (and_parts (is_live r c p) (is_paper_of r s p) at).1
   where
-    inner : (o : Option Paper) → option_map_or (λ (paper : Paper). same_code paper.session s) o false ≡ true → is_some o ≡ true
+    inner : (o : Option Paper) → option_map_or (λ (paper : Paper). same_code paper.session s) o false ≡ true
+        → is_some o ≡ true
     inner None here = here
     inner (Some paper) here = refl
 
 module _ (before : State) (good : IsGood before) (today : ℕ) (l : Lodging) where
-  hall_known : (h : Code) → option_map_or (same_code h) (plan_of before.seats l.session l.number) false ≡ true → has_row code_cmp before.relations.halls h ≡ true
+  hall_known : (h : Code) → option_map_or (same_code h) (plan_of before.seats l.session l.number) false ≡ true
+      → has_row code_cmp before.relations.halls h ≡ true
   hall_known h at = inner (plan_of before.seats l.session l.number) refl at
     where
-      inner : (o : Option Code) → plan_of before.seats l.session l.number ≡ o → option_map_or (same_code h) o false ≡ true → has_row code_cmp before.relations.halls h ≡ true
+      inner : (o : Option Code) → plan_of before.seats l.session l.number ≡ o
+          → option_map_or (same_code h) o false ≡ true → has_row code_cmp before.relations.halls h ≡ true
       inner None is here = absurd (let differ : false ≡ true = here in cc)
       inner (Some k) is here =
           let r = before.relations in
           let s = l.session in
           let c = l.number in
           let barred = not (list_any (same_code k) (barred_halls r s c)) in
-          let fitting : fits r s c k ≡ true = subst (λ (o : Option Code). IfSome o (λ k. IsTrue (fits r s c k))) is ((good.best s).lawful.fitting c) in
+          let fitting : fits r s c k ≡ true =
+          subst (λ (o : Option Code). IfSome o (λ k. IsTrue (fits r s c k))) is ((good.best s).lawful.fitting c) in
           let suits = and_parts (suits_opened (sitting_terms r s c) (opened_room r s k)) barred
           (and_parts (has_live_entry r s c)
           (suits_opened (sitting_terms r s c) (opened_room r s k) && barred) fitting).1 in
-          let room : is_some (opened_room r s k) ≡ true = suits_some (sitting_terms r s c) (opened_room r s k) suits.0 in
-          ap (λ q. has_row code_cmp r.halls q) (same_code_exact h k here) ∙ known_first _ (row_at code_cmp r.halls k) room
+          let room : is_some (opened_room r s k) ≡ true =
+          suits_some (sitting_terms r s c) (opened_room r s k) suits.0 in
+          ap (λ q. has_row code_cmp r.halls q) (same_code_exact h k here)
+          ∙ known_first _ (row_at code_cmp r.halls k) room
 
-  subject_known : (asked : Subject) → first_refusal (spec.subject_checks before.relations before.seats l.session l.number asked) ≡ None → subject_refers before.relations asked ≡ true
-  subject_known (subject.Hall h) ok = hall_known h (there (option_map_or (same_code h) (plan_of before.seats l.session l.number) false) refusal.NotSeatedThere [] ok)
+  subject_known : (asked : Subject)
+      → first_refusal (spec.subject_checks before.relations before.seats l.session l.number asked) ≡ None
+      → subject_refers before.relations asked ≡ true
+  subject_known (subject.Hall h) ok =
+      hall_known h (there (option_map_or (same_code h) (plan_of before.seats l.session l.number) false)
+      refusal.NotSeatedThere [] ok)
   subject_known (subject.Clash p) ok =
       let r = before.relations in
-      let sits : Bool × Refusal = (option_map_or (same_code p) (sitting r l.session l.number) false, refusal.NothingToChange) in
+      let sits : Bool × Refusal =
+      (option_map_or (same_code p) (sitting r l.session l.number) false, refusal.NothingToChange) in
       let live : Bool × Refusal = (not (is_live_paper r l.session l.number p), refusal.NoEntry) in
       paper_known r l.session l.number p
       (there (is_live_paper r l.session l.number p) refusal.NoEntry (sits ∷ [])
@@ -141,10 +159,14 @@ module _ (before : State) (good : IsGood before) (today : ℕ) (l : Lodging) whe
   sound ok none =
       let r = before.relations in
       let asked = spec.subject_checks r before.seats l.session l.number l.subject in
-      let first = passed (not (has_row nat_cmp r.candidates l.number)) refusal.UnknownCandidate (spec.lodging_checks r before.seats today l stored) ok in
-      let checks : first_refusal (spec.lodging_checks r before.seats today l None) ≡ None = ap (λ o. first_refusal (spec.lodging_checks r before.seats today l o)) (sym none) ∙ first.1 in
-      let member = passed (not (is_member r l.session l.number)) refusal.NotInSession (spec.past_closing r l.session l.subject today ∷ asked ++ spec.appeal_is_open r l ∷ []) checks in
-      let day = passed (spec.past_closing r l.session l.subject today).0 (spec.past_closing r l.session l.subject today).1 (asked ++ spec.appeal_is_open r l ∷ []) member.1 in
+      let first = passed (not (has_row nat_cmp r.candidates l.number)) refusal.UnknownCandidate
+      (spec.lodging_checks r before.seats today l stored) ok in
+      let checks : first_refusal (spec.lodging_checks r before.seats today l None) ≡ None =
+      ap (λ o. first_refusal (spec.lodging_checks r before.seats today l o)) (sym none) ∙ first.1 in
+      let member = passed (not (is_member r l.session l.number)) refusal.NotInSession
+      (spec.past_closing r l.session l.subject today ∷ asked ++ spec.appeal_is_open r l ∷ []) checks in
+      let day = passed (spec.past_closing r l.session l.subject today).0
+      (spec.past_closing r l.session l.subject today).1 (asked ++ spec.appeal_is_open r l ∷ []) member.1 in
       let both = both_passed asked (spec.appeal_is_open r l ∷ []) day.1 in
       record {
         candidate = not-false (has_row nat_cmp r.candidates l.number) first.0;
@@ -165,16 +187,22 @@ module _ (before : State) (good : IsGood before) (today : ℕ) (l : Lodging) whe
       let k : ℕ × Code = (l.number, l.reference) in
       record {
         refer = appeals_refer_so r (put_row appeal_cmp r.appeals k made) good.refer
-            (all_put appeal_cmp appeals_exact (λ x. has_row nat_cmp r.candidates x.0.0 && appeal_refers r x.1) r.appeals k made (stored_refer r good.refer)
-            (and_from (has_row nat_cmp r.candidates l.number) (appeal_refers r made) s.candidate (and_from (has_row code_cmp r.sessions l.session) (subject_refers r l.subject) s.session s.subject)));
+            (all_put appeal_cmp appeals_exact
+            (λ x. has_row nat_cmp r.candidates x.0.0 && appeal_refers r x.1) r.appeals k made
+            (stored_refer r good.refer)
+            (and_from (has_row nat_cmp r.candidates l.number) (appeal_refers r made) s.candidate
+            (and_from (has_row code_cmp r.sessions l.session) (subject_refers r l.subject) s.session s.subject)));
         single = put_distinct appeal_cmp appeals_exact single_key same_single_key single_flips r.appeals k made
-            (λ x is. subst (λ y. IsApartFrom same_single_key y (filter_map single_key r.appeals)) (one_value (l.session, l.number, open_as l.subject) x (sym (open_key k made refl) ∙ is))
+            (λ x is. subst (λ y. IsApartFrom same_single_key y (filter_map single_key r.appeals))
+            (one_value (l.session, l.number, open_as l.subject) x (sym (open_key k made refl) ∙ is))
             (apart_from_all l.session l.number l.subject r.appeals s.alone)) good.single;
-        marks = put_borne r.appeals k made r.standing (unborne r.appeals r.standing k good.marks (ap (λ o. option_map_or may_bear o false) none)) good.marks;
+        marks = put_borne r.appeals k made r.standing
+            (unborne r.appeals r.standing k good.marks (ap (λ o. option_map_or may_bear o false) none)) good.marks;
         seated = put_seating_same r k made refl (λ b at. absurd (let differ : None ≡ Some b = sym none ∙ at in cc));
       }
 
-  pub lodging_settled : (t : Relations) → IsChecked → t ≡ spec.with_lodging before.relations today l → IsSettled before.relations t
+  pub lodging_settled : (t : Relations) → IsChecked → t ≡ spec.with_lodging before.relations today l
+      → IsSettled before.relations t
   lodging_settled t ok is = subst (IsSettled before.relations) (sym is) (inner stored refl)
     where
       inner : (o : Option Appeal) → stored ≡ o → IsSettled before.relations (spec.with_lodging before.relations today l)
@@ -183,10 +211,14 @@ module _ (before : State) (good : IsGood before) (today : ℕ) (l : Lodging) whe
 
   -- ---- the limits
 
-  pub limit_refusal : IsChecked → (b : Bool) → (spec.one_too_many before.relations today l).0 ≡ b → spec.lodging_refusal before.relations before.seats today l ≡ cond b (Some refusal.TooMany) None
-  limit_refusal ok b e = ap (λ o. option_or o (first_refusal (spec.one_too_many before.relations today l ∷ []))) ok ∙ ap (λ x. cond x (Some refusal.TooMany) None) e
+  pub limit_refusal : IsChecked → (b : Bool) → (spec.one_too_many before.relations today l).0 ≡ b
+      → spec.lodging_refusal before.relations before.seats today l ≡ cond b (Some refusal.TooMany) None
+  limit_refusal ok b e =
+      ap (λ o. option_or o (first_refusal (spec.one_too_many before.relations today l ∷ []))) ok
+      ∙ ap (λ x. cond x (Some refusal.TooMany) None) e
 
-  pub within_as : (b : Bool) → within_limits (spec.with_lodging before.relations today l) ≡ b → (spec.one_too_many before.relations today l).0 ≡ not b
+  pub within_as : (b : Bool) → within_limits (spec.with_lodging before.relations today l) ≡ b
+      → (spec.one_too_many before.relations today l).0 ≡ not b
   within_as b within = inner stored refl b within
     where
       inner : (o : Option Appeal) → stored ≡ o → (b : Bool)
@@ -201,7 +233,8 @@ module _ (before : State) (good : IsGood before) (today : ℕ) (l : Lodging) whe
 
 -- ---- a retraction
 
-count_same : (r : Relations) (k : ℕ × Code) (a b : Appeal) → AreInOrder r → row_at appeal_cmp r.appeals k ≡ Some b → within_limits (with_appeals r (put_row appeal_cmp r.appeals k a)) ≡ within_limits r
+count_same : (r : Relations) (k : ℕ × Code) (a b : Appeal) → AreInOrder r → row_at appeal_cmp r.appeals k ≡ Some b
+    → within_limits (with_appeals r (put_row appeal_cmp r.appeals k a)) ≡ within_limits r
 count_same r k a b up at =
     let counts : appeal_count (with_appeals r (put_row appeal_cmp r.appeals k a)) ≡ appeal_count r =
     fun_ext (λ c. count_replaced appeal_cmp appeals_total
@@ -244,12 +277,16 @@ module _ (before : State) (good : IsGood before) (c : ℕ) (reference : Code) wh
       record {
         settled = record {
           refer = appeals_refer_so r (put_row appeal_cmp r.appeals k new) good.refer
-              (all_put appeal_cmp appeals_exact (λ x. has_row nat_cmp r.candidates x.0.0 && appeal_refers r x.1) r.appeals k new (stored_refer r good.refer) known);
+              (all_put appeal_cmp appeals_exact
+              (λ x. has_row nat_cmp r.candidates x.0.0 && appeal_refers r x.1) r.appeals k new
+              (stored_refer r good.refer) known);
           single = put_distinct appeal_cmp appeals_exact single_key same_single_key single_flips r.appeals k new
               (λ x is. absurd (let none : Option SingleKey = None in let differ : none ≡ Some x = is in cc))
               good.single;
           marks = put_borne r.appeals k new r.standing
-              (unborne r.appeals r.standing k good.marks (ap (λ o. option_map_or may_bear o false) at ∙ closed_unborne a.status (is_some (asked_arrangement a.subject)) closed)) good.marks;
+              (unborne r.appeals r.standing k good.marks
+              (ap (λ o. option_map_or may_bear o false) at
+              ∙ closed_unborne a.status (is_some (asked_arrangement a.subject)) closed)) good.marks;
           seated = put_seating_same r k new refl
               (λ b is. let same : a ≡ b =
               (let both : Some a ≡ Some b = sym at ∙ is in cc) in
@@ -258,21 +295,29 @@ module _ (before : State) (good : IsGood before) (c : ℕ) (reference : Code) wh
         within = count_same r k new a up at ∙ good.limits;
       }
 
-  pub retraction_within : AreInOrder before.relations → IsRetractable → IsSettledWithin (spec.with_retraction before.relations c reference)
+  pub retraction_within : AreInOrder before.relations → IsRetractable
+      → IsSettledWithin (spec.with_retraction before.relations c reference)
   retraction_within up ok = inner there_is refl
     where
-      by_status : (a : Appeal) → there_is ≡ Some a → (b : Bool) → is_retracted a.status ≡ b → IsSettledWithin (cond b before.relations (spec.with_retracted_appeal before.relations c reference a))
+      by_status : (a : Appeal) → there_is ≡ Some a → (b : Bool) → is_retracted a.status ≡ b
+          → IsSettledWithin (cond b before.relations (spec.with_retracted_appeal before.relations c reference a))
       by_status a at true is = record { settled = same_relations before good; within = good.limits }
       by_status a at false is =
-          let check : first_refusal (spec.retraction_checks (Some a)) ≡ None = ap (λ o. first_refusal (spec.retraction_checks o)) (sym at) ∙ ok in
-          put_settled up a at (passed (not (is_open a.status) && not (is_retracted a.status)) refusal.NotOpenAppeal [] check).0
+          let check : first_refusal (spec.retraction_checks (Some a)) ≡ None =
+          ap (λ o. first_refusal (spec.retraction_checks o)) (sym at) ∙ ok in
+          put_settled up a at (passed
+          (not (is_open a.status) && not (is_retracted a.status)) refusal.NotOpenAppeal [] check).0
 
       inner : (o : Option Appeal) → there_is ≡ o → IsSettledWithin (spec.with_retraction before.relations c reference)
-      inner None none = absurd (let differ : Some refusal.UnknownAppeal ≡ None = ap (λ o. first_refusal (spec.retraction_checks o)) (sym none) ∙ ok in cc)
-      inner (Some a) at = subst IsSettledWithin (sym (ap (spec.with_retracted before.relations c reference) at)) (by_status a at (is_retracted a.status) refl)
+      inner None none = absurd
+          (let differ : Some refusal.UnknownAppeal ≡ None =
+          ap (λ o. first_refusal (spec.retraction_checks o)) (sym none) ∙ ok in cc)
+      inner (Some a) at = subst IsSettledWithin (sym (ap (spec.with_retracted before.relations c reference) at))
+          (by_status a at (is_retracted a.status) refl)
 
   abbrev pub IsWithout : Relations → Type 0
   IsWithout t = t ≡ spec.with_retraction before.relations c reference
 
-  pub retraction_settled : (t : Relations) → AreInOrder before.relations → IsRetractable → IsWithout t → IsSettled before.relations t
+  pub retraction_settled : (t : Relations) → AreInOrder before.relations → IsRetractable → IsWithout t
+      → IsSettled before.relations t
   retraction_settled t up ok is = subst (IsSettled before.relations) (sym is) (retraction_within up ok).settled

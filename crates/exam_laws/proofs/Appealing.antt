@@ -1,5 +1,6 @@
 -- What a lodging and a retraction change: no seating, and what each appeal refers to is there.
-use Rattle.std.proofs.Common.{◌≡◌, ℕ, ◌&&◌, ◌||◌, not, Bool, true, false, List, [], ◌∷◌, map, nat_eq, Option, None, Some, refl, ap, sym, ◌∙◌}
+use Rattle.std.proofs.Common.{◌≡◌, ℕ, ◌&&◌, ◌||◌, not, Bool, true, false, List, [], ◌∷◌, map, nat_eq, Option, None}
+use Rattle.std.proofs.Common.{Some, refl, ap, sym, ◌∙◌}
 use Rattle.std.specs.List.{list_any, cons_option, filter_map, AllByRecursion}
 use Rattle.std.specs.Option.{option_map, option_map_or, option_and_then, option_or}
 use Rattle.std.specs.Ordering.{nat_cmp}
@@ -18,13 +19,12 @@ use Rattle.exam_rules.specs.Sessions.{has_live_entry, head_of, is_granted, is_gr
 use Rattle.exam_rules.specs.Sessions.{is_standing, least_live_paper, option_filter, session_day, standing_grant}
 use Rattle.exam_rules.specs.Sessions.{standing_grants}
 use Rattle.exam_rules.specs.Seatings.{fits, opened_room, seating, suits_opened, terms_of}
+use Rattle.exam_commands.proofs.KeyedRows.{appeals_exact, put_passed_over}
 use Rattle.exam_commands.specs.declared.single.Single.{Single}
 use Rattle.exam_commands.specs.declared.single.Single.TheVariants as single
 use Rattle.exam_commands.specs.Appeals.{is_open, is_open_appeal, same_kind}
 use Rattle.exam_commands.specs.Singles.{SingleKey, same_single, same_single_key, single_as, single_key}
 use Rattle.exam_commands.specs.Steps.{SameSeating}
-use Rattle.exam_commands.proofs.AppealKeys.{appeals_exact}
-use Rattle.exam_commands.proofs.PutAppeals.{put_passed_over}
 use Rattle.exam_commands.proofs.ImportKeys.{code_flips, number_flips}
 
 -- ---- the seating of a session knows of appeals what the granted ones ask
@@ -42,13 +42,17 @@ abbrev pub with_decisions : Relations → Appeals → Marks → Relations
 with_decisions r appeals marks = record r { appeals = appeals; standing = marks }
 
 module _ (r : Relations) (appeals : Appeals) (marks : Marks) (s : Code) where
-  module _ (c : ℕ) (same : granted_subjects appeals s c ≡ granted_subjects r.appeals s c) (stand : standing_grants (with_decisions r appeals marks) c ≡ standing_grants r c) where
+  module _ (c : ℕ) (same : granted_subjects appeals s c ≡ granted_subjects r.appeals s c)
+      (stand : standing_grants (with_decisions r appeals marks) c ≡ standing_grants r c) where
     -- the paper that is sat if this is granted
     abbrev sitting_by : List Subject → Option Code
-    sitting_by asked = option_or (option_filter (is_live_paper r s c) (head_of (filter_map asked_paper asked))) (least_live_paper r s c)
+    sitting_by asked = option_or (option_filter (is_live_paper r s c) (head_of (filter_map asked_paper asked)))
+        (least_live_paper r s c)
 
     abbrev in_force_by : List Subject → List StandingGrant → Arrangement
-    in_force_by asked grants = arrangement_by (head_of (filter_map asked_arrangement asked)) (session_day r s) grants (row_at nat_cmp r.arrangements c)
+    in_force_by asked grants =
+        arrangement_by (head_of (filter_map asked_arrangement asked)) (session_day r s) grants
+        (row_at nat_cmp r.arrangements c)
 
     abbrev fits_by : Code → List Subject → List StandingGrant → Bool
     fits_by h asked grants = has_live_entry r s c
@@ -60,9 +64,11 @@ module _ (r : Relations) (appeals : Appeals) (marks : Marks) (s : Code) where
 
     -- a hall fits the candidate exactly if it did
     pub fits_same : (h : Code) → fits (with_decisions r appeals marks) s c h ≡ fits r s c h
-    fits_same h = ap (fits_by h (granted_subjects appeals s c)) stand ∙ ap (λ asked. fits_by h asked (standing_grants r c)) same
+    fits_same h = ap (fits_by h (granted_subjects appeals s c)) stand
+        ∙ ap (λ asked. fits_by h asked (standing_grants r c)) same
 
-  pub seating_by : ((c : ℕ) (h : Code) → fits (with_decisions r appeals marks) s c h ≡ fits r s c h) → SameSeating (seating r s) (seating (with_decisions r appeals marks) s)
+  pub seating_by : ((c : ℕ) (h : Code) → fits (with_decisions r appeals marks) s c h ≡ fits r s c h)
+      → SameSeating (seating r s) (seating (with_decisions r appeals marks) s)
   seating_by same = record { members = refl; fits = λ c h. sym (same c h); desks = λ h. refl }
 
 -- what is not granted counts for nothing
@@ -77,21 +83,26 @@ never_marked true marked = refl
 never_marked false marked = refl
 
 -- an appeal that is put leaves the standing grants as they are, if it is not granted and replaces no granted one
-pub put_standing_same : (r : Relations) (k : ℕ × Code) (a : Appeal) → is_granted a.status ≡ false → ((b : Appeal) → row_at appeal_cmp r.appeals k ≡ Some b → is_granted b.status ≡ false)
+pub put_standing_same : (r : Relations) (k : ℕ × Code) (a : Appeal) → is_granted a.status ≡ false
+    → ((b : Appeal) → row_at appeal_cmp r.appeals k ≡ Some b → is_granted b.status ≡ false)
     → (c : ℕ) → standing_grants (with_appeals r (put_row appeal_cmp r.appeals k a)) c ≡ standing_grants r c
 put_standing_same r k a new old c =
-    ap (filter_map (λ (x : (ℕ × Code) × Appeal). standing_grant r x.1)) (put_passed_over appeal_cmp appeals_exact (is_standing r c) r.appeals k a
+    ap (filter_map (λ (x : (ℕ × Code) × Appeal). standing_grant r x.1))
+    (put_passed_over appeal_cmp appeals_exact (is_standing r c) r.appeals k a
     (ap (λ g. nat_eq k.0 c && (g && is_marked r k)) new ∙ never_marked (nat_eq k.0 c) (is_marked r k))
     (λ b at. ap (λ g. nat_eq k.0 c && (g && is_marked r k)) (old b at) ∙ never_marked (nat_eq k.0 c) (is_marked r k)))
 
 -- an appeal that is put seats nobody elsewhere, if it is not granted and replaces no granted one
-pub put_seating_same : (r : Relations) (k : ℕ × Code) (a : Appeal) → is_granted a.status ≡ false → ((b : Appeal) → row_at appeal_cmp r.appeals k ≡ Some b → is_granted b.status ≡ false)
+pub put_seating_same : (r : Relations) (k : ℕ × Code) (a : Appeal) → is_granted a.status ≡ false
+    → ((b : Appeal) → row_at appeal_cmp r.appeals k ≡ Some b → is_granted b.status ≡ false)
     → (s : Code) → SameSeating (seating r s) (seating (with_appeals r (put_row appeal_cmp r.appeals k a)) s)
 put_seating_same r k a new old s = seating_by r (put_row appeal_cmp r.appeals k a) r.standing s (λ c.
     fits_same r (put_row appeal_cmp r.appeals k a) r.standing s c
-    (ap (map (λ (x : (ℕ × Code) × Appeal). x.1.subject)) (put_passed_over appeal_cmp appeals_exact (is_granted_appeal s c) r.appeals k a
+    (ap (map (λ (x : (ℕ × Code) × Appeal). x.1.subject))
+    (put_passed_over appeal_cmp appeals_exact (is_granted_appeal s c) r.appeals k a
     (ap (λ g. nat_eq k.0 c && (same_code a.session s && g)) new ∙ not_granted (nat_eq k.0 c) (same_code a.session s))
-    (λ b at. ap (λ g. nat_eq k.0 c && (same_code b.session s && g)) (old b at) ∙ not_granted (nat_eq k.0 c) (same_code b.session s))))
+    (λ b at. ap (λ g. nat_eq k.0 c && (same_code b.session s && g)) (old b at)
+    ∙ not_granted (nat_eq k.0 c) (same_code b.session s))))
     (put_standing_same r k a new old c))
 
 -- ---- an appeal's own key among those that a candidate may have only once
@@ -104,10 +115,12 @@ open_as (subject.Arrangement a) = single.OpenArrangement
 abbrev pub key_with : Code → ℕ → Option Single → Option SingleKey
 key_with s c o = option_map (λ kind. (s, c, kind)) o
 
-pub open_key : (k : ℕ × Code) (a : Appeal) → a.status ≡ status.Pending → single_key (k, a) ≡ Some (a.session, k.0, open_as a.subject)
+pub open_key : (k : ℕ × Code) (a : Appeal) → a.status ≡ status.Pending
+    → single_key (k, a) ≡ Some (a.session, k.0, open_as a.subject)
 open_key k a pending = ap (λ st. key_with a.session k.0 (single_as st a.subject)) pending ∙ inner a.subject
   where
-    inner : (asked : Subject) → key_with a.session k.0 (single_as status.Pending asked) ≡ Some (a.session, k.0, open_as asked)
+    inner : (asked : Subject)
+        → key_with a.session k.0 (single_as status.Pending asked) ≡ Some (a.session, k.0, open_as asked)
     inner (subject.Hall h) = refl
     inner (subject.Clash p) = refl
     inner (subject.Arrangement x) = refl
@@ -117,7 +130,8 @@ no_more true = refl
 no_more false = refl
 
 -- the key of an open appeal of its kind
-same_open : (asked : Subject) (st : Status) (other : Subject) → option_map_or (same_single (open_as asked)) (single_as st other) false ≡ (same_kind other asked && is_open st)
+same_open : (asked : Subject) (st : Status) (other : Subject)
+    → option_map_or (same_single (open_as asked)) (single_as st other) false ≡ (same_kind other asked && is_open st)
 same_open (subject.Hall h) status.Pending (subject.Hall k) = refl
 same_open (subject.Hall h) status.Pending (subject.Clash q) = refl
 same_open (subject.Hall h) status.Pending (subject.Arrangement b) = refl
@@ -167,21 +181,25 @@ module _ (s : Code) (c : ℕ) (asked : Subject) where
       at (single_as a.1.status a.1.subject)
       ∙ ap (λ b. same_code s a.1.session && (nat_eq c a.0.0 && b)) (same_open asked a.1.status a.1.subject)
       ∙ turned (same_code s a.1.session) (nat_eq c a.0.0) (same_kind a.1.subject asked && is_open a.1.status)
-      ∙ ap (λ b. b && (same_code s a.1.session && (same_kind a.1.subject asked && is_open a.1.status))) (number_flips c a.0.0)
-      ∙ ap (λ b. nat_eq a.0.0 c && (b && (same_kind a.1.subject asked && is_open a.1.status))) (code_flips s a.1.session)
+      ∙ ap (λ b. b && (same_code s a.1.session && (same_kind a.1.subject asked && is_open a.1.status)))
+      (number_flips c a.0.0)
+      ∙ ap (λ b. nat_eq a.0.0 c && (b && (same_kind a.1.subject asked && is_open a.1.status)))
+      (code_flips s a.1.session)
     where
       none : (here mine : Bool) → false ≡ (here && (mine && false))
       none true true = refl
       none true false = refl
       none false mine = refl
 
-      at : (o : Option Single) → option_map_or (same_single_key (s, c, open_as asked)) (key_with a.1.session a.0.0 o) false
+      at : (o : Option Single)
+          → option_map_or (same_single_key (s, c, open_as asked)) (key_with a.1.session a.0.0 o) false
           ≡ (same_code s a.1.session && (nat_eq c a.0.0 && option_map_or (same_single (open_as asked)) o false))
       at None = none (same_code s a.1.session) (nat_eq c a.0.0)
       at (Some kind) = refl
 
   -- if none is open, the key of one differs from all
-  pub apart_from_all : (rows : Appeals) → list_any (is_open_appeal c s asked) rows ≡ false → AllByRecursion (λ z. same_single_key (s, c, open_as asked) z ≡ false) (filter_map single_key rows)
+  pub apart_from_all : (rows : Appeals) → list_any (is_open_appeal c s asked) rows ≡ false
+      → AllByRecursion (λ z. same_single_key (s, c, open_as asked) z ≡ false) (filter_map single_key rows)
   apart_from_all [] none = tt
   apart_from_all (a ∷ rows) none =
       let parts = neither_any (is_open_appeal c s asked a) (list_any (is_open_appeal c s asked) rows) none in
@@ -191,7 +209,12 @@ module _ (s : Code) (c : ℕ) (asked : Subject) where
       neither_any true y e = absurd (let differ : true ≡ false = e in cc)
       neither_any false y e = (refl, e)
 
-      inner : (o : Option SingleKey) → single_key a ≡ o → is_open_appeal c s asked a ≡ false → AllByRecursion (λ z. same_single_key (s, c, open_as asked) z ≡ false) (filter_map single_key rows)
-          → AllByRecursion (λ z. same_single_key (s, c, open_as asked) z ≡ false) (cons_option o (filter_map single_key rows))
+      inner : (o : Option SingleKey) → single_key a ≡ o → is_open_appeal c s asked a ≡ false
+          → AllByRecursion (λ z. same_single_key (s, c, open_as asked) z ≡ false) (filter_map single_key rows)
+          → AllByRecursion (λ z. same_single_key (s, c, open_as asked) z ≡ false)
+          (cons_option o (filter_map single_key rows))
       inner None is closed rest = rest
-      inner (Some z) is closed rest = (ap (λ o. option_map_or (same_single_key (s, c, open_as asked)) o false) (sym is) ∙ tied_open a ∙ closed, rest)
+      inner (Some z) is closed rest = (
+        ap (λ o. option_map_or (same_single_key (s, c, open_as asked)) o false) (sym is) ∙ tied_open a ∙ closed,
+        rest,
+      )

@@ -1,5 +1,6 @@
 -- What the closing of a hall changes: no member and no reference, and it passes no limit.
-use Rattle.std.proofs.Common.{◌≡◌, ◌≤◌, ◌&&◌, Bool, true, false, cond, List, [], ◌∷◌, filter, length, nat_le, ap, sym, ◌∙◌, arith}
+use Rattle.std.proofs.Common.{◌≡◌, ◌≤◌, ◌&&◌, Bool, true, false, cond, List, [], ◌∷◌, filter, length, nat_le, ap, sym}
+use Rattle.std.proofs.Common.{◌∙◌, arith}
 use Rattle.std.specs.Map.{keys_of, remove_entry}
 use Rattle.std.specs.BTreeMap.{is_at}
 use Rattle.std.proofs.lemmas.Bool.{and_parts, le-leb, leb-true}
@@ -9,7 +10,8 @@ use Rattle.exam_rules.specs.declared.rows.Opening.{Opening}
 use Rattle.exam_rules.specs.Relations.{Code, Relations, same_code, opening_cmp, remove_row}
 use Rattle.exam_rules.specs.Seatings.{open_halls}
 use Rattle.exam_commands.specs.Changes.{without_opening}
-use Rattle.exam_commands.specs.Limits.{within_limits, sessions_within, papers_within, halls_within, openings_within, candidates_within, members_within, appeals_within}
+use Rattle.exam_commands.specs.Limits.{within_limits, sessions_within, papers_within, halls_within, openings_within}
+use Rattle.exam_commands.specs.Limits.{candidates_within, members_within, appeals_within}
 use Rattle.exam_commands.proofs.Referring.{all_more}
 
 -- ---- a row that is removed
@@ -24,11 +26,13 @@ module _ {K X : Type 0} (test : K → Bool) (p : K × X → Bool) where
       one_less false = omega arith
 
       both : (b : Bool) → length (filter p (remove_entry test es)) ≤ length (filter p es)
-          → length (cond b (e ∷ filter p (remove_entry test es)) (filter p (remove_entry test es))) ≤ length (cond b (e ∷ filter p es) (filter p es))
+          → length (cond b (e ∷ filter p (remove_entry test es)) (filter p (remove_entry test es))) ≤ length
+          (cond b (e ∷ filter p es) (filter p es))
       both true rest = omega (arith, rest)
       both false rest = rest
 
-      inner : (b : Bool) → length (filter p (remove_entry test es)) ≤ length (filter p es) → length (filter p (cond b es (e ∷ remove_entry test es))) ≤ length (filter p (e ∷ es))
+      inner : (b : Bool) → length (filter p (remove_entry test es)) ≤ length (filter p es)
+          → length (filter p (cond b es (e ∷ remove_entry test es))) ≤ length (filter p (e ∷ es))
       inner true rest = one_less (p e)
       inner false rest = both (p e) rest
 
@@ -44,7 +48,8 @@ module _ (r : Relations) (s : Code) (h : Code) where
 
   openings_still_within : openings_within r ≡ true → openings_within (without_opening r s h) ≡ true
   openings_still_within within =
-      all_more (λ t. nat_le (length (open_halls r t)) most_halls) (λ t. nat_le (length (open_halls (without_opening r s h) t)) most_halls) (keys_of r.sessions)
+      all_more (λ t. nat_le (length (open_halls r t)) most_halls)
+      (λ t. nat_le (length (open_halls (without_opening r s h) t)) most_halls) (keys_of r.sessions)
       (λ t most. let few = leb-true (length (open_halls r t)) most_halls most in let fewer =
       halls_fewer t in le-leb (length (open_halls (without_opening r s h) t)) most_halls
       (omega (arith, few, fewer)))
@@ -54,6 +59,12 @@ module _ (r : Relations) (s : Code) (h : Code) where
   pub closing_within : within_limits r ≡ true → within_limits (without_opening r s h) ≡ true
   closing_within within =
       let from_openings = openings_within r && (candidates_within r && (members_within r && appeals_within r)) in
-      let past_papers = (and_parts (papers_within r) (halls_within r && from_openings) (and_parts (sessions_within r) (papers_within r && (halls_within r && from_openings)) within).1).1 in
-      let few : openings_within r ≡ true = (and_parts (openings_within r) (candidates_within r && (members_within r && appeals_within r)) (and_parts (halls_within r) from_openings past_papers).1).0 in
-      ap (λ b. sessions_within r && (papers_within r && (halls_within r && (b && (candidates_within r && (members_within r && appeals_within r)))))) (openings_still_within few ∙ sym few) ∙ within
+      let past_papers = (and_parts (papers_within r) (halls_within r && from_openings)
+      (and_parts (sessions_within r) (papers_within r && (halls_within r && from_openings)) within).1).1 in
+      let few : openings_within r ≡ true =
+      (and_parts (openings_within r) (candidates_within r && (members_within r && appeals_within r))
+      (and_parts (halls_within r) from_openings past_papers).1).0 in
+      ap (λ b. sessions_within r
+      && (papers_within r &&
+      (halls_within r && (b && (candidates_within r && (members_within r && appeals_within r))))))
+      (openings_still_within few ∙ sym few) ∙ within

@@ -8,7 +8,8 @@ use Rattle.exam_rules.specs.Sessions.{is_live}
 use Rattle.exam_rules.specs.Seatings.{seating, plan_of}
 use Rattle.exam_rules.specs.Names.{ListsRise}
 use Rattle.exam_commands.specs.declared.command.Command.TheVariants as command
-use Rattle.exam_commands.specs.Changes.{no_entry, with_live, withdrawal_refusal, revival_refusal, reinstatement_refusal, without_opening}
+use Rattle.exam_commands.specs.Changes.{no_entry, with_live, withdrawal_refusal, revival_refusal, reinstatement_refusal}
+use Rattle.exam_commands.specs.Changes.{without_opening}
 use Rattle.exam_commands.specs.Good.{IsGood, refers}
 use Rattle.exam_commands.specs.Limits.{within_limits}
 use Rattle.exam_commands.specs.Repairs.{IsRepaired}
@@ -31,8 +32,10 @@ IsMarked before c p live t = t ≡ with_live before.relations c p live
 
 module _ (before : State) (good : IsGood before) (c : ℕ) (p : Code) where
   -- with another live mark everybody else stays
-  pub others_seated : (live : Bool) (after : State) → ArePlansRepaired (with_live before.relations c p live) before after
-      → (s : Code) → SeatsOn (command.Withdraw c p) (seating (with_live before.relations c p live) s) (plan_of before.seats s) (plan_of after.seats s)
+  pub others_seated : (live : Bool) (after : State)
+      → ArePlansRepaired (with_live before.relations c p live) before after
+      → (s : Code) → SeatsOn (command.Withdraw c p) (seating (with_live before.relations c p live) s)
+      (plan_of before.seats s) (plan_of after.seats s)
   others_seated live after plans s =
       others_stay before.relations (with_live before.relations c p live) s c refl (λ h. refl)
       (fits_same before.relations c p live s) None (plan_of before.seats s) (plan_of after.seats s)
@@ -40,18 +43,26 @@ module _ (before : State) (good : IsGood before) (c : ℕ) (p : Code) where
 
   -- ---- a withdrawal
 
-  pub withdrawal_refers : (t : Relations) → withdrawal_refusal before.relations c p ≡ None → IsMarked before c p false t → refers t ≡ true
-  withdrawal_refers t ok is = ap refers is ∙ live_refers before.relations c p false (no_entry before.relations c p ∷ (not (is_live before.relations c p), refusal.AlreadyWithdrawn) ∷ []) good.refer ok
+  pub withdrawal_refers : (t : Relations) → withdrawal_refusal before.relations c p ≡ None
+      → IsMarked before c p false t → refers t ≡ true
+  withdrawal_refers t ok is =
+      ap refers is ∙ live_refers before.relations c p false
+      (no_entry before.relations c p ∷ (not (is_live before.relations c p), refusal.AlreadyWithdrawn) ∷ []) good.refer
+      ok
 
   -- ---- a reinstatement
 
   pub limits_refusal : (b : Bool) → within_limits (with_live before.relations c p true) ≡ b
       → reinstatement_refusal before.relations c p
       ≡ option_or (revival_refusal before.relations c p) (cond (not b) (Some refusal.TooMany) None)
-  limits_refusal b e = ap (λ x. option_or (revival_refusal before.relations c p) (cond (not x) (Some refusal.TooMany) None)) e
+  limits_refusal b e =
+      ap (λ x. option_or (revival_refusal before.relations c p) (cond (not x) (Some refusal.TooMany) None)) e
 
-  pub reinstatement_refers : (t : Relations) → revival_refusal before.relations c p ≡ None → IsMarked before c p true t → refers t ≡ true
-  reinstatement_refers t ok is = ap refers is ∙ live_refers before.relations c p true (no_entry before.relations c p ∷ (is_live before.relations c p, refusal.NotWithdrawn) ∷ []) good.refer ok
+  pub reinstatement_refers : (t : Relations) → revival_refusal before.relations c p ≡ None → IsMarked before c p true t
+      → refers t ≡ true
+  reinstatement_refers t ok is =
+      ap refers is ∙ live_refers before.relations c p true
+      (no_entry before.relations c p ∷ (is_live before.relations c p, refusal.NotWithdrawn) ∷ []) good.refer ok
 
 -- ---- the closing of a hall
 

@@ -1,6 +1,7 @@
 -- What a decision leaves: references, limits, the appeals that a candidate may have only once, and the halls that fit
 -- everybody else.
-use Rattle.std.proofs.Common.{◌≡◌, ℕ, ◌==◌, ◌&&◌, arith, Bool, true, false, cond, List, [], ◌∷◌, map, filter, length, nat_eq, nat_le, not, is_some, Option, None, Some, refl, ap, sym, subst, ◌∙◌}
+use Rattle.std.proofs.Common.{◌≡◌, ℕ, ◌==◌, ◌&&◌, arith, Bool, true, false, cond, List, [], ◌∷◌, map, filter, length}
+use Rattle.std.proofs.Common.{nat_eq, nat_le, not, is_some, Option, None, Some, refl, ap, sym, subst, ◌∙◌}
 use Rattle.std.proofs.Math.Path.{fun_ext}
 use Rattle.std.specs.List.{IsDistinct, filter_map, list_all}
 use Rattle.std.specs.List.Sorted.{IsStrictlySortedBy}
@@ -19,8 +20,12 @@ use Rattle.exam_rules.specs.declared.rows.Subject.{Subject}
 use Rattle.exam_types.specs.declared.refusal.Refusal.TheVariants as refusal
 use Rattle.exam_rules.specs.Orders.{KeysRise}
 use Rattle.exam_rules.specs.Relations.{Code, Relations, appeal_cmp, has_row, is_row_of, put_row, row_at, same_code}
-use Rattle.exam_rules.specs.Sessions.{appeal_count, asked_arrangement, is_granted, is_granted_appeal, is_marked, is_standing, standing_grant, standing_grants}
+use Rattle.exam_rules.specs.Sessions.{appeal_count, asked_arrangement, is_granted, is_granted_appeal, is_marked}
+use Rattle.exam_rules.specs.Sessions.{is_standing, standing_grant, standing_grants}
 use Rattle.exam_rules.specs.Seatings.{desks, fits}
+use Rattle.exam_rules.proofs.Relisting.{put_filtered}
+use Rattle.exam_commands.proofs.KeyedRows.{all_at_row, all_put, appeals_exact, appeals_total, put_elsewhere, put_found}
+use Rattle.exam_commands.proofs.KeyedRows.{put_keys}
 use Rattle.exam_commands.specs.declared.command.Decision.{Decision}
 use Rattle.exam_commands.specs.declared.command.Outcome.{Outcome}
 use Rattle.exam_commands.specs.declared.command.Outcome.TheVariants as outcome
@@ -31,23 +36,23 @@ use Rattle.exam_commands.specs.Decisions.{decision_checks, decision_refusal, giv
 use Rattle.exam_commands.specs.Decisions.{is_made, is_too_late, not_arrangement, open_checks, with_decision}
 use Rattle.exam_commands.specs.Decisions.{with_decided, with_mark, with_outcome, with_superseded, without_mark}
 use Rattle.exam_commands.specs.Good as good
-use Rattle.exam_commands.specs.Limits.{most_appeals, within_limits, sessions_within, papers_within, halls_within, openings_within, candidates_within, members_within}
+use Rattle.exam_commands.specs.Limits.{most_appeals, within_limits, sessions_within, papers_within, halls_within}
+use Rattle.exam_commands.specs.Limits.{openings_within, candidates_within, members_within}
 use Rattle.exam_commands.specs.Singles.{AreSingle, SingleKey, same_single_key, single_as, single_key}
 use Rattle.exam_laws.proofs.Appealing.{fits_same, single_flips}
-use Rattle.exam_commands.proofs.AppealKeys.{appeals_exact, appeals_total}
-use Rattle.exam_commands.proofs.Borne.{borne_in, key_elsewhere, mark_gone, open_unborne, other_mark_kept, put_borne, unborne, unmarked_same}
-use Rattle.exam_commands.proofs.LiveMarks.{put_elsewhere, put_filtered}
-use Rattle.exam_commands.proofs.PutAppeals.{all_at_row}
-use Rattle.exam_commands.proofs.PutRows.{IsApartFrom, IsFresh, mapped_filtered, mapped_keys, put_distinct, put_keys}
-use Rattle.exam_commands.proofs.Referring.{all_put, passed}
-use Rattle.exam_commands.proofs.Repeating.{put_found}
+use Rattle.exam_commands.proofs.Borne.{borne_in, key_elsewhere, mark_gone, open_unborne, other_mark_kept, put_borne}
+use Rattle.exam_commands.proofs.Borne.{unborne, unmarked_same}
+use Rattle.exam_commands.proofs.PutRows.{IsApartFrom, IsFresh, mapped_filtered, mapped_keys, put_distinct}
+use Rattle.exam_commands.proofs.Referring.{passed}
 use Rattle.exam_commands.proofs.Superseding.{given_distinct, places_apart}
 
 -- ---- rows
 
-all_mapped : {R : Type 0} (p : R → Bool) (g : R → R) → ((row : R) → p (g row) ≡ p row) → (rows : List R) → list_all p (map g rows) ≡ list_all p rows
+all_mapped : {R : Type 0} (p : R → Bool) (g : R → R) → ((row : R) → p (g row) ≡ p row) → (rows : List R)
+    → list_all p (map g rows) ≡ list_all p rows
 all_mapped p g same [] = refl
-all_mapped p g same (d ∷ ds) = ap (λ b. b && list_all p (map g ds)) (same d) ∙ ap (λ b. p d && b) (all_mapped p g same ds)
+all_mapped p g same (d ∷ ds) =
+    ap (λ b. b && list_all p (map g ds)) (same d) ∙ ap (λ b. p d && b) (all_mapped p g same ds)
 
 -- a key that was there is there
 mapped_there : {K X : Type 0} (cmp : K → K → Ordering) (g : K × X → K × X) → ((row : K × X) → (g row).0 ≡ row.0)
@@ -56,8 +61,10 @@ mapped_there : {K X : Type 0} (cmp : K → K → Ordering) (g : K × X → K × 
 mapped_there cmp g keyed [] k x at = absurd (let differ : None ≡ Some x = at in cc)
 mapped_there {K} {X} cmp g keyed (d ∷ ds) k x at = inner (is_at (cmp k) d.0) refl at (mapped_there cmp g keyed ds k x)
   where
-    head : (b : Bool) → is_at (cmp k) d.0 ≡ b → row_at cmp (g d ∷ map g ds) k ≡ cond b (Some (g d).1) (row_at cmp (map g ds) k)
-    head b is = ap (λ q. cond (is_at (cmp k) q) (Some (g d).1) (row_at cmp (map g ds) k)) (keyed d) ∙ ap (λ t. cond t (Some (g d).1) (row_at cmp (map g ds) k)) is
+    head : (b : Bool) → is_at (cmp k) d.0 ≡ b
+        → row_at cmp (g d ∷ map g ds) k ≡ cond b (Some (g d).1) (row_at cmp (map g ds) k)
+    head b is = ap (λ q. cond (is_at (cmp k) q) (Some (g d).1) (row_at cmp (map g ds) k)) (keyed d)
+        ∙ ap (λ t. cond t (Some (g d).1) (row_at cmp (map g ds) k)) is
 
     inner : (b : Bool) → is_at (cmp k) d.0 ≡ b → cond b (Some d.1) (row_at cmp ds k) ≡ Some x
         → (row_at cmp ds k ≡ Some x → (y : X) × (row_at cmp (map g ds) k ≡ Some y))
@@ -66,7 +73,8 @@ mapped_there {K} {X} cmp g keyed (d ∷ ds) k x at = inner (is_at (cmp k) d.0) r
     inner false away is rest = let later = rest is in (later.0, head false away ∙ later.1)
 
 -- how many rows a candidate has, by the keys alone
-count_keys : {B X : Type 0} (c : ℕ) (rows : List ((ℕ × B) × X)) → length (filter (is_row_of c) rows) ≡ length (filter (λ (k : ℕ × B). k.0 == c) (keys_of rows))
+count_keys : {B X : Type 0} (c : ℕ) (rows : List ((ℕ × B) × X))
+    → length (filter (is_row_of c) rows) ≡ length (filter (λ (k : ℕ × B). k.0 == c) (keys_of rows))
 count_keys c [] = refl
 count_keys {B} {X} c (d ∷ ds) = inner (d.0.0 == c) (count_keys c ds)
   where
@@ -96,11 +104,13 @@ module _ (r : Relations) (c : ℕ) (a : Appeal) where
   given_refers : (row : (ℕ × Code) × Appeal) → refers_at (given row) ≡ refers_at row
   given_refers row = inner (gives_way c a.session a.subject row)
     where
-      inner : (b : Bool) → refers_at (cond b (row.0, record row.1 { status = superseded row.1.status }) row) ≡ refers_at row
+      inner : (b : Bool) → refers_at (cond b (row.0, record row.1 { status = superseded row.1.status }) row)
+          ≡ refers_at row
       inner true = refl
       inner false = refl
 
-  rows_refer : (o : Outcome) → list_all refers_at r.appeals ≡ true → list_all refers_at (with_superseded c a o r.appeals) ≡ true
+  rows_refer : (o : Outcome) → list_all refers_at r.appeals ≡ true
+      → list_all refers_at (with_superseded c a o r.appeals) ≡ true
   rows_refer outcome.Grant every = all_mapped refers_at given given_refers r.appeals ∙ every
   rows_refer outcome.Standing every = all_mapped refers_at given given_refers r.appeals ∙ every
   rows_refer outcome.Refuse every = every
@@ -110,35 +120,43 @@ module _ (r : Relations) (c : ℕ) (a : Appeal) where
   rows_keyed outcome.Standing = mapped_keys given given_keyed r.appeals
   rows_keyed outcome.Refuse = refl
 
-  rows_there : (o : Outcome) (k : ℕ × Code) (x : Appeal) → row_at appeal_cmp r.appeals k ≡ Some x → (y : Appeal) × (row_at appeal_cmp (with_superseded c a o r.appeals) k ≡ Some y)
+  rows_there : (o : Outcome) (k : ℕ × Code) (x : Appeal) → row_at appeal_cmp r.appeals k ≡ Some x
+      → (y : Appeal) × (row_at appeal_cmp (with_superseded c a o r.appeals) k ≡ Some y)
   rows_there outcome.Grant k x at = mapped_there appeal_cmp given given_keyed r.appeals k x at
   rows_there outcome.Standing k x at = mapped_there appeal_cmp given given_keyed r.appeals k x at
   rows_there outcome.Refuse k x at = (x, at)
 
-  rows_distinct : (o : Outcome) → AreSingle r → IsDistinct same_single_key (filter_map single_key (with_superseded c a o r.appeals))
+  rows_distinct : (o : Outcome) → AreSingle r
+      → IsDistinct same_single_key (filter_map single_key (with_superseded c a o r.appeals))
   rows_distinct outcome.Grant distinct = given_distinct c a.session a.subject r.appeals distinct
   rows_distinct outcome.Standing distinct = given_distinct c a.session a.subject r.appeals distinct
   rows_distinct outcome.Refuse distinct = distinct
 
   -- the key of the decided appeal, if it has one
   abbrev single_if : Outcome → Code → Option SingleKey
-  single_if o answer = option_map {U = SingleKey} (λ kind. (a.session, c, kind)) (single_as (decided o answer) a.subject)
+  single_if o answer =
+      option_map {U = SingleKey} (λ kind. (a.session, c, kind)) (single_as (decided o answer) a.subject)
 
-  granted_fresh : (answer : Code) → IsFresh same_single_key (single_if outcome.Grant answer) (filter_map single_key (map given r.appeals))
+  granted_fresh : (answer : Code)
+      → IsFresh same_single_key (single_if outcome.Grant answer) (filter_map single_key (map given r.appeals))
   granted_fresh answer x is = inner (single_as (status.Granted answer) a.subject) refl is
     where
-      inner : (o : Option Single) → single_as (status.Granted answer) a.subject ≡ o → option_map {U = SingleKey} (λ kind. (a.session, c, kind)) o ≡ Some x
+      inner : (o : Option Single) → single_as (status.Granted answer) a.subject ≡ o
+          → option_map {U = SingleKey} (λ kind. (a.session, c, kind)) o ≡ Some x
           → IsApartFrom same_single_key x (filter_map single_key (map given r.appeals))
       inner None e at = absurd (let none : Option SingleKey = None in let differ : none ≡ Some x = at in cc)
       inner (Some kind) e at =
           let whole : SingleKey = (a.session, c, kind) in
           let one : whole ≡ x = cc in
-          subst (λ z. IsApartFrom same_single_key z (filter_map single_key (map given r.appeals))) one (places_apart c a.session a.subject answer kind e r.appeals)
+          subst (λ z. IsApartFrom same_single_key z (filter_map single_key (map given r.appeals))) one
+          (places_apart c a.session a.subject answer kind e r.appeals)
 
-  rows_fresh : (o : Outcome) (answer : Code) → IsFresh same_single_key (single_if o answer) (filter_map single_key (with_superseded c a o r.appeals))
+  rows_fresh : (o : Outcome) (answer : Code)
+      → IsFresh same_single_key (single_if o answer) (filter_map single_key (with_superseded c a o r.appeals))
   rows_fresh outcome.Grant answer x is = granted_fresh answer x is
   rows_fresh outcome.Standing answer x is = granted_fresh answer x is
-  rows_fresh outcome.Refuse answer x is = absurd (let none : Option SingleKey = None in let differ : none ≡ Some x = is in cc)
+  rows_fresh outcome.Refuse answer x is =
+      absurd (let none : Option SingleKey = None in let differ : none ≡ Some x = is in cc)
 
   -- appeals of another candidate stay
   module _ (s : Code) (n : ℕ) (other : nat_eq c n ≡ false) where
@@ -158,12 +176,15 @@ module _ (r : Relations) (c : ℕ) (a : Appeal) where
         kept : (row : (ℕ × Code) × Appeal) → is_granted_appeal s n row ≡ true → given row ≡ row
         kept row is = apart row (and_parts (row.0.0 == n) (same_code row.1.session s && is_granted row.1.status) is).0
 
-        out : (row : (ℕ × Code) × Appeal) → is_granted_appeal s n row ≡ false → is_granted_appeal s n (given row) ≡ false
+        out : (row : (ℕ × Code) × Appeal) → is_granted_appeal s n row ≡ false
+            → is_granted_appeal s n (given row) ≡ false
         out row is = inner (row.0.0 == n) refl
           where
             inner : (b : Bool) → (row.0.0 == n) ≡ b → is_granted_appeal s n (given row) ≡ false
             inner true own = ap (is_granted_appeal s n) (apart row own) ∙ is
-            inner false away = ap (λ (k : ℕ × Code). (k.0 == n) && (same_code (given row).1.session s && is_granted (given row).1.status)) (given_keyed row)
+            inner false away = ap
+                (λ (k : ℕ × Code). (k.0 == n)
+                && (same_code (given row).1.session s && is_granted (given row).1.status)) (given_keyed row)
                 ∙ ap (λ b. b && (same_code (given row).1.session s && is_granted (given row).1.status)) away
 
     given_standing : filter (is_standing r n) (map given r.appeals) ≡ filter (is_standing r n) r.appeals
@@ -177,16 +198,20 @@ module _ (r : Relations) (c : ℕ) (a : Appeal) where
           where
             inner : (b : Bool) → (row.0.0 == n) ≡ b → is_standing r n (given row) ≡ false
             inner true own = ap (is_standing r n) (apart row own) ∙ is
-            inner false away = ap (λ (k : ℕ × Code). (k.0 == n) && (is_granted (given row).1.status && is_marked r (given row).0)) (given_keyed row)
+            inner false away = ap
+                (λ (k : ℕ × Code). (k.0 == n) && (is_granted (given row).1.status && is_marked r (given row).0))
+                (given_keyed row)
                 ∙ ap (λ b. b && (is_granted (given row).1.status && is_marked r (given row).0)) away
 
-    rows_filtered : (o : Outcome) → filter (is_granted_appeal s n) (with_superseded c a o r.appeals) ≡ filter (is_granted_appeal s n) r.appeals
+    rows_filtered : (o : Outcome)
+        → filter (is_granted_appeal s n) (with_superseded c a o r.appeals) ≡ filter (is_granted_appeal s n) r.appeals
     rows_filtered outcome.Refuse = refl
     rows_filtered outcome.Grant = given_filtered
     rows_filtered outcome.Standing = given_filtered
 
     -- nor do their standing grants change
-    rows_standing : (o : Outcome) → filter (is_standing r n) (with_superseded c a o r.appeals) ≡ filter (is_standing r n) r.appeals
+    rows_standing : (o : Outcome)
+        → filter (is_standing r n) (with_superseded c a o r.appeals) ≡ filter (is_standing r n) r.appeals
     rows_standing outcome.Refuse = refl
     rows_standing outcome.Grant = given_standing
     rows_standing outcome.Standing = given_standing
@@ -201,24 +226,28 @@ module _ (r : Relations) (d : Decision) where
   pub marked_still : (k : ℕ × Code) → (k ≡ key → ⊥) → has_row appeal_cmp (with_mark d r.standing) k ≡ is_marked r k
   marked_still k apart = inner (bears_mark d.outcome)
     where
-      inner : (b : Bool) → has_row appeal_cmp (cond b (put_row appeal_cmp r.standing key tt) (without_mark key r.standing)) k ≡ is_marked r k
-      inner true = ap is_some (put_elsewhere appeal_cmp appeals_exact r.standing key k tt (key_elsewhere key k apart))
+      inner : (b : Bool) → has_row appeal_cmp
+          (cond b (put_row appeal_cmp r.standing key tt) (without_mark key r.standing)) k ≡ is_marked r k
+      inner true = ap is_some (put_elsewhere appeal_cmp appeals_total r.standing key k tt (key_elsewhere key k apart))
       inner false = ap is_some (other_mark_kept r.standing key k apart)
 
   -- the decided appeal bears a mark exactly if the outcome gives it one
   pub marked_as_made : (a : Appeal) → is_marked (with_outcome r d a) key ≡ bears_mark d.outcome
   marked_as_made a = inner (bears_mark d.outcome)
     where
-      inner : (b : Bool) → has_row appeal_cmp (cond b (put_row appeal_cmp r.standing key tt) (without_mark key r.standing)) key ≡ b
+      inner : (b : Bool) → has_row appeal_cmp
+          (cond b (put_row appeal_cmp r.standing key tt) (without_mark key r.standing)) key ≡ b
       inner true = ap is_some (put_found appeal_cmp appeals_total r.standing key tt)
       inner false = mark_gone r.standing key
 
   -- the standing grants of another candidate are the same
-  pub others_standing_grants : (a : Appeal) (n : ℕ) → nat_eq d.number n ≡ false → standing_grants (with_outcome r d a) n ≡ standing_grants r n
+  pub others_standing_grants : (a : Appeal) (n : ℕ) → nat_eq d.number n ≡ false
+      → standing_grants (with_outcome r d a) n ≡ standing_grants r n
   others_standing_grants a n other =
       ap (filter_map (λ (x : (ℕ × Code) × Appeal). standing_grant r x.1))
       (ap (λ p. filter p (put_row appeal_cmp rows key v)) (fun_ext same_test)
-      ∙ put_filtered appeal_cmp appeals_exact (is_standing r n) rows key v (λ w. ap (λ b. b && (is_granted w.status && is_marked r key)) other)
+      ∙ put_filtered appeal_cmp appeals_exact (is_standing r n) rows key v
+      (λ w. ap (λ b. b && (is_granted w.status && is_marked r key)) other)
       ∙ rows_standing r d.number a key.1 n other d.outcome)
     where
       rows : List ((ℕ × Code) × Appeal)
@@ -230,16 +259,22 @@ module _ (r : Relations) (d : Decision) where
       same_test : (x : (ℕ × Code) × Appeal) → is_standing (with_outcome r d a) n x ≡ is_standing r n x
       same_test x = inner (nat_eq x.0.0 n) refl
         where
-          inner : (b : Bool) → nat_eq x.0.0 n ≡ b → (b && (is_granted x.1.status && has_row appeal_cmp (with_mark d r.standing) x.0)) ≡ (b && (is_granted x.1.status && is_marked r x.0))
+          inner : (b : Bool) → nat_eq x.0.0 n ≡ b
+              → (b && (is_granted x.1.status && has_row appeal_cmp (with_mark d r.standing) x.0))
+              ≡ (b && (is_granted x.1.status && is_marked r x.0))
           inner true own = ap (λ m. is_granted x.1.status && m) (marked_still x.0 (λ same.
               let differ : true ≡ false = sym own ∙ ap (λ (k : ℕ × Code). nat_eq k.0 n) same ∙ other in cc))
           inner false away = refl
 
-  pub unmarked_open : (a : Appeal) → good.marks_were_granted r ≡ true → appeal_at r d.number d.reference ≡ Some a → is_open a.status ≡ true → is_marked r key ≡ false
-  unmarked_open a stand at open_yet = unborne r.appeals r.standing key stand (ap (λ o. option_map_or good.may_bear o false) at ∙ open_unborne a open_yet)
+  pub unmarked_open : (a : Appeal) → good.marks_were_granted r ≡ true → appeal_at r d.number d.reference ≡ Some a
+      → is_open a.status ≡ true → is_marked r key ≡ false
+  unmarked_open a stand at open_yet =
+      unborne r.appeals r.standing key stand
+      (ap (λ o. option_map_or good.may_bear o false) at ∙ open_unborne a open_yet)
 
   -- what gave way may bear its mark as before
-  given_bears : (c : ℕ) (s : Code) (asked : Subject) (row : (ℕ × Code) × Appeal) → good.may_bear (giving_way c s asked row).1 ≡ good.may_bear row.1
+  given_bears : (c : ℕ) (s : Code) (asked : Subject) (row : (ℕ × Code) × Appeal)
+      → good.may_bear (giving_way c s asked row).1 ≡ good.may_bear row.1
   given_bears c s asked row = inner (gives_way c s asked row)
     where
       granted_yet : (st : Status) → good.was_granted (superseded st) ≡ good.was_granted st
@@ -249,11 +284,13 @@ module _ (r : Relations) (d : Decision) where
       granted_yet status.Retracted = refl
       granted_yet (status.Superseded answer) = refl
 
-      inner : (b : Bool) → good.may_bear (cond b (row.0, record row.1 { status = superseded row.1.status }) row).1 ≡ good.may_bear row.1
+      inner : (b : Bool) → good.may_bear (cond b (row.0, record row.1 { status = superseded row.1.status }) row).1
+          ≡ good.may_bear row.1
       inner true = ap (λ g. is_some (asked_arrangement row.1.subject) && g) (granted_yet row.1.status)
       inner false = refl
 
-  mapped_borne : (c : ℕ) (a : Appeal) (rows : List ((ℕ × Code) × Appeal)) (m : (ℕ × Code) × Unit {0}) → borne_in (map (giving_way c a.session a.subject) rows) m ≡ borne_in rows m
+  mapped_borne : (c : ℕ) (a : Appeal) (rows : List ((ℕ × Code) × Appeal)) (m : (ℕ × Code) × Unit {0})
+      → borne_in (map (giving_way c a.session a.subject) rows) m ≡ borne_in rows m
   mapped_borne c a [] m = refl
   mapped_borne c a (row ∷ rows) m =
       ap (λ k. option_map_or good.may_bear
@@ -262,18 +299,23 @@ module _ (r : Relations) (d : Decision) where
       ∙ inner (is_at (appeal_cmp m.0) row.0) (mapped_borne c a rows m)
     where
       inner : (b : Bool) → borne_in (map (giving_way c a.session a.subject) rows) m ≡ borne_in rows m
-          → option_map_or good.may_bear (cond b (Some (giving_way c a.session a.subject row).1) (row_at appeal_cmp (map (giving_way c a.session a.subject) rows) m.0)) false
+          → option_map_or good.may_bear
+          (cond b (Some (giving_way c a.session a.subject row).1)
+          (row_at appeal_cmp (map (giving_way c a.session a.subject) rows) m.0)) false
           ≡ option_map_or good.may_bear (cond b (Some row.1) (row_at appeal_cmp rows m.0)) false
       inner true rest = given_bears c a.session a.subject row
       inner false rest = rest
 
-  rows_borne : (a : Appeal) (o : Outcome) (m : (ℕ × Code) × Unit {0}) → borne_in (with_superseded d.number a o r.appeals) m ≡ borne_in r.appeals m
+  rows_borne : (a : Appeal) (o : Outcome) (m : (ℕ × Code) × Unit {0})
+      → borne_in (with_superseded d.number a o r.appeals) m ≡ borne_in r.appeals m
   rows_borne a outcome.Grant m = mapped_borne d.number a r.appeals m
   rows_borne a outcome.Standing m = mapped_borne d.number a r.appeals m
   rows_borne a outcome.Refuse m = refl
 
-  marks_after : (a : Appeal) → good.marks_were_granted r ≡ true → appeal_at r d.number d.reference ≡ Some a → is_open a.status ≡ true
-      → (o : Outcome) → d.outcome ≡ o → (bears_mark o && is_none (asked_arrangement a.subject)) ≡ false → good.marks_were_granted (with_outcome r d a) ≡ true
+  marks_after : (a : Appeal) → good.marks_were_granted r ≡ true → appeal_at r d.number d.reference ≡ Some a
+      → is_open a.status ≡ true
+      → (o : Outcome) → d.outcome ≡ o → (bears_mark o && is_none (asked_arrangement a.subject)) ≡ false
+      → good.marks_were_granted (with_outcome r d a) ≡ true
   marks_after a stand at open_yet o is fits_mark = inner o is fits_mark
     where
       v : Appeal
@@ -283,13 +325,16 @@ module _ (r : Relations) (d : Decision) where
       after = borne_in (put_row appeal_cmp (with_superseded d.number a d.outcome r.appeals) key v)
 
       old : list_all after r.standing ≡ true
-      old = put_borne (with_superseded d.number a d.outcome r.appeals) key v r.standing (unmarked_open a stand at open_yet) (ap (λ p. list_all p r.standing) (fun_ext (rows_borne a d.outcome)) ∙ stand)
+      old = put_borne (with_superseded d.number a d.outcome r.appeals) key v r.standing
+          (unmarked_open a stand at open_yet)
+          (ap (λ p. list_all p r.standing) (fun_ext (rows_borne a d.outcome)) ∙ stand)
 
       asked : (wanted : Option Arrangement) → (true && is_none wanted) ≡ false → (is_some wanted && true) ≡ true
       asked None off = absurd (let differ : true ≡ false = off in cc)
       asked (Some wanted) off = refl
 
-      inner : (o : Outcome) → d.outcome ≡ o → (bears_mark o && is_none (asked_arrangement a.subject)) ≡ false → good.marks_were_granted (with_outcome r d a) ≡ true
+      inner : (o : Outcome) → d.outcome ≡ o → (bears_mark o && is_none (asked_arrangement a.subject)) ≡ false
+          → good.marks_were_granted (with_outcome r d a) ≡ true
       inner outcome.Grant is fits_mark =
           ap (λ o. list_all after
           (cond (bears_mark o) (put_row appeal_cmp r.standing key tt) (without_mark key r.standing))) is
@@ -299,12 +344,16 @@ module _ (r : Relations) (d : Decision) where
           (cond (bears_mark o) (put_row appeal_cmp r.standing key tt) (without_mark key r.standing))) is
           ∙ ap (list_all after) (unmarked_same r.standing key (unmarked_open a stand at open_yet)) ∙ old
       inner outcome.Standing is fits_mark =
-          ap (λ o. list_all after (cond (bears_mark o) (put_row appeal_cmp r.standing key tt) (without_mark key r.standing))) is
+          ap (λ o. list_all after
+          (cond (bears_mark o) (put_row appeal_cmp r.standing key tt) (without_mark key r.standing))) is
           ∙ all_put appeal_cmp appeals_exact after r.standing key tt old
-          (ap (λ o. option_map_or good.may_bear o false) (put_found appeal_cmp appeals_total (with_superseded d.number a d.outcome r.appeals) key v)
-          ∙ ap (λ o. is_some (asked_arrangement a.subject) && good.was_granted (decided o d.answer)) is ∙ asked (asked_arrangement a.subject) fits_mark)
+          (ap (λ o. option_map_or good.may_bear o false)
+          (put_found appeal_cmp appeals_total (with_superseded d.number a d.outcome r.appeals) key v)
+          ∙ ap (λ o. is_some (asked_arrangement a.subject) && good.was_granted (decided o d.answer)) is
+          ∙ asked (asked_arrangement a.subject) fits_mark)
 
-  pub decision_marks : (today : ℕ) → good.marks_were_granted r ≡ true → decision_refusal r today d ≡ None → good.marks_were_granted (with_decision r d) ≡ true
+  pub decision_marks : (today : ℕ) → good.marks_were_granted r ≡ true → decision_refusal r today d ≡ None
+      → good.marks_were_granted (with_decision r d) ≡ true
   decision_marks today stand ok = inner (appeal_at r d.number d.reference) refl ok
     where
       by_case : (a : Appeal) → appeal_at r d.number d.reference ≡ Some a → (b : Bool)
@@ -315,11 +364,14 @@ module _ (r : Relations) (d : Decision) where
           let opened = passed (not (is_open a.status)) refusal.NotOpenAppeal
           ((is_too_late r a.session today, refusal.TooLate) ∷ not_arrangement a d.outcome
           ∷ grant_checks r d.number a d.outcome) checked in
-          let timely = passed (is_too_late r a.session today) refusal.TooLate (not_arrangement a d.outcome ∷ grant_checks r d.number a d.outcome) opened.1 in
-          let suited = passed (not_arrangement a d.outcome).0 refusal.NotArrangement (grant_checks r d.number a d.outcome) timely.1 in
+          let timely = passed (is_too_late r a.session today) refusal.TooLate
+          (not_arrangement a d.outcome ∷ grant_checks r d.number a d.outcome) opened.1 in
+          let suited = passed (not_arrangement a d.outcome).0 refusal.NotArrangement
+          (grant_checks r d.number a d.outcome) timely.1 in
           marks_after a stand at (not-false (is_open a.status) opened.0) d.outcome refl suited.0
 
-      inner : (o : Option Appeal) → appeal_at r d.number d.reference ≡ o → first_refusal (decision_checks r today d o) ≡ None → good.marks_were_granted (with_decided r d o) ≡ true
+      inner : (o : Option Appeal) → appeal_at r d.number d.reference ≡ o
+          → first_refusal (decision_checks r today d o) ≡ None → good.marks_were_granted (with_decided r d o) ≡ true
       inner None at checked = stand
       inner (Some a) at checked = by_case a at (is_made r d a) checked
 
@@ -327,7 +379,8 @@ module _ (r : Relations) (d : Decision) where
 
 module _ (r : Relations) (d : Decision) where
   -- what holds before, and for each appeal with a new decision, holds after
-  either : (P : Relations → Type 0) → P r → ((a : Appeal) → appeal_at r d.number d.reference ≡ Some a → P (with_outcome r d a)) → P (with_decision r d)
+  either : (P : Relations → Type 0) → P r
+      → ((a : Appeal) → appeal_at r d.number d.reference ≡ Some a → P (with_outcome r d a)) → P (with_decision r d)
   either P before anew = inner (appeal_at r d.number d.reference) refl
     where
       inner : (o : Option Appeal) → appeal_at r d.number d.reference ≡ o → P (with_decided r d o)
@@ -343,31 +396,43 @@ module _ (r : Relations) (d : Decision) where
     where
       old : good.appeals_refer r ≡ true
       old =
-          let past_papers = (and_parts (good.papers_refer r) (good.openings_refer r && (good.entries_refer r && (good.arrangements_refer r && good.appeals_refer r))) every).1 in
-          let past_openings = (and_parts (good.openings_refer r) (good.entries_refer r && (good.arrangements_refer r && good.appeals_refer r)) past_papers).1 in
-          (and_parts (good.arrangements_refer r) (good.appeals_refer r) (and_parts (good.entries_refer r) (good.arrangements_refer r && good.appeals_refer r) past_openings).1).1
+          let past_papers = (and_parts (good.papers_refer r)
+          (good.openings_refer r && (good.entries_refer r && (good.arrangements_refer r && good.appeals_refer r)))
+          every).1 in
+          let past_openings = (and_parts (good.openings_refer r)
+          (good.entries_refer r && (good.arrangements_refer r && good.appeals_refer r)) past_papers).1 in
+          (and_parts (good.arrangements_refer r) (good.appeals_refer r)
+          (and_parts (good.entries_refer r) (good.arrangements_refer r && good.appeals_refer r) past_openings).1).1
 
       anew : (a : Appeal) → appeal_at r d.number d.reference ≡ Some a → good.refers (with_outcome r d a) ≡ true
       anew a stored =
           let now : good.appeals_refer (with_outcome r d a) ≡ true =
-          all_put appeal_cmp appeals_exact (refers_at r d.number a) (with_superseded d.number a d.outcome r.appeals) (d.number, d.reference) (record a { status = decided d.outcome d.answer })
-          (rows_refer r d.number a d.outcome old) (all_at_row appeal_cmp appeals_exact (refers_at r d.number a) r.appeals (d.number, d.reference) a old stored) in
-          ap (λ b. good.papers_refer r && (good.openings_refer r && (good.entries_refer r && (good.arrangements_refer r && b)))) (now ∙ sym old) ∙ every
+          all_put appeal_cmp appeals_exact (refers_at r d.number a) (with_superseded d.number a d.outcome r.appeals)
+          (d.number, d.reference) (record a { status = decided d.outcome d.answer })
+          (rows_refer r d.number a d.outcome old)
+          (all_at_row appeal_cmp appeals_exact (refers_at r d.number a) r.appeals
+          (d.number, d.reference) a old stored) in
+          ap (λ b. good.papers_refer r
+          && (good.openings_refer r && (good.entries_refer r && (good.arrangements_refer r && b)))) (now ∙ sym old)
+          ∙ every
 
   -- as many appeals of each candidate, and no other table changes
   pub decision_within : KeysRise appeal_cmp r.appeals → within_limits (with_decision r d) ≡ within_limits r
   decision_within up = either (λ t. within_limits t ≡ within_limits r) refl anew
     where
-      anew : (a : Appeal) → appeal_at r d.number d.reference ≡ Some a → within_limits (with_outcome r d a) ≡ within_limits r
+      anew : (a : Appeal) → appeal_at r d.number d.reference ≡ Some a
+          → within_limits (with_outcome r d a) ≡ within_limits r
       anew a stored =
           let rows : List ((ℕ × Code) × Appeal) = with_superseded d.number a d.outcome r.appeals in
           let v : Appeal = record a { status = decided d.outcome d.answer } in
           let there = rows_there r d.number a d.outcome (d.number, d.reference) a stored in
           let keyed : keys_of rows ≡ keys_of r.appeals = rows_keyed r d.number a d.outcome in
           let keys : keys_of (put_row appeal_cmp rows (d.number, d.reference) v) ≡ keys_of r.appeals =
-          put_keys appeal_cmp appeals_total rows (d.number, d.reference) v there.0 (subst (λ ks. IsStrictlySortedBy appeal_cmp ks) (sym keyed) up) there.1 ∙ keyed in
+          put_keys appeal_cmp appeals_total rows (d.number, d.reference) v there.0
+          (subst (λ ks. IsStrictlySortedBy appeal_cmp ks) (sym keyed) up) there.1 ∙ keyed in
           let counts : (c : ℕ) → appeal_count (with_outcome r d a) c ≡ appeal_count r c =
-          λ c. count_keys c (put_row appeal_cmp rows (d.number, d.reference) v) ∙ ap (λ ks. length (filter (λ (k : ℕ × Code). k.0 == c) ks)) keys ∙ sym (count_keys c r.appeals) in
+          λ c. count_keys c (put_row appeal_cmp rows (d.number, d.reference) v)
+          ∙ ap (λ ks. length (filter (λ (k : ℕ × Code). k.0 == c) ks)) keys ∙ sym (count_keys c r.appeals) in
           ap (λ (n : ℕ → ℕ). sessions_within r
           && (papers_within r &&
           (halls_within r && (openings_within r
@@ -385,7 +450,8 @@ module _ (r : Relations) (d : Decision) where
           (record a { status = decided d.outcome d.answer })
           (rows_fresh r d.number a d.outcome d.answer) (rows_distinct r d.number a d.outcome distinct)
 
-  pub decision_fits : (s : Code) (c : ℕ) → nat_eq d.number c ≡ false → (h : Code) → fits (with_decision r d) s c h ≡ fits r s c h
+  pub decision_fits : (s : Code) (c : ℕ) → nat_eq d.number c ≡ false → (h : Code)
+      → fits (with_decision r d) s c h ≡ fits r s c h
   decision_fits s c other h = either (λ t. fits t s c h ≡ fits r s c h) refl anew
     where
       anew : (a : Appeal) → appeal_at r d.number d.reference ≡ Some a → fits (with_outcome r d a) s c h ≡ fits r s c h

@@ -18,7 +18,11 @@ module _ (before : State) (good : IsGood before) (d : Decision) where
 
   -- everybody else who is a member stays
   pub others_seated : (after : State) → ArePlansDecided (with_decision before.relations d) after
-      → (s : Code) → Keeps (λ c. d.number ≡ c) (seating (with_decision before.relations d) s) (plan_of before.seats s) (plan_of after.seats s)
+      → (s : Code) → Keeps (λ c. d.number ≡ c) (seating (with_decision before.relations d) s) (plan_of before.seats s)
+      (plan_of after.seats s)
   others_seated after plans s =
-      others_stay before.relations (with_decision before.relations d) s d.number (decision_candidates before.relations d) (decision_desks before.relations d s) (decision_fits before.relations d s)
-      (granted_number d d.outcome) (plan_of before.seats s) (plan_of after.seats s) (good.best s).lawful (plans s).repair
+      others_stay before.relations (with_decision before.relations d) s d.number
+      (decision_candidates before.relations d) (decision_desks before.relations d s)
+      (decision_fits before.relations d s)
+      (granted_number d d.outcome) (plan_of before.seats s) (plan_of after.seats s) (good.best s).lawful
+      (plans s).repair

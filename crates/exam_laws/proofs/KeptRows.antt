@@ -1,14 +1,15 @@
 -- No command takes a row away from the facts, but that the closing of a hall takes its opening.
-use Rattle.std.proofs.Common.{◌≡◌, ℕ, Bool, true, false, not, cond, List, [], ◌∷◌, map, Option, None, Some, Ok, is_none, is_some, refl, ap, sym, subst, ◌∙◌}
+use Rattle.std.proofs.Common.{◌≡◌, ℕ, Bool, true, false, not, cond, List, [], ◌∷◌, map, Option, None, Some, Ok, is_none}
+use Rattle.std.proofs.Common.{is_some, refl, ap, sym, subst, ◌∙◌}
 use Rattle.std.specs.BTreeMap.{is_at}
-use Rattle.std.specs.Ordering.{nat_cmp}
 use Rattle.std.proofs.lemmas.Bool.{not-false}
 use Rattle.exam_types.specs.declared.refusal.Refusal.TheVariants as refusal
 use Rattle.exam_rules.specs.declared.rows.Appeal.{Appeal}
 use Rattle.exam_rules.specs.declared.rows.Subject.{Subject}
-use Rattle.exam_rules.specs.Relations.{Code, Relations, appeal_cmp, code_cmp, entry_cmp, opening_cmp, has_row, put_row, row_at}
-use Rattle.exam_rules.specs.Tables.{Table, cmp_of, rows_of}
+use Rattle.exam_rules.specs.Relations.{Code, Relations, appeal_cmp, entry_cmp, opening_cmp, has_row, put_row, row_at}
 use Rattle.exam_rules.specs.Tables as table
+use Rattle.exam_commands.proofs.KeyedRows.{appeals_total, entries_total, has_put, key_apart, openings_exact}
+use Rattle.exam_commands.proofs.KeyedRows.{removed_elsewhere}
 use Rattle.exam_commands.specs.declared.command.Command.{Command}
 use Rattle.exam_commands.specs.declared.command.Command.TheVariants as command
 use Rattle.exam_commands.specs.declared.command.Decision.{Decision}
@@ -16,10 +17,9 @@ use Rattle.exam_commands.specs.declared.command.Lodging.{Lodging}
 use Rattle.exam_commands.specs.declared.command.Outcome.{Outcome}
 use Rattle.exam_commands.specs.declared.command.Outcome.TheVariants as outcome
 use Rattle.exam_commands.specs.declared.command.Reply.{Reply}
-use Rattle.exam_commands.specs.declared.import_row.Row.{Row}
-use Rattle.exam_commands.specs.declared.import_row.Row.TheVariants as row
 use Rattle.exam_commands.specs.Appeals.{appeal_at, is_open, is_retracted, superseded}
-use Rattle.exam_commands.specs.Changes.{closing_refusal, first_refusal, import_refusal, reinstatement_refusal, with_live, with_row, with_rows, withdrawal_refusal, without_opening}
+use Rattle.exam_commands.specs.Changes.{closing_refusal, first_refusal, import_refusal, reinstatement_refusal}
+use Rattle.exam_commands.specs.Changes.{with_live, with_rows, withdrawal_refusal, without_opening}
 use Rattle.exam_commands.specs.Decisions.{decision_checks, decision_refusal, gives_way, giving_way, grant_checks}
 use Rattle.exam_commands.specs.Decisions.{is_made, is_too_late, not_arrangement, open_checks, with_decided}
 use Rattle.exam_commands.specs.Decisions.{with_decision, with_outcome, with_superseded}
@@ -31,48 +31,30 @@ use Rattle.exam_commands.specs.State.{State}
 use Rattle.exam_commands.specs.Steps.{Step, change}
 use Rattle.exam_laws.proofs.DecidedFacts.{marked_still, unmarked_open}
 use Rattle.exam_laws.proofs.Lasting.{made, new_facts, unrefused}
-use Rattle.exam_commands.proofs.Referring.{has_put, passed}
-use Rattle.exam_commands.proofs.OtherRows.{key_apart, removed_elsewhere}
-use Rattle.exam_commands.proofs.AppealKeys.{openings_exact}
-
--- no table loses a key
-abbrev Keeps : Relations → Relations → Type 0
-Keeps r t = (name : Table) → KeepsKeys (cmp_of name) (rows_of r name) (rows_of t name)
+use Rattle.exam_commands.proofs.Referring.{passed}
+use Rattle.exam_commands.proofs.Entering.{Keeps, keeps_rows}
 
 keeps_itself : (r : Relations) → Keeps r r
 keeps_itself r name k has = has
 
--- one more row of an import
-keeps_row : (r : Relations) (x : Row) → Keeps r (with_row r x)
-keeps_row r (row.OfSession s x) = elim [ table.Sessions ↦ λ k. has_put code_cmp r.sessions s k x | _ ↦ λ k has. has ]
-keeps_row r (row.OfPaper p x) = elim [ table.Papers ↦ λ k. has_put code_cmp r.papers p k x | _ ↦ λ k has. has ]
-keeps_row r (row.OfHall j x) = elim [ table.Halls ↦ λ k. has_put code_cmp r.halls j k x | _ ↦ λ k has. has ]
-keeps_row r (row.OfOpening s j x) = elim [ table.Openings ↦ λ k. has_put opening_cmp r.openings (s, j) k x | _ ↦ λ k has. has ]
-keeps_row r (row.OfCandidate c x) = elim [ table.Candidates ↦ λ k. has_put nat_cmp r.candidates c k x | _ ↦ λ k has. has ]
-keeps_row r (row.OfEntry c p) = inner (has_row entry_cmp r.entries (c, p))
-  where
-    inner : (b : Bool) → Keeps r (cond b r (record r { entries = put_row entry_cmp r.entries (c, p) (record { live = true }) }))
-    inner true = keeps_itself r
-    inner false = elim [ table.Entries ↦ λ k. has_put entry_cmp r.entries (c, p) k (record { live = true }) | _ ↦ λ k has. has ]
-keeps_row r (row.OfArrangement c x) = elim [ table.Arrangements ↦ λ k. has_put nat_cmp r.arrangements c k x | _ ↦ λ k has. has ]
-
-keeps_both : (r t u : Relations) → Keeps r t → Keeps t u → Keeps r u
-keeps_both r t u one two name k has = two name k (one name k has)
-
-keeps_rows : (r : Relations) (rows : List Row) → Keeps r (with_rows r rows)
-keeps_rows r [] = keeps_itself r
-keeps_rows r (x ∷ rows) = keeps_both r (with_row r x) (with_rows (with_row r x) rows) (keeps_row r x) (keeps_rows (with_row r x) rows)
-
 -- entries, or appeals and marks, keep their keys, and the rest stays
 keeps_entries : (r : Relations) (c : ℕ) (p : Code) (live : Bool) → Keeps r (with_live r c p live)
-keeps_entries r c p live = elim [ table.Entries ↦ λ k. has_put entry_cmp r.entries (c, p) k (record { live = live }) | _ ↦ λ k has. has ]
+keeps_entries r c p live =
+    elim [
+      | table.Entries ↦ λ k. has_put entry_cmp entries_total r.entries (c, p) k
+          (record { live = live })
+      | _ ↦ λ k has. has
+    ]
 
-keeps_appeals : (r : Relations) (appeals : List ((ℕ × Code) × Appeal)) (marks : List ((ℕ × Code) × Unit {0})) → KeepsKeys appeal_cmp r.appeals appeals → KeepsKeys appeal_cmp r.standing marks
+keeps_appeals : (r : Relations) (appeals : List ((ℕ × Code) × Appeal)) (marks : List ((ℕ × Code) × Unit {0}))
+    → KeepsKeys appeal_cmp r.appeals appeals → KeepsKeys appeal_cmp r.standing marks
     → Keeps r (record r { appeals = appeals; standing = marks })
 keeps_appeals r appeals marks stay bear = elim [ table.Appeals ↦ stay | table.Standing ↦ bear | _ ↦ λ k has. has ]
 
-put_appeal : (r : Relations) (k : ℕ × Code) (a : Appeal) → Keeps r (record r { appeals = put_row appeal_cmp r.appeals k a })
-put_appeal r k a = keeps_appeals r (put_row appeal_cmp r.appeals k a) r.standing (λ q h. has_put appeal_cmp r.appeals k q a h) (λ q h. h)
+put_appeal : (r : Relations) (k : ℕ × Code) (a : Appeal)
+    → Keeps r (record r { appeals = put_row appeal_cmp r.appeals k a })
+put_appeal r k a = keeps_appeals r (put_row appeal_cmp r.appeals k a) r.standing
+    (λ q h. has_put appeal_cmp appeals_total r.appeals k q a h) (λ q h. h)
 
 lodging_keeps : (r : Relations) (day : ℕ) (l : Lodging) → Keeps r (spec.with_lodging r day l)
 lodging_keeps r day l = inner (is_none (appeal_at r l.number l.reference))
@@ -93,27 +75,33 @@ retraction_keeps r c reference = inner (appeal_at r c reference)
     inner (Some a) = by_status a (is_retracted a.status)
 
 -- the superseded appeals stay
-given_keeps : (c : ℕ) (s : Code) (asked : Subject) (rows : List ((ℕ × Code) × Appeal)) → KeepsKeys appeal_cmp rows (map (giving_way c s asked) rows)
+given_keeps : (c : ℕ) (s : Code) (asked : Subject) (rows : List ((ℕ × Code) × Appeal))
+    → KeepsKeys appeal_cmp rows (map (giving_way c s asked) rows)
 given_keeps c s asked [] k has = has
 given_keeps c s asked (d ∷ ds) k has = inner (gives_way c s asked d) (given_keeps c s asked ds k)
   where
-    found : (b : Bool) (a : Appeal) → (has_row appeal_cmp ds k ≡ true → has_row appeal_cmp (map (giving_way c s asked) ds) k ≡ true) → is_some (cond b (Some d.1) (row_at appeal_cmp ds k)) ≡ true
+    found : (b : Bool) (a : Appeal)
+        → (has_row appeal_cmp ds k ≡ true → has_row appeal_cmp (map (giving_way c s asked) ds) k ≡ true)
+        → is_some (cond b (Some d.1) (row_at appeal_cmp ds k)) ≡ true
         → is_some (cond b (Some a) (row_at appeal_cmp (map (giving_way c s asked) ds) k)) ≡ true
     found true a later h = refl
     found false a later h = later h
 
     inner : (b : Bool) → (has_row appeal_cmp ds k ≡ true → has_row appeal_cmp (map (giving_way c s asked) ds) k ≡ true)
-        → has_row appeal_cmp (cond b (d.0, record d.1 { status = superseded d.1.status }) d ∷ map (giving_way c s asked) ds) k ≡ true
+        → has_row appeal_cmp
+        (cond b (d.0, record d.1 { status = superseded d.1.status }) d ∷ map (giving_way c s asked) ds) k ≡ true
     inner true later = found (is_at (appeal_cmp k) d.0) (record d.1 { status = superseded d.1.status }) later has
     inner false later = found (is_at (appeal_cmp k) d.0) d.1 later has
 
-superseding_keeps : (c : ℕ) (a : Appeal) (o : Outcome) (rows : List ((ℕ × Code) × Appeal)) → KeepsKeys appeal_cmp rows (with_superseded c a o rows)
+superseding_keeps : (c : ℕ) (a : Appeal) (o : Outcome) (rows : List ((ℕ × Code) × Appeal))
+    → KeepsKeys appeal_cmp rows (with_superseded c a o rows)
 superseding_keeps c a outcome.Grant rows = given_keeps c a.session a.subject rows
 superseding_keeps c a outcome.Standing rows = given_keeps c a.session a.subject rows
 superseding_keeps c a outcome.Refuse rows = λ k h. h
 
 -- an open appeal has no mark that its decision could take away
-decision_keeps : (r : Relations) (day : ℕ) (d : Decision) → good.marks_were_granted r ≡ true → decision_refusal r day d ≡ None → Keeps r (with_decision r d)
+decision_keeps : (r : Relations) (day : ℕ) (d : Decision) → good.marks_were_granted r ≡ true
+    → decision_refusal r day d ≡ None → Keeps r (with_decision r d)
 decision_keeps r day d stand ok = inner (appeal_at r d.number d.reference) refl
   where
     was_open : (a : Appeal) → first_refusal (open_checks r day d a) ≡ None → is_open a.status ≡ true
@@ -122,13 +110,17 @@ decision_keeps r day d stand ok = inner (appeal_at r d.number d.reference) refl
         ((is_too_late r a.session day, refusal.TooLate) ∷ not_arrangement a d.outcome
         ∷ grant_checks r d.number a d.outcome) none).0
 
-    by_case : (a : Appeal) → appeal_at r d.number d.reference ≡ Some a → (b : Bool) → first_refusal (cond b [] (open_checks r day d a)) ≡ None → Keeps r (cond b r (with_outcome r d a))
+    by_case : (a : Appeal) → appeal_at r d.number d.reference ≡ Some a → (b : Bool)
+        → first_refusal (cond b [] (open_checks r day d a)) ≡ None → Keeps r (cond b r (with_outcome r d a))
     by_case a at true none = keeps_itself r
     by_case a at false none =
         keeps_appeals r (with_outcome r d a).appeals (with_outcome r d a).standing
-        (λ k h. has_put appeal_cmp (with_superseded d.number a d.outcome r.appeals) (d.number, d.reference) k _
+        (λ k h. has_put appeal_cmp appeals_total (with_superseded d.number a d.outcome r.appeals)
+        (d.number, d.reference) k _
         (superseding_keeps d.number a d.outcome r.appeals k h))
-        (λ k h. marked_still r d k (λ same. let differ : true ≡ false = sym h ∙ ap (has_row appeal_cmp r.standing) same ∙ unmarked_open r d a stand at (was_open a none) in cc) ∙ h)
+        (λ k h. marked_still r d k
+        (λ same. let differ : true ≡ false = sym h ∙ ap (has_row appeal_cmp r.standing) same
+        ∙ unmarked_open r d a stand at (was_open a none) in cc) ∙ h)
 
     inner : (o : Option Appeal) → appeal_at r d.number d.reference ≡ o → Keeps r (with_decided r d o)
     inner None at = keeps_itself r
@@ -138,7 +130,8 @@ decision_keeps r day d stand ok = inner (appeal_at r d.number d.reference) refl
 all_stay : (done : Command) (r t : Relations) → Keeps r t → KeepsRows r t × KeepsOpenings done r t
 all_stay done r t keeps = (λ name stays. keeps name, λ k apart. keeps table.Openings k)
 
-change_keeps : (done : Command) (day : ℕ) (before : State) (t : Relations) → IsGood before → change done day before ≡ Ok t → KeepsRows before.relations t × KeepsOpenings done before.relations t
+change_keeps : (done : Command) (day : ℕ) (before : State) (t : Relations) → IsGood before
+    → change done day before ≡ Ok t → KeepsRows before.relations t × KeepsOpenings done before.relations t
 change_keeps (command.Import import) day before t fine is =
     all_stay (command.Import import) before.relations t
     (subst (Keeps before.relations)
@@ -158,7 +151,11 @@ change_keeps (command.CloseHall s h) day before t fine is =
     let r = before.relations in
     let new = made (closing_refusal r s h) (without_opening r s h) t is in (
       subst (KeepsRows r) new
-          (elim [ table.Openings ↦ λ stays. absurd (let differ : true ≡ false = stays in cc) | _ ↦ λ stays k has. has ]),
+          (elim [
+            | table.Openings ↦ λ stays. absurd
+                (let differ : true ≡ false = stays in cc)
+            | _ ↦ λ stays k has. has
+          ]),
       subst (KeepsOpenings (command.CloseHall s h) r) new
           (λ k apart has. ap is_some
           (removed_elsewhere opening_cmp openings_exact r.openings (s, h) k
@@ -175,9 +172,14 @@ change_keeps (command.Retract c reference) day before t fine is =
     (made (spec.retraction_refusal before.relations c reference)
     (spec.with_retraction before.relations c reference) t is) (retraction_keeps before.relations c reference))
 change_keeps (command.Decide d) day before t fine is =
-    all_stay (command.Decide d) before.relations t (subst (Keeps before.relations) (made (decision_refusal before.relations day d) (with_decision before.relations d) t is)
-    (decision_keeps before.relations day d fine.marks (unrefused (decision_refusal before.relations day d) (with_decision before.relations d) t is)))
+    all_stay (command.Decide d) before.relations t
+    (subst (Keeps before.relations)
+    (made (decision_refusal before.relations day d) (with_decision before.relations d) t is)
+    (decision_keeps before.relations day d fine.marks
+    (unrefused (decision_refusal before.relations day d) (with_decision before.relations d) t is)))
 
-pub step_keeps : (done : Command) (day : ℕ) (before : State) (reply : Reply) (after : State) → IsGood before → Step done day before (Ok reply) after
+pub step_keeps : (done : Command) (day : ℕ) (before : State) (reply : Reply) (after : State) → IsGood before
+    → Step done day before (Ok reply) after
     → KeepsRows before.relations after.relations × KeepsOpenings done before.relations after.relations
-step_keeps done day before reply after fine step = change_keeps done day before after.relations fine (new_facts done day before reply after step)
+step_keeps done day before reply after fine step =
+    change_keeps done day before after.relations fine (new_facts done day before reply after step)

@@ -1,7 +1,8 @@
 -- An appeal that was stored stays stored, and asks for the same. One that was retracted stays retracted, and one that
 -- was decided stays decided, unless a later grant supersedes it. So whatever comes after, the same lodging, retraction
 -- and decision change nothing. And the first two move nobody.
-use Rattle.std.proofs.Common.{◌≡◌, ℕ, ◌&&◌, not, Bool, true, false, cond, List, [], ◌∷◌, map, Option, None, Some, Result, Ok, Err, is_none, eq-eqb, refl, ap, sym, subst, ◌∙◌, ◌⊎◌, inl, inr}
+use Rattle.std.proofs.Common.{◌≡◌, ℕ, ◌&&◌, not, Bool, true, false, cond, List, [], ◌∷◌, map, Option, None, Some}
+use Rattle.std.proofs.Common.{Result, Ok, Err, is_none, eq-eqb, refl, ap, sym, subst, ◌∙◌, ◌⊎◌, inl, inr}
 use Rattle.std.specs.BTreeMap.{is_at}
 use Rattle.std.specs.Cmp.{Equal-is}
 use Rattle.std.specs.Option.{option_map_or, option_or}
@@ -19,6 +20,8 @@ use Rattle.exam_rules.specs.Relations.{Code, Relations, appeal_cmp, has_row, put
 use Rattle.exam_rules.specs.Sessions.{is_marked}
 use Rattle.exam_rules.specs.Seatings.{plan_of, seating}
 use Rattle.exam_rules.proofs.Naming.{same_code_itself}
+use Rattle.exam_commands.proofs.KeyedRows.{appeals_exact, appeals_total, put_found, put_stays, same_rows, seats_exact}
+use Rattle.exam_commands.proofs.KeyedRows.{seats_total}
 use Rattle.exam_commands.specs.declared.command.Command.{Command}
 use Rattle.exam_commands.specs.declared.command.Command.TheVariants as command
 use Rattle.exam_commands.specs.declared.command.Decision.{Decision}
@@ -27,26 +30,25 @@ use Rattle.exam_commands.specs.declared.command.Outcome.{Outcome}
 use Rattle.exam_commands.specs.declared.command.Outcome.TheVariants as outcome
 use Rattle.exam_commands.specs.declared.command.Reply.{Reply}
 use Rattle.exam_commands.specs.declared.command.Reply.TheVariants as reply
-use Rattle.exam_commands.specs.Appeals.{appeal_at, bears_mark, decided, is_decided, is_open, is_retracted, same_subject, state_of, stored_state, superseded}
+use Rattle.exam_commands.specs.Appeals.{appeal_at, bears_mark, decided, is_decided, is_open, is_retracted, same_subject}
+use Rattle.exam_commands.specs.Appeals.{state_of, stored_state, superseded}
 use Rattle.exam_commands.specs.Moves.{moved}
 use Rattle.exam_commands.specs.Replies.{reply_to}
 use Rattle.exam_commands.specs.declared.command.AppealState.TheVariants as state
 use Rattle.exam_commands.specs.Decisions.{decision_checks, decision_refusal, gives_way, giving_way, grant_checks}
 use Rattle.exam_commands.specs.Decisions.{is_made, is_too_late, not_arrangement, open_checks, with_decided}
 use Rattle.exam_commands.specs.Decisions.{with_decision, with_outcome, with_superseded}
-use Rattle.exam_commands.specs.Changes.{closing_refusal, first_refusal, import_refusal, reinstatement_refusal, unless, with_live, with_rows, without_opening, withdrawal_refusal}
+use Rattle.exam_commands.specs.Changes.{closing_refusal, first_refusal, import_refusal, reinstatement_refusal, unless}
+use Rattle.exam_commands.specs.Changes.{with_live, with_rows, without_opening, withdrawal_refusal}
 use Rattle.exam_commands.specs.Good.{IsGood}
 use Rattle.exam_commands.specs.Limits.{within_limits}
 use Rattle.exam_commands.specs.Lodgings as spec
 use Rattle.exam_commands.specs.Orders.{IsInOrder}
 use Rattle.exam_commands.specs.State.{State}
 use Rattle.exam_commands.specs.Steps.{MayStep, Run, SameSeating, Step, StepTo, change}
-use Rattle.exam_commands.proofs.AppealKeys.{appeals_exact, appeals_total}
 use Rattle.exam_laws.proofs.AppealSteps.{lodging_settled, retraction_settled}
 use Rattle.exam_laws.proofs.DecidedFacts.{marked_as_made, marked_still}
 use Rattle.exam_commands.proofs.Referring.{import_appeals, import_candidates, import_standing, neither, passed}
-use Rattle.exam_commands.proofs.Repeating.{put_found, put_stays, same_rows}
-use Rattle.exam_commands.proofs.SameSeats.{seats_exact, seats_total}
 
 -- ---- the later states of an appeal
 
@@ -60,19 +62,31 @@ record Continues (a b : Appeal) : Type 0 where
   subject : b.subject ≡ a.subject
   reason : b.reason ≡ a.reason
   retracted : a.status ≡ status.Retracted → b.status ≡ status.Retracted
-  decided : (m : Outcome) (answer : List ℕ) (marked : Bool) → is_decided m answer marked a.status ≡ true → IsSettled m answer marked b.status
+  decided : (m : Outcome) (answer : List ℕ) (marked : Bool) → is_decided m answer marked a.status ≡ true
+      → IsSettled m answer marked b.status
   closed : is_open a.status ≡ false → is_open b.status ≡ false
   superseded : state_of a.status ≡ state.Superseded → state_of b.status ≡ state.Superseded
 
 continues_itself : (a : Appeal) → Continues a a
-continues_itself a = record { session = refl; subject = refl; reason = refl; retracted = λ is. is; decided = λ m answer marked is. inl is; closed = λ is. is; superseded = λ is. is }
+continues_itself a =
+    record {
+      session = refl;
+      subject = refl;
+      reason = refl;
+      retracted = λ is. is;
+      decided = λ m answer marked is. inl is;
+      closed = λ is. is;
+      superseded = λ is. is;
+    }
 
-settled_on : (a b : Appeal) → Continues a b → (m : Outcome) (answer : List ℕ) (marked : Bool) → IsSettled m answer marked a.status → IsSettled m answer marked b.status
+settled_on : (a b : Appeal) → Continues a b → (m : Outcome) (answer : List ℕ) (marked : Bool)
+    → IsSettled m answer marked a.status → IsSettled m answer marked b.status
 settled_on a b on m answer marked (inl is) = on.decided m answer marked is
 settled_on a b on m answer marked (inr is) = inr (on.superseded is)
 
 -- what is open is neither decided nor superseded
-open_undecided : {A : Type 0} (m : Outcome) (answer : List ℕ) (marked : Bool) (st : Status) → is_open st ≡ true → is_decided m answer marked st ≡ true → A
+open_undecided : {A : Type 0} (m : Outcome) (answer : List ℕ) (marked : Bool) (st : Status) → is_open st ≡ true
+    → is_decided m answer marked st ≡ true → A
 open_undecided m answer marked status.Pending open_yet is = absurd (never m (not marked) marked is)
   where
     none : (b : Bool) → (b && false) ≡ true → ⊥
@@ -86,7 +100,8 @@ open_undecided m answer marked status.Pending open_yet is = absurd (never m (not
 open_undecided m answer marked (status.Granted stored) open_yet is = absurd (let differ : false ≡ true = open_yet in cc)
 open_undecided m answer marked (status.Refused stored) open_yet is = absurd (let differ : false ≡ true = open_yet in cc)
 open_undecided m answer marked status.Retracted open_yet is = absurd (let differ : false ≡ true = open_yet in cc)
-open_undecided m answer marked (status.Superseded stored) open_yet is = absurd (let differ : false ≡ true = open_yet in cc)
+open_undecided m answer marked (status.Superseded stored) open_yet is =
+    absurd (let differ : false ≡ true = open_yet in cc)
 
 open_not_superseded : {A : Type 0} (st : Status) → is_open st ≡ true → state_of st ≡ state.Superseded → A
 open_not_superseded status.Pending open_yet is = absurd (let differ : state.Pending ≡ state.Superseded = is in cc)
@@ -96,7 +111,8 @@ open_not_superseded status.Retracted open_yet is = absurd (let differ : false �
 open_not_superseded (status.Superseded stored) open_yet is = absurd (let differ : false ≡ true = open_yet in cc)
 
 -- so a stored appeal of this kind is not open
-settled_closed : (m : Outcome) (answer : List ℕ) (marked : Bool) (st : Status) → IsSettled m answer marked st → is_open st ≡ false
+settled_closed : (m : Outcome) (answer : List ℕ) (marked : Bool) (st : Status) → IsSettled m answer marked st
+    → is_open st ≡ false
 settled_closed m answer marked st is_settled = inner (is_open st) refl is_settled
   where
     inner : (b : Bool) → is_open st ≡ b → IsSettled m answer marked st → b ≡ false
@@ -114,10 +130,15 @@ record GoesOn (r : Relations) (k : ℕ × Code) (a : Appeal) : Type 0 where
 record Carries (r t : Relations) : Type 0 where
   candidates : (c : ℕ) → has_row nat_cmp r.candidates c ≡ true → has_row nat_cmp t.candidates c ≡ true
   appeals : (k : ℕ × Code) (a : Appeal) → row_at appeal_cmp r.appeals k ≡ Some a → GoesOn t k a
-  marks : (k : ℕ × Code) (a : Appeal) → row_at appeal_cmp r.appeals k ≡ Some a → is_open a.status ≡ false → is_marked t k ≡ is_marked r k
+  marks : (k : ℕ × Code) (a : Appeal) → row_at appeal_cmp r.appeals k ≡ Some a → is_open a.status ≡ false
+      → is_marked t k ≡ is_marked r k
 
 carries_itself : (r : Relations) → Carries r r
-carries_itself r = record { candidates = λ c has. has; appeals = λ k a at. record { then = a; stored = at; continues = continues_itself a }; marks = λ k a at closed. refl }
+carries_itself r = record {
+  candidates = λ c has. has;
+  appeals = λ k a at. record { then = a; stored = at; continues = continues_itself a };
+  marks = λ k a at closed. refl;
+}
 
 carries_both : (r t u : Relations) → Carries r t → Carries t u → Carries r u
 carries_both r t u one two = record {
@@ -133,7 +154,8 @@ carries_both r t u one two = record {
           subject = second.continues.subject ∙ first.continues.subject;
           reason = second.continues.reason ∙ first.continues.reason;
           retracted = λ is. second.continues.retracted (first.continues.retracted is);
-          decided = λ m answer marked is. settled_on first.then second.then second.continues m answer marked (first.continues.decided m answer marked is);
+          decided = λ m answer marked is. settled_on first.then second.then second.continues m answer marked
+              (first.continues.decided m answer marked is);
           closed = λ is. second.continues.closed (first.continues.closed is);
           superseded = λ is. second.continues.superseded (first.continues.superseded is);
         };
@@ -146,19 +168,27 @@ carries_both r t u one two = record {
 carries_put : (r : Relations) (k : ℕ × Code) (new : Appeal)
     → ((a : Appeal) → row_at appeal_cmp r.appeals k ≡ Some a → Continues a new)
     → Carries r (record r { appeals = put_row appeal_cmp r.appeals k new })
-carries_put r k new continues = record { candidates = λ c has. has; appeals = λ q a at. inner q a at (is_at (appeal_cmp k) q) refl; marks = λ q a at closed. refl }
+carries_put r k new continues =
+    record {
+      candidates = λ c has. has;
+      appeals = λ q a at. inner q a at (is_at (appeal_cmp k) q) refl;
+      marks = λ q a at closed. refl;
+    }
   where
-    inner : (q : ℕ × Code) (a : Appeal) → row_at appeal_cmp r.appeals q ≡ Some a → (b : Bool) → is_at (appeal_cmp k) q ≡ b → GoesOn (record r { appeals = put_row appeal_cmp r.appeals k new }) q a
+    inner : (q : ℕ × Code) (a : Appeal) → row_at appeal_cmp r.appeals q ≡ Some a → (b : Bool)
+        → is_at (appeal_cmp k) q ≡ b → GoesOn (record r { appeals = put_row appeal_cmp r.appeals k new }) q a
     inner q a at true here =
         let same : k ≡ q = appeals_exact k q ((Equal-is (appeal_cmp k q)).0 here) in
         record {
           then = new;
-          stored = ap (λ z. row_at appeal_cmp (put_row appeal_cmp r.appeals k new) z) (sym same) ∙ put_found appeal_cmp appeals_total r.appeals k new;
+          stored = ap (λ z. row_at appeal_cmp (put_row appeal_cmp r.appeals k new) z) (sym same)
+              ∙ put_found appeal_cmp appeals_total r.appeals k new;
           continues = continues a (ap (λ z. row_at appeal_cmp r.appeals z) same ∙ at);
         }
     inner q a at false away = record {
       then = a;
-      stored = put_stays appeal_cmp appeals_total r.appeals k q new a (λ here. absurd (let differ : true ≡ false = sym here ∙ away in cc)) at;
+      stored = put_stays appeal_cmp appeals_total r.appeals k q new a
+          (λ here. absurd (let differ : true ≡ false = sym here ∙ away in cc)) at;
       continues = continues_itself a;
     }
 
@@ -172,29 +202,37 @@ pub unrefused : (o : Option Refusal) (r t : Relations) → unless o r ≡ Ok t �
 unrefused None r t is = refl
 unrefused (Some e) r t is = absurd (let differ : unless (Some e) r ≡ Ok t = is in cc)
 
-carries_import : (r t : Relations) → ((c : ℕ) → has_row nat_cmp r.candidates c ≡ true → has_row nat_cmp t.candidates c ≡ true) → t.appeals ≡ r.appeals → t.standing ≡ r.standing → Carries r t
+carries_import : (r t : Relations)
+    → ((c : ℕ) → has_row nat_cmp r.candidates c ≡ true → has_row nat_cmp t.candidates c ≡ true) → t.appeals ≡ r.appeals
+    → t.standing ≡ r.standing → Carries r t
 carries_import r t grows same marked = record {
   candidates = grows;
-  appeals = λ k a at. record { then = a; stored = ap (λ rows. row_at appeal_cmp rows k) same ∙ at; continues = continues_itself a };
+  appeals = λ k a at. record
+      { then = a; stored = ap (λ rows. row_at appeal_cmp rows k) same ∙ at; continues = continues_itself a };
   marks = λ k a at closed. ap (λ marks. has_row appeal_cmp marks k) marked;
 }
 
 lodging_carries : (r : Relations) (day : ℕ) (l : Lodging) → Carries r (spec.with_lodging r day l)
 lodging_carries r day l = inner (appeal_at r l.number l.reference) refl
   where
-    inner : (o : Option Appeal) → appeal_at r l.number l.reference ≡ o → Carries r (cond (is_none o) (spec.with_appeal r day l) r)
-    inner None none = carries_put r (l.number, l.reference) _ (λ a at. absurd (let differ : None ≡ Some a = sym none ∙ at in cc))
+    inner : (o : Option Appeal) → appeal_at r l.number l.reference ≡ o
+        → Carries r (cond (is_none o) (spec.with_appeal r day l) r)
+    inner None none = carries_put r (l.number, l.reference) _
+        (λ a at. absurd (let differ : None ≡ Some a = sym none ∙ at in cc))
     inner (Some a) at = carries_itself r
 
 -- what passes and is not retracted is open
-retracting_open : (st : Status) → is_retracted st ≡ false → cond (not (is_open st) && not (is_retracted st)) (Some refusal.NotOpenAppeal) None ≡ None → is_open st ≡ true
+retracting_open : (st : Status) → is_retracted st ≡ false
+    → cond (not (is_open st) && not (is_retracted st)) (Some refusal.NotOpenAppeal) None ≡ None → is_open st ≡ true
 retracting_open status.Pending not_so ok = refl
 retracting_open (status.Granted stored) not_so ok = absurd (let differ : Some refusal.NotOpenAppeal ≡ None = ok in cc)
 retracting_open (status.Refused stored) not_so ok = absurd (let differ : Some refusal.NotOpenAppeal ≡ None = ok in cc)
 retracting_open status.Retracted not_so ok = absurd (let differ : true ≡ false = not_so in cc)
-retracting_open (status.Superseded stored) not_so ok = absurd (let differ : Some refusal.NotOpenAppeal ≡ None = ok in cc)
+retracting_open (status.Superseded stored) not_so ok =
+    absurd (let differ : Some refusal.NotOpenAppeal ≡ None = ok in cc)
 
-retraction_carries : (r : Relations) (c : ℕ) (reference : Code) → spec.retraction_refusal r c reference ≡ None → Carries r (spec.with_retraction r c reference)
+retraction_carries : (r : Relations) (c : ℕ) (reference : Code) → spec.retraction_refusal r c reference ≡ None
+    → Carries r (spec.with_retraction r c reference)
 retraction_carries r c reference ok = inner (appeal_at r c reference) refl
   where
     by_status : (a : Appeal) → appeal_at r c reference ≡ Some a
@@ -209,16 +247,21 @@ retraction_carries r c reference ok = inner (appeal_at r c reference) refl
           subject = ap (λ (x : Appeal). x.subject) same;
           reason = ap (λ (x : Appeal). x.reason) same;
           retracted = λ before. refl;
-          decided = λ m answer marked is. open_undecided m answer marked a.status (opens was) (ap (λ (x : Appeal). is_decided m answer marked x.status) same ∙ is);
+          decided = λ m answer marked is. open_undecided m answer marked a.status (opens was)
+              (ap (λ (x : Appeal). is_decided m answer marked x.status) same ∙ is);
           closed = λ is. refl;
-          superseded = λ is. open_not_superseded a.status (opens was) (ap (λ (x : Appeal). state_of x.status) same ∙ is);
+          superseded = λ is. open_not_superseded a.status (opens was)
+              (ap (λ (x : Appeal). state_of x.status) same ∙ is);
         })
 
     inner : (o : Option Appeal) → appeal_at r c reference ≡ o → Carries r (spec.with_retracted r c reference o)
     inner None none = carries_itself r
-    inner (Some a) at = by_status a at (λ was. retracting_open a.status was (ap (λ o. first_refusal (spec.retraction_checks o)) (sym at) ∙ ok)) (is_retracted a.status) refl
+    inner (Some a) at = by_status a at
+        (λ was. retracting_open a.status was (ap (λ o. first_refusal (spec.retraction_checks o)) (sym at) ∙ ok))
+        (is_retracted a.status) refl
 
-superseding : (m : Outcome) (answer : List ℕ) (marked : Bool) (st : Status) → is_decided m answer marked st ≡ true → IsSettled m answer marked (superseded st)
+superseding : (m : Outcome) (answer : List ℕ) (marked : Bool) (st : Status) → is_decided m answer marked st ≡ true
+    → IsSettled m answer marked (superseded st)
 superseding m answer marked (status.Granted stored) is = inr refl
 superseding m answer marked status.Pending is = inl is
 superseding m answer marked (status.Refused stored) is = inl is
@@ -240,7 +283,8 @@ superseded_stays status.Retracted is = is
 superseded_stays (status.Superseded stored) is = is
 
 -- a superseded appeal asks for the same, and a grant does not make it open
-superseded_goes_on : (c : ℕ) (s : Code) (asked : Subject) (row : (ℕ × Code) × Appeal) → Continues row.1 (giving_way c s asked row).1
+superseded_goes_on : (c : ℕ) (s : Code) (asked : Subject) (row : (ℕ × Code) × Appeal)
+    → Continues row.1 (giving_way c s asked row).1
 superseded_goes_on c s asked row = inner (gives_way c s asked row)
   where
     inner : (b : Bool) → Continues row.1 (cond b (row.0, record row.1 { status = superseded row.1.status }) row).1
@@ -255,7 +299,8 @@ superseded_goes_on c s asked row = inner (gives_way c s asked row)
     }
     inner false = continues_itself row.1
 
-giving_way_keyed : (c : ℕ) (s : Code) (asked : Subject) (row : (ℕ × Code) × Appeal) → (giving_way c s asked row).0 ≡ row.0
+giving_way_keyed : (c : ℕ) (s : Code) (asked : Subject) (row : (ℕ × Code) × Appeal)
+    → (giving_way c s asked row).0 ≡ row.0
 giving_way_keyed c s asked row = inner (gives_way c s asked row)
   where
     inner : (b : Bool) → (cond b (row.0, record row.1 { status = superseded row.1.status }) row).0 ≡ row.0
@@ -276,22 +321,31 @@ mapped_goes_on c s asked (d ∷ ds) k a at = inner (is_at (appeal_cmp k) d.0) re
     head : (b : Bool) → is_at (appeal_cmp k) d.0 ≡ b
         → row_at appeal_cmp (map (giving_way c s asked) (d ∷ ds)) k
         ≡ cond b (Some (giving_way c s asked d).1) (row_at appeal_cmp (map (giving_way c s asked) ds) k)
-    head b is = ap (λ q. cond (is_at (appeal_cmp k) q) (Some (giving_way c s asked d).1) (row_at appeal_cmp (map (giving_way c s asked) ds) k)) (giving_way_keyed c s asked d)
+    head b is = ap (λ q. cond (is_at (appeal_cmp k) q) (Some (giving_way c s asked d).1)
+        (row_at appeal_cmp (map (giving_way c s asked) ds) k)) (giving_way_keyed c s asked d)
         ∙ ap (λ t. cond t (Some (giving_way c s asked d).1) (row_at appeal_cmp (map (giving_way c s asked) ds) k)) is
 
-    inner : (b : Bool) → is_at (appeal_cmp k) d.0 ≡ b → cond b (Some d.1) (row_at appeal_cmp ds k) ≡ Some a → (row_at appeal_cmp ds k ≡ Some a → GoesOnAmong (map (giving_way c s asked) ds) k a)
+    inner : (b : Bool) → is_at (appeal_cmp k) d.0 ≡ b → cond b (Some d.1) (row_at appeal_cmp ds k) ≡ Some a
+        → (row_at appeal_cmp ds k ≡ Some a → GoesOnAmong (map (giving_way c s asked) ds) k a)
         → GoesOnAmong (map (giving_way c s asked) (d ∷ ds)) k a
     inner true here is rest =
         let one : d.1 ≡ a = cc in
-        record { then = (giving_way c s asked d).1; stored = head true here; continues = subst (λ x. Continues x (giving_way c s asked d).1) one (superseded_goes_on c s asked d) }
-    inner false away is rest = let later = rest is in record { then = later.then; stored = head false away ∙ later.stored; continues = later.continues }
+        record {
+          then = (giving_way c s asked d).1;
+          stored = head true here;
+          continues = subst (λ x. Continues x (giving_way c s asked d).1) one (superseded_goes_on c s asked d);
+        }
+    inner false away is rest = let later =
+        rest is in record { then = later.then; stored = head false away ∙ later.stored; continues = later.continues }
 
-rows_go_on : (c : ℕ) (a : Appeal) (o : Outcome) (rows : List ((ℕ × Code) × Appeal)) (k : ℕ × Code) (x : Appeal) → row_at appeal_cmp rows k ≡ Some x → GoesOnAmong (with_superseded c a o rows) k x
+rows_go_on : (c : ℕ) (a : Appeal) (o : Outcome) (rows : List ((ℕ × Code) × Appeal)) (k : ℕ × Code) (x : Appeal)
+    → row_at appeal_cmp rows k ≡ Some x → GoesOnAmong (with_superseded c a o rows) k x
 rows_go_on c a outcome.Grant rows k x at = mapped_goes_on c a.session a.subject rows k x at
 rows_go_on c a outcome.Standing rows k x at = mapped_goes_on c a.session a.subject rows k x at
 rows_go_on c a outcome.Refuse rows k x at = record { then = x; stored = at; continues = continues_itself x }
 
-outcome_carries : (r : Relations) (d : Decision) (a : Appeal) → appeal_at r d.number d.reference ≡ Some a → is_open a.status ≡ true → Carries r (with_outcome r d a)
+outcome_carries : (r : Relations) (d : Decision) (a : Appeal) → appeal_at r d.number d.reference ≡ Some a
+    → is_open a.status ≡ true → Carries r (with_outcome r d a)
 outcome_carries r d a stored open_yet = record {
   candidates = λ c has. has;
   appeals = λ q x at. inner q x at (is_at (appeal_cmp (d.number, d.reference)) q) refl;
@@ -306,16 +360,21 @@ outcome_carries r d a stored open_yet = record {
     decided_closed outcome.Standing = refl
     decided_closed outcome.Refuse = refl
 
-    inner : (q : ℕ × Code) (x : Appeal) → row_at appeal_cmp r.appeals q ≡ Some x → (b : Bool) → is_at (appeal_cmp (d.number, d.reference)) q ≡ b → GoesOn (with_outcome r d a) q x
+    inner : (q : ℕ × Code) (x : Appeal) → row_at appeal_cmp r.appeals q ≡ Some x → (b : Bool)
+        → is_at (appeal_cmp (d.number, d.reference)) q ≡ b → GoesOn (with_outcome r d a) q x
     inner q x at true here =
-        let same : (d.number, d.reference) ≡ q = appeals_exact (d.number, d.reference) q ((Equal-is (appeal_cmp (d.number, d.reference) q)).0 here) in
+        let same : (d.number, d.reference) ≡ q =
+        appeals_exact (d.number, d.reference) q ((Equal-is (appeal_cmp (d.number, d.reference) q)).0 here) in
         let both : Some a ≡ Some x = sym stored ∙ ap (λ z. row_at appeal_cmp r.appeals z) same ∙ at in
         let one : a ≡ x = cc in
         let new : Appeal = record a { status = decided d.outcome d.answer } in
         record {
           then = new;
-          stored = ap (λ z. row_at appeal_cmp (put_row appeal_cmp (with_superseded d.number a d.outcome r.appeals) (d.number, d.reference) new) z) (sym same)
-              ∙ put_found appeal_cmp appeals_total (with_superseded d.number a d.outcome r.appeals) (d.number, d.reference) new;
+          stored = ap (λ z. row_at appeal_cmp
+              (put_row appeal_cmp (with_superseded d.number a d.outcome r.appeals) (d.number, d.reference) new) z)
+              (sym same)
+              ∙ put_found appeal_cmp appeals_total (with_superseded d.number a d.outcome r.appeals)
+              (d.number, d.reference) new;
           continues = subst (λ z. Continues z new) one
               (record {
                 session = refl;
@@ -331,12 +390,14 @@ outcome_carries r d a stored open_yet = record {
         let on = rows_go_on d.number a d.outcome r.appeals q x at in
         record {
           then = on.then;
-          stored = put_stays appeal_cmp appeals_total (with_superseded d.number a d.outcome r.appeals) (d.number, d.reference) q (record a { status = decided d.outcome d.answer }) on.then
+          stored = put_stays appeal_cmp appeals_total (with_superseded d.number a d.outcome r.appeals)
+              (d.number, d.reference) q (record a { status = decided d.outcome d.answer }) on.then
               (λ here. absurd (let differ : true ≡ false = sym here ∙ away in cc)) on.stored;
           continues = on.continues;
         }
 
-decision_carries : (r : Relations) (day : ℕ) (d : Decision) → decision_refusal r day d ≡ None → Carries r (with_decision r d)
+decision_carries : (r : Relations) (day : ℕ) (d : Decision) → decision_refusal r day d ≡ None
+    → Carries r (with_decision r d)
 decision_carries r day d ok = inner (appeal_at r d.number d.reference) refl
   where
     was_open : (a : Appeal) → first_refusal (open_checks r day d a) ≡ None → is_open a.status ≡ true
@@ -345,7 +406,8 @@ decision_carries r day d ok = inner (appeal_at r d.number d.reference) refl
         ((is_too_late r a.session day, refusal.TooLate) ∷ not_arrangement a d.outcome
         ∷ grant_checks r d.number a d.outcome) none).0
 
-    by_case : (a : Appeal) → appeal_at r d.number d.reference ≡ Some a → (b : Bool) → first_refusal (cond b [] (open_checks r day d a)) ≡ None → Carries r (cond b r (with_outcome r d a))
+    by_case : (a : Appeal) → appeal_at r d.number d.reference ≡ Some a → (b : Bool)
+        → first_refusal (cond b [] (open_checks r day d a)) ≡ None → Carries r (cond b r (with_outcome r d a))
     by_case a at true none = carries_itself r
     by_case a at false none = outcome_carries r d a at (was_open a none)
 
@@ -353,7 +415,8 @@ decision_carries r day d ok = inner (appeal_at r d.number d.reference) refl
     inner None at = carries_itself r
     inner (Some a) at = by_case a at (is_made r d a) (ap (λ o. first_refusal (decision_checks r day d o)) (sym at) ∙ ok)
 
-change_carries : (done : Command) (day : ℕ) (before : State) (t : Relations) → change done day before ≡ Ok t → Carries before.relations t
+change_carries : (done : Command) (day : ℕ) (before : State) (t : Relations) → change done day before ≡ Ok t
+    → Carries before.relations t
 change_carries (command.Import import) day before t is =
     let new = made (import_refusal before.relations import.rows) (with_rows before.relations import.rows) t is in
     subst (Carries before.relations) new
@@ -373,45 +436,63 @@ change_carries (command.CloseHall s h) day before t is =
     (made (closing_refusal before.relations s h) (without_opening before.relations s h) t is)
     (carries_import before.relations (without_opening before.relations s h) (λ d has. has) refl refl)
 change_carries (command.Lodge l) day before t is =
-    subst (Carries before.relations) (made (spec.lodging_refusal before.relations before.seats day l) (spec.with_lodging before.relations day l) t is) (lodging_carries before.relations day l)
+    subst (Carries before.relations)
+    (made (spec.lodging_refusal before.relations before.seats day l)
+    (spec.with_lodging before.relations day l) t is) (lodging_carries before.relations day l)
 change_carries (command.Retract c reference) day before t is =
-    subst (Carries before.relations) (made (spec.retraction_refusal before.relations c reference) (spec.with_retraction before.relations c reference) t is)
-    (retraction_carries before.relations c reference (unrefused (spec.retraction_refusal before.relations c reference) (spec.with_retraction before.relations c reference) t is))
+    subst (Carries before.relations)
+    (made (spec.retraction_refusal before.relations c reference)
+    (spec.with_retraction before.relations c reference) t is)
+    (retraction_carries before.relations c reference
+    (unrefused (spec.retraction_refusal before.relations c reference)
+    (spec.with_retraction before.relations c reference) t is))
 change_carries (command.Decide d) day before t is =
-    subst (Carries before.relations) (made (decision_refusal before.relations day d) (with_decision before.relations d) t is)
-    (decision_carries before.relations day d (unrefused (decision_refusal before.relations day d) (with_decision before.relations d) t is))
+    subst (Carries before.relations)
+    (made (decision_refusal before.relations day d) (with_decision before.relations d) t is)
+    (decision_carries before.relations day d
+    (unrefused (decision_refusal before.relations day d) (with_decision before.relations d) t is))
 
-step_carries : (done : Command) (day : ℕ) (before : State) (answer : Result Reply Refusal) (after : State) → Step done day before answer after → Carries before.relations after.relations
+step_carries : (done : Command) (day : ℕ) (before : State) (answer : Result Reply Refusal) (after : State)
+    → Step done day before answer after → Carries before.relations after.relations
 step_carries done day before answer after step = inner (change done day before) refl step
   where
-    inner : (o : Result Relations Refusal) → change done day before ≡ o → StepTo done before answer after o → Carries before.relations after.relations
+    inner : (o : Result Relations Refusal) → change done day before ≡ o → StepTo done before answer after o
+        → Carries before.relations after.relations
     inner (Ok t) is to = subst (Carries before.relations) (sym to.0) (change_carries done day before t is)
-    inner (Err e) is to = subst (λ (x : State). Carries before.relations x.relations) (sym to.1) (carries_itself before.relations)
+    inner (Err e) is to =
+        subst (λ (x : State). Carries before.relations x.relations) (sym to.1) (carries_itself before.relations)
 
-run_carries : (done : List (Command × ℕ)) (before : State) (replies : List (Result Reply Refusal)) (after : State) → Run done before replies after → Carries before.relations after.relations
-run_carries [] before [] after same = subst (λ (x : State). Carries before.relations x.relations) (sym same) (carries_itself before.relations)
+run_carries : (done : List (Command × ℕ)) (before : State) (replies : List (Result Reply Refusal)) (after : State)
+    → Run done before replies after → Carries before.relations after.relations
+run_carries [] before [] after same =
+    subst (λ (x : State). Carries before.relations x.relations) (sym same) (carries_itself before.relations)
 run_carries [] before (q ∷ replies) after never = absurd never
 run_carries (x ∷ done) before [] after never = absurd never
 run_carries (x ∷ done) before (q ∷ replies) after run =
-    carries_both before.relations run.0.relations after.relations (first run.1) (run_carries done run.0 replies after run.2)
+    carries_both before.relations run.0.relations after.relations (first run.1)
+    (run_carries done run.0 replies after run.2)
   where
     first : {mid : State} → MayStep x.0 x.1 before q mid → Carries before.relations mid.relations
-    first {mid} (inl memory) = subst (λ (y : State). Carries before.relations y.relations) (sym memory.1) (carries_itself before.relations)
+    first {mid} (inl memory) =
+        subst (λ (y : State). Carries before.relations y.relations) (sym memory.1) (carries_itself before.relations)
     first {mid} (inr step) = step_carries x.0 x.1 before q mid step
 
 -- ---- steps that change nothing
 
-pub new_facts : (done : Command) (day : ℕ) (before : State) (answer : Reply) (after : State) → Step done day before (Ok answer) after → change done day before ≡ Ok after.relations
+pub new_facts : (done : Command) (day : ℕ) (before : State) (answer : Reply) (after : State)
+    → Step done day before (Ok answer) after → change done day before ≡ Ok after.relations
 new_facts done day before answer after step = inner (change done day before) refl step
   where
-    inner : (o : Result Relations Refusal) → change done day before ≡ o → StepTo done before (Ok answer) after o → o ≡ Ok after.relations
+    inner : (o : Result Relations Refusal) → change done day before ≡ o → StepTo done before (Ok answer) after o
+        → o ≡ Ok after.relations
     inner (Ok t) is to = ap Ok (sym to.0)
     inner (Err e) is to = absurd (let differ : Ok answer ≡ Err e = to.0 in cc)
 
 pub same_office : (done : Command) (before : State) (answer : Result Reply Refusal) (after : State) → IsInOrder before
     → IsInOrder after → StepTo done before answer after (Ok before.relations) → after ≡ before
 same_office done before answer after up up_after to =
-    let same : after.seats ≡ before.seats = same_rows seat_cmp seats_total seats_exact after.seats before.seats up_after.seats up.seats
+    let same : after.seats ≡ before.seats =
+    same_rows seat_cmp seats_total seats_exact after.seats before.seats up_after.seats up.seats
     (λ q. (to.1 q.0).untouched (record { members = refl; fits = λ c h. refl; desks = λ h. refl }) q.1) in
     λ i. record { relations = to.0 i; seats = same i }
 
@@ -436,27 +517,35 @@ module _ (l : Lodging) where
         candidate = carries.candidates l.number is.candidate;
         appeal = on.then;
         stored = on.stored;
-        same = ap (λ s. same_code l.session s && (same_subject l.subject on.then.subject && same_code l.reason on.then.reason)) on.continues.session
-            ∙ ap (λ s. same_code l.session is.appeal.session && (same_subject l.subject s && same_code l.reason on.then.reason)) on.continues.subject
-            ∙ ap (λ s. same_code l.session is.appeal.session && (same_subject l.subject is.appeal.subject && same_code l.reason s)) on.continues.reason
+        same = ap (λ s. same_code l.session s
+            && (same_subject l.subject on.then.subject && same_code l.reason on.then.reason)) on.continues.session
+            ∙ ap (λ s. same_code l.session is.appeal.session
+            && (same_subject l.subject s && same_code l.reason on.then.reason)) on.continues.subject
+            ∙ ap (λ s. same_code l.session is.appeal.session
+            && (same_subject l.subject is.appeal.subject && same_code l.reason s)) on.continues.reason
             ∙ is.same;
       }
 
-  lodged_then : (day : ℕ) (before : State) → spec.lodging_refusal_but_limits before.relations before.seats day l ≡ None → IsLodged (spec.with_lodging before.relations day l) l
+  lodged_then : (day : ℕ) (before : State) → spec.lodging_refusal_but_limits before.relations before.seats day l ≡ None
+      → IsLodged (spec.with_lodging before.relations day l) l
   lodged_then day before ok = inner (appeal_at before.relations l.number l.reference) refl
     where
-      inner : (o : Option Appeal) → appeal_at before.relations l.number l.reference ≡ o → IsLodged (spec.with_lodging before.relations day l) l
+      inner : (o : Option Appeal) → appeal_at before.relations l.number l.reference ≡ o
+          → IsLodged (spec.with_lodging before.relations day l) l
       inner None none =
           let first = passed (not (has_row nat_cmp before.relations.candidates l.number)) refusal.UnknownCandidate
           (spec.lodging_checks before.relations before.seats day l
           (appeal_at before.relations l.number l.reference)) ok in
-          let new : Appeal = record { session = l.session; subject = l.subject; reason = l.reason; status = status.Pending; lodged = day } in
-          subst (λ t. IsLodged t l) (sym (ap (λ o. cond (is_none o) (spec.with_appeal before.relations day l) before.relations) none))
+          let new : Appeal = record
+          { session = l.session; subject = l.subject; reason = l.reason; status = status.Pending; lodged = day } in
+          subst (λ t. IsLodged t l)
+          (sym (ap (λ o. cond (is_none o) (spec.with_appeal before.relations day l) before.relations) none))
           (record {
             candidate = not-false (has_row nat_cmp before.relations.candidates l.number) first.0;
             appeal = new;
             stored = put_found appeal_cmp appeals_total before.relations.appeals (l.number, l.reference) new;
-            same = and_from _ _ (same_code_itself l.session) (and_from _ _ (subject_itself l.subject) (same_code_itself l.reason));
+            same = and_from _ _ (same_code_itself l.session)
+                (and_from _ _ (subject_itself l.subject) (same_code_itself l.reason));
           })
       inner (Some a) at =
           let first = passed (not (has_row nat_cmp before.relations.candidates l.number)) refusal.UnknownCandidate
@@ -464,15 +553,18 @@ module _ (l : Lodging) where
           (appeal_at before.relations l.number l.reference)) ok in
           let checks : first_refusal (spec.lodging_checks before.relations before.seats day l (Some a)) ≡ None =
           ap (λ o. first_refusal (spec.lodging_checks before.relations before.seats day l o)) (sym at) ∙ first.1 in
-          subst (λ t. IsLodged t l) (sym (ap (λ o. cond (is_none o) (spec.with_appeal before.relations day l) before.relations) at))
+          subst (λ t. IsLodged t l)
+          (sym (ap (λ o. cond (is_none o) (spec.with_appeal before.relations day l) before.relations) at))
           (record {
             candidate = not-false (has_row nat_cmp before.relations.candidates l.number) first.0;
             appeal = a;
             stored = at;
-            same = not-false (spec.is_same_lodging l a) (passed (not (spec.is_same_lodging l a)) refusal.RefTaken [] checks).0;
+            same = not-false (spec.is_same_lodging l a)
+                (passed (not (spec.is_same_lodging l a)) refusal.RefTaken [] checks).0;
           })
 
-  lodged_again : (day : ℕ) (late : State) → IsLodged late.relations l → change (command.Lodge l) day late ≡ Ok late.relations
+  lodged_again : (day : ℕ) (late : State) → IsLodged late.relations l
+      → change (command.Lodge l) day late ≡ Ok late.relations
   lodged_again day late is =
       let r = late.relations in
       let limit = first_refusal (spec.one_too_many r day l ∷ []) in
@@ -480,26 +572,39 @@ module _ (l : Lodging) where
       (cond (not b) (Some refusal.UnknownCandidate)
       (first_refusal (spec.lodging_checks r late.seats day l (appeal_at r l.number l.reference)))) limit)
       (spec.with_lodging r day l)) is.candidate
-      ∙ ap (λ o. unless (option_or (first_refusal (spec.lodging_checks r late.seats day l o)) limit) (spec.with_lodging r day l)) is.stored
-      ∙ ap (λ b. unless (option_or (cond (not b) (Some refusal.RefTaken) None) limit) (spec.with_lodging r day l)) is.same
+      ∙ ap (λ o. unless (option_or (first_refusal (spec.lodging_checks r late.seats day l o)) limit)
+      (spec.with_lodging r day l)) is.stored
+      ∙ ap (λ b. unless (option_or (cond (not b) (Some refusal.RefTaken) None) limit) (spec.with_lodging r day l))
+      is.same
       ∙ by_stored r (appeal_at r l.number l.reference) is.stored
     where
       by_stored : (r : Relations) (o : Option Appeal) → o ≡ Some is.appeal
-          → unless (cond (is_none o && not (within_limits (spec.with_appeal r day l))) (Some refusal.TooMany) None) (cond (is_none o) (spec.with_appeal r day l) r) ≡ Ok r
-      by_stored r o at = ap (λ o. unless (cond (is_none o && not (within_limits (spec.with_appeal r day l))) (Some refusal.TooMany) None) (cond (is_none o) (spec.with_appeal r day l) r)) at
+          → unless (cond (is_none o && not (within_limits (spec.with_appeal r day l))) (Some refusal.TooMany) None)
+          (cond (is_none o) (spec.with_appeal r day l) r) ≡ Ok r
+      by_stored r o at = ap
+          (λ o. unless (cond (is_none o && not (within_limits (spec.with_appeal r day l))) (Some refusal.TooMany) None)
+          (cond (is_none o) (spec.with_appeal r day l) r)) at
 
-pub repeated_lodging : (l : Lodging) (day later : ℕ) (before mid late after : State) (first : Reply) (done : List (Command × ℕ)) (replies : List (Result Reply Refusal)) (second : Result Reply Refusal)
-    → IsInOrder late → IsInOrder after → Step (command.Lodge l) day before (Ok first) mid → Run done mid replies late → Step (command.Lodge l) later late second after
+pub repeated_lodging : (l : Lodging) (day later : ℕ) (before mid late after : State) (first : Reply)
+    (done : List (Command × ℕ)) (replies : List (Result Reply Refusal)) (second : Result Reply Refusal)
+    → IsInOrder late → IsInOrder after → Step (command.Lodge l) day before (Ok first) mid → Run done mid replies late
+    → Step (command.Lodge l) later late second after
     → (second ≡ Ok (reply.Lodged (stored_state late.relations l.number l.reference))) × (after ≡ late)
 repeated_lodging l day later before mid late after first done replies second up up_after one run two =
     let changed = new_facts (command.Lodge l) day before first mid one in
     let refused = spec.lodging_refusal before.relations before.seats day l in
     let none = unrefused refused (spec.with_lodging before.relations day l) mid.relations changed in
-    let standing = neither (spec.lodging_refusal_but_limits before.relations before.seats day l) (first_refusal (spec.one_too_many before.relations day l ∷ [])) none in
-    let there : IsLodged mid.relations l = subst (λ t. IsLodged t l) (made refused (spec.with_lodging before.relations day l) mid.relations changed) (lodged_then l day before standing.0) in
+    let standing = neither (spec.lodging_refusal_but_limits before.relations before.seats day l)
+    (first_refusal (spec.one_too_many before.relations day l ∷ [])) none in
+    let there : IsLodged mid.relations l =
+    subst (λ t. IsLodged t l) (made refused (spec.with_lodging before.relations day l) mid.relations changed)
+    (lodged_then l day before standing.0) in
     let still = lodged_still l mid.relations late.relations (run_carries done mid replies late run) there in
-    let to : StepTo (command.Lodge l) late second after (Ok late.relations) = subst (StepTo (command.Lodge l) late second after) (lodged_again l later late still) two in
-    (to.2 ∙ ap (λ (r : Relations). Ok (reply.Lodged (stored_state r l.number l.reference))) to.0, same_office (command.Lodge l) late second after up up_after to)
+    let to : StepTo (command.Lodge l) late second after (Ok late.relations) =
+    subst (StepTo (command.Lodge l) late second after) (lodged_again l later late still) two in (
+      to.2 ∙ ap (λ (r : Relations). Ok (reply.Lodged (stored_state r l.number l.reference))) to.0,
+      same_office (command.Lodge l) late second after up up_after to,
+    )
 
 -- ---- retracting once more
 
@@ -521,10 +626,12 @@ module _ (c : ℕ) (reference : Code) where
       let on = carries.appeals (c, reference) is.appeal is.stored in
       record { appeal = on.then; stored = on.stored; retracted = on.continues.retracted is.retracted }
 
-  retracted_then : (r : Relations) → spec.retraction_refusal r c reference ≡ None → IsRetractedAt (spec.with_retraction r c reference) c reference
+  retracted_then : (r : Relations) → spec.retraction_refusal r c reference ≡ None
+      → IsRetractedAt (spec.with_retraction r c reference) c reference
   retracted_then r ok = inner (appeal_at r c reference) refl
     where
-      by_status : (a : Appeal) → appeal_at r c reference ≡ Some a → (b : Bool) → is_retracted a.status ≡ b → IsRetractedAt (cond b r (spec.with_retracted_appeal r c reference a)) c reference
+      by_status : (a : Appeal) → appeal_at r c reference ≡ Some a → (b : Bool) → is_retracted a.status ≡ b
+          → IsRetractedAt (cond b r (spec.with_retracted_appeal r c reference a)) c reference
       by_status a at true is = record { appeal = a; stored = at; retracted = retracted_is a.status is }
       by_status a at false is = record {
         appeal = record a { status = status.Retracted };
@@ -532,11 +639,16 @@ module _ (c : ℕ) (reference : Code) where
         retracted = refl;
       }
 
-      inner : (o : Option Appeal) → appeal_at r c reference ≡ o → IsRetractedAt (spec.with_retraction r c reference) c reference
-      inner None none = absurd (let differ : Some refusal.UnknownAppeal ≡ None = ap (λ o. first_refusal (spec.retraction_checks o)) (sym none) ∙ ok in cc)
-      inner (Some a) at = subst (λ t. IsRetractedAt t c reference) (sym (ap (spec.with_retracted r c reference) at)) (by_status a at (is_retracted a.status) refl)
+      inner : (o : Option Appeal) → appeal_at r c reference ≡ o
+          → IsRetractedAt (spec.with_retraction r c reference) c reference
+      inner None none = absurd
+          (let differ : Some refusal.UnknownAppeal ≡ None =
+          ap (λ o. first_refusal (spec.retraction_checks o)) (sym none) ∙ ok in cc)
+      inner (Some a) at = subst (λ t. IsRetractedAt t c reference) (sym (ap (spec.with_retracted r c reference) at))
+          (by_status a at (is_retracted a.status) refl)
 
-  retracted_again : (day : ℕ) (late : State) → IsRetractedAt late.relations c reference → change (command.Retract c reference) day late ≡ Ok late.relations
+  retracted_again : (day : ℕ) (late : State) → IsRetractedAt late.relations c reference
+      → change (command.Retract c reference) day late ≡ Ok late.relations
   retracted_again day late is =
       let r = late.relations in
       ap (λ o. unless (first_refusal (spec.retraction_checks o)) (spec.with_retracted r c reference o)) is.stored
@@ -545,7 +657,8 @@ module _ (c : ℕ) (reference : Code) where
 
 pub repeated_retraction : (c : ℕ) (reference : Code) (day later : ℕ) (before mid late after : State) (first : Reply)
     (done : List (Command × ℕ)) (replies : List (Result Reply Refusal)) (second : Result Reply Refusal)
-    → IsInOrder late → IsInOrder after → Step (command.Retract c reference) day before (Ok first) mid → Run done mid replies late → Step (command.Retract c reference) later late second after
+    → IsInOrder late → IsInOrder after → Step (command.Retract c reference) day before (Ok first) mid
+    → Run done mid replies late → Step (command.Retract c reference) later late second after
     → (second ≡ Ok reply.Retracted) × (after ≡ late)
 repeated_retraction c reference day later before mid late after first done replies second up up_after one run two =
     let changed = new_facts (command.Retract c reference) day before first mid one in
@@ -555,7 +668,8 @@ repeated_retraction c reference day later before mid late after first done repli
     subst (λ t. IsRetractedAt t c reference)
     (made refused (spec.with_retraction before.relations c reference) mid.relations changed)
     (retracted_then c reference before.relations none) in
-    let still = retracted_still c reference mid.relations late.relations (run_carries done mid replies late run) there in
+    let still = retracted_still c reference mid.relations late.relations
+    (run_carries done mid replies late run) there in
     let to : StepTo (command.Retract c reference) late second after (Ok late.relations) =
     subst (StepTo (command.Retract c reference) late second after)
     (retracted_again c reference later late still) two in
@@ -574,21 +688,28 @@ decided_itself outcome.Standing answer = same_code_itself answer
 decided_itself outcome.Refuse answer = same_code_itself answer
 
 -- what a superseded appeal answers
-over_refused : (r : Relations) (d : Decision) (day : ℕ) (a : Appeal) → state_of a.status ≡ state.Superseded → first_refusal (decision_checks r day d (Some a)) ≡ Some refusal.NotOpenAppeal
+over_refused : (r : Relations) (d : Decision) (day : ℕ) (a : Appeal) → state_of a.status ≡ state.Superseded
+    → first_refusal (decision_checks r day d (Some a)) ≡ Some refusal.NotOpenAppeal
 over_refused r d day a is = inner a.status is
   where
     rest : Status → List (Bool × Refusal)
-    rest st = (not (is_open st), refusal.NotOpenAppeal) ∷ (is_too_late r a.session day, refusal.TooLate) ∷ not_arrangement a d.outcome ∷ grant_checks r d.number a d.outcome
+    rest st = (not (is_open st), refusal.NotOpenAppeal) ∷ (is_too_late r a.session day, refusal.TooLate)
+        ∷ not_arrangement a d.outcome ∷ grant_checks r d.number a d.outcome
 
-    never : (o : Outcome) (marked : Bool) (stored : List ℕ) → is_decided o d.answer marked (status.Superseded stored) ≡ false
+    never : (o : Outcome) (marked : Bool) (stored : List ℕ)
+        → is_decided o d.answer marked (status.Superseded stored) ≡ false
     never outcome.Grant true stored = refl
     never outcome.Grant false stored = refl
     never outcome.Standing true stored = refl
     never outcome.Standing false stored = refl
     never outcome.Refuse marked stored = refl
 
-    inner : (st : Status) → state_of st ≡ state.Superseded → first_refusal (cond (is_decided d.outcome d.answer (is_marked r (d.number, d.reference)) st) [] (rest st)) ≡ Some refusal.NotOpenAppeal
-    inner (status.Superseded stored) is = ap (λ b. first_refusal (cond b [] (rest (status.Superseded stored)))) (never d.outcome (is_marked r (d.number, d.reference)) stored)
+    inner : (st : Status) → state_of st ≡ state.Superseded
+        → first_refusal (cond (is_decided d.outcome d.answer (is_marked r (d.number, d.reference)) st) [] (rest st))
+        ≡ Some refusal.NotOpenAppeal
+    inner (status.Superseded stored) is =
+        ap (λ b. first_refusal (cond b [] (rest (status.Superseded stored))))
+        (never d.outcome (is_marked r (d.number, d.reference)) stored)
     inner status.Pending is = absurd (let differ : state.Pending ≡ state.Superseded = is in cc)
     inner (status.Granted stored) is = absurd (let differ : state.Granted ≡ state.Superseded = is in cc)
     inner (status.Refused stored) is = absurd (let differ : state.Refused ≡ state.Superseded = is in cc)
@@ -599,27 +720,36 @@ module _ (d : Decision) where
   decided_still r t carries is =
       let on = carries.appeals (d.number, d.reference) is.appeal is.stored in
       let k : ℕ × Code = (d.number, d.reference) in
-      let same : is_marked t k ≡ is_marked r k = carries.marks k is.appeal is.stored (settled_closed d.outcome d.answer (is_marked r k) is.appeal.status is.is_settled) in
+      let same : is_marked t k ≡ is_marked r k =
+      carries.marks k is.appeal is.stored
+      (settled_closed d.outcome d.answer (is_marked r k) is.appeal.status is.is_settled) in
       record {
         appeal = on.then;
         stored = on.stored;
-        is_settled = subst (λ marked. IsSettled d.outcome d.answer marked on.then.status) (sym same) (settled_on is.appeal on.then on.continues d.outcome d.answer (is_marked r k) is.is_settled);
+        is_settled = subst (λ marked. IsSettled d.outcome d.answer marked on.then.status) (sym same)
+            (settled_on is.appeal on.then on.continues d.outcome d.answer (is_marked r k) is.is_settled);
       }
 
   decided_then : (r : Relations) (day : ℕ) → decision_refusal r day d ≡ None → IsDecidedAt (with_decision r d) d
   decided_then r day ok = inner (appeal_at r d.number d.reference) refl
     where
-      by_case : (a : Appeal) → appeal_at r d.number d.reference ≡ Some a → (b : Bool) → is_made r d a ≡ b → IsDecidedAt (cond b r (with_outcome r d a)) d
+      by_case : (a : Appeal) → appeal_at r d.number d.reference ≡ Some a → (b : Bool) → is_made r d a ≡ b
+          → IsDecidedAt (cond b r (with_outcome r d a)) d
       by_case a at true is = record { appeal = a; stored = at; is_settled = inl is }
       by_case a at false is = record {
         appeal = record a { status = decided d.outcome d.answer };
-        stored = put_found appeal_cmp appeals_total (with_superseded d.number a d.outcome r.appeals) (d.number, d.reference) (record a { status = decided d.outcome d.answer });
-        is_settled = inl (subst (λ marked. is_decided d.outcome d.answer marked (decided d.outcome d.answer) ≡ true) (sym (marked_as_made r d a)) (decided_itself d.outcome d.answer));
+        stored = put_found appeal_cmp appeals_total (with_superseded d.number a d.outcome r.appeals)
+            (d.number, d.reference) (record a { status = decided d.outcome d.answer });
+        is_settled = inl (subst (λ marked. is_decided d.outcome d.answer marked (decided d.outcome d.answer) ≡ true)
+            (sym (marked_as_made r d a)) (decided_itself d.outcome d.answer));
       }
 
       inner : (o : Option Appeal) → appeal_at r d.number d.reference ≡ o → IsDecidedAt (with_decision r d) d
-      inner None none = absurd (let differ : Some refusal.UnknownAppeal ≡ None = ap (λ o. first_refusal (decision_checks r day d o)) (sym none) ∙ ok in cc)
-      inner (Some a) at = subst (λ t. IsDecidedAt t d) (sym (ap (with_decided r d) at)) (by_case a at (is_made r d a) refl)
+      inner None none = absurd
+          (let differ : Some refusal.UnknownAppeal ≡ None =
+          ap (λ o. first_refusal (decision_checks r day d o)) (sym none) ∙ ok in cc)
+      inner (Some a) at = subst (λ t. IsDecidedAt t d) (sym (ap (with_decided r d) at))
+          (by_case a at (is_made r d a) refl)
 
   -- decided so still
   again_unchanged : (day : ℕ) (late : State) (a : Appeal) → appeal_at late.relations d.number d.reference ≡ Some a
@@ -638,20 +768,29 @@ module _ (d : Decision) where
 
 pub repeated_decision : (d : Decision) (day later : ℕ) (before mid late after : State) (first : Reply)
     (done : List (Command × ℕ)) (replies : List (Result Reply Refusal)) (second : Result Reply Refusal)
-    → IsInOrder late → IsInOrder after → Step (command.Decide d) day before (Ok first) mid → Run done mid replies late → Step (command.Decide d) later late second after
-    → ((second ≡ Ok reply.Unchanged) ⊎ ((stored_state late.relations d.number d.reference ≡ state.Superseded) × (second ≡ Err refusal.NotOpenAppeal))) × (after ≡ late)
+    → IsInOrder late → IsInOrder after → Step (command.Decide d) day before (Ok first) mid → Run done mid replies late
+    → Step (command.Decide d) later late second after
+    → ((second ≡ Ok reply.Unchanged)
+    ⊎ ((stored_state late.relations d.number d.reference ≡ state.Superseded)
+    × (second ≡ Err refusal.NotOpenAppeal))) × (after ≡ late)
 repeated_decision d day later before mid late after first done replies second up up_after one run two =
     let changed = new_facts (command.Decide d) day before first mid one in
     let refused = decision_refusal before.relations day d in
     let none = unrefused refused (with_decision before.relations d) mid.relations changed in
-    let there : IsDecidedAt mid.relations d = subst (λ t. IsDecidedAt t d) (made refused (with_decision before.relations d) mid.relations changed) (decided_then d before.relations day none) in
+    let there : IsDecidedAt mid.relations d =
+    subst (λ t. IsDecidedAt t d) (made refused (with_decision before.relations d) mid.relations changed)
+    (decided_then d before.relations day none) in
     let still = decided_still d mid.relations late.relations (run_carries done mid replies late run) there in
     inner still.appeal still.stored still.is_settled
   where
-    inner : (a : Appeal) → appeal_at late.relations d.number d.reference ≡ Some a → IsSettled d.outcome d.answer (is_marked late.relations (d.number, d.reference)) a.status
-        → ((second ≡ Ok reply.Unchanged) ⊎ ((stored_state late.relations d.number d.reference ≡ state.Superseded) × (second ≡ Err refusal.NotOpenAppeal))) × (after ≡ late)
+    inner : (a : Appeal) → appeal_at late.relations d.number d.reference ≡ Some a
+        → IsSettled d.outcome d.answer (is_marked late.relations (d.number, d.reference)) a.status
+        → ((second ≡ Ok reply.Unchanged)
+        ⊎ ((stored_state late.relations d.number d.reference ≡ state.Superseded)
+        × (second ≡ Err refusal.NotOpenAppeal))) × (after ≡ late)
     inner a at (inl is) =
-        let to : StepTo (command.Decide d) late second after (Ok late.relations) = subst (StepTo (command.Decide d) late second after) (again_unchanged d later late a at is) two in (
+        let to : StepTo (command.Decide d) late second after (Ok late.relations) =
+        subst (StepTo (command.Decide d) late second after) (again_unchanged d later late a at is) two in (
           inl (to.2 ∙ ap (λ o. Ok (reply_to late after d o)) at
               ∙ ap (λ b. Ok (cond b reply.Unchanged
               (reply.Decided (stored_state after.relations d.number d.reference)
@@ -659,15 +798,23 @@ repeated_decision d day later before mid late after first done replies second up
           same_office (command.Decide d) late second after up up_after to,
         )
     inner a at (inr over) =
-        let to : StepTo (command.Decide d) late second after (Err refusal.NotOpenAppeal) = subst (StepTo (command.Decide d) late second after) (again_refused d later late a at over) two in
-        (inr (ap (λ (o : Option Appeal). option_map_or (λ (x : Appeal). state_of x.status) o state.Pending) at ∙ over, to.0), to.1)
+        let to : StepTo (command.Decide d) late second after (Err refusal.NotOpenAppeal) =
+        subst (StepTo (command.Decide d) late second after) (again_refused d later late a at over) two in (
+          inr (
+            ap (λ (o : Option Appeal). option_map_or (λ (x : Appeal). state_of x.status) o state.Pending) at ∙ over,
+            to.0,
+          ),
+          to.1,
+        )
 
 -- ---- nobody moves
 
-same_seats : (done : Command) (before : State) (answer : Result Reply Refusal) (after : State) (t : Relations) → ((s : Code) → SameSeating (seating before.relations s) (seating t s))
+same_seats : (done : Command) (before : State) (answer : Result Reply Refusal) (after : State) (t : Relations)
+    → ((s : Code) → SameSeating (seating before.relations s) (seating t s))
     → IsInOrder before → IsInOrder after → StepTo done before answer after (Ok t) → after.seats ≡ before.seats
 same_seats done before answer after t same up up_after to =
-    same_rows seat_cmp seats_total seats_exact after.seats before.seats up_after.seats up.seats (λ q. (to.1 q.0).untouched (same q.0) q.1)
+    same_rows seat_cmp seats_total seats_exact after.seats before.seats up_after.seats up.seats
+    (λ q. (to.1 q.0).untouched (same q.0) q.1)
 
 pub lodging_moves_nobody : (l : Lodging) (day : ℕ) (before after : State) (first : Reply) → IsGood before
     → IsInOrder before → IsInOrder after → Step (command.Lodge l) day before (Ok first) after
@@ -676,9 +823,12 @@ lodging_moves_nobody l day before after first good up up_after step =
     let changed = new_facts (command.Lodge l) day before first after step in
     let refused = spec.lodging_refusal before.relations before.seats day l in
     let none = unrefused refused (spec.with_lodging before.relations day l) after.relations changed in
-    let standing = neither (spec.lodging_refusal_but_limits before.relations before.seats day l) (first_refusal (spec.one_too_many before.relations day l ∷ [])) none in
-    let settled = lodging_settled before good day l after.relations standing.0 (sym (made refused (spec.with_lodging before.relations day l) after.relations changed)) in
-    same_seats (command.Lodge l) before (Ok first) after after.relations settled.seated up up_after (subst (StepTo (command.Lodge l) before (Ok first) after) changed step)
+    let standing = neither (spec.lodging_refusal_but_limits before.relations before.seats day l)
+    (first_refusal (spec.one_too_many before.relations day l ∷ [])) none in
+    let settled = lodging_settled before good day l after.relations standing.0
+    (sym (made refused (spec.with_lodging before.relations day l) after.relations changed)) in
+    same_seats (command.Lodge l) before (Ok first) after after.relations settled.seated up up_after
+    (subst (StepTo (command.Lodge l) before (Ok first) after) changed step)
 
 pub retraction_moves_nobody : (c : ℕ) (reference : Code) (day : ℕ) (before after : State) (first : Reply)
     → IsGood before → IsInOrder before → IsInOrder after
@@ -687,5 +837,7 @@ retraction_moves_nobody c reference day before after first good up up_after step
     let changed = new_facts (command.Retract c reference) day before first after step in
     let refused = spec.retraction_refusal before.relations c reference in
     let none = unrefused refused (spec.with_retraction before.relations c reference) after.relations changed in
-    let settled = retraction_settled before good c reference after.relations up.tables none (sym (made refused (spec.with_retraction before.relations c reference) after.relations changed)) in
-    same_seats (command.Retract c reference) before (Ok first) after after.relations settled.seated up up_after (subst (StepTo (command.Retract c reference) before (Ok first) after) changed step)
+    let settled = retraction_settled before good c reference after.relations up.tables none
+    (sym (made refused (spec.with_retraction before.relations c reference) after.relations changed)) in
+    same_seats (command.Retract c reference) before (Ok first) after after.relations settled.seated up up_after
+    (subst (StepTo (command.Retract c reference) before (Ok first) after) changed step)

@@ -1,12 +1,14 @@
 -- An accepted import repeated later, if no import came between and no hall was closed: its rows are still stored, so it
 -- is accepted, changes nothing, and finds every row the same.
-use Rattle.std.proofs.Common.{◌≡◌, ℕ, Bool, true, false, cond, List, [], ◌∷◌, length, Option, None, Some, Result, Ok, Err, is_none, refl, ap, sym, subst, ◌∙◌, inl, inr}
+use Rattle.std.proofs.Common.{Bool, Err, List, None, Ok, Option, Result, Some, [], ap, cond, false, inl, inr, is_none}
+use Rattle.std.proofs.Common.{is_some, length, refl, subst, sym, true, ℕ, ◌∙◌, ◌∷◌, ◌≡◌}
 use Rattle.std.specs.List.{AllByRecursion}
 use Rattle.std.specs.Ordering.{nat_cmp}
 use Rattle.std.proofs.lemmas.List.Elements.{All-head, All-tail}
 use Rattle.exam_types.specs.declared.refusal.Refusal.{Refusal}
 use Rattle.exam_rules.specs.declared.rows.Appeal.{Appeal}
-use Rattle.exam_rules.specs.Relations.{Code, Relations, code_cmp, entry_cmp, opening_cmp, has_row, row_at}
+use Rattle.exam_rules.specs.Relations.{Code, Relations, code_cmp, entry_cmp, row_at}
+use Rattle.exam_commands.proofs.KeyedRows.{entries_total, has_put}
 use Rattle.exam_commands.specs.declared.command.Command.{Command}
 use Rattle.exam_commands.specs.declared.command.Command.TheVariants as command
 use Rattle.exam_commands.specs.declared.command.Decision.{Decision}
@@ -17,7 +19,8 @@ use Rattle.exam_commands.specs.declared.import_row.Row.{Row}
 use Rattle.exam_commands.specs.declared.import_row.Row.TheVariants as row
 use Rattle.exam_commands.specs.Appeals.{appeal_at, is_retracted}
 use Rattle.exam_commands.specs.Between.{NoneImportsOrCloses, imports_or_closes}
-use Rattle.exam_commands.specs.Changes.{imported, reinstatement_refusal, rows_refusal, first_refusal, too_many, with_live, with_rows, withdrawal_refusal}
+use Rattle.exam_commands.specs.Changes.{imported, reinstatement_refusal, rows_refusal, first_refusal, too_many}
+use Rattle.exam_commands.specs.Changes.{with_live, with_rows, withdrawal_refusal}
 use Rattle.exam_commands.specs.Decisions.{decision_refusal, is_made, with_decided, with_decision, with_outcome}
 use Rattle.exam_commands.specs.Good.{IsGood}
 use Rattle.exam_commands.specs.Imports.{ImportRows, distinct_rows, is_consistent}
@@ -27,37 +30,25 @@ use Rattle.exam_commands.specs.Orders.{IsInOrder}
 use Rattle.exam_commands.specs.State.{State}
 use Rattle.exam_commands.specs.Steps.{MayStep, Run, Step, StepTo, change}
 use Rattle.exam_laws.proofs.Lasting.{made, new_facts, same_office}
-use Rattle.exam_commands.proofs.Referring.{Grows, has_put, import_refers_still, neither, rows_refer_still}
+use Rattle.exam_commands.proofs.Referring.{Grows, import_refers_still, neither, rows_refer_still}
 use Rattle.exam_laws.proofs.RepeatedImports.{accepted, stored_reply}
 use Rattle.exam_laws.proofs.Stepping.{import_accepted}
 use Rattle.exam_commands.proofs.Stored.{IsStored, rows_again, rows_stored}
 
 -- ---- the rows of imports, and the facts that keep them
 
--- every row is there still, of an entry with any live mark
-record Holds (r t : Relations) : Type 0 where
-  sessions : t.sessions ≡ r.sessions
-  papers : t.papers ≡ r.papers
-  halls : t.halls ≡ r.halls
-  openings : t.openings ≡ r.openings
-  candidates : t.candidates ≡ r.candidates
-  entries : (k : ℕ × Code) → has_row entry_cmp r.entries k ≡ true → has_row entry_cmp t.entries k ≡ true
-  arrangements : t.arrangements ≡ r.arrangements
+-- what an import stored is stored still
+abbrev Holds : Relations → Relations → Type 0
+Holds r t = (x : Row) → IsStored r x → IsStored t x
 
 holds_both : (r t u : Relations) → Holds r t → Holds t u → Holds r u
-holds_both r t u one two = record {
-  sessions = two.sessions ∙ one.sessions;
-  papers = two.papers ∙ one.papers;
-  halls = two.halls ∙ one.halls;
-  openings = two.openings ∙ one.openings;
-  candidates = two.candidates ∙ one.candidates;
-  entries = λ k has. two.entries k (one.entries k has);
-  arrangements = two.arrangements ∙ one.arrangements;
-}
+holds_both r t u one two x at = two x (one x at)
 
 -- if only appeals change
-holds_decisions : (r : Relations) (appeals : List ((ℕ × Code) × Appeal)) (marks : List ((ℕ × Code) × Unit {0})) → Holds r (record r { appeals = appeals; standing = marks })
-holds_decisions r appeals marks = record { sessions = refl; papers = refl; halls = refl; openings = refl; candidates = refl; entries = λ k has. has; arrangements = refl }
+holds_decisions : (r : Relations) (appeals : List ((ℕ × Code) × Appeal)) (marks : List ((ℕ × Code) × Unit {0}))
+    → Holds r (record r { appeals = appeals; standing = marks })
+holds_decisions r appeals marks (row.OfSession s x) at = at
+holds_decisions r appeals marks x at = at
 
 holds_itself : (r : Relations) → Holds r r
 holds_itself r = holds_decisions r r.appeals r.standing
@@ -66,15 +57,9 @@ holds_appeals : (r : Relations) (appeals : List ((ℕ × Code) × Appeal)) → H
 holds_appeals r appeals = holds_decisions r appeals r.standing
 
 holds_live : (r : Relations) (c : ℕ) (p : Code) (live : Bool) → Holds r (with_live r c p live)
-holds_live r c p live = record {
-  sessions = refl;
-  papers = refl;
-  halls = refl;
-  openings = refl;
-  candidates = refl;
-  entries = λ k has. has_put entry_cmp r.entries (c, p) k (record { live = live }) has;
-  arrangements = refl;
-}
+holds_live r c p live (row.OfEntry d q) at =
+    has_put entry_cmp entries_total r.entries (c, p) (d, q) (record { live = live }) at
+holds_live r c p live x at = at
 
 -- ---- by a command
 
@@ -107,21 +92,30 @@ decision_holds r d = inner (appeal_at r d.number d.reference)
     inner None = holds_itself r
     inner (Some a) = by_case a (is_made r d a)
 
-change_holds : (done : Command) (day : ℕ) (before : State) (t : Relations) → imports_or_closes done ≡ false → change done day before ≡ Ok t → Holds before.relations t
+change_holds : (done : Command) (day : ℕ) (before : State) (t : Relations) → imports_or_closes done ≡ false
+    → change done day before ≡ Ok t → Holds before.relations t
 change_holds (command.Import import) day before t leaves is = absurd (let differ : true ≡ false = leaves in cc)
 change_holds (command.Withdraw c p) day before t leaves is =
-    subst (Holds before.relations) (made (withdrawal_refusal before.relations c p) (with_live before.relations c p false) t is) (holds_live before.relations c p false)
+    subst (Holds before.relations)
+    (made (withdrawal_refusal before.relations c p) (with_live before.relations c p false) t is)
+    (holds_live before.relations c p false)
 change_holds (command.Reinstate c p) day before t leaves is =
-    subst (Holds before.relations) (made (reinstatement_refusal before.relations c p) (with_live before.relations c p true) t is) (holds_live before.relations c p true)
+    subst (Holds before.relations)
+    (made (reinstatement_refusal before.relations c p) (with_live before.relations c p true) t is)
+    (holds_live before.relations c p true)
 change_holds (command.CloseHall s h) day before t leaves is = absurd (let differ : true ≡ false = leaves in cc)
 change_holds (command.Lodge l) day before t leaves is =
-    subst (Holds before.relations) (made (spec.lodging_refusal before.relations before.seats day l) (spec.with_lodging before.relations day l) t is) (lodging_holds before.relations day l)
+    subst (Holds before.relations)
+    (made (spec.lodging_refusal before.relations before.seats day l)
+    (spec.with_lodging before.relations day l) t is) (lodging_holds before.relations day l)
 change_holds (command.Retract c reference) day before t leaves is =
     subst (Holds before.relations)
     (made (spec.retraction_refusal before.relations c reference)
     (spec.with_retraction before.relations c reference) t is) (retraction_holds before.relations c reference)
 change_holds (command.Decide d) day before t leaves is =
-    subst (Holds before.relations) (made (decision_refusal before.relations day d) (with_decision before.relations d) t is) (decision_holds before.relations d)
+    subst (Holds before.relations)
+    (made (decision_refusal before.relations day d) (with_decision before.relations d) t is)
+    (decision_holds before.relations d)
 
 -- what a command keeps of an office's facts; an office in order stays in order
 record GoesOn (before after : State) : Type 0 where
@@ -129,30 +123,45 @@ record GoesOn (before after : State) : Type 0 where
   order : IsInOrder before → IsInOrder after
 
 goes_on_itself : (before after : State) → after ≡ before → GoesOn before after
-goes_on_itself before after same = subst (GoesOn before) (sym same) (record { holds = holds_itself before.relations; order = λ up. up })
+goes_on_itself before after same =
+    subst (GoesOn before) (sym same) (record { holds = holds_itself before.relations; order = λ up. up })
 
-step_goes_on : (done : Command) (day : ℕ) (before : State) (answer : Result Reply Refusal) (after : State) → imports_or_closes done ≡ false → Step done day before answer after → GoesOn before after
+step_goes_on : (done : Command) (day : ℕ) (before : State) (answer : Result Reply Refusal) (after : State)
+    → imports_or_closes done ≡ false → Step done day before answer after → GoesOn before after
 step_goes_on done day before answer after leaves step = inner (change done day before) refl step
   where
-    inner : (o : Result Relations Refusal) → change done day before ≡ o → StepTo done before answer after o → GoesOn before after
-    inner (Ok t) is to = record { holds = subst (Holds before.relations) (sym to.0) (change_holds done day before t leaves is); order = λ up. to.3 }
+    inner : (o : Result Relations Refusal) → change done day before ≡ o → StepTo done before answer after o
+        → GoesOn before after
+    inner (Ok t) is to =
+        record {
+          holds = subst (Holds before.relations) (sym to.0) (change_holds done day before t leaves is);
+          order = λ up. to.3;
+        }
     inner (Err e) is to = goes_on_itself before after to.1
 
-run_goes_on : (done : List (Command × ℕ)) (before : State) (replies : List (Result Reply Refusal)) (after : State) → NoneImportsOrCloses done → Run done before replies after → GoesOn before after
+run_goes_on : (done : List (Command × ℕ)) (before : State) (replies : List (Result Reply Refusal)) (after : State)
+    → NoneImportsOrCloses done → Run done before replies after → GoesOn before after
 run_goes_on [] before [] after none same = goes_on_itself before after same
 run_goes_on [] before (q ∷ replies) after none never = absurd never
 run_goes_on (x ∷ done) before [] after none never = absurd never
 run_goes_on (x ∷ done) before (q ∷ replies) after none run =
     let one = first run.1 in
-    let rest = run_goes_on done run.0 replies after (All-tail (λ (d : Command × ℕ). imports_or_closes d.0 ≡ false) x done none) run.2 in
-    record { holds = holds_both before.relations run.0.relations after.relations one.holds rest.holds; order = λ up. rest.order (one.order up) }
+    let rest = run_goes_on done run.0 replies after
+    (All-tail (λ (d : Command × ℕ). imports_or_closes d.0 ≡ false) x done none) run.2 in
+    record {
+      holds = holds_both before.relations run.0.relations after.relations one.holds rest.holds;
+      order = λ up. rest.order (one.order up);
+    }
   where
     first : {mid : State} → MayStep x.0 x.1 before q mid → GoesOn before mid
     first {mid} (inl memory) = goes_on_itself before mid memory.1
-    first {mid} (inr step) = step_goes_on x.0 x.1 before q mid (All-head (λ (d : Command × ℕ). imports_or_closes d.0 ≡ false) x done none) step
+    first {mid} (inr step) =
+        step_goes_on x.0 x.1 before q mid
+        (All-head (λ (d : Command × ℕ). imports_or_closes d.0 ≡ false) x done none) step
 
 -- an accepted command leaves the office in order
-in_order_then : (done : Command) (day : ℕ) (before : State) (answer : Reply) (after : State) → Step done day before (Ok answer) after → IsInOrder after
+in_order_then : (done : Command) (day : ℕ) (before : State) (answer : Reply) (after : State)
+    → Step done day before (Ok answer) after → IsInOrder after
 in_order_then done day before answer after step = inner (change done day before) step
   where
     inner : (o : Result Relations Refusal) → StepTo done before (Ok answer) after o → IsInOrder after
@@ -162,48 +171,56 @@ in_order_then done day before answer after step = inner (change done day before)
 -- ---- the rows of the import
 
 module _ (r t : Relations) (holds : Holds r t) where
-  stored_still : (x : Row) → IsStored r x → IsStored t x
-  stored_still (row.OfSession s x) at = ap (λ rows. row_at code_cmp rows s) holds.sessions ∙ at
-  stored_still (row.OfPaper p x) at = ap (λ rows. row_at code_cmp rows p) holds.papers ∙ at
-  stored_still (row.OfHall h x) at = ap (λ rows. row_at code_cmp rows h) holds.halls ∙ at
-  stored_still (row.OfOpening s h x) at = ap (λ rows. row_at opening_cmp rows (s, h)) holds.openings ∙ at
-  stored_still (row.OfCandidate c x) at = ap (λ rows. row_at nat_cmp rows c) holds.candidates ∙ at
-  stored_still (row.OfEntry c p) at = holds.entries (c, p) at
-  stored_still (row.OfArrangement c x) at = ap (λ rows. row_at nat_cmp rows c) holds.arrangements ∙ at
-
   all_stored_still : (rows : List Row) → AllByRecursion (IsStored r) rows → AllByRecursion (IsStored t) rows
   all_stored_still [] every = tt
-  all_stored_still (x ∷ rows) every = (stored_still x every.0, all_stored_still rows every.1)
+  all_stored_still (x ∷ rows) every = (holds x every.0, all_stored_still rows every.1)
+
+  found_still : {X : Type 0} (o p : Option X) → ((x : X) → o ≡ Some x → p ≡ Some x) → is_some o ≡ true
+      → is_some p ≡ true
+  found_still None p stays has = absurd (let differ : false ≡ true = has in cc)
+  found_still (Some x) p stays has = ap is_some (stays x refl)
 
   grows_still : Grows r t
   grows_still = record {
-    sessions = λ s has. ap (λ rows. has_row code_cmp rows s) holds.sessions ∙ has;
-    papers = λ p has. ap (λ rows. has_row code_cmp rows p) holds.papers ∙ has;
-    halls = λ h has. ap (λ rows. has_row code_cmp rows h) holds.halls ∙ has;
-    candidates = λ c has. ap (λ rows. has_row nat_cmp rows c) holds.candidates ∙ has;
+    sessions = λ s. found_still (row_at code_cmp r.sessions s) (row_at code_cmp t.sessions s)
+        (λ x. holds (row.OfSession s x));
+    papers = λ p. found_still (row_at code_cmp r.papers p) (row_at code_cmp t.papers p) (λ x. holds (row.OfPaper p x));
+    halls = λ h. found_still (row_at code_cmp r.halls h) (row_at code_cmp t.halls h) (λ x. holds (row.OfHall h x));
+    candidates = λ c. found_still (row_at nat_cmp r.candidates c) (row_at nat_cmp t.candidates c)
+        (λ x. holds (row.OfCandidate c x));
   }
 
 -- rows that are stored, with references that are there, in an office that is within limits and in order
-stored_import : (r : Relations) (rows : List Row) → rows_refusal r rows ≡ None → within_limits r ≡ true → with_rows r rows ≡ r → imported r rows ≡ Ok r
+stored_import : (r : Relations) (rows : List Row) → rows_refusal r rows ≡ None → within_limits r ≡ true
+    → with_rows r rows ≡ r → imported r rows ≡ Ok r
 stored_import r rows refer limits same = import_accepted r rows refer (ap within_limits same ∙ limits) ∙ ap Ok same
 
 pub repeated_later : (import : ImportRows) (day later : ℕ) (before mid late after : State) (first : Reply)
     (done : List (Command × ℕ)) (replies : List (Result Reply Refusal)) (second : Result Reply Refusal)
     → IsGood late → is_consistent import.rows ≡ true → NoneImportsOrCloses done
-    → Step (command.Import import) day before (Ok first) mid → Run done mid replies late → Step (command.Import import) later late second after
+    → Step (command.Import import) day before (Ok first) mid → Run done mid replies late
+    → Step (command.Import import) later late second after
     → (second ≡ Ok (reply.Imported 0 0 (length (distinct_rows import.rows)))) × (after ≡ late)
 repeated_later import day later before mid late after first done replies second good agree none one run two =
     let new = new_facts (command.Import import) day before first mid one in
     let made_so = accepted before.relations mid.relations import.rows new in
-    let checks = neither (rows_refusal before.relations import.rows) (first_refusal (too_many (with_rows before.relations import.rows) ∷ [])) made_so.0 in
+    let checks = neither (rows_refusal before.relations import.rows)
+    (first_refusal (too_many (with_rows before.relations import.rows) ∷ [])) made_so.0 in
     let on = run_goes_on done mid replies late none run in
-    let stored_then : AllByRecursion (IsStored mid.relations) import.rows = subst (λ t. AllByRecursion (IsStored t) import.rows) made_so.1 (rows_stored before.relations import.rows agree) in
-    let referred_then : rows_refusal mid.relations import.rows ≡ None = ap (λ t. rows_refusal t import.rows) (sym made_so.1) ∙ import_refers_still before.relations import.rows checks.0 in
+    let stored_then : AllByRecursion (IsStored mid.relations) import.rows =
+    subst (λ t. AllByRecursion (IsStored t) import.rows) made_so.1
+    (rows_stored before.relations import.rows agree) in
+    let referred_then : rows_refusal mid.relations import.rows ≡ None =
+    ap (λ t. rows_refusal t import.rows) (sym made_so.1)
+    ∙ import_refers_still before.relations import.rows checks.0 in
     let stored = all_stored_still mid.relations late.relations on.holds import.rows stored_then in
-    let refer = rows_refer_still mid.relations late.relations import.rows (grows_still mid.relations late.relations on.holds) referred_then in
+    let refer = rows_refer_still mid.relations late.relations import.rows
+    (grows_still mid.relations late.relations on.holds) referred_then in
     let up : IsInOrder late = on.order (in_order_then (command.Import import) day before first mid one) in
     let same = rows_again late.relations import.rows up.tables stored in
     let to : StepTo (command.Import import) late second after (Ok late.relations) =
     subst (StepTo (command.Import import) late second after)
-    (stored_import late.relations import.rows refer good.limits same) two in
-    (to.2 ∙ ap Ok (stored_reply late.relations import.rows stored), same_office (command.Import import) late second after up to.3 to)
+    (stored_import late.relations import.rows refer good.limits same) two in (
+      to.2 ∙ ap Ok (stored_reply late.relations import.rows stored),
+      same_office (command.Import import) late second after up to.3 to,
+    )

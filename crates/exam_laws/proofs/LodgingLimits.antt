@@ -13,7 +13,8 @@ use Rattle.exam_rules.specs.Relations.{Relations, has_row}
 use Rattle.exam_rules.specs.Sessions.{appeal_count}
 use Rattle.exam_commands.specs.declared.command.Lodging.{Lodging}
 use Rattle.exam_commands.specs.Appeals.{appeal_at}
-use Rattle.exam_commands.specs.Limits.{most_appeals, appeals_within, candidates_within, halls_within, members_within, openings_within, papers_within, sessions_within, within_limits}
+use Rattle.exam_commands.specs.Limits.{most_appeals, appeals_within, candidates_within, halls_within, members_within}
+use Rattle.exam_commands.specs.Limits.{openings_within, papers_within, sessions_within, within_limits}
 use Rattle.exam_commands.specs.Lodgings as lodgings
 use Rattle.exam_commands.specs.State.{Seats}
 use Rattle.exam_laws.proofs.OwnFacts.{all_but_one}
@@ -45,23 +46,28 @@ module _ (r : Relations) (within : within_limits r ≡ true) where
       at p d true same = ap p (sym (exact_unsigned_eq d c same))
       at p d false other = refl
 
-  module _ (seats : Seats) (today : ℕ) (l : Lodging) (ok : lodgings.lodging_refusal_but_limits r seats today l ≡ None) where
+  module _ (seats : Seats) (today : ℕ) (l : Lodging)
+      (ok : lodgings.lodging_refusal_but_limits r seats today l ≡ None) where
     known : has_row nat_cmp r.candidates l.number ≡ true
     known = not-false (has_row nat_cmp r.candidates l.number)
         (passed (not (has_row nat_cmp r.candidates l.number)) refusal.UnknownCandidate
         (lodgings.lodging_checks r seats today l (appeal_at r l.number l.reference)) ok).0
 
-    pub lodging_within : within_limits (lodgings.with_lodging r today l) ≡ nat_le (appeal_count (lodgings.with_lodging r today l) l.number) most_appeals
+    pub lodging_within : within_limits (lodgings.with_lodging r today l)
+        ≡ nat_le (appeal_count (lodgings.with_lodging r today l) l.number) most_appeals
     lodging_within = inner (appeal_at r l.number l.reference) refl
       where
         facts : Option Appeal → Relations
         facts o = cond (is_none o) (lodgings.with_appeal r today l) r
 
-        by : (o : Option Appeal) → appeal_at r l.number l.reference ≡ o → within_limits (facts o) ≡ nat_le (appeal_count (facts o) l.number) most_appeals
-        by None none = within_told r today l none within known ∙ ap (λ n. nat_le n most_appeals) (sym (own_more r today l none))
+        by : (o : Option Appeal) → appeal_at r l.number l.reference ≡ o
+            → within_limits (facts o) ≡ nat_le (appeal_count (facts o) l.number) most_appeals
+        by None none = within_told r today l none within known
+            ∙ ap (λ n. nat_le n most_appeals) (sym (own_more r today l none))
         by (Some a) at = within ∙ sym (few_appeals l.number known)
 
         inner : (o : Option Appeal) → appeal_at r l.number l.reference ≡ o
             → within_limits (facts (appeal_at r l.number l.reference))
             ≡ nat_le (appeal_count (facts (appeal_at r l.number l.reference)) l.number) most_appeals
-        inner o is = ap (λ x. within_limits (facts x)) is ∙ by o is ∙ ap (λ x. nat_le (appeal_count (facts x) l.number) most_appeals) (sym is)
+        inner o is = ap (λ x. within_limits (facts x)) is ∙ by o is
+            ∙ ap (λ x. nat_le (appeal_count (facts x) l.number) most_appeals) (sym is)

@@ -12,18 +12,22 @@ use Rattle.exam_commands.specs.Limits.{most_appeals, within_limits}
 use Rattle.exam_laws.proofs.FactsMade.{within_still}
 use Rattle.exam_laws.proofs.LodgingLimits.{lodging_within}
 
-pub still_within : (done : Command) (r t : Relations) → WasMade done r t → may_pass_limit done ≡ false → within_limits t ≡ true
+pub still_within : (done : Command) (r t : Relations) → WasMade done r t → may_pass_limit done ≡ false
+    → within_limits t ≡ true
 still_within done r t was not_one =
-    ap within_limits was.made ∙ within_still was.today was.office was.good (subst AreInOrder (sym was.facts) was.order) done not_one was.early
+    ap within_limits was.made
+    ∙ within_still was.today was.office was.good (subst AreInOrder (sym was.facts) was.order) done not_one was.early
 
-pub lodged_within : (l : Lodging) (r t : Relations) → WasMade (command.Lodge l) r t → within_limits t ≡ nat_le (appeal_count t l.number) most_appeals
+pub lodged_within : (l : Lodging) (r t : Relations) → WasMade (command.Lodge l) r t
+    → within_limits t ≡ nat_le (appeal_count t l.number) most_appeals
 lodged_within l r t was =
     ap within_limits was.made
     ∙ lodging_within was.office.relations was.good.limits was.office.seats was.today l was.early
     ∙ ap (λ (u : Relations). nat_le (appeal_count u l.number) most_appeals) (sym was.made)
 
 -- if they pass one, the command is of a kind that may
-pub past_may : (done : Command) (r t : Relations) → WasMade done r t → within_limits t ≡ false → may_pass_limit done ≡ true
+pub past_may : (done : Command) (r t : Relations) → WasMade done r t → within_limits t ≡ false
+    → may_pass_limit done ≡ true
 past_may done r t was past = inner (may_pass_limit done) refl
   where
     inner : (b : Bool) → may_pass_limit done ≡ b → b ≡ true

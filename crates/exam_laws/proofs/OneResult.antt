@@ -11,33 +11,37 @@ use Rattle.exam_plan.specs.Repair.{IsRepair}
 use Rattle.exam_plan.proofs.OneRepair.{one_repair}
 use Rattle.exam_rules.specs.Relations.{Code, Relations, seat_cmp}
 use Rattle.exam_rules.specs.Seatings.{plan_of, seating}
+use Rattle.exam_commands.proofs.KeyedRows.{same_rows, seats_exact, seats_total}
 use Rattle.exam_commands.specs.declared.command.Command.{Command}
 use Rattle.exam_commands.specs.declared.command.Reply.{Reply}
 use Rattle.exam_commands.specs.Replies.{reply_of}
 use Rattle.exam_commands.specs.State.{State}
 use Rattle.exam_commands.specs.Steps.{MayStep, NoneLacksMemory, Run, Step, StepTo, change, first_seated}
-use Rattle.exam_commands.proofs.Repeating.{same_rows}
-use Rattle.exam_commands.proofs.SameSeats.{seats_exact, seats_total}
 
 -- a plan of the session has one repair
-one_plan : (r : Relations) (done : Command) (before one other : State) (s : Code) → IsRepair (seating r s) (first_seated done) (plan_of before.seats s) (plan_of one.seats s)
-    → IsRepair (seating r s) (first_seated done) (plan_of before.seats s) (plan_of other.seats s) → SamePlan (plan_of one.seats s) (plan_of other.seats s)
+one_plan : (r : Relations) (done : Command) (before one other : State) (s : Code)
+    → IsRepair (seating r s) (first_seated done) (plan_of before.seats s) (plan_of one.seats s)
+    → IsRepair (seating r s) (first_seated done) (plan_of before.seats s) (plan_of other.seats s)
+    → SamePlan (plan_of one.seats s) (plan_of other.seats s)
 one_plan r done before one other s here there =
     one_repair (seating r s) nat_cmp_total nat_list_cmp_total nat_cmp-IsAntisymmetric
     (slice_cmp-IsAntisymmetric nat_cmp-IsAntisymmetric) (first_seated done) (plan_of before.seats s)
     (plan_of one.seats s) (plan_of other.seats s) here there
 
 module _ (done : Command) (before one other : State) (first second : Result Reply Refusal) where
-  one_outcome : (o : Result Relations Refusal) → StepTo done before first one o → StepTo done before second other o → (first ≡ second) × (one ≡ other)
+  one_outcome : (o : Result Relations Refusal) → StepTo done before first one o → StepTo done before second other o
+      → (first ≡ second) × (one ≡ other)
   one_outcome (Err e) here there = (here.0 ∙ sym there.0, here.1 ∙ sym there.1)
   one_outcome (Ok r) here there =
       let facts : one.relations ≡ other.relations = here.0 ∙ sym there.0 in
-      let seats : one.seats ≡ other.seats = same_rows seat_cmp seats_total seats_exact one.seats other.seats here.3.seats there.3.seats
+      let seats : one.seats ≡ other.seats =
+      same_rows seat_cmp seats_total seats_exact one.seats other.seats here.3.seats there.3.seats
       (λ q. one_plan r done before one other q.0 (here.1 q.0).repair (there.1 q.0).repair q.1) in
       let offices : one ≡ other = λ i. record { relations = facts i; seats = seats i } in
       (here.2 ∙ ap (λ (after : State). Ok (reply_of done before after)) offices ∙ sym there.2, offices)
 
-  pub one_result : (today : ℕ) → Step done today before first one → Step done today before second other → (first ≡ second) × (one ≡ other)
+  pub one_result : (today : ℕ) → Step done today before first one → Step done today before second other
+      → (first ≡ second) × (one ≡ other)
   one_result today here there = one_outcome (change done today before) here there
 
 with_memory : (done : Command) (today : ℕ) (before : State) (answer : Result Reply Refusal) (after : State)
@@ -45,7 +49,8 @@ with_memory : (done : Command) (today : ℕ) (before : State) (answer : Result R
 with_memory done today before answer after not_lacking (inl lacking) = absurd (not_lacking lacking.0)
 with_memory done today before answer after not_lacking (inr step) = step
 
-pub one_run : (done : List (Command × ℕ)) (before one other : State) (first second : List (Result Reply Refusal)) → NoneLacksMemory first → NoneLacksMemory second
+pub one_run : (done : List (Command × ℕ)) (before one other : State) (first second : List (Result Reply Refusal))
+    → NoneLacksMemory first → NoneLacksMemory second
     → Run done before first one → Run done before second other → (first ≡ second) × (one ≡ other)
 one_run [] before one other [] [] enough plenty here there = (refl, here ∙ sym there)
 one_run [] before one other [] (q ∷ second) enough plenty here there = absurd there

@@ -1,14 +1,14 @@
 -- What a candidate sees of themselves determines what the office looks up about them: their appeal with a reference,
 -- their session, their live papers, whether one of their appeals is open, and how many they have.
-use Rattle.std.proofs.Common.{◌≡◌, ℕ, suc, ◌&&◌, ◌||◌, Bool, true, false, cond, List, [], ◌∷◌, filter, length, map, nat_eq, Option, None, Some, is_some, eq-eqb, refl, ap, sym, ◌∙◌}
+use Rattle.std.proofs.Common.{◌≡◌, ℕ, ◌&&◌, ◌||◌, Bool, true, false, cond, List, [], ◌∷◌, filter, map, nat_eq, Option}
+use Rattle.std.proofs.Common.{None, Some, is_some, eq-eqb, refl, ap, sym, ◌∙◌}
 use Rattle.std.specs.List.{list_all, list_any, cons_option, filter_map}
-use Rattle.std.specs.BTreeMap.{insert_entry, is_at}
-use Rattle.std.specs.Cmp.{Equal-is, IsTotalOrder, nat_cmp_total}
+use Rattle.std.specs.BTreeMap.{is_at}
+use Rattle.std.specs.Cmp.{Equal-is, nat_cmp_total}
 use Rattle.std.specs.Cmp.Lexicographic.{nat_list_cmp_total, texts_ties}
-use Rattle.std.specs.List.{AllByRecursion}
 use Rattle.std.specs.Map.{keys_of}
 use Rattle.std.specs.Option.{option_and_then, option_map_or}
-use Rattle.std.specs.Ordering.{nat_cmp, is_eq, match_ordering, ordering_then}
+use Rattle.std.specs.Ordering.{nat_cmp, is_eq, ordering_then}
 use Rattle.std.specs.declared.cmp.Ordering.{Ordering}
 use Rattle.std.specs.declared.cmp.Ordering.TheVariants.{Less, Equal, Greater}
 use Rattle.std.proofs.lemmas.Cmp.{tied_itself}
@@ -21,20 +21,15 @@ use Rattle.exam_rules.specs.declared.rows.Entry.{Entry}
 use Rattle.exam_rules.specs.declared.rows.Session.{Session}
 use Rattle.exam_rules.specs.declared.rows.Subject.{Subject}
 use Rattle.exam_rules.specs.Orders.{KeysRise}
-use Rattle.exam_rules.specs.Relations.{Code, Relations, appeal_cmp, code_cmp, entry_cmp, has_row, is_row_of, put_row, row_at, same_code}
+use Rattle.exam_rules.specs.Relations.{Code, Relations, appeal_cmp, code_cmp, entry_cmp, has_row, is_row_of, row_at}
+use Rattle.exam_rules.specs.Relations.{same_code}
 use Rattle.exam_rules.specs.Sessions.{is_live_entry, is_paper_of, live_papers_in}
+use Rattle.exam_commands.proofs.KeyedRows.{entries_total, past_all}
 use Rattle.exam_commands.specs.Appeals.{is_open, is_open_appeal, same_kind}
 use Rattle.exam_commands.specs.declared.own.OwnAppeal.{OwnAppeal}
 use Rattle.exam_commands.specs.Own.{OwnSessionRow, own_appeal, own_appeals}
-use Rattle.exam_commands.proofs.Stored.{entry_total}
 
 -- ---- looking up
-
--- none of the rows above a key has it
-pub none_past : {K X : Type 0} (cmp : K → K → Ordering) → IsTotalOrder cmp → (k q : K) (es : List (K × X))
-    → cmp q k ≡ Equal → AllByRecursion (λ y. cmp k y ≡ Less) (keys_of es) → row_at cmp es q ≡ None
-none_past cmp o k q [] tied above = refl
-none_past cmp o k q (e ∷ es) tied above = ap (λ r. cond (is_eq r) (Some e.1) (row_at cmp es q)) (o.congr q k e.0 tied ∙ above.0) ∙ none_past cmp o k q es tied above.1
 
 -- the key of another candidate is another one
 other_key : (c n : ℕ) (p q : Code) → nat_eq n c ≡ false → is_eq (ordering_then (nat_cmp c n) (code_cmp p q)) ≡ false
@@ -42,11 +37,14 @@ other_key c n p q other = inner (nat_cmp c n) refl
   where
     inner : (o : Ordering) → nat_cmp c n ≡ o → is_eq (ordering_then o (code_cmp p q)) ≡ false
     inner Less is = refl
-    inner Equal is = absurd (let same : c ≡ n = exact_unsigned c n is in let f : true ≡ false = sym (eq-eqb n n refl) ∙ ap (nat_eq n) (sym same) ∙ other in cc)
+    inner Equal is = absurd
+        (let same : c ≡ n = exact_unsigned c n is in
+        let f : true ≡ false = sym (eq-eqb n n refl) ∙ ap (nat_eq n) (sym same) ∙ other in cc)
     inner Greater is = refl
 
 -- of keys of one candidate the second parts decide
-own_key : (c n : ℕ) (p q : Code) → nat_eq n c ≡ true → is_eq (ordering_then (nat_cmp c n) (code_cmp p q)) ≡ is_eq (code_cmp p q)
+own_key : (c n : ℕ) (p q : Code) → nat_eq n c ≡ true
+    → is_eq (ordering_then (nat_cmp c n) (code_cmp p q)) ≡ is_eq (code_cmp p q)
 own_key c n p q own =
     let same : n ≡ c = exact_unsigned_eq n c own in
     ap (λ o. is_eq (ordering_then o (code_cmp p q))) (ap (nat_cmp c) same ∙ tied_itself nat_cmp_total c)
@@ -71,54 +69,69 @@ pair_of a = (a.reference, a.appeal)
 pub pairs_own : (r : Relations) (c : ℕ) → map pair_of (own_appeals r c) ≡ own_among c r.appeals
 pairs_own r c = map_twice (own_appeal r) pair_of (filter (is_row_of c) r.appeals)
 
-pub appeal_found : (c : ℕ) (reference : Code) (rows : AppealRows) → row_at appeal_cmp rows (c, reference) ≡ row_at code_cmp (own_among c rows) reference
+pub appeal_found : (c : ℕ) (reference : Code) (rows : AppealRows)
+    → row_at appeal_cmp rows (c, reference) ≡ row_at code_cmp (own_among c rows) reference
 appeal_found c reference [] = refl
 appeal_found c reference (a ∷ rows) = inner (nat_eq a.0.0 c) refl (appeal_found c reference rows)
   where
-    inner : (b : Bool) → nat_eq a.0.0 c ≡ b → row_at appeal_cmp rows (c, reference) ≡ row_at code_cmp (own_among c rows) reference
-        → row_at appeal_cmp (a ∷ rows) (c, reference) ≡ row_at code_cmp (map (λ (a : (ℕ × Code) × Appeal). (a.0.1, a.1)) (cond b (a ∷ filter (is_row_of c) rows) (filter (is_row_of c) rows))) reference
+    inner : (b : Bool) → nat_eq a.0.0 c ≡ b
+        → row_at appeal_cmp rows (c, reference) ≡ row_at code_cmp (own_among c rows) reference
+        → row_at appeal_cmp (a ∷ rows) (c, reference)
+        ≡ row_at code_cmp (map (λ (a : (ℕ × Code) × Appeal). (a.0.1, a.1))
+        (cond b (a ∷ filter (is_row_of c) rows) (filter (is_row_of c) rows))) reference
     inner true own rest =
         ap (λ b. cond b (Some a.1) (row_at appeal_cmp rows (c, reference))) (own_key c a.0.0 reference a.0.1 own)
         ∙ ap (λ o. cond (is_eq (code_cmp reference a.0.1)) (Some a.1) o) rest
-    inner false other rest = ap (λ b. cond b (Some a.1) (row_at appeal_cmp rows (c, reference))) (other_key c a.0.0 reference a.0.1 other) ∙ rest
+    inner false other rest =
+        ap (λ b. cond b (Some a.1) (row_at appeal_cmp rows (c, reference))) (other_key c a.0.0 reference a.0.1 other)
+        ∙ rest
 
 -- an open appeal for the session, of the kind
 abbrev pub is_own_open : Code → Subject → Code × Appeal → Bool
 is_own_open s asked a = same_code a.1.session s && (same_kind a.1.subject asked && is_open a.1.status)
 
-pub open_found : (c : ℕ) (s : Code) (asked : Subject) (rows : AppealRows) → list_any (is_open_appeal c s asked) rows ≡ list_any (is_own_open s asked) (own_among c rows)
+pub open_found : (c : ℕ) (s : Code) (asked : Subject) (rows : AppealRows)
+    → list_any (is_open_appeal c s asked) rows ≡ list_any (is_own_open s asked) (own_among c rows)
 open_found c s asked [] = refl
 open_found c s asked (a ∷ rows) = inner (nat_eq a.0.0 c) (open_found c s asked rows)
   where
     inner : (b : Bool) → list_any (is_open_appeal c s asked) rows ≡ list_any (is_own_open s asked) (own_among c rows)
         → ((b && is_own_open s asked (a.0.1, a.1)) || list_any (is_open_appeal c s asked) rows)
-        ≡ list_any (is_own_open s asked) (map (λ (a : (ℕ × Code) × Appeal). (a.0.1, a.1)) (cond b (a ∷ filter (is_row_of c) rows) (filter (is_row_of c) rows)))
+        ≡ list_any (is_own_open s asked)
+        (map (λ (a : (ℕ × Code) × Appeal). (a.0.1, a.1))
+        (cond b (a ∷ filter (is_row_of c) rows) (filter (is_row_of c) rows)))
     inner true rest = ap (λ b. is_own_open s asked (a.0.1, a.1) || b) rest
     inner false rest = rest
 
 -- ---- live papers
 
 pub live_found : (r : Relations) (s : Code) (c : ℕ) (p : Code) (es : List ((ℕ × Code) × Entry)) → KeysRise entry_cmp es
-    → (option_map_or (λ (entry : Entry). entry.live) (row_at entry_cmp es (c, p)) false && is_paper_of r s p) ≡ list_any (same_code p) (live_papers_in r es s c)
+    → (option_map_or (λ (entry : Entry). entry.live) (row_at entry_cmp es (c, p)) false && is_paper_of r s p)
+    ≡ list_any (same_code p) (live_papers_in r es s c)
 live_found r s c p [] up = refl
-live_found r s c p (e ∷ es) up = by_owner (nat_eq e.0.0 c) refl (live_found r s c p es (sorted_tail entry_cmp e.0 (keys_of es) up))
+live_found r s c p (e ∷ es) up =
+    by_owner (nat_eq e.0.0 c) refl (live_found r s c p es (sorted_tail entry_cmp e.0 (keys_of es) up))
   where
     rest_found : Bool
     rest_found = option_map_or (λ (entry : Entry). entry.live) (row_at entry_cmp es (c, p)) false && is_paper_of r s p
 
     papers_with : Bool → List Code
-    papers_with b = map (λ (x : (ℕ × Code) × Entry). x.0.1) (cond b (e ∷ filter (is_live_entry r s c) es) (filter (is_live_entry r s c) es))
+    papers_with b = map (λ (x : (ℕ × Code) × Entry). x.0.1)
+        (cond b (e ∷ filter (is_live_entry r s c) es) (filter (is_live_entry r s c) es))
 
     found_with : Bool → Bool
-    found_with b = option_map_or (λ (entry : Entry). entry.live) (cond b (Some e.1) (row_at entry_cmp es (c, p))) false && is_paper_of r s p
+    found_with b = option_map_or (λ (entry : Entry). entry.live) (cond b (Some e.1) (row_at entry_cmp es (c, p))) false
+        && is_paper_of r s p
 
     -- a paper that is not the entry's is found among the others
-    passed_over : (b : Bool) → same_code p e.0.1 ≡ false → list_any (same_code p) (papers_with b) ≡ list_any (same_code p) (live_papers_in r es s c)
+    passed_over : (b : Bool) → same_code p e.0.1 ≡ false
+        → list_any (same_code p) (papers_with b) ≡ list_any (same_code p) (live_papers_in r es s c)
     passed_over true other = ap (λ t. t || list_any (same_code p) (live_papers_in r es s c)) other
     passed_over false other = refl
 
     -- the entry's own paper
-    at_live : (live of : Bool) → list_any (same_code p) (live_papers_in r es s c) ≡ false → same_code p e.0.1 ≡ true → is_paper_of r s p ≡ of
+    at_live : (live of : Bool) → list_any (same_code p) (live_papers_in r es s c) ≡ false → same_code p e.0.1 ≡ true
+        → is_paper_of r s p ≡ of
         → (live && is_paper_of r s p) ≡ list_any (same_code p) (papers_with (live && of))
     at_live true true none same is = is ∙ sym (ap (λ t. t || list_any (same_code p) (live_papers_in r es s c)) same)
     at_live true false none same is = is ∙ sym none
@@ -127,18 +140,25 @@ live_found r s c p (e ∷ es) up = by_owner (nat_eq e.0.0 c) refl (live_found r 
     same_key : is_eq (code_cmp p e.0.1) ≡ true → nat_eq e.0.0 c ≡ true → entry_cmp (c, p) e.0 ≡ Equal
     same_key here own = (Equal-is (entry_cmp (c, p) e.0)).0 (own_key c e.0.0 p e.0.1 own ∙ here)
 
-    by_paper : (t : Bool) → is_eq (code_cmp p e.0.1) ≡ t → nat_eq e.0.0 c ≡ true → rest_found ≡ list_any (same_code p) (live_papers_in r es s c)
+    by_paper : (t : Bool) → is_eq (code_cmp p e.0.1) ≡ t → nat_eq e.0.0 c ≡ true
+        → rest_found ≡ list_any (same_code p) (live_papers_in r es s c)
         → found_with t ≡ list_any (same_code p) (papers_with (e.1.live && is_paper_of r s e.0.1))
     by_paper true here own rest =
         let same : p ≡ e.0.1 = exact_bytes p e.0.1 ((Equal-is (code_cmp p e.0.1)).0 here) in
-        let gone : row_at entry_cmp es (c, p) ≡ None = none_past entry_cmp entry_total e.0 (c, p) es (same_key here own) (sorted_head entry_cmp e.0 (keys_of es) up) in
-        let none : list_any (same_code p) (live_papers_in r es s c) ≡ false = sym rest ∙ ap (λ o. option_map_or (λ (entry : Entry). entry.live) o false && is_paper_of r s p) gone in
+        let gone : row_at entry_cmp es (c, p) ≡ None =
+        past_all entry_cmp entries_total e.0 (c, p) es (same_key here own)
+        (sorted_head entry_cmp e.0 (keys_of es) up) in
+        let none : list_any (same_code p) (live_papers_in r es s c) ≡ false =
+        sym rest ∙ ap (λ o. option_map_or (λ (entry : Entry). entry.live) o false && is_paper_of r s p) gone in
         at_live e.1.live (is_paper_of r s e.0.1) none (texts_ties p e.0.1 ∙ here) (ap (is_paper_of r s) same)
-    by_paper false away own rest = rest ∙ sym (passed_over (e.1.live && is_paper_of r s e.0.1) (texts_ties p e.0.1 ∙ away))
+    by_paper false away own rest =
+        rest ∙ sym (passed_over (e.1.live && is_paper_of r s e.0.1) (texts_ties p e.0.1 ∙ away))
 
     by_owner : (b : Bool) → nat_eq e.0.0 c ≡ b → rest_found ≡ list_any (same_code p) (live_papers_in r es s c)
-        → found_with (is_at (entry_cmp (c, p)) e.0) ≡ list_any (same_code p) (papers_with (b && (e.1.live && is_paper_of r s e.0.1)))
-    by_owner true own rest = ap found_with (own_key c e.0.0 p e.0.1 own) ∙ by_paper (is_eq (code_cmp p e.0.1)) refl own rest
+        → found_with (is_at (entry_cmp (c, p)) e.0)
+        ≡ list_any (same_code p) (papers_with (b && (e.1.live && is_paper_of r s e.0.1)))
+    by_owner true own rest =
+        ap found_with (own_key c e.0.0 p e.0.1 own) ∙ by_paper (is_eq (code_cmp p e.0.1)) refl own rest
     by_owner false other rest = ap found_with (other_key c e.0.0 p e.0.1 other) ∙ rest
 
 -- ---- sessions
@@ -148,21 +168,26 @@ abbrev pub session_at : Code → List OwnSessionRow → Option OwnSessionRow
 session_at s [] = None
 session_at s (own ∷ rest) = cond (same_code s own.session) (Some own) (session_at s rest)
 
-module _ (q : Code → Bool) (f : Code × Session → Option OwnSessionRow) (named : (held : Code × Session) (own : OwnSessionRow) → f held ≡ Some own → own.session ≡ held.0) (s : Code) where
+module _ (q : Code → Bool) (f : Code × Session → Option OwnSessionRow)
+    (named : (held : Code × Session) (own : OwnSessionRow) → f held ≡ Some own → own.session ≡ held.0) (s : Code) where
   abbrev listed : List (Code × Session) → List OwnSessionRow
   listed rows = filter_map f (filter (λ (held : Code × Session). q held.0) rows)
 
   -- of those that pass, what is made of the session's row is found
-  pub session_found : (rows : List (Code × Session)) → KeysRise code_cmp rows → session_at s (listed rows) ≡ option_and_then (λ x. cond (q s) (f (s, x)) None) (row_at code_cmp rows s)
+  pub session_found : (rows : List (Code × Session)) → KeysRise code_cmp rows
+      → session_at s (listed rows) ≡ option_and_then (λ x. cond (q s) (f (s, x)) None) (row_at code_cmp rows s)
   session_found [] up = refl
-  session_found (e ∷ es) up = inner (is_at (code_cmp s) e.0) refl (session_found es (sorted_tail code_cmp e.0 (keys_of es) up))
+  session_found (e ∷ es) up =
+      inner (is_at (code_cmp s) e.0) refl (session_found es (sorted_tail code_cmp e.0 (keys_of es) up))
     where
       rest_is : Option Session → Type 0
       rest_is o = session_at s (listed es) ≡ option_and_then (λ x. cond (q s) (f (s, x)) None) o
 
-      skipped : (o : Option OwnSessionRow) → f e ≡ o → same_code s e.0 ≡ false → session_at s (cons_option o (listed es)) ≡ session_at s (listed es)
+      skipped : (o : Option OwnSessionRow) → f e ≡ o → same_code s e.0 ≡ false
+          → session_at s (cons_option o (listed es)) ≡ session_at s (listed es)
       skipped None is other = refl
-      skipped (Some own) is other = ap (λ b. cond b (Some own) (session_at s (listed es))) (ap (same_code s) (named e own is) ∙ other)
+      skipped (Some own) is other =
+          ap (λ b. cond b (Some own) (session_at s (listed es))) (ap (same_code s) (named e own is) ∙ other)
 
       away : (b : Bool) → same_code s e.0 ≡ false
           → session_at s (filter_map f
@@ -171,12 +196,16 @@ module _ (q : Code → Bool) (f : Code × Session → Option OwnSessionRow) (nam
       away true other = skipped (f e) refl other
       away false other = refl
 
-      first : (o : Option OwnSessionRow) → f e ≡ o → same_code s e.0 ≡ true → session_at s (listed es) ≡ None → session_at s (cons_option o (listed es)) ≡ o
+      first : (o : Option OwnSessionRow) → f e ≡ o → same_code s e.0 ≡ true → session_at s (listed es) ≡ None
+          → session_at s (cons_option o (listed es)) ≡ o
       first None is same none = none
-      first (Some own) is same none = ap (λ b. cond b (Some own) (session_at s (listed es))) (ap (same_code s) (named e own is) ∙ same)
+      first (Some own) is same none =
+          ap (λ b. cond b (Some own) (session_at s (listed es))) (ap (same_code s) (named e own is) ∙ same)
 
       here : (b : Bool) → same_code s e.0 ≡ true → session_at s (listed es) ≡ None
-          → session_at s (filter_map f (cond b (e ∷ filter (λ (held : Code × Session). q held.0) es) (filter (λ (held : Code × Session). q held.0) es))) ≡ cond b (f e) None
+          → session_at s (filter_map f
+          (cond b (e ∷ filter (λ (held : Code × Session). q held.0) es)
+          (filter (λ (held : Code × Session). q held.0) es))) ≡ cond b (f e) None
       here true same none = first (f e) refl same none
       here false same none = none
 
@@ -186,34 +215,18 @@ module _ (q : Code → Bool) (f : Code × Session → Option OwnSessionRow) (nam
       inner true at rest =
           let tied : code_cmp s e.0 ≡ Equal = (Equal-is (code_cmp s e.0)).0 at in
           let key : s ≡ e.0 = exact_bytes s e.0 tied in
-          let gone : row_at code_cmp es s ≡ None = none_past code_cmp nat_list_cmp_total e.0 s es tied (sorted_head code_cmp e.0 (keys_of es) up) in
-          let none : session_at s (listed es) ≡ None = rest ∙ ap (λ o. option_and_then (λ x. cond (q s) (f (s, x)) None) o) gone in
+          let gone : row_at code_cmp es s ≡ None =
+          past_all code_cmp nat_list_cmp_total e.0 s es tied (sorted_head code_cmp e.0 (keys_of es) up) in
+          let none : session_at s (listed es) ≡ None =
+          rest ∙ ap (λ o. option_and_then (λ x. cond (q s) (f (s, x)) None) o) gone in
           here (q e.0) (texts_ties s e.0 ∙ at) none ∙ ap (λ k. cond (q k) (f (k, e.1)) None) (sym key)
       inner false at rest = away (q e.0) (texts_ties s e.0 ∙ at) ∙ rest
 
 -- ---- how many appeals
 
--- a row under a new key is one more
-pub one_more : {K X : Type 0} (cmp : K → K → Ordering) (q : K → Bool) (rows : List (K × X)) (k : K) (v : X) → q k ≡ true → row_at cmp rows k ≡ None
-    → length (filter (λ (e : K × X). q e.0) (put_row cmp rows k v)) ≡ suc (length (filter (λ (e : K × X). q e.0) rows))
-one_more {K} {X} cmp q [] k v own none = let only : List (K × X) = (k, v) ∷ [] in ap (λ b. length (cond b only [])) own
-one_more {K} {X} cmp q (e ∷ es) k v own none = inner (cmp k e.0) refl (one_more cmp q es k v own)
-  where
-    kept : List (K × X) → List (K × X)
-    kept rows = filter (λ (e : K × X). q e.0) rows
-
-    later : (b : Bool) (fs gs : List (K × X)) → length fs ≡ suc (length gs) → length (cond b (e ∷ fs) fs) ≡ suc (length (cond b (e ∷ gs) gs))
-    later true fs gs more = ap (λ n. suc n) more
-    later false fs gs more = more
-
-    inner : (r : Ordering) → cmp k e.0 ≡ r → (row_at cmp es k ≡ None → length (kept (put_row cmp es k v)) ≡ suc (length (kept es)))
-        → length (kept (match_ordering r ((k, v) ∷ e ∷ es) ((e.0, v) ∷ es) (e ∷ insert_entry cmp es k v))) ≡ suc (length (kept (e ∷ es)))
-    inner Less is rest = let more : List (K × X) = (k, v) ∷ kept (e ∷ es) in ap (λ b. length (cond b more (kept (e ∷ es)))) own
-    inner Equal is rest = absurd (let f : Some e.1 ≡ None = ap (λ r. cond (is_eq r) (Some e.1) (row_at cmp es k)) (sym is) ∙ none in cc)
-    inner Greater is rest = later (q e.0) (kept (put_row cmp es k v)) (kept es) (rest (ap (λ r. cond (is_eq r) (Some e.1) (row_at cmp es k)) (sym is) ∙ none))
-
 -- if a test holds for all keys, a test that differs only at one key holds for all exactly if it holds there
-pub all_but_one : {X : Type 0} (p : ℕ → Bool) (b : Bool) (c : ℕ) (rows : List (ℕ × X)) → list_all p (keys_of rows) ≡ true
+pub all_but_one : {X : Type 0} (p : ℕ → Bool) (b : Bool) (c : ℕ) (rows : List (ℕ × X))
+    → list_all p (keys_of rows) ≡ true
     → list_all (λ d. cond (nat_eq d c) b (p d)) (keys_of rows) ≡ cond (has_row nat_cmp rows c) b true
 all_but_one p b c [] every = refl
 all_but_one {X} p b c (e ∷ es) every =
@@ -236,10 +249,15 @@ all_but_one {X} p b c (e ∷ es) every =
         → (cond t b (p e.0) && all_others) ≡ cond (has_row nat_cmp (e ∷ es) c) b true
     inner true own passes rest =
         let tied : nat_cmp c e.0 ≡ Equal = ap (nat_cmp c) (exact_unsigned_eq e.0 c own) ∙ tied_itself nat_cmp_total c in
-        with_it (has_row nat_cmp es c) rest ∙ sym (ap (λ r. cond (is_some (cond (is_eq r) (Some e.1) (row_at nat_cmp es c))) b true) tied)
+        with_it (has_row nat_cmp es c) rest
+        ∙ sym (ap (λ r. cond (is_some (cond (is_eq r) (Some e.1) (row_at nat_cmp es c))) b true) tied)
     inner false other passes rest = ap (λ x. x && all_others) passes ∙ rest ∙ sym (turn (nat_cmp c e.0) refl)
       where
-        turn : (r : Ordering) → nat_cmp c e.0 ≡ r → cond (is_some (cond (is_eq r) (Some e.1) (row_at nat_cmp es c))) b true ≡ cond (has_row nat_cmp es c) b true
+        turn : (r : Ordering) → nat_cmp c e.0 ≡ r
+            → cond (is_some (cond (is_eq r) (Some e.1) (row_at nat_cmp es c))) b true
+            ≡ cond (has_row nat_cmp es c) b true
         turn Less is = refl
-        turn Equal is = absurd (let same : c ≡ e.0 = exact_unsigned c e.0 is in let f : true ≡ false = sym (eq-eqb e.0 e.0 refl) ∙ ap (nat_eq e.0) (sym same) ∙ other in cc)
+        turn Equal is = absurd
+            (let same : c ≡ e.0 = exact_unsigned c e.0 is in
+            let f : true ≡ false = sym (eq-eqb e.0 e.0 refl) ∙ ap (nat_eq e.0) (sym same) ∙ other in cc)
         turn Greater is = refl

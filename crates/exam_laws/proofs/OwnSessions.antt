@@ -1,5 +1,6 @@
 -- A candidate's own rows leave out no session of theirs.
-use Rattle.std.proofs.Common.{◌≡◌, ◌↔◌, ℕ, Bool, true, false, cond, List, [], ◌∷◌, map, filter, length, Contains, Option, None, Some, is_some, refl, ap, sym, subst, ◌∙◌}
+use Rattle.std.proofs.Common.{◌≡◌, ◌↔◌, ℕ, Bool, true, false, cond, List, [], ◌∷◌, map, filter, length, Contains}
+use Rattle.std.proofs.Common.{Option, None, Some, is_some, refl, ap, sym, subst, ◌∙◌}
 use Rattle.std.specs.BTreeMap.{is_at}
 use Rattle.std.specs.Cmp.{Equal-is, tied_itself}
 use Rattle.std.specs.Cmp.Lexicographic.{nat_list_cmp_total}
@@ -24,9 +25,11 @@ use Rattle.exam_laws.proofs.OwnLodging.{member_sees}
 use Rattle.exam_laws.proofs.Reaching.{of_member}
 
 has_first : (row : Code × Session) (rows : List (Code × Session)) → has_row code_cmp (row ∷ rows) row.0 ≡ true
-has_first row rows = let at : is_at (code_cmp row.0) row.0 ≡ true = ap is_eq (tied_itself nat_list_cmp_total row.0) in rw at refl
+has_first row rows = let at : is_at (code_cmp row.0) row.0 ≡ true =
+    ap is_eq (tied_itself nat_list_cmp_total row.0) in rw at refl
 
-has_later : (row : Code × Session) (rows : List (Code × Session)) (k : Code) → has_row code_cmp rows k ≡ true → has_row code_cmp (row ∷ rows) k ≡ true
+has_later : (row : Code × Session) (rows : List (Code × Session)) (k : Code) → has_row code_cmp rows k ≡ true
+    → has_row code_cmp (row ∷ rows) k ≡ true
 has_later row rows k there = by (is_at (code_cmp k) row.0)
   where
     by : (b : Bool) → is_some (cond b (Some row.1) (row_at code_cmp rows k)) ≡ true
@@ -49,13 +52,18 @@ module _ (office : State) (c : ℕ) where
       → ((k : Code) → has_row code_cmp rows k ≡ true → has_row code_cmp r.sessions k ≡ true)
       → named (filter_map (own_session office c) (theirs rows)) ≡ keys_of (theirs rows)
   each_shown there [] known = refl
-  each_shown there (first ∷ rest) known = by (is_member r first.0 c) refl (each_shown there rest (λ k has. known k (has_later first rest k has)))
+  each_shown there (first ∷ rest) known =
+      by (is_member r first.0 c) refl (each_shown there rest (λ k has. known k (has_later first rest k has)))
     where
-      by : (b : Bool) → is_member r first.0 c ≡ b → named (filter_map (own_session office c) (theirs rest)) ≡ keys_of (theirs rest)
-          → named (filter_map (own_session office c) (cond b (first ∷ theirs rest) (theirs rest))) ≡ keys_of (cond b (first ∷ theirs rest) (theirs rest))
+      by : (b : Bool) → is_member r first.0 c ≡ b
+          → named (filter_map (own_session office c) (theirs rest)) ≡ keys_of (theirs rest)
+          → named (filter_map (own_session office c) (cond b (first ∷ theirs rest) (theirs rest)))
+          ≡ keys_of (cond b (first ∷ theirs rest) (theirs rest))
       by true member later =
-          let seen = member_sees office c first.0 first.1 there (known first.0 (has_first first rest)) (and_parts (has_row nat_cmp r.candidates c) (has_live_entry r first.0 c) member).1 in
-          ap (λ (o : Option OwnSessionRow). named (cons_option o (filter_map (own_session office c) (theirs rest)))) seen.made ∙ ap (λ (codes : List Code). first.0 ∷ codes) later
+          let seen = member_sees office c first.0 first.1 there (known first.0 (has_first first rest))
+          (and_parts (has_row nat_cmp r.candidates c) (has_live_entry r first.0 c) member).1 in
+          ap (λ (o : Option OwnSessionRow). named (cons_option o (filter_map (own_session office c) (theirs rest))))
+          seen.made ∙ ap (λ (codes : List Code). first.0 ∷ codes) later
       by false member later = later
 
   module _ (own : OwnRows) (is : own_of office c ≡ Some own) where
@@ -78,9 +86,11 @@ module _ (office : State) (c : ℕ) where
         ∙ ap length sessions_shown
         ∙ length-map (theirs r.sessions) (λ (held : Code × Session). held.0)
 
-    kept : (s : Code) → row_at code_cmp (theirs r.sessions) s ≡ cond (is_member r s c) (row_at code_cmp r.sessions s) None
+    kept : (s : Code) → row_at code_cmp (theirs r.sessions) s
+        ≡ cond (is_member r s c) (row_at code_cmp r.sessions s) None
     kept s =
-        lookup-filter-keys (is_at (code_cmp s)) (λ k. is_member r k c) (is_member r s c) (λ k at. ap (λ t. is_member r t c) (sym (exact_bytes s k ((Equal-is (code_cmp s k)).0 at)))) r.sessions
+        lookup-filter-keys (is_at (code_cmp s)) (λ k. is_member r k c) (is_member r s c)
+        (λ k at. ap (λ t. is_member r t c) (sym (exact_bytes s k ((Equal-is (code_cmp s k)).0 at)))) r.sessions
 
     pub shown_if_member : IsGood office → (s : Code) → is_member r s c ≡ true ↔ Contains (named own.sessions) s
     shown_if_member good s = (to, from)
@@ -89,7 +99,8 @@ module _ (office : State) (c : ℕ) where
         to member =
             subst (λ (codes : List Code). Contains codes s) (sym sessions_shown)
             (Contains-keys_from_lookup (tells_apart exact_bytes) s (theirs r.sessions)
-            (ap is_some (kept s ∙ ap (λ b. cond b (row_at code_cmp r.sessions s) None) member) ∙ of_member r good.refer s c member))
+            (ap is_some (kept s ∙ ap (λ b. cond b (row_at code_cmp r.sessions s) None) member)
+            ∙ of_member r good.refer s c member))
 
         inner : (b : Bool) → is_some (cond b (row_at code_cmp r.sessions s) None) ≡ true → b ≡ true
         inner true some = refl
@@ -99,4 +110,5 @@ module _ (office : State) (c : ℕ) where
         from among =
             inner (is_member r s c)
             (ap is_some (sym (kept s))
-            ∙ IsSome-lookup_from_Contains (eq_by_cmp_equiv nat_list_cmp_total) s (theirs r.sessions) (subst (λ (codes : List Code). Contains codes s) sessions_shown among))
+            ∙ IsSome-lookup_from_Contains (eq_by_cmp_equiv nat_list_cmp_total) s (theirs r.sessions)
+            (subst (λ (codes : List Code). Contains codes s) sessions_shown among))

@@ -33,6 +33,7 @@ use Rattle.exam_rules.specs.Sessions.{is_clash, is_granted, is_granted_appeal, i
 use Rattle.exam_rules.specs.Sessions.{least_live_paper, live_papers, option_filter, session_day, standing_grants}
 use Rattle.exam_rules.specs.Seatings.{desk_cmp, plan_of, seating}
 use Rattle.exam_rules.specs.Tables as table
+use Rattle.exam_commands.proofs.KeyedRows.{appeals_exact, put_passed_over}
 use Rattle.exam_commands.specs.declared.command.Command.TheVariants as command
 use Rattle.exam_commands.specs.declared.command.Lodging.{Lodging}
 use Rattle.exam_commands.specs.declared.command.Reply.{Reply}
@@ -45,14 +46,12 @@ use Rattle.exam_commands.specs.declared.own.OwnAppeal.{OwnAppeal}
 use Rattle.exam_commands.specs.Own.{OwnRows, OwnSessionRow, own_appeal, own_of, own_rows, own_sessions}
 use Rattle.exam_commands.specs.State.{Seats, State}
 use Rattle.exam_commands.specs.Steps.{Step, StepTo}
-use Rattle.exam_commands.proofs.AppealKeys.{appeals_exact}
 use Rattle.exam_laws.proofs.Appealing.{not_granted, put_standing_same, with_appeals}
 use Rattle.exam_commands.proofs.Borne.{closed_unborne, unborne}
 use Rattle.exam_laws.proofs.Lasting.{lodging_moves_nobody, retraction_moves_nobody}
 use Rattle.exam_laws.proofs.OwnFacts.{AppealRows, map_twice}
 use Rattle.exam_laws.proofs.OwnLodging.{same_lodging_refusal}
 use Rattle.exam_laws.proofs.OwnRetracting.{same_appeal, same_retraction_refusal}
-use Rattle.exam_commands.proofs.PutAppeals.{put_passed_over}
 use Rattle.exam_commands.proofs.Referring.{passed}
 use Rattle.exam_laws.proofs.AppealSteps.{closed_granted}
 use Rattle.std.proofs.lemmas.Bool.{ne_eqb}
@@ -67,19 +66,27 @@ Granted = Code → ℕ → List Subject
 
 module _ (r : Relations) (seats : Seats) where
   abbrev sitting_by : Granted → Code → ℕ → Option Code
-  sitting_by asked s c = option_or (option_filter (is_live_paper r s c) (head_of (filter_map asked_paper (asked s c)))) (least_live_paper r s c)
+  sitting_by asked s c =
+      option_or (option_filter (is_live_paper r s c) (head_of (filter_map asked_paper (asked s c))))
+      (least_live_paper r s c)
 
   abbrev in_force_by : Granted → List StandingGrant → Code → ℕ → Arrangement
-  in_force_by asked grants s c = arrangement_by (head_of (filter_map asked_arrangement (asked s c))) (session_day r s) grants (row_at nat_cmp r.arrangements c)
+  in_force_by asked grants s c =
+      arrangement_by (head_of (filter_map asked_arrangement (asked s c))) (session_day r s) grants
+      (row_at nat_cmp r.arrangements c)
 
   abbrev finish_by : Granted → List StandingGrant → Code → ℕ → Option ℕ
   finish_by asked grants s c =
-      option_and_then (λ (session : Session). option_map (λ (paper : Paper). end_of session paper (in_force_by asked grants s c)) (option_and_then (row_at code_cmp r.papers) (sitting_by asked s c)))
+      option_and_then (λ (session : Session). option_map
+      (λ (paper : Paper). end_of session paper (in_force_by asked grants s c))
+      (option_and_then (row_at code_cmp r.papers) (sitting_by asked s c)))
       (row_at code_cmp r.sessions s)
 
   abbrev desk_by : Granted → Code → ℕ → Option ℕ
   desk_by asked s c =
-      option_map (λ (h : Code). count_by (λ (d : ℕ). is_lt (desk_cmp (sitting_by asked s d, d) (sitting_by asked s c, c))) (occupants (seating r s) (plan_of seats s) h) + 1) (plan_of seats s c)
+      option_map (λ (h : Code). count_by
+      (λ (d : ℕ). is_lt (desk_cmp (sitting_by asked s d, d) (sitting_by asked s c, c)))
+      (occupants (seating r s) (plan_of seats s) h) + 1) (plan_of seats s c)
 
   abbrev row_by : Granted → List StandingGrant → ℕ → Code × Session → Code → ℕ → OwnSessionRow
   row_by asked grants c held paper end = record {
@@ -97,12 +104,16 @@ module _ (r : Relations) (seats : Seats) where
 
   abbrev sessions_by : ℕ → Granted → List StandingGrant → List OwnSessionRow
   sessions_by c asked grants =
-      filter_map (λ (held : Code × Session). option_and_then (λ (paper : Code). option_map (row_by asked grants c held paper) (finish_by asked grants held.0 c)) (sitting_by asked held.0 c))
+      filter_map (λ (held : Code × Session). option_and_then
+      (λ (paper : Code). option_map (row_by asked grants c held paper) (finish_by asked grants held.0 c))
+      (sitting_by asked held.0 c))
       (filter (λ (held : Code × Session). is_member r held.0 c) r.sessions)
 
-  pub sessions_stay : (rows : AppealRows) (c : ℕ) → granted_subjects rows ≡ granted_subjects r.appeals → standing_grants (with_appeals r rows) c ≡ standing_grants r c
+  pub sessions_stay : (rows : AppealRows) (c : ℕ) → granted_subjects rows ≡ granted_subjects r.appeals
+      → standing_grants (with_appeals r rows) c ≡ standing_grants r c
       → own_sessions (state_of (with_appeals r rows) seats) c ≡ own_sessions (state_of r seats) c
-  sessions_stay rows c same stand = ap (sessions_by c (granted_subjects rows)) stand ∙ ap (λ asked. sessions_by c asked (standing_grants r c)) same
+  sessions_stay rows c same stand =
+      ap (sessions_by c (granted_subjects rows)) stand ∙ ap (λ asked. sessions_by c asked (standing_grants r c)) same
 
 -- the appeal is put in the place of none that is granted, and bears no mark
 record IsPutUngranted (r : Relations) (k : ℕ × Code) (a : Appeal) : Type 0 where
@@ -110,23 +121,30 @@ record IsPutUngranted (r : Relations) (k : ℕ × Code) (a : Appeal) : Type 0 wh
   new : is_granted a.status ≡ false
   old : (b : Appeal) → row_at appeal_cmp r.appeals k ≡ Some b → is_granted b.status ≡ false
 
-granted_stay : (r : Relations) (k : ℕ × Code) (a : Appeal) → IsPutUngranted r k a → granted_subjects (put_row appeal_cmp r.appeals k a) ≡ granted_subjects r.appeals
+granted_stay : (r : Relations) (k : ℕ × Code) (a : Appeal) → IsPutUngranted r k a
+    → granted_subjects (put_row appeal_cmp r.appeals k a) ≡ granted_subjects r.appeals
 granted_stay r k a put = fun_ext (λ (s : Code). fun_ext (λ (c : ℕ).
-    ap (map (λ (x : (ℕ × Code) × Appeal). x.1.subject)) (put_passed_over appeal_cmp appeals_exact (is_granted_appeal s c) r.appeals k a
-    (ap (λ g. nat_eq k.0 c && (same_code a.session s && g)) put.new ∙ not_granted (nat_eq k.0 c) (same_code a.session s))
-    (λ b at. ap (λ g. nat_eq k.0 c && (same_code b.session s && g)) (put.old b at) ∙ not_granted (nat_eq k.0 c) (same_code b.session s)))))
+    ap (map (λ (x : (ℕ × Code) × Appeal). x.1.subject))
+    (put_passed_over appeal_cmp appeals_exact (is_granted_appeal s c) r.appeals k a
+    (ap (λ g. nat_eq k.0 c && (same_code a.session s && g)) put.new
+    ∙ not_granted (nat_eq k.0 c) (same_code a.session s))
+    (λ b at. ap (λ g. nat_eq k.0 c && (same_code b.session s && g)) (put.old b at)
+    ∙ not_granted (nat_eq k.0 c) (same_code b.session s)))))
 
 -- ---- the candidate's appeals
 
-above_not : (c n m : ℕ) (p q : Code) → nat_cmp c n ≡ Less → ordering_then (nat_cmp n m) (code_cmp p q) ≡ Less → nat_eq m c ≡ false
+above_not : (c n m : ℕ) (p q : Code) → nat_cmp c n ≡ Less → ordering_then (nat_cmp n m) (code_cmp p q) ≡ Less
+    → nat_eq m c ≡ false
 above_not c n m p q less rise = inner (nat_eq m c) refl
   where
     below : c < n
     below = ranked c n Less (sym less)
 
     turn : (o : Ordering) → nat_cmp n m ≡ o → ordering_then o (code_cmp p q) ≡ Less → m ≡ c → ⊥
-    turn Less is up same = let above : n < m = ranked n m Less (sym is) in let first : c < n = below in omega (arith, same)
-    turn Equal is up same = let one : n ≡ m = ranked n m Equal (sym is) in let first : c < n = below in omega (arith, same)
+    turn Less is up same = let above : n < m = ranked n m Less (sym is) in let first : c < n =
+        below in omega (arith, same)
+    turn Equal is up same = let one : n ≡ m = ranked n m Equal (sym is) in let first : c < n =
+        below in omega (arith, same)
     turn Greater is up same = let f : Greater ≡ Less = up in cc
 
     inner : (b : Bool) → nat_eq m c ≡ b → b ≡ false
@@ -134,10 +152,12 @@ above_not c n m p q less rise = inner (nat_eq m c) refl
     inner false other = refl
 
 -- no appeal of the candidate comes after a later candidate's
-none_own : (c n : ℕ) (p : Code) (rows : AppealRows) → nat_cmp c n ≡ Less → AllByRecursion (λ (y : ℕ × Code). appeal_cmp (n, p) y ≡ Less) (keys_of rows) → filter (is_row_of c) rows ≡ []
+none_own : (c n : ℕ) (p : Code) (rows : AppealRows) → nat_cmp c n ≡ Less
+    → AllByRecursion (λ (y : ℕ × Code). appeal_cmp (n, p) y ≡ Less) (keys_of rows) → filter (is_row_of c) rows ≡ []
 none_own c n p [] less above = refl
 none_own c n p (a ∷ rows) less above =
-    ap (λ b. cond b (a ∷ filter (is_row_of c) rows) (filter (is_row_of c) rows)) (above_not c n a.0.0 p a.0.1 less above.0)
+    ap (λ b. cond b (a ∷ filter (is_row_of c) rows) (filter (is_row_of c) rows))
+    (above_not c n a.0.0 p a.0.1 less above.0)
     ∙ none_own c n p rows less above.1
 
 module _ (r : Relations) (c : ℕ) where
@@ -156,7 +176,8 @@ module _ (r : Relations) (c : ℕ) where
     put_keyed shown = put_row code_cmp shown reference (own_appeal r ((c, reference), new))
 
     -- an appeal of the candidate is put among theirs
-    own_put : (rows : AppealRows) → KeysRise appeal_cmp rows → keyed (put_row appeal_cmp rows (c, reference) new) ≡ put_keyed (keyed rows)
+    own_put : (rows : AppealRows) → KeysRise appeal_cmp rows
+        → keyed (put_row appeal_cmp rows (c, reference) new) ≡ put_keyed (keyed rows)
     own_put [] up = ap (λ b. listed b ((c, reference), new) []) (eq-eqb c c refl)
     own_put (a ∷ rows) up = inner (nat_cmp c a.0.0) refl (own_put rows (sorted_tail appeal_cmp a.0 (keys_of rows) up))
       where
@@ -165,38 +186,55 @@ module _ (r : Relations) (c : ℕ) where
         apart false same other = refl
 
         later : keyed (put_row appeal_cmp rows (c, reference) new) ≡ put_keyed (keyed rows)
-            → nat_eq a.0.0 c ≡ false → keyed (a ∷ put_row appeal_cmp rows (c, reference) new) ≡ put_keyed (keyed (a ∷ rows))
-        later rest other = ap (λ t. listed t a (put_row appeal_cmp rows (c, reference) new)) other ∙ rest ∙ ap (λ t. put_keyed (listed t a rows)) (sym other)
+            → nat_eq a.0.0 c ≡ false
+            → keyed (a ∷ put_row appeal_cmp rows (c, reference) new) ≡ put_keyed (keyed (a ∷ rows))
+        later rest other = ap (λ t. listed t a (put_row appeal_cmp rows (c, reference) new)) other ∙ rest
+            ∙ ap (λ t. put_keyed (listed t a rows)) (sym other)
 
-        by_code : (o : Ordering) → code_cmp reference a.0.1 ≡ o → nat_cmp c a.0.0 ≡ Equal → nat_eq a.0.0 c ≡ true → keyed (put_row appeal_cmp rows (c, reference) new) ≡ put_keyed (keyed rows)
-            → keyed (match_ordering o (((c, reference), new) ∷ a ∷ rows) ((a.0, new) ∷ rows) (a ∷ insert_entry appeal_cmp rows (c, reference) new))
-            ≡ match_ordering o (shown_under ((c, reference), new) ∷ shown_under a ∷ keyed rows) ((a.0.1, own_appeal r ((c, reference), new)) ∷ keyed rows) (shown_under a ∷ put_keyed (keyed rows))
-        by_code Less at is own rest = ap (λ t. listed t ((c, reference), new) (a ∷ rows)) (eq-eqb c c refl) ∙ ap (λ t. shown_under ((c, reference), new) ∷ listed t a rows) own
+        by_code : (o : Ordering) → code_cmp reference a.0.1 ≡ o → nat_cmp c a.0.0 ≡ Equal → nat_eq a.0.0 c ≡ true
+            → keyed (put_row appeal_cmp rows (c, reference) new) ≡ put_keyed (keyed rows)
+            → keyed (match_ordering o (((c, reference), new) ∷ a ∷ rows) ((a.0, new) ∷ rows)
+            (a ∷ insert_entry appeal_cmp rows (c, reference) new))
+            ≡ match_ordering o (shown_under ((c, reference), new) ∷ shown_under a ∷ keyed rows)
+            ((a.0.1, own_appeal r ((c, reference), new)) ∷ keyed rows) (shown_under a ∷ put_keyed (keyed rows))
+        by_code Less at is own rest =
+            ap (λ t. listed t ((c, reference), new) (a ∷ rows)) (eq-eqb c c refl)
+            ∙ ap (λ t. shown_under ((c, reference), new) ∷ listed t a rows) own
         by_code Equal at is own rest =
-            let one : (c, reference) ≡ a.0 = appeals_exact (c, reference) a.0 (ap (λ o. ordering_then o (code_cmp reference a.0.1)) is ∙ at) in
-            ap (λ t. listed t (a.0, new) rows) own ∙ ap (λ (k : ℕ × Code). (a.0.1, own_appeal r (k, new)) ∷ keyed rows) (sym one)
-        by_code Greater at is own rest = ap (λ t. listed t a (put_row appeal_cmp rows (c, reference) new)) own ∙ ap (λ t. shown_under a ∷ t) rest
+            let one : (c, reference) ≡ a.0 =
+            appeals_exact (c, reference) a.0 (ap (λ o. ordering_then o (code_cmp reference a.0.1)) is ∙ at) in
+            ap (λ t. listed t (a.0, new) rows) own
+            ∙ ap (λ (k : ℕ × Code). (a.0.1, own_appeal r (k, new)) ∷ keyed rows) (sym one)
+        by_code Greater at is own rest =
+            ap (λ t. listed t a (put_row appeal_cmp rows (c, reference) new)) own ∙ ap (λ t. shown_under a ∷ t) rest
 
-        inner : (o : Ordering) → nat_cmp c a.0.0 ≡ o → keyed (put_row appeal_cmp rows (c, reference) new) ≡ put_keyed (keyed rows)
-            → keyed (match_ordering (ordering_then o (code_cmp reference a.0.1)) (((c, reference), new) ∷ a ∷ rows) ((a.0, new) ∷ rows) (a ∷ insert_entry appeal_cmp rows (c, reference) new))
+        inner : (o : Ordering) → nat_cmp c a.0.0 ≡ o
+            → keyed (put_row appeal_cmp rows (c, reference) new) ≡ put_keyed (keyed rows)
+            → keyed (match_ordering (ordering_then o (code_cmp reference a.0.1)) (((c, reference), new) ∷ a ∷ rows)
+            ((a.0, new) ∷ rows) (a ∷ insert_entry appeal_cmp rows (c, reference) new))
             ≡ put_keyed (keyed (a ∷ rows))
         inner Less is rest =
             let none : keyed (a ∷ rows) ≡ [] =
-            ap (λ t. listed t a rows) (apart (nat_eq a.0.0 c) refl (λ one. let below : c < a.0.0 = ranked c a.0.0 Less (sym is) in omega (arith, one)))
+            ap (λ t. listed t a rows)
+            (apart (nat_eq a.0.0 c) refl
+            (λ one. let below : c < a.0.0 = ranked c a.0.0 Less (sym is) in omega (arith, one)))
             ∙ ap (map shown_under) (none_own c a.0.0 a.0.1 rows is (sorted_head appeal_cmp a.0 (keys_of rows) up)) in
             ap (λ t. listed t ((c, reference), new) (a ∷ rows)) (eq-eqb c c refl)
             ∙ ap (λ t. shown_under ((c, reference), new) ∷ t) none ∙ ap put_keyed (sym none)
         inner Equal is rest =
             let own : nat_eq a.0.0 c ≡ true = eq-eqb a.0.0 c (sym (exact_unsigned c a.0.0 is)) in
             by_code (code_cmp reference a.0.1) refl is own rest ∙ ap (λ t. put_keyed (listed t a rows)) (sym own)
-        inner Greater is rest = later rest (apart (nat_eq a.0.0 c) refl (λ one. let below : a.0.0 < c = ranked c a.0.0 Greater (sym is) in omega (arith, one)))
+        inner Greater is rest =
+            later rest (apart (nat_eq a.0.0 c) refl
+            (λ one. let below : a.0.0 < c = ranked c a.0.0 Greater (sym is) in omega (arith, one)))
 
 -- ---- all that is shown
 
 -- the appeals that are shown, with this one among them by its reference
 abbrev put_appeal : OwnAppeal → List OwnAppeal → List OwnAppeal
 put_appeal new shown =
-    map (λ (e : Code × OwnAppeal). e.1) (put_row code_cmp (map (λ (a : OwnAppeal). (a.reference, a)) shown) new.reference new)
+    map (λ (e : Code × OwnAppeal). e.1)
+    (put_row code_cmp (map (λ (a : OwnAppeal). (a.reference, a)) shown) new.reference new)
 
 -- an appeal without a mark
 abbrev plain_appeal : Code → Appeal → OwnAppeal
@@ -217,34 +255,51 @@ module _ (r : Relations) (seats : Seats) (k : ℕ × Code) (a : Appeal) (put : I
   abbrev shown_among : ℕ → AppealRows → List OwnAppeal
   shown_among c rows = map (own_appeal r) (filter (is_row_of c) rows)
 
-  put_shown : (c : ℕ) (row : Candidate) → own_rows after_put c row ≡ with_own (shown_among c (put_row appeal_cmp r.appeals k a)) (own_rows (state_of r seats) c row)
+  put_shown : (c : ℕ) (row : Candidate)
+      → own_rows after_put c row
+      ≡ with_own (shown_among c (put_row appeal_cmp r.appeals k a)) (own_rows (state_of r seats) c row)
   put_shown c row =
-      ap (λ (sessions : List OwnSessionRow). record { number = c; name = row.name; code = row.code; sessions = sessions; appeals = shown_among c (put_row appeal_cmp r.appeals k a) })
-      (sessions_stay r seats (put_row appeal_cmp r.appeals k a) c (granted_stay r k a put) (put_standing_same r k a put.new put.old c))
+      ap (λ (sessions : List OwnSessionRow). record {
+        number = c;
+        name = row.name;
+        code = row.code;
+        sessions = sessions;
+        appeals = shown_among c (put_row appeal_cmp r.appeals k a);
+      })
+      (sessions_stay r seats (put_row appeal_cmp r.appeals k a) c (granted_stay r k a put)
+      (put_standing_same r k a put.new put.old c))
 
-  one_put : KeysRise appeal_cmp r.appeals → shown_among k.0 (put_row appeal_cmp r.appeals k a) ≡ put_appeal (plain_appeal k.1 a) (shown_among k.0 r.appeals)
+  one_put : KeysRise appeal_cmp r.appeals
+      → shown_among k.0 (put_row appeal_cmp r.appeals k a) ≡ put_appeal (plain_appeal k.1 a) (shown_among k.0 r.appeals)
   one_put up =
-      sym (map_twice (shown_under r k.0) (λ (e : Code × OwnAppeal). e.1) (filter (is_row_of k.0) (put_row appeal_cmp r.appeals k a)))
+      sym (map_twice (shown_under r k.0) (λ (e : Code × OwnAppeal). e.1)
+      (filter (is_row_of k.0) (put_row appeal_cmp r.appeals k a)))
       ∙ ap (map (λ (e : Code × OwnAppeal). e.1)) (own_put r k.0 k.1 a r.appeals up)
       ∙ ap (λ shown. map (λ (e : Code × OwnAppeal). e.1) (put_row code_cmp shown k.1 (own_appeal r (k, a))))
       (sym (map_twice (own_appeal r) (λ (x : OwnAppeal). (x.reference, x)) (filter (is_row_of k.0) r.appeals)))
-      ∙ ap (λ marked. put_appeal (record { reference = k.1; appeal = a; standing = marked }) (shown_among k.0 r.appeals)) put.unmarked
+      ∙ ap (λ marked. put_appeal (record { reference = k.1; appeal = a; standing = marked })
+      (shown_among k.0 r.appeals)) put.unmarked
 
   -- to its candidate the appeal is put among theirs
-  put_own : KeysRise appeal_cmp r.appeals → own_of after_put k.0 ≡ option_map (with_one k.1 a) (own_of (state_of r seats) k.0)
+  put_own : KeysRise appeal_cmp r.appeals
+      → own_of after_put k.0 ≡ option_map (with_one k.1 a) (own_of (state_of r seats) k.0)
   put_own up = inner (row_at nat_cmp r.candidates k.0)
     where
-      inner : (o : Option Candidate) → option_map (own_rows after_put k.0) o ≡ option_map (with_one k.1 a) (option_map (own_rows (state_of r seats) k.0) o)
+      inner : (o : Option Candidate)
+          → option_map (own_rows after_put k.0) o
+          ≡ option_map (with_one k.1 a) (option_map (own_rows (state_of r seats) k.0) o)
       inner None = refl
       inner (Some row) =
           ap (λ (own : OwnRows). Some own) (put_shown k.0 row)
-          ∙ ap (λ (appeals : List OwnAppeal). Some (with_own appeals (own_rows (state_of r seats) k.0 row))) (one_put up)
+          ∙ ap (λ (appeals : List OwnAppeal). Some (with_own appeals (own_rows (state_of r seats) k.0 row)))
+          (one_put up)
 
   -- to any other nothing changes
   put_other : (c : ℕ) → nat_eq k.0 c ≡ false → own_of after_put c ≡ own_of (state_of r seats) c
   put_other c other = inner (row_at nat_cmp r.candidates c)
     where
-      inner : (o : Option Candidate) → option_map (own_rows after_put c) o ≡ option_map (own_rows (state_of r seats) c) o
+      inner : (o : Option Candidate)
+          → option_map (own_rows after_put c) o ≡ option_map (own_rows (state_of r seats) c) o
       inner None = refl
       inner (Some row) =
           ap (λ (own : OwnRows). Some own) (put_shown c row)
@@ -259,7 +314,13 @@ view_or new old (Some e) = old
 -- ---- a lodging
 
 abbrev made : Lodging → ℕ → Appeal
-made l day = record { session = l.session; subject = l.subject; reason = l.reason; status = status.Pending; lodged = day }
+made l day = record {
+  session = l.session;
+  subject = l.subject;
+  reason = l.reason;
+  status = status.Pending;
+  lodged = day;
+}
 
 -- of what is shown before, and of the appeal that is stored under the reference
 abbrev lodged_view : Lodging → ℕ → Option Appeal → Option OwnRows → Option OwnRows
@@ -270,32 +331,43 @@ module _ (office : State) (day : ℕ) (l : Lodging) (good : IsGood office) where
   abbrev lodged_office : State
   lodged_office = state_of (spec.with_lodging office.relations day l) office.seats
 
-  lodging_put : appeal_at office.relations l.number l.reference ≡ None → IsPutUngranted office.relations (l.number, l.reference) (made l day)
+  lodging_put : appeal_at office.relations l.number l.reference ≡ None
+      → IsPutUngranted office.relations (l.number, l.reference) (made l day)
   lodging_put none = record {
-    unmarked = unborne office.relations.appeals office.relations.standing (l.number, l.reference) good.marks (ap (λ o. option_map_or may_bear o false) none);
+    unmarked = unborne office.relations.appeals office.relations.standing (l.number, l.reference) good.marks
+        (ap (λ o. option_map_or may_bear o false) none);
     new = refl;
     old = λ b at. absurd (let differ : None ≡ Some b = sym none ∙ at in cc);
   }
 
-  lodged_own : IsInOrder office → own_of lodged_office l.number ≡ lodged_view l day (appeal_at office.relations l.number l.reference) (own_of office l.number)
+  lodged_own : IsInOrder office
+      → own_of lodged_office l.number
+      ≡ lodged_view l day (appeal_at office.relations l.number l.reference) (own_of office l.number)
   lodged_own up = inner (appeal_at office.relations l.number l.reference) refl
     where
       inner : (o : Option Appeal) → appeal_at office.relations l.number l.reference ≡ o
-          → own_of (state_of (cond (is_none o) (spec.with_appeal office.relations day l) office.relations) office.seats) l.number ≡ lodged_view l day o (own_of office l.number)
-      inner None none = put_own office.relations office.seats (l.number, l.reference) (made l day) (lodging_put none) (up.tables table.Appeals)
+          → own_of (state_of (cond (is_none o) (spec.with_appeal office.relations day l) office.relations)
+          office.seats) l.number ≡ lodged_view l day o (own_of office l.number)
+      inner None none = put_own office.relations office.seats (l.number, l.reference) (made l day) (lodging_put none)
+          (up.tables table.Appeals)
       inner (Some a) at = refl
 
   lodged_other : (c : ℕ) → nat_eq l.number c ≡ false → own_of lodged_office c ≡ own_of office c
   lodged_other c other = inner (appeal_at office.relations l.number l.reference) refl
     where
       inner : (o : Option Appeal) → appeal_at office.relations l.number l.reference ≡ o
-          → own_of (state_of (cond (is_none o) (spec.with_appeal office.relations day l) office.relations) office.seats) c ≡ own_of office c
-      inner None none = put_other office.relations office.seats (l.number, l.reference) (made l day) (lodging_put none) c other
+          → own_of (state_of (cond (is_none o) (spec.with_appeal office.relations day l) office.relations)
+          office.seats) c ≡ own_of office c
+      inner None none = put_other office.relations office.seats (l.number, l.reference) (made l day)
+          (lodging_put none) c other
       inner (Some a) at = refl
 
-  module _ (after : State) (answer : Result Reply Refusal) (up : IsInOrder office) (up_after : IsInOrder after) (step : Step (command.Lodge l) day office answer after) where
+  module _ (after : State) (answer : Result Reply Refusal) (up : IsInOrder office) (up_after : IsInOrder after)
+      (step : Step (command.Lodge l) day office answer after) where
     -- the office after it
-    lodging_led : (c : ℕ) → own_of after c ≡ view_or (own_of lodged_office c) (own_of office c) (spec.lodging_refusal office.relations office.seats day l)
+    lodging_led : (c : ℕ)
+        → own_of after c ≡ view_or (own_of lodged_office c) (own_of office c)
+        (spec.lodging_refusal office.relations office.seats day l)
     lodging_led c = inner (spec.lodging_refusal office.relations office.seats day l) step
       where
         inner : (o : Option Refusal)
@@ -305,12 +377,14 @@ module _ (office : State) (day : ℕ) (l : Lodging) (good : IsGood office) where
             let seats : after.seats ≡ office.seats =
             lodging_moves_nobody l day office after _ good up up_after
             (subst (λ (told : Result Reply Refusal). Step (command.Lodge l) day office told after) to.2 step) in
-            ap (λ (t : Relations). own_of (state_of t after.seats) c) to.0 ∙ ap (λ (places : Seats). own_of (state_of (spec.with_lodging office.relations day l) places) c) seats
+            ap (λ (t : Relations). own_of (state_of t after.seats) c) to.0
+            ∙ ap (λ (places : Seats). own_of (state_of (spec.with_lodging office.relations day l) places) c) seats
         inner (Some e) to = ap (λ (x : State). own_of x c) to.1
 
     pub lodging_shows_others : (c : ℕ) → (l.number ≡ c → ⊥) → own_of after c ≡ own_of office c
     lodging_shows_others c other =
-        lodging_led c ∙ ap (λ (v : Option OwnRows). view_or v (own_of office c) (spec.lodging_refusal office.relations office.seats day l)) (lodged_other c (ne_eqb l.number c other))
+        lodging_led c ∙ ap (λ (v : Option OwnRows). view_or v (own_of office c)
+        (spec.lodging_refusal office.relations office.seats day l)) (lodged_other c (ne_eqb l.number c other))
         ∙ either (spec.lodging_refusal office.relations office.seats day l)
       where
         either : (o : Option Refusal) → view_or (own_of office c) (own_of office c) o ≡ own_of office c
@@ -318,19 +392,27 @@ module _ (office : State) (day : ℕ) (l : Lodging) (good : IsGood office) where
         either (Some e) = refl
 
     lodging_shown : own_of after l.number
-        ≡ view_or (lodged_view l day (appeal_at office.relations l.number l.reference) (own_of office l.number)) (own_of office l.number) (spec.lodging_refusal office.relations office.seats day l)
-    lodging_shown = lodging_led l.number ∙ ap (λ (v : Option OwnRows). view_or v (own_of office l.number) (spec.lodging_refusal office.relations office.seats day l)) (lodged_own up)
+        ≡ view_or (lodged_view l day (appeal_at office.relations l.number l.reference) (own_of office l.number))
+        (own_of office l.number) (spec.lodging_refusal office.relations office.seats day l)
+    lodging_shown = lodging_led l.number
+        ∙ ap (λ (v : Option OwnRows). view_or v (own_of office l.number)
+        (spec.lodging_refusal office.relations office.seats day l)) (lodged_own up)
 
-pub same_lodging_view : (one other one_after other_after : State) (day : ℕ) (l : Lodging) (first second : Result Reply Refusal) → IsGood one → IsInOrder one → IsGood other → IsInOrder other
+pub same_lodging_view : (one other one_after other_after : State) (day : ℕ) (l : Lodging)
+    (first second : Result Reply Refusal) → IsGood one → IsInOrder one → IsGood other → IsInOrder other
     → IsInOrder one_after → IsInOrder other_after → own_of one l.number ≡ own_of other l.number
-    → Step (command.Lodge l) day one first one_after → Step (command.Lodge l) day other second other_after → own_of one_after l.number ≡ own_of other_after l.number
-same_lodging_view one other one_after other_after day l first second good up sound rise up_after rise_after same step again =
+    → Step (command.Lodge l) day one first one_after → Step (command.Lodge l) day other second other_after
+    → own_of one_after l.number ≡ own_of other_after l.number
+same_lodging_view one other one_after other_after day l first second good up sound rise up_after rise_after same step
+    again =
     lodging_shown one day l good one_after first up up_after step
     ∙ ap (λ (stored : Option Appeal). view_or (lodged_view l day stored (own_of one l.number)) (own_of one l.number)
     (spec.lodging_refusal one.relations one.seats day l))
     (same_appeal one other l.number l.reference good sound same)
-    ∙ ap (λ (v : Option OwnRows). view_or (lodged_view l day (appeal_at other.relations l.number l.reference) v) v (spec.lodging_refusal one.relations one.seats day l)) same
-    ∙ ap (view_or (lodged_view l day (appeal_at other.relations l.number l.reference) (own_of other l.number)) (own_of other l.number)) (same_lodging_refusal one other day l good up sound rise same)
+    ∙ ap (λ (v : Option OwnRows). view_or (lodged_view l day (appeal_at other.relations l.number l.reference) v) v
+    (spec.lodging_refusal one.relations one.seats day l)) same
+    ∙ ap (view_or (lodged_view l day (appeal_at other.relations l.number l.reference) (own_of other l.number))
+    (own_of other l.number)) (same_lodging_refusal one other day l good up sound rise same)
     ∙ sym (lodging_shown other day l sound other_after second rise rise_after again)
 
 -- ---- a retraction
@@ -350,26 +432,35 @@ module _ (office : State) (c : ℕ) (reference : Code) (good : IsGood office) wh
   abbrev IsRetractable : Type 0
   IsRetractable = spec.retraction_refusal office.relations c reference ≡ None
 
-  retraction_put : IsRetractable → (a : Appeal) → appeal_at office.relations c reference ≡ Some a → IsPutUngranted office.relations (c, reference) (retracted_one a)
+  retraction_put : IsRetractable → (a : Appeal) → appeal_at office.relations c reference ≡ Some a
+      → IsPutUngranted office.relations (c, reference) (retracted_one a)
   retraction_put ok a at =
-      let check : first_refusal (spec.retraction_checks (Some a)) ≡ None = ap (λ (o : Option Appeal). first_refusal (spec.retraction_checks o)) (sym at) ∙ ok in
-      let free : (not (is_open a.status) && not (is_retracted a.status)) ≡ false = (passed (not (is_open a.status) && not (is_retracted a.status)) refusal.NotOpenAppeal [] check).0 in
+      let check : first_refusal (spec.retraction_checks (Some a)) ≡ None =
+      ap (λ (o : Option Appeal). first_refusal (spec.retraction_checks o)) (sym at) ∙ ok in
+      let free : (not (is_open a.status) && not (is_retracted a.status)) ≡ false =
+      (passed (not (is_open a.status) && not (is_retracted a.status)) refusal.NotOpenAppeal [] check).0 in
       let closed : is_granted a.status ≡ false = closed_granted a.status free in
       record {
         unmarked = unborne office.relations.appeals office.relations.standing (c, reference) good.marks
-            (ap (λ o. option_map_or may_bear o false) at ∙ closed_unborne a.status (is_some (asked_arrangement a.subject)) free);
+            (ap (λ o. option_map_or may_bear o false) at
+            ∙ closed_unborne a.status (is_some (asked_arrangement a.subject)) free);
         new = refl;
-        old = λ b is. let both : Some a ≡ Some b = sym at ∙ is in let one : a ≡ b = cc in ap (λ (x : Appeal). is_granted x.status) (sym one) ∙ closed;
+        old = λ b is. let both : Some a ≡ Some b = sym at ∙ is in let one : a ≡ b =
+            cc in ap (λ (x : Appeal). is_granted x.status) (sym one) ∙ closed;
       }
 
-  retracted_own : IsInOrder office → IsRetractable → own_of retracted_office c ≡ retracted_view reference (appeal_at office.relations c reference) (own_of office c)
+  retracted_own : IsInOrder office → IsRetractable
+      → own_of retracted_office c ≡ retracted_view reference (appeal_at office.relations c reference) (own_of office c)
   retracted_own up ok = inner (appeal_at office.relations c reference) refl
     where
       by_status : (a : Appeal) → appeal_at office.relations c reference ≡ Some a → (b : Bool)
-          → own_of (state_of (cond b office.relations (spec.with_retracted_appeal office.relations c reference a)) office.seats) c
+          → own_of (state_of (cond b office.relations (spec.with_retracted_appeal office.relations c reference a))
+          office.seats) c
           ≡ cond b (own_of office c) (option_map (with_one reference (retracted_one a)) (own_of office c))
       by_status a at true = refl
-      by_status a at false = put_own office.relations office.seats (c, reference) (retracted_one a) (retraction_put ok a at) (up.tables table.Appeals)
+      by_status a at false =
+          put_own office.relations office.seats (c, reference) (retracted_one a) (retraction_put ok a at)
+          (up.tables table.Appeals)
 
       inner : (o : Option Appeal) → appeal_at office.relations c reference ≡ o
           → own_of (state_of (spec.with_retracted office.relations c reference o) office.seats) c
@@ -381,15 +472,19 @@ module _ (office : State) (c : ℕ) (reference : Code) (good : IsGood office) wh
   retracted_other ok d other = inner (appeal_at office.relations c reference) refl
     where
       by_status : (a : Appeal) → appeal_at office.relations c reference ≡ Some a → (b : Bool)
-          → own_of (state_of (cond b office.relations (spec.with_retracted_appeal office.relations c reference a)) office.seats) d ≡ own_of office d
+          → own_of (state_of (cond b office.relations (spec.with_retracted_appeal office.relations c reference a))
+          office.seats) d ≡ own_of office d
       by_status a at true = refl
-      by_status a at false = put_other office.relations office.seats (c, reference) (retracted_one a) (retraction_put ok a at) d other
+      by_status a at false =
+          put_other office.relations office.seats (c, reference) (retracted_one a) (retraction_put ok a at) d other
 
-      inner : (o : Option Appeal) → appeal_at office.relations c reference ≡ o → own_of (state_of (spec.with_retracted office.relations c reference o) office.seats) d ≡ own_of office d
+      inner : (o : Option Appeal) → appeal_at office.relations c reference ≡ o
+          → own_of (state_of (spec.with_retracted office.relations c reference o) office.seats) d ≡ own_of office d
       inner None none = refl
       inner (Some a) at = by_status a at (is_retracted a.status)
 
-  module _ (day : ℕ) (after : State) (answer : Result Reply Refusal) (up : IsInOrder office) (up_after : IsInOrder after) (step : Step (command.Retract c reference) day office answer after) where
+  module _ (day : ℕ) (after : State) (answer : Result Reply Refusal) (up : IsInOrder office)
+      (up_after : IsInOrder after) (step : Step (command.Retract c reference) day office answer after) where
     -- what is shown to anybody after it, by what is shown if it is accepted
     retraction_led : (d : ℕ) (v : Option OwnRows) → (IsRetractable → own_of retracted_office d ≡ v)
         → own_of after d ≡ view_or v (own_of office d) (spec.retraction_refusal office.relations c reference)
@@ -404,12 +499,15 @@ module _ (office : State) (c : ℕ) (reference : Code) (good : IsGood office) wh
             retraction_moves_nobody c reference day office after _ good up up_after
             (subst (λ (told : Result Reply Refusal). Step (command.Retract c reference) day office told after) to.2
             step) in
-            ap (λ (t : Relations). own_of (state_of t after.seats) d) to.0 ∙ ap (λ (places : Seats). own_of (state_of (spec.with_retraction office.relations c reference) places) d) seats ∙ then ok
+            ap (λ (t : Relations). own_of (state_of t after.seats) d) to.0
+            ∙ ap (λ (places : Seats). own_of
+            (state_of (spec.with_retraction office.relations c reference) places) d) seats ∙ then ok
         inner (Some e) ok to = ap (λ (x : State). own_of x d) to.1
 
     pub retraction_shows_others : (d : ℕ) → (c ≡ d → ⊥) → own_of after d ≡ own_of office d
     retraction_shows_others d other =
-        retraction_led d (own_of office d) (λ ok. retracted_other ok d (ne_eqb c d other)) ∙ either (spec.retraction_refusal office.relations c reference)
+        retraction_led d (own_of office d) (λ ok. retracted_other ok d (ne_eqb c d other))
+        ∙ either (spec.retraction_refusal office.relations c reference)
       where
         either : (o : Option Refusal) → view_or (own_of office d) (own_of office d) o ≡ own_of office d
         either None = refl
@@ -418,16 +516,21 @@ module _ (office : State) (c : ℕ) (reference : Code) (good : IsGood office) wh
     retraction_shown : own_of after c
         ≡ view_or (retracted_view reference (appeal_at office.relations c reference) (own_of office c))
         (own_of office c) (spec.retraction_refusal office.relations c reference)
-    retraction_shown = retraction_led c (retracted_view reference (appeal_at office.relations c reference) (own_of office c)) (retracted_own up)
+    retraction_shown = retraction_led c
+        (retracted_view reference (appeal_at office.relations c reference) (own_of office c)) (retracted_own up)
 
 pub same_retraction_view : (one other one_after other_after : State) (c : ℕ) (reference : Code) (day later : ℕ)
     (first second : Result Reply Refusal) → IsGood one → IsInOrder one → IsGood other → IsInOrder other
     → IsInOrder one_after → IsInOrder other_after → own_of one c ≡ own_of other c
-    → Step (command.Retract c reference) day one first one_after → Step (command.Retract c reference) later other second other_after → own_of one_after c ≡ own_of other_after c
-same_retraction_view one other one_after other_after c reference day later first second good up sound rise up_after rise_after same step again =
+    → Step (command.Retract c reference) day one first one_after
+    → Step (command.Retract c reference) later other second other_after → own_of one_after c ≡ own_of other_after c
+same_retraction_view one other one_after other_after c reference day later first second good up sound rise up_after
+    rise_after same step again =
     retraction_shown one c reference good day one_after first up up_after step
     ∙ ap (λ (stored : Option Appeal). view_or (retracted_view reference stored (own_of one c)) (own_of one c)
     (spec.retraction_refusal one.relations c reference)) (same_appeal one other c reference good sound same)
-    ∙ ap (λ (v : Option OwnRows). view_or (retracted_view reference (appeal_at other.relations c reference) v) v (spec.retraction_refusal one.relations c reference)) same
-    ∙ ap (view_or (retracted_view reference (appeal_at other.relations c reference) (own_of other c)) (own_of other c)) (same_retraction_refusal one other c reference good sound same)
+    ∙ ap (λ (v : Option OwnRows). view_or (retracted_view reference (appeal_at other.relations c reference) v) v
+    (spec.retraction_refusal one.relations c reference)) same
+    ∙ ap (view_or (retracted_view reference (appeal_at other.relations c reference) (own_of other c)) (own_of other c))
+    (same_retraction_refusal one other c reference good sound same)
     ∙ sym (retraction_shown other c reference sound later other_after second rise rise_after again)

@@ -1,5 +1,6 @@
 -- Where references hold, whatever a command reaches exists.
-use Rattle.std.proofs.Common.{◌≡◌, ℕ, ◌&&◌, ◌||◌, Bool, true, false, List, [], ◌∷◌, nat_eq, Option, None, Some, is_some, inl, inr, refl, ap, sym, ◌∙◌}
+use Rattle.std.proofs.Common.{◌≡◌, ℕ, ◌&&◌, ◌||◌, Bool, true, false, List, [], ◌∷◌, nat_eq, Option, None, Some, is_some}
+use Rattle.std.proofs.Common.{inl, inr, refl, ap, sym, ◌∙◌}
 use Rattle.std.specs.List.{list_any}
 use Rattle.std.specs.Option.{option_map_or}
 use Rattle.std.specs.Ordering.{nat_cmp}
@@ -9,18 +10,19 @@ use Rattle.exam_rules.specs.declared.rows.Appeal.{Appeal}
 use Rattle.exam_rules.specs.declared.rows.Entry.{Entry}
 use Rattle.exam_rules.specs.declared.rows.Opening.{Opening}
 use Rattle.exam_rules.specs.declared.rows.Paper.{Paper}
+use Rattle.exam_rules.specs.Tables as table
 use Rattle.exam_rules.specs.Relations.{Code, Relations, appeal_cmp, code_cmp, has_row, opening_cmp, row_at, same_code}
 use Rattle.exam_rules.specs.Sessions.{has_live_entry, is_granted, is_live_entry, is_marked, is_member, is_paper_of}
 use Rattle.exam_rules.proofs.Naming.{same_code_exact}
+use Rattle.exam_commands.proofs.KeyedRows.{all_at_row, appeals_exact, openings_exact}
 use Rattle.exam_commands.specs.Appeals.{appeal_at, bears_mark, is_grant}
 use Rattle.exam_commands.specs.Good.{appeal_refers, refers, subject_refers}
 use Rattle.exam_commands.specs.declared.command.Command.{Command}
 use Rattle.exam_commands.specs.declared.command.Command.TheVariants as command
 use Rattle.exam_commands.specs.declared.import_row.Row.{Row}
 use Rattle.exam_commands.specs.declared.import_row.Row.TheVariants as row
-use Rattle.exam_commands.specs.Touched.{ends_standing, grant_reaches, has_standing_member, is_appeal_for, is_of_sessions, is_set_by, names, reaches, row_reaches, stands_in, touches}
-use Rattle.exam_commands.proofs.AppealKeys.{appeals_exact, openings_exact}
-use Rattle.exam_commands.proofs.PutAppeals.{all_at_row}
+use Rattle.exam_commands.specs.Touched.{ends_standing, grant_reaches, has_standing_member, is_appeal_for}
+use Rattle.exam_commands.specs.Touched.{is_of_sessions, is_set_by, names, reaches, row_reaches, stands_in, touches}
 use Rattle.exam_commands.proofs.Referring.{parted}
 
 pub and_none : (b : Bool) → (b && false) ≡ false
@@ -28,14 +30,20 @@ and_none true = refl
 and_none false = refl
 
 module _ (r : Relations) (refer : refers r ≡ true) where
-  appeal_known : (key : ℕ × Code) (a : Appeal) → row_at appeal_cmp r.appeals key ≡ Some a → has_row code_cmp r.sessions a.session ≡ true
+  appeal_known : (key : ℕ × Code) (a : Appeal) → row_at appeal_cmp r.appeals key ≡ Some a
+      → has_row code_cmp r.sessions a.session ≡ true
   appeal_known key a at =
-      let whole = all_at_row appeal_cmp appeals_exact (λ (x : (ℕ × Code) × Appeal). has_row nat_cmp r.candidates x.0.0 && appeal_refers r x.1) r.appeals key a (parted r refer).appeals at in
-      (and_parts (has_row code_cmp r.sessions a.session) (subject_refers r a.subject) (and_parts (has_row nat_cmp r.candidates key.0) (appeal_refers r a) whole).1).0
+      let whole = all_at_row appeal_cmp appeals_exact
+      (λ (x : (ℕ × Code) × Appeal). has_row nat_cmp r.candidates x.0.0 && appeal_refers r x.1) r.appeals key a
+      (parted r refer table.Appeals) at in
+      (and_parts (has_row code_cmp r.sessions a.session) (subject_refers r a.subject)
+      (and_parts (has_row nat_cmp r.candidates key.0) (appeal_refers r a) whole).1).0
 
   -- the session of an appeal is read
-  pub appeal_is_for : (key : ℕ × Code) (a : Appeal) → row_at appeal_cmp r.appeals key ≡ Some a → (itself : same_code a.session a.session ≡ true) → is_appeal_for r (Some a) a.session ≡ true
-  appeal_is_for key a at itself = and_from (same_code a.session a.session) (has_row code_cmp r.sessions a.session) itself (appeal_known key a at)
+  pub appeal_is_for : (key : ℕ × Code) (a : Appeal) → row_at appeal_cmp r.appeals key ≡ Some a
+      → (itself : same_code a.session a.session ≡ true) → is_appeal_for r (Some a) a.session ≡ true
+  appeal_is_for key a at itself =
+      and_from (same_code a.session a.session) (has_row code_cmp r.sessions a.session) itself (appeal_known key a at)
 
 module _ (r : Relations) (refer : refers r ≡ true) (s : Code) where
   abbrev Exists : Type 0
@@ -47,14 +55,20 @@ module _ (r : Relations) (refer : refers r ≡ true) (s : Code) where
   of_paper : (p : Code) → is_paper_of r s p ≡ true → Exists
   of_paper p of = inner (row_at code_cmp r.papers p) refl of
     where
-      inner : (o : Option Paper) → row_at code_cmp r.papers p ≡ o → option_map_or (λ (paper : Paper). same_code paper.session s) o false ≡ true → Exists
+      inner : (o : Option Paper) → row_at code_cmp r.papers p ≡ o
+          → option_map_or (λ (paper : Paper). same_code paper.session s) o false ≡ true → Exists
       inner None at is = cc
-      inner (Some x) at is = same_exists x.session is (all_at_row code_cmp exact_bytes (λ (e : Code × Paper). has_row code_cmp r.sessions e.1.session) r.papers p x (parted r refer).papers at)
+      inner (Some x) at is =
+          same_exists x.session is
+          (all_at_row code_cmp exact_bytes (λ (e : Code × Paper). has_row code_cmp r.sessions e.1.session) r.papers p x
+          (parted r refer table.Papers) at)
 
   of_entries : (c : ℕ) (es : List ((ℕ × Code) × Entry)) → list_any (is_live_entry r s c) es ≡ true → Exists
   of_entries c [] some = cc
   of_entries c (e ∷ es) some = elim (or_cases (is_live_entry r s c e) (list_any (is_live_entry r s c) es) some) [
-    | inl here ↦ of_paper e.0.1 (and_parts e.1.live (is_paper_of r s e.0.1) (and_parts (nat_eq e.0.0 c) (e.1.live && is_paper_of r s e.0.1) here).1).1
+    | inl here ↦ of_paper e.0.1
+        (and_parts e.1.live (is_paper_of r s e.0.1)
+        (and_parts (nat_eq e.0.0 c) (e.1.live && is_paper_of r s e.0.1) here).1).1
     | inr later ↦ of_entries c es later
   ]
 
@@ -73,7 +87,7 @@ module _ (r : Relations) (refer : refers r ≡ true) (s : Code) where
           (and_parts (has_row code_cmp r.sessions s) (has_row code_cmp r.halls h)
           (all_at_row opening_cmp openings_exact
           (λ (e : (Code × Code) × Opening). has_row code_cmp r.sessions e.0.0 && has_row code_cmp r.halls e.0.1)
-          r.openings (s, h) x (parted r refer).openings at)).0
+          r.openings (s, h) x (parted r refer table.Openings) at)).0
 
   of_standing : (rows : List ((ℕ × Code) × Appeal)) → list_any (stands_in r s) rows ≡ true → Exists
   of_standing [] some = cc
@@ -84,7 +98,9 @@ module _ (r : Relations) (refer : refers r ≡ true) (s : Code) where
 
   of_row : (x : Row) → row_reaches r x s ≡ true → Exists
   of_row (row.OfSession named x) is = of_standing r.appeals is
-  of_row (row.OfPaper p x) is = elim (or_cases (is_paper_of r s p) (names r x.session s) is) [ inl here ↦ of_paper p here | inr to ↦ of_names x.session to ]
+  of_row (row.OfPaper p x) is =
+      elim (or_cases (is_paper_of r s p) (names r x.session s) is)
+      [ inl here ↦ of_paper p here | inr to ↦ of_names x.session to ]
   of_row (row.OfHall h x) is = of_opening h is
   of_row (row.OfOpening named h x) is = of_names named is
   of_row (row.OfCandidate c x) is = cc
@@ -93,11 +109,14 @@ module _ (r : Relations) (refer : refers r ≡ true) (s : Code) where
 
   of_rows : (rows : List Row) → list_any (λ (x : Row). row_reaches r x s) rows ≡ true → Exists
   of_rows [] some = cc
-  of_rows (x ∷ rows) some = elim (or_cases (row_reaches r x s) (list_any (λ (x : Row). row_reaches r x s) rows) some) [ inl here ↦ of_row x here | inr later ↦ of_rows rows later ]
+  of_rows (x ∷ rows) some =
+      elim (or_cases (row_reaches r x s) (list_any (λ (x : Row). row_reaches r x s) rows) some)
+      [ inl here ↦ of_row x here | inr later ↦ of_rows rows later ]
 
   reached : (done : Command) → reaches r done s ≡ true → Exists
   reached (command.Import import) is =
-      elim (or_cases (list_any (λ (x : Row). row_reaches r x s) import.rows) (is_of_sessions import.kind && has_standing_member r s) is) [
+      elim (or_cases (list_any (λ (x : Row). row_reaches r x s) import.rows)
+      (is_of_sessions import.kind && has_standing_member r s) is) [
         | inl rows ↦ of_rows import.rows rows
         | inr dated ↦ of_standing r.appeals (and_parts (is_of_sessions import.kind) (has_standing_member r s) dated).1
       ]
@@ -107,14 +126,20 @@ module _ (r : Relations) (refer : refers r ≡ true) (s : Code) where
   reached (command.Lodge l) is = cc
   reached (command.Retract c reference) is = cc
   reached (command.Decide d) is =
-      inner (appeal_at r d.number d.reference) refl (and_parts (is_grant d.outcome) (option_map_or (λ (a : Appeal). grant_reaches r d a s) (appeal_at r d.number d.reference) false) is).1
+      inner (appeal_at r d.number d.reference) refl
+      (and_parts (is_grant d.outcome)
+      (option_map_or (λ (a : Appeal). grant_reaches r d a s) (appeal_at r d.number d.reference) false) is).1
     where
-      inner : (o : Option Appeal) → appeal_at r d.number d.reference ≡ o → option_map_or (λ (a : Appeal). grant_reaches r d a s) o false ≡ true → Exists
+      inner : (o : Option Appeal) → appeal_at r d.number d.reference ≡ o
+          → option_map_or (λ (a : Appeal). grant_reaches r d a s) o false ≡ true → Exists
       inner None at some = cc
-      inner (Some a) at some = elim (or_cases (same_code a.session s) ((bears_mark d.outcome || ends_standing r d a) && is_member r s d.number) some) [
-        | inl same ↦ same_exists a.session same (appeal_known r refer (d.number, d.reference) a at)
-        | inr more ↦ of_member d.number (and_parts (bears_mark d.outcome || ends_standing r d a) (is_member r s d.number) more).1
-      ]
+      inner (Some a) at some =
+          elim (or_cases (same_code a.session s)
+          ((bears_mark d.outcome || ends_standing r d a) && is_member r s d.number) some) [
+            | inl same ↦ same_exists a.session same (appeal_known r refer (d.number, d.reference) a at)
+            | inr more ↦ of_member d.number
+                (and_parts (bears_mark d.outcome || ends_standing r d a) (is_member r s d.number) more).1
+          ]
 
   -- what a command does not touch it neither sets nor reaches
   pub untouched_is_unset : (done : Command) → touches r done s ≡ false → is_set_by done s ≡ false

@@ -1,5 +1,6 @@
 -- An accepted import repeated at once is accepted, changes nothing, and finds every row the same.
-use Rattle.std.proofs.Common.{◌≡◌, ℕ, not, Bool, true, false, cond, List, [], ◌∷◌, length, filter, nat_eq, Option, None, Some, Result, Ok, Err, is_some, is_none, eq-eqb, refl, ap, sym, subst, ◌∙◌}
+use Rattle.std.proofs.Common.{◌≡◌, ℕ, not, Bool, true, false, cond, List, [], ◌∷◌, length, filter, nat_eq, Option, None}
+use Rattle.std.proofs.Common.{Some, Result, Ok, Err, is_some, is_none, eq-eqb, refl, ap, sym, subst, ◌∙◌}
 use Rattle.std.specs.Bool.{beq}
 use Rattle.std.specs.List.{AllByRecursion}
 use Rattle.std.specs.Option.{option_map, option_map_or}
@@ -17,12 +18,14 @@ use Rattle.exam_rules.specs.declared.rows.Session.{Session}
 use Rattle.exam_rules.specs.Orders.{AreInOrder}
 use Rattle.exam_rules.specs.Relations.{Relations, entry_cmp, row_at, seat_cmp}
 use Rattle.exam_rules.proofs.Naming.{same_code_itself}
+use Rattle.exam_commands.proofs.KeyedRows.{same_rows, seats_exact, seats_total}
 use Rattle.exam_commands.specs.declared.command.Command.TheVariants as command
 use Rattle.exam_commands.specs.declared.command.Reply.{Reply}
 use Rattle.exam_commands.specs.declared.command.Reply.TheVariants as reply
 use Rattle.exam_commands.specs.declared.import_row.Row.{Row}
 use Rattle.exam_commands.specs.declared.import_row.Row.TheVariants as row
-use Rattle.exam_commands.specs.Changes.{first_refusal, import_refusal, imported, rows_refusal, too_many, unless, with_rows}
+use Rattle.exam_commands.specs.Changes.{first_refusal, import_refusal, imported, rows_refusal, too_many, unless}
+use Rattle.exam_commands.specs.Changes.{with_rows}
 use Rattle.exam_commands.specs.Imports.{ImportRows, distinct_rows, has_key, is_consistent, key_of}
 use Rattle.exam_commands.specs.SameRows as contents
 use Rattle.exam_commands.specs.Limits.{within_limits}
@@ -31,8 +34,6 @@ use Rattle.exam_commands.specs.Replies as replies
 use Rattle.exam_commands.specs.Replies.{import_reply, is_changed, is_new, is_same}
 use Rattle.exam_commands.specs.State.{State}
 use Rattle.exam_commands.specs.Steps.{Step, StepTo}
-use Rattle.exam_commands.proofs.Repeating.{same_rows}
-use Rattle.exam_commands.proofs.SameSeats.{seats_exact, seats_total}
 use Rattle.exam_commands.proofs.Referring.{import_refers_still, neither, there}
 use Rattle.exam_laws.proofs.Stepping.{import_accepted}
 use Rattle.exam_commands.proofs.Stored.{IsStored, rows_again, rows_in_order, rows_stored}
@@ -50,7 +51,9 @@ session_itself : (x : Session) → contents.same_session x x ≡ true
 session_itself x = and_from _ _ (number_itself x.day) (number_itself x.start)
 
 paper_itself : (x : Paper) → contents.same_paper x x ≡ true
-paper_itself x = and_from _ _ (same_code_itself x.title) (and_from _ _ (same_code_itself x.session) (and_from _ _ (number_itself x.minutes) (same_features-itself x.required)))
+paper_itself x = and_from _ _ (same_code_itself x.title)
+    (and_from _ _ (same_code_itself x.session)
+    (and_from _ _ (number_itself x.minutes) (same_features-itself x.required)))
 
 hall_itself : (x : Hall) → contents.same_hall x x ≡ true
 hall_itself x = and_from _ _ (same_code_itself x.title) (same_features-itself x.features)
@@ -64,7 +67,8 @@ candidate_itself x = and_from _ _ (same_code_itself x.name) (same_code_itself x.
 arrangement_itself : (x : Arrangement) → contents.same_arrangement x x ≡ true
 arrangement_itself x = and_from _ _ (same_features-itself x.needs) (number_itself x.extra)
 
-found_same : {X : Type 0} (agree : X → X → Bool) (x : X) (o : Option X) → o ≡ Some x → agree x x ≡ true → option_map (agree x) o ≡ Some true
+found_same : {X : Type 0} (agree : X → X → Bool) (x : X) (o : Option X) → o ≡ Some x → agree x x ≡ true
+    → option_map (agree x) o ≡ Some true
 found_same agree x o at itself = ap (option_map (agree x)) at ∙ ap Some itself
 
 row_same : (r : Relations) (x : Row) → IsStored r x → replies.is_stored r x ≡ Some true
@@ -82,26 +86,33 @@ row_same r (row.OfArrangement c x) at = found_same contents.same_arrangement x _
 
 -- ---- the counts
 
-all_kept : (P : Row → Type 0) (p : Row → Bool) (rows : List Row) → AllByRecursion P rows → AllByRecursion P (filter p rows)
+all_kept : (P : Row → Type 0) (p : Row → Bool) (rows : List Row) → AllByRecursion P rows
+    → AllByRecursion P (filter p rows)
 all_kept P p [] every = tt
 all_kept P p (x ∷ rows) every = inner (p x) (all_kept P p rows every.1)
   where
-    inner : (b : Bool) → AllByRecursion P (filter p rows) → AllByRecursion P (cond b (x ∷ filter p rows) (filter p rows))
+    inner : (b : Bool) → AllByRecursion P (filter p rows)
+        → AllByRecursion P (cond b (x ∷ filter p rows) (filter p rows))
     inner true rest = (every.0, rest)
     inner false rest = rest
 
 all_distinct : (P : Row → Type 0) (rows : List Row) → AllByRecursion P rows → AllByRecursion P (distinct_rows rows)
 all_distinct P [] every = tt
-all_distinct P (x ∷ rows) every = (every.0, all_kept P (λ other. not (has_key (key_of x) other)) (distinct_rows rows) (all_distinct P rows every.1))
+all_distinct P (x ∷ rows) every =
+    (every.0, all_kept P (λ other. not (has_key (key_of x) other)) (distinct_rows rows) (all_distinct P rows every.1))
 
 module _ (r : Relations) where
   none_new : (rows : List Row) → AllByRecursion (IsStored r) rows → filter (is_new r) rows ≡ []
   none_new [] every = refl
-  none_new (x ∷ rows) every = ap (λ o. cond (is_none o) (x ∷ filter (is_new r) rows) (filter (is_new r) rows)) (row_same r x every.0) ∙ none_new rows every.1
+  none_new (x ∷ rows) every =
+      ap (λ o. cond (is_none o) (x ∷ filter (is_new r) rows) (filter (is_new r) rows)) (row_same r x every.0)
+      ∙ none_new rows every.1
 
   none_changed : (rows : List Row) → AllByRecursion (IsStored r) rows → filter (is_changed r) rows ≡ []
   none_changed [] every = refl
-  none_changed (x ∷ rows) every = ap (λ o. cond (option_map_or not o false) (x ∷ filter (is_changed r) rows) (filter (is_changed r) rows)) (row_same r x every.0) ∙ none_changed rows every.1
+  none_changed (x ∷ rows) every =
+      ap (λ o. cond (option_map_or not o false) (x ∷ filter (is_changed r) rows) (filter (is_changed r) rows))
+      (row_same r x every.0) ∙ none_changed rows every.1
 
   all_same : (rows : List Row) → AllByRecursion (IsStored r) rows → filter (is_same r) rows ≡ rows
   all_same [] every = refl
@@ -109,39 +120,49 @@ module _ (r : Relations) where
       ap (λ o. cond (option_map_or (λ same. same) o false) (x ∷ filter (is_same r) rows) (filter (is_same r) rows))
       (row_same r x every.0) ∙ ap (λ xs. x ∷ xs) (all_same rows every.1)
 
-  pub stored_reply : (rows : List Row) → AllByRecursion (IsStored r) rows → import_reply r rows ≡ reply.Imported 0 0 (length (distinct_rows rows))
+  pub stored_reply : (rows : List Row) → AllByRecursion (IsStored r) rows
+      → import_reply r rows ≡ reply.Imported 0 0 (length (distinct_rows rows))
   stored_reply rows every =
       let distinct : AllByRecursion (IsStored r) (distinct_rows rows) = all_distinct (IsStored r) rows every in
       ap (λ (xs : List Row). reply.Imported (length xs) (length (filter (is_changed r) (distinct_rows rows)))
       (length (filter (is_same r) (distinct_rows rows)))) (none_new (distinct_rows rows) distinct)
-      ∙ ap (λ (xs : List Row). reply.Imported 0 (length xs) (length (filter (is_same r) (distinct_rows rows)))) (none_changed (distinct_rows rows) distinct)
+      ∙ ap (λ (xs : List Row). reply.Imported 0 (length xs) (length (filter (is_same r) (distinct_rows rows))))
+      (none_changed (distinct_rows rows) distinct)
       ∙ ap (λ (xs : List Row). reply.Imported 0 0 (length xs)) (all_same (distinct_rows rows) distinct)
 
 -- ---- on the definitions
 
-pub accepted : (r t : Relations) (rows : List Row) → imported r rows ≡ Ok t → (import_refusal r rows ≡ None) × (with_rows r rows ≡ t)
+pub accepted : (r t : Relations) (rows : List Row) → imported r rows ≡ Ok t
+    → (import_refusal r rows ≡ None) × (with_rows r rows ≡ t)
 accepted r t rows is = inner (import_refusal r rows) refl is
   where
-    inner : (o : Option Refusal) → import_refusal r rows ≡ o → unless o (with_rows r rows) ≡ Ok t → (import_refusal r rows ≡ None) × (with_rows r rows ≡ t)
+    inner : (o : Option Refusal) → import_refusal r rows ≡ o → unless o (with_rows r rows) ≡ Ok t
+        → (import_refusal r rows ≡ None) × (with_rows r rows ≡ t)
     inner None e answer = (e, cc)
     inner (Some refused) e answer = absurd (let differ : unless (Some refused) (with_rows r rows) ≡ Ok t = answer in cc)
 
-repeated_itself : (r : Relations) (rows : List Row) → AreInOrder r → is_consistent rows ≡ true → import_refusal r rows ≡ None
-    → (imported (with_rows r rows) rows ≡ Ok (with_rows r rows)) × (import_reply (with_rows r rows) rows ≡ reply.Imported 0 0 (length (distinct_rows rows)))
+repeated_itself : (r : Relations) (rows : List Row) → AreInOrder r → is_consistent rows ≡ true
+    → import_refusal r rows ≡ None
+    → (imported (with_rows r rows) rows ≡ Ok (with_rows r rows))
+    × (import_reply (with_rows r rows) rows ≡ reply.Imported 0 0 (length (distinct_rows rows)))
 repeated_itself r rows up agree ok =
     let both = neither (rows_refusal r rows) (first_refusal (too_many (with_rows r rows) ∷ [])) ok in
     let limits : within_limits (with_rows r rows) ≡ true = there (within_limits (with_rows r rows)) TooMany [] both.1 in
     let stored : AllByRecursion (IsStored (with_rows r rows)) rows = rows_stored r rows agree in
-    let same : with_rows (with_rows r rows) rows ≡ with_rows r rows = rows_again (with_rows r rows) rows (rows_in_order r rows up) stored in (
-      import_accepted (with_rows r rows) rows (import_refers_still r rows both.0) (ap within_limits same ∙ limits) ∙ ap Ok same,
+    let same : with_rows (with_rows r rows) rows ≡ with_rows r rows =
+    rows_again (with_rows r rows) rows (rows_in_order r rows up) stored in (
+      import_accepted (with_rows r rows) rows (import_refers_still r rows both.0) (ap within_limits same ∙ limits)
+          ∙ ap Ok same,
       stored_reply (with_rows r rows) rows stored,
     )
 
-pub repeated_import : (r t : Relations) (rows : List Row) → AreInOrder r → is_consistent rows ≡ true → imported r rows ≡ Ok t
+pub repeated_import : (r t : Relations) (rows : List Row) → AreInOrder r → is_consistent rows ≡ true
+    → imported r rows ≡ Ok t
     → (imported t rows ≡ Ok t) × (import_reply t rows ≡ reply.Imported 0 0 (length (distinct_rows rows)))
 repeated_import r t rows up agree is =
     let first = accepted r t rows is in
-    subst (λ u. (imported u rows ≡ Ok u) × (import_reply u rows ≡ reply.Imported 0 0 (length (distinct_rows rows)))) first.1 (repeated_itself r rows up agree first.0)
+    subst (λ u. (imported u rows ≡ Ok u) × (import_reply u rows ≡ reply.Imported 0 0 (length (distinct_rows rows))))
+    first.1 (repeated_itself r rows up agree first.0)
 
 -- ---- on steps
 
@@ -150,16 +171,22 @@ new_facts : (import : ImportRows) (day : ℕ) (before after : State) (answer : R
     → imported before.relations import.rows ≡ Ok after.relations
 new_facts import day before after answer step = inner (imported before.relations import.rows) refl step
   where
-    inner : (o : Result Relations Refusal) → imported before.relations import.rows ≡ o → StepTo (command.Import import) before (Ok answer) after o → o ≡ Ok after.relations
+    inner : (o : Result Relations Refusal) → imported before.relations import.rows ≡ o
+        → StepTo (command.Import import) before (Ok answer) after o → o ≡ Ok after.relations
     inner (Ok r) e to = ap Ok (sym to.0)
     inner (Err refused) e to = absurd (let differ : Ok answer ≡ Err refused = to.0 in cc)
 
-pub repeated_step : (import : ImportRows) (day later : ℕ) (before mid after : State) (first : Reply) (second : Result Reply Refusal) → IsInOrder before → IsInOrder mid → IsInOrder after
-    → is_consistent import.rows ≡ true → Step (command.Import import) day before (Ok first) mid → Step (command.Import import) later mid second after
+pub repeated_step : (import : ImportRows) (day later : ℕ) (before mid after : State) (first : Reply)
+    (second : Result Reply Refusal) → IsInOrder before → IsInOrder mid → IsInOrder after
+    → is_consistent import.rows ≡ true → Step (command.Import import) day before (Ok first) mid
+    → Step (command.Import import) later mid second after
     → (second ≡ Ok (reply.Imported 0 0 (length (distinct_rows import.rows)))) × (after ≡ mid)
 repeated_step import day later before mid after first second up up_mid up_after agree one two =
-    let again = repeated_import before.relations mid.relations import.rows up.tables agree (new_facts import day before mid first one) in
-    let to : StepTo (command.Import import) mid second after (Ok mid.relations) = subst (StepTo (command.Import import) mid second after) again.0 two in
-    let same : after.seats ≡ mid.seats = same_rows seat_cmp seats_total seats_exact after.seats mid.seats up_after.seats up_mid.seats
+    let again = repeated_import before.relations mid.relations import.rows up.tables agree
+    (new_facts import day before mid first one) in
+    let to : StepTo (command.Import import) mid second after (Ok mid.relations) =
+    subst (StepTo (command.Import import) mid second after) again.0 two in
+    let same : after.seats ≡ mid.seats =
+    same_rows seat_cmp seats_total seats_exact after.seats mid.seats up_after.seats up_mid.seats
     (λ q. (to.1 q.0).untouched (record { members = refl; fits = λ c h. refl; desks = λ h. refl }) q.1) in
     (to.2 ∙ ap Ok again.1, λ i. record { relations = to.0 i; seats = same i })

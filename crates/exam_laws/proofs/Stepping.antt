@@ -1,5 +1,6 @@
 -- An accepted command is a step, and a refused one too.
-use Rattle.std.proofs.Common.{◌≡◌, ℕ, nat_eq, not, Bool, true, cond, List, [], ◌∷◌, None, Some, Ok, Err, refl, ap, sym, subst, ◌∙◌}
+use Rattle.std.proofs.Common.{◌≡◌, ℕ, nat_eq, not, Bool, true, cond, List, [], ◌∷◌, None, Some, Ok, Err, refl, ap, sym}
+use Rattle.std.proofs.Common.{subst, ◌∙◌}
 use Rattle.std.specs.Option.{option_or}
 use Rattle.std.proofs.Math.Path.{fun_ext}
 use Rattle.exam_types.specs.declared.refusal.Refusal.{Refusal}
@@ -24,10 +25,12 @@ use Rattle.exam_commands.proofs.Staying.{best_stays}
 
 -- ---- the change
 
-pub limits_refusal : (r : Relations) (rows : List Row) (b : Bool) → within_limits (with_rows r rows) ≡ b → first_refusal (too_many (with_rows r rows) ∷ []) ≡ cond (not b) (Some refusal.TooMany) None
+pub limits_refusal : (r : Relations) (rows : List Row) (b : Bool) → within_limits (with_rows r rows) ≡ b
+    → first_refusal (too_many (with_rows r rows) ∷ []) ≡ cond (not b) (Some refusal.TooMany) None
 limits_refusal r rows b e = ap (λ t. cond (not t) (Some refusal.TooMany) None) e
 
-pub import_accepted : (r : Relations) (rows : List Row) → rows_refusal r rows ≡ None → within_limits (with_rows r rows) ≡ true → imported r rows ≡ Ok (with_rows r rows)
+pub import_accepted : (r : Relations) (rows : List Row) → rows_refusal r rows ≡ None
+    → within_limits (with_rows r rows) ≡ true → imported r rows ≡ Ok (with_rows r rows)
 import_accepted r rows ok within =
     ap (λ o. unless (option_or o (first_refusal (too_many (with_rows r rows) ∷ []))) (with_rows r rows)) ok
     ∙ ap (λ o. unless o (with_rows r rows)) (limits_refusal r rows true within)
@@ -42,13 +45,24 @@ same_seating r t s same =
     ∙ ap (with_parts (members t s) (fits t s)) (fun_ext same.desks)
   where
     with_parts : List ℕ → (ℕ → Code → Bool) → (Code → ℕ) → Seating ℕ Code
-    with_parts ms f d = record { members = ms; fits = f; desks = d; same_candidate = nat_eq; same_hall = same_code; candidate_cmp = nat_cmp; hall_cmp = code_cmp }
+    with_parts ms f d = record {
+      members = ms;
+      fits = f;
+      desks = d;
+      same_candidate = nat_eq;
+      same_hall = same_code;
+      candidate_cmp = nat_cmp;
+      hall_cmp = code_cmp;
+    }
 
-pub next_plan : (done : Command) (r t : Relations) (s : Code) (before after : Seats) → ListsRise t s → IsBest (seating r s) (plan_of before s) → IsRepaired t (first_seated done) before after s
-    → SeatsOn done (seating t s) (plan_of before s) (plan_of after s) → IsNextPlan done (seating r s) (seating t s) (plan_of before s) (plan_of after s)
+pub next_plan : (done : Command) (r t : Relations) (s : Code) (before after : Seats) → ListsRise t s
+    → IsBest (seating r s) (plan_of before s) → IsRepaired t (first_seated done) before after s
+    → SeatsOn done (seating t s) (plan_of before s) (plan_of after s)
+    → IsNextPlan done (seating r s) (seating t s) (plan_of before s) (plan_of after s)
 next_plan done r t s before after up best made kept = record {
   best = made.best;
-  untouched = λ same. best_stays t s up (first_seated done) (plan_of before s) (plan_of after s) (subst (λ g. IsBest g (plan_of before s)) (same_seating r t s same) best) made.repair;
+  untouched = λ same. best_stays t s up (first_seated done) (plan_of before s) (plan_of after s)
+      (subst (λ g. IsBest g (plan_of before s)) (same_seating r t s same) best) made.repair;
   kept = kept;
   repair = made.repair;
 }
@@ -58,11 +72,17 @@ next_plan done r t s before after up best made kept = record {
 pub accepted_step : (done : Command) (today : ℕ) (before after : State) (t : Relations)
     → change done today before ≡ Ok t → after.relations ≡ t → IsInOrder after → ((s : Code) → ListsRise t s)
     → IsGood before
-    → ((s : Code) → IsRepaired t (first_seated done) before.seats after.seats s) → ((s : Code) → SeatsOn done (seating t s) (plan_of before.seats s) (plan_of after.seats s))
+    → ((s : Code) → IsRepaired t (first_seated done) before.seats after.seats s)
+    → ((s : Code) → SeatsOn done (seating t s) (plan_of before.seats s) (plan_of after.seats s))
     → Step done today before (Ok (reply_of done before after)) after
 accepted_step done today before after t accepted facts order up good plans kept =
-    subst (StepTo done before (Ok (reply_of done before after)) after) (sym accepted)
-    (facts, λ s. next_plan done before.relations t s before.seats after.seats (up s) (good.best s) (plans s) (kept s), refl, order)
+    subst (StepTo done before (Ok (reply_of done before after)) after) (sym accepted) (
+      facts,
+      λ s. next_plan done before.relations t s before.seats after.seats (up s) (good.best s) (plans s) (kept s),
+      refl,
+      order,
+    )
 
-pub refused_step : (done : Command) (today : ℕ) (before : State) (e : Refusal) → change done today before ≡ Err e → Step done today before (Err e) before
+pub refused_step : (done : Command) (today : ℕ) (before : State) (e : Refusal) → change done today before ≡ Err e
+    → Step done today before (Err e) before
 refused_step done today before e refused = subst (StepTo done before (Err e) before) (sym refused) (refl, refl)

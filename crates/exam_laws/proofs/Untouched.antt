@@ -1,14 +1,13 @@
 -- A session that a command does not touch keeps its seating.
-use Rattle.std.proofs.Common.{◌≡◌, ℕ, ◌==◌, ◌&&◌, ◌||◌, not, Bool, true, false, cond, List, [], ◌∷◌, map, filter, nat_eq, Option, None, Some, Ok, is_some, refl, ap, sym, subst, ◌∙◌}
+use Rattle.std.proofs.Common.{◌≡◌, ℕ, ◌==◌, ◌&&◌, ◌||◌, not, Bool, true, false, cond, List, [], ◌∷◌, map, filter}
+use Rattle.std.proofs.Common.{nat_eq, Option, None, Some, Ok, is_some, refl, ap, sym, subst, ◌∙◌}
 use Rattle.std.specs.List.{filter_map, list_all, list_any}
 use Rattle.std.specs.Map.{keys_of}
 use Rattle.std.specs.Option.{option_map, option_map_or}
-use Rattle.std.specs.BTreeMap.{insert_entry, is_at}
+use Rattle.std.specs.BTreeMap.{is_at}
 use Rattle.std.specs.Cmp.{Equal-is, nat_cmp_total}
 use Rattle.std.specs.Cmp.Lexicographic.{nat_list_cmp_total}
-use Rattle.std.specs.declared.cmp.Ordering.{Ordering}
-use Rattle.std.specs.declared.cmp.Ordering.TheVariants.{Less, Equal, Greater}
-use Rattle.std.specs.Ordering.{nat_cmp, match_ordering}
+use Rattle.std.specs.Ordering.{nat_cmp}
 use Rattle.std.proofs.lemmas.Bool.{and_parts, eqb-true, not-false}
 use Rattle.std.proofs.lemmas.Map.Lookups.{exact_bytes, exact_unsigned}
 use Rattle.exam_types.specs.declared.refusal.Refusal.TheVariants as refusal
@@ -21,7 +20,8 @@ use Rattle.exam_rules.specs.declared.rows.Status.{Status}
 use Rattle.exam_rules.specs.declared.rows.Status.TheVariants as status
 use Rattle.exam_rules.specs.declared.rows.Subject.{Subject}
 use Rattle.exam_rules.specs.Orders.{KeysRise}
-use Rattle.exam_rules.specs.Relations.{Code, Relations, appeal_cmp, code_cmp, entry_cmp, opening_cmp, has_row, put_row, row_at, same_code}
+use Rattle.exam_rules.specs.Relations.{Code, Relations, appeal_cmp, code_cmp, entry_cmp, opening_cmp, has_row, put_row}
+use Rattle.exam_rules.specs.Relations.{row_at, same_code}
 use Rattle.exam_rules.specs.Sessions.{arrangement_by, barred_halls, granted_arrangement, granted_subjects}
 use Rattle.exam_rules.specs.Sessions.{has_live_entry, is_granted, is_granted_appeal, is_live_entry, is_marked}
 use Rattle.exam_rules.specs.Sessions.{is_member, is_paper_of, is_standing, session_day, standing_grant, standing_grants}
@@ -29,6 +29,9 @@ use Rattle.exam_rules.specs.Seatings.{fits, opened_room, plan_of, seating, sitti
 use Rattle.exam_laws.proofs.Reaching.{untouched_is_unreached, untouched_is_unset}
 use Rattle.exam_rules.proofs.Naming.{same_code_exact, same_code_itself}
 use Rattle.exam_rules.specs.Tables as table
+use Rattle.exam_rules.proofs.Relisting.{entries_exact, put_filtered}
+use Rattle.exam_commands.proofs.KeyedRows.{appeals_exact, key_apart, openings_exact, openings_total, put_by}
+use Rattle.exam_commands.proofs.KeyedRows.{put_elsewhere, put_found, put_keys, put_passed_over, removed_elsewhere}
 use Rattle.exam_commands.specs.declared.command.Command.{Command}
 use Rattle.exam_commands.specs.declared.command.Command.TheVariants as command
 use Rattle.exam_commands.specs.declared.command.Decision.{Decision}
@@ -49,21 +52,21 @@ use Rattle.exam_commands.specs.Lodgings as lodgings
 use Rattle.exam_commands.specs.Orders.{IsInOrder}
 use Rattle.exam_commands.specs.State.{State}
 use Rattle.exam_commands.specs.Steps.{SameSeating, Step, StepTo, change}
-use Rattle.exam_commands.specs.Touched.{decision_reaches, ends_standing, grant_reaches, has_standing_member, is_ended, is_of_sessions, is_set_by, names, reaches, row_reaches, sets_session, stands_in, touches}
+use Rattle.exam_commands.specs.Touched.{decision_reaches, ends_standing, grant_reaches, has_standing_member, is_ended}
+use Rattle.exam_commands.specs.Touched.{is_of_sessions, is_set_by, names, reaches, row_reaches, sets_session, stands_in}
+use Rattle.exam_commands.specs.Touched.{touches}
 use Rattle.exam_commands.proofs.Alike.{SpeakAlike, alike_itself, alike_seating}
-use Rattle.exam_commands.proofs.AppealKeys.{appeals_exact, openings_exact}
-use Rattle.exam_laws.proofs.Appealing.{fits_same, never_marked, not_granted, put_seating_same, seating_by, with_appeals, with_decisions}
+use Rattle.exam_laws.proofs.Appealing.{fits_same, never_marked, not_granted, put_seating_same, seating_by, with_appeals}
+use Rattle.exam_laws.proofs.Appealing.{with_decisions}
 use Rattle.exam_laws.proofs.AppealSteps.{lodging_settled, retraction_settled}
 use Rattle.exam_commands.proofs.Borne.{unmarked_same}
 use Rattle.exam_laws.proofs.DecidedFacts.{others_standing_grants, unmarked_open}
 use Rattle.exam_laws.proofs.Lasting.{made, new_facts, unrefused}
-use Rattle.exam_commands.proofs.LiveMarks.{entries_exact, put_elsewhere, put_filtered}
-use Rattle.exam_commands.proofs.PutAppeals.{put_passed_over}
-use Rattle.exam_commands.proofs.PutRows.{mapped_filtered, put_keys}
-use Rattle.exam_commands.proofs.Referring.{Grows, appeals_row, grows_both, grows_none, grows_row, neither, parted, passed, standing_row, there}
-use Rattle.exam_commands.proofs.Repeating.{put_found, put_rises}
-use Rattle.exam_commands.proofs.OtherRows.{key_apart, removed_elsewhere}
+use Rattle.exam_commands.proofs.PutRows.{mapped_filtered}
+use Rattle.exam_commands.proofs.Referring.{Grows, appeals_row, grows_both, grows_none, grows_row, neither, parted}
+use Rattle.exam_commands.proofs.Referring.{passed, standing_row, there}
 use Rattle.exam_commands.proofs.Superseding.{superseded_ungranted}
+use Rattle.exam_commands.proofs.Entering.{rows_with_by, table_in_order}
 
 -- ---- rows at other keys
 
@@ -72,24 +75,28 @@ neither_any true b e = absurd (let differ : true ≡ false = e in cc)
 neither_any false b e = (refl, e)
 
 -- the new number does not pass the filter
-numbers_filtered : {X : Type 0} (p : ℕ → Bool) (rows : List (ℕ × X)) (c : ℕ) (x : X) → p c ≡ false → filter p (keys_of (put_row nat_cmp rows c x)) ≡ filter p (keys_of rows)
-numbers_filtered p [] c x out = ap (λ b. cond b (c ∷ []) []) out
-numbers_filtered {X} p (e ∷ es) c x out = inner (nat_cmp c e.0) (numbers_filtered p es c x out)
-  where
-    inner : (o : Ordering) → filter p (keys_of (put_row nat_cmp es c x)) ≡ filter p (keys_of es)
-        → filter p (keys_of (match_ordering o ((c, x) ∷ e ∷ es) ((e.0, x) ∷ es) (e ∷ insert_entry nat_cmp es c x))) ≡ filter p (e.0 ∷ keys_of es)
-    inner Less rest = ap (λ b. cond b (c ∷ filter p (e.0 ∷ keys_of es)) (filter p (e.0 ∷ keys_of es))) out
-    inner Equal rest = refl
-    inner Greater rest = ap (λ ns. cond (p e.0) (e.0 ∷ ns) ns) rest
+numbers_filtered : {X : Type 0} (p : ℕ → Bool) (rows : List (ℕ × X)) (c : ℕ) (x : X) → p c ≡ false
+    → filter p (keys_of (put_row nat_cmp rows c x)) ≡ filter p (keys_of rows)
+numbers_filtered p rows c x out =
+    put_by nat_cmp c x (λ es fs. filter p (keys_of fs) ≡ filter p (keys_of es))
+    (λ es is. ap (λ b. cond b (c ∷ filter p (keys_of es)) (filter p (keys_of es))) out)
+    (λ e es is. refl)
+    (λ e es is rest. ap (λ ns. cond (p e.0) (e.0 ∷ ns) ns) rest)
+    rows
 
 -- a code that does not name the session is another
 other_code : (s t : Code) → same_code t s ≡ false → s ≡ t → ⊥
-other_code s t away same = let differ : true ≡ false = sym (same_code_itself s) ∙ ap (λ z. same_code z s) same ∙ away in cc
+other_code s t away same = let differ : true ≡ false =
+    sym (same_code_itself s) ∙ ap (λ z. same_code z s) same ∙ away in cc
 
 -- ---- who has a live entry is a candidate
 
-module _ (r : Relations) (good : list_all (λ (x : (ℕ × Code) × Entry). has_row nat_cmp r.candidates x.0.0 && has_row code_cmp r.papers x.0.1) r.entries ≡ true) (s : Code) where
-  entered_among : (c : ℕ) (es : List ((ℕ × Code) × Entry)) → list_all (λ (x : (ℕ × Code) × Entry). has_row nat_cmp r.candidates x.0.0 && has_row code_cmp r.papers x.0.1) es ≡ true
+module _ (r : Relations)
+    (good : list_all (λ (x : (ℕ × Code) × Entry). has_row nat_cmp r.candidates x.0.0
+    && has_row code_cmp r.papers x.0.1) r.entries ≡ true) (s : Code) where
+  entered_among : (c : ℕ) (es : List ((ℕ × Code) × Entry))
+      → list_all (λ (x : (ℕ × Code) × Entry). has_row nat_cmp r.candidates x.0.0 && has_row code_cmp r.papers x.0.1) es
+      ≡ true
       → list_any (is_live_entry r s c) es ≡ true → has_row nat_cmp r.candidates c ≡ true
   entered_among c [] every some = absurd (let differ : false ≡ true = some in cc)
   entered_among c (e ∷ es) every some =
@@ -107,22 +114,26 @@ module _ (r : Relations) (good : list_all (λ (x : (ℕ × Code) × Entry). has_
           (and_parts (has_row nat_cmp r.candidates e.0.0 && has_row code_cmp r.papers e.0.1)
           (list_all (λ (x : (ℕ × Code) × Entry). has_row nat_cmp r.candidates x.0.0
           && has_row code_cmp r.papers x.0.1) es) every).0).0 in
-          ap (has_row nat_cmp r.candidates) (sym (eqb-true e.0.0 c (and_parts (nat_eq e.0.0 c) (e.1.live && is_paper_of r s e.0.1) is).0)) ∙ known
+          ap (has_row nat_cmp r.candidates)
+          (sym (eqb-true e.0.0 c (and_parts (nat_eq e.0.0 c) (e.1.live && is_paper_of r s e.0.1) is).0)) ∙ known
       inner false is any rest = rest any
 
   entered_known : (c : ℕ) → has_live_entry r s c ≡ true → has_row nat_cmp r.candidates c ≡ true
   entered_known c some = entered_among c r.entries good some
 
 -- a member of a session without standing grants has none
-none_standing : (r : Relations) (s : Code) (c : ℕ) → is_member r s c ≡ true → (rows : List ((ℕ × Code) × Appeal)) → list_any (stands_in r s) rows ≡ false → filter (is_standing r c) rows ≡ []
+none_standing : (r : Relations) (s : Code) (c : ℕ) → is_member r s c ≡ true → (rows : List ((ℕ × Code) × Appeal))
+    → list_any (stands_in r s) rows ≡ false → filter (is_standing r c) rows ≡ []
 none_standing r s c member [] none = refl
 none_standing r s c member (a ∷ rows) none =
     let parts = neither_any (stands_in r s a) (list_any (stands_in r s) rows) none in
-    ap (λ b. cond b (a ∷ filter (is_standing r c) rows) (filter (is_standing r c) rows)) (inner (nat_eq a.0.0 c) refl (is_granted a.1.status && is_marked r a.0) parts.0)
+    ap (λ b. cond b (a ∷ filter (is_standing r c) rows) (filter (is_standing r c) rows))
+    (inner (nat_eq a.0.0 c) refl (is_granted a.1.status && is_marked r a.0) parts.0)
     ∙ none_standing r s c member rows parts.1
   where
     inner : (own : Bool) → nat_eq a.0.0 c ≡ own → (b : Bool) → (b && is_member r s a.0.0) ≡ false → (own && b) ≡ false
-    inner true mine true out = absurd (let differ : true ≡ false = sym (ap (is_member r s) (eqb-true a.0.0 c mine) ∙ member) ∙ out in cc)
+    inner true mine true out =
+        absurd (let differ : true ≡ false = sym (ap (is_member r s) (eqb-true a.0.0 c mine) ∙ member) ∙ out in cc)
     inner true mine false out = refl
     inner false mine b out = refl
 
@@ -138,9 +149,10 @@ module _ (r0 : Relations) (refer : refers r0 ≡ true) (s : Code) where
     standing : r.standing ≡ r0.standing
 
   known : (c : ℕ) → has_live_entry r0 s c ≡ true → has_row nat_cmp r0.candidates c ≡ true
-  known = entered_known r0 (parted r0 refer).entries s
+  known = entered_known r0 (parted r0 refer table.Entries) s
 
-  spared_row : (r : Relations) → IsSpared r → (x : Row) → sets_session s x ≡ false → row_reaches r0 x s ≡ false → first_refusal (row_checks r0 x) ≡ None → SpeakAlike r0 (with_row r x) s
+  spared_row : (r : Relations) → IsSpared r → (x : Row) → sets_session s x ≡ false → row_reaches r0 x s ≡ false
+      → first_refusal (row_checks r0 x) ≡ None → SpeakAlike r0 (with_row r x) s
   spared_row r so (row.OfSession named x) unset away ok = record {
     session = session_same;
     papers = so.alike.papers;
@@ -153,31 +165,37 @@ module _ (r0 : Relations) (refer : refers r0 ≡ true) (s : Code) where
         ap (λ day. arrangement_by (granted_arrangement r s c) day
         (standing_grants (with_row r (row.OfSession named x)) c) (row_at nat_cmp r.arrangements c))
         (ap (option_map (λ (y : Session). y.day)) kept)
-        ∙ ap (λ grants. arrangement_by (granted_arrangement r s c) (session_day r s) grants (row_at nat_cmp r.arrangements c)) (none_stands c entered)
+        ∙ ap (λ grants. arrangement_by (granted_arrangement r s c) (session_day r s) grants
+        (row_at nat_cmp r.arrangements c)) (none_stands c entered)
         ∙ so.alike.in_force c entered;
     granted = so.alike.granted;
   }
     where
       kept : row_at code_cmp (put_row code_cmp r.sessions named x) s ≡ row_at code_cmp r.sessions s
-      kept = put_elsewhere code_cmp exact_bytes r.sessions named s x (key_apart code_cmp exact_bytes s named (other_code s named unset))
+      kept = put_elsewhere code_cmp nat_list_cmp_total r.sessions named s x
+          (key_apart code_cmp exact_bytes s named (other_code s named unset))
 
       session_same : row_at code_cmp (put_row code_cmp r.sessions named x) s ≡ row_at code_cmp r0.sessions s
       session_same = kept ∙ so.alike.session
 
       -- no member has a standing grant, so no other date counts
-      none_stands : (c : ℕ) → has_live_entry r0 s c ≡ true → standing_grants (with_row r (row.OfSession named x)) c ≡ standing_grants r c
+      none_stands : (c : ℕ) → has_live_entry r0 s c ≡ true
+          → standing_grants (with_row r (row.OfSession named x)) c ≡ standing_grants r c
       none_stands c entered =
           let member : is_member r0 s c ≡ true = ap (λ b. b && has_live_entry r0 s c) (known c entered) ∙ entered in
           let none : filter (is_standing r c) r.appeals ≡ [] =
           ap (λ (rows : List ((ℕ × Code) × Appeal)). filter (is_standing r c) rows) so.appeals
-          ∙ ap (λ (marks : List ((ℕ × Code) × Unit {0})). filter (λ (a : (ℕ × Code) × Appeal). (a.0.0 == c) && (is_granted a.1.status && has_row appeal_cmp marks a.0)) r0.appeals) so.standing
+          ∙ ap (λ (marks : List ((ℕ × Code) × Unit {0})). filter
+          (λ (a : (ℕ × Code) × Appeal). (a.0.0 == c) && (is_granted a.1.status && has_row appeal_cmp marks a.0))
+          r0.appeals) so.standing
           ∙ none_standing r0 s c member r0.appeals away in
           ap (filter_map (λ (a : (ℕ × Code) × Appeal). standing_grant (with_row r (row.OfSession named x)) a.1)) none
           ∙ sym (ap (filter_map (λ (a : (ℕ × Code) × Appeal). standing_grant r a.1)) none)
   spared_row r so (row.OfPaper p x) unset away ok = record {
     session = so.alike.session;
     papers = λ q. papers q (is_at (code_cmp q) p) refl;
-    paper_rows = λ q of. put_elsewhere code_cmp exact_bytes r.papers p q x (key_apart code_cmp exact_bytes q p (other q of)) ∙ so.alike.paper_rows q of;
+    paper_rows = λ q of. put_elsewhere code_cmp nat_list_cmp_total r.papers p q x
+        (key_apart code_cmp exact_bytes q p (other q of)) ∙ so.alike.paper_rows q of;
     entries = so.alike.entries;
     openings = so.alike.openings;
     halls = so.alike.halls;
@@ -201,7 +219,8 @@ module _ (r0 : Relations) (refer : refers r0 ≡ true) (s : Code) where
               let there_is : has_row code_cmp r0.sessions s ≡ true =
               ap (has_row code_cmp r0.sessions) (sym (same_code_exact x.session s same))
               ∙ there (has_row code_cmp r0.sessions x.session) refusal.UnknownSession [] ok in
-              absurd (let differ : true ≡ false = sym (ap (λ b. b && has_row code_cmp r0.sessions s) same ∙ there_is) ∙ parts.1 in cc)
+              absurd (let differ : true ≡ false = sym (ap (λ b. b && has_row code_cmp r0.sessions s) same ∙ there_is)
+              ∙ parts.1 in cc)
           inner false same = refl
 
       papers : (q : Code) (b : Bool) → is_at (code_cmp q) p ≡ b
@@ -209,18 +228,21 @@ module _ (r0 : Relations) (refer : refers r0 ≡ true) (s : Code) where
           (row_at code_cmp (put_row code_cmp r.papers p x) q) false ≡ is_paper_of r0 s q
       papers q true at =
           let same : q ≡ p = exact_bytes q p ((Equal-is (code_cmp q p)).0 at) in
-          ap (λ z. option_map_or (λ (paper : Paper). same_code paper.session s) (row_at code_cmp (put_row code_cmp r.papers p x) z) false) same
+          ap (λ z. option_map_or (λ (paper : Paper). same_code paper.session s)
+          (row_at code_cmp (put_row code_cmp r.papers p x) z) false) same
           ∙ ap (λ (o : Option Paper). option_map_or (λ (paper : Paper). same_code paper.session s) o false)
           (put_found code_cmp nat_list_cmp_total r.papers p x) ∙ moved ∙ sym parts.0
           ∙ ap (is_paper_of r0 s) (sym same)
-      papers q false at = ap (λ (o : Option Paper). option_map_or (λ (paper : Paper). same_code paper.session s) o false) (put_elsewhere code_cmp exact_bytes r.papers p q x at) ∙ so.alike.papers q
+      papers q false at = ap
+          (λ (o : Option Paper). option_map_or (λ (paper : Paper). same_code paper.session s) o false)
+          (put_elsewhere code_cmp nat_list_cmp_total r.papers p q x at) ∙ so.alike.papers q
   spared_row r so (row.OfHall h x) unset away ok = record {
     session = so.alike.session;
     papers = so.alike.papers;
     paper_rows = so.alike.paper_rows;
     entries = so.alike.entries;
     openings = so.alike.openings;
-    halls = λ k opened. put_elsewhere code_cmp exact_bytes r.halls h k x
+    halls = λ k opened. put_elsewhere code_cmp nat_list_cmp_total r.halls h k x
         (key_apart code_cmp exact_bytes k h
         (λ same. let differ : true ≡ false =
         sym opened ∙ ap (λ z. has_row opening_cmp r0.openings (s, z)) same ∙ away in cc)) ∙ so.alike.halls k opened;
@@ -233,7 +255,7 @@ module _ (r0 : Relations) (refer : refers r0 ≡ true) (s : Code) where
     papers = so.alike.papers;
     paper_rows = so.alike.paper_rows;
     entries = so.alike.entries;
-    openings = λ k. put_elsewhere opening_cmp openings_exact r.openings (named, h) (s, k) x
+    openings = λ k. put_elsewhere opening_cmp openings_total r.openings (named, h) (s, k) x
         (key_apart opening_cmp openings_exact (s, k) (named, h) (λ same. other (ap (λ (z : Code × Code). z.0) same)))
         ∙ so.alike.openings k;
     halls = so.alike.halls;
@@ -243,12 +265,15 @@ module _ (r0 : Relations) (refer : refers r0 ≡ true) (s : Code) where
   }
     where
       there_is : has_row code_cmp r0.sessions named ≡ true
-      there_is = not-false (has_row code_cmp r0.sessions named) (passed (not (has_row code_cmp r0.sessions named)) refusal.UnknownSession (no_hall r0 h ∷ []) ok).0
+      there_is = not-false (has_row code_cmp r0.sessions named)
+          (passed (not (has_row code_cmp r0.sessions named)) refusal.UnknownSession (no_hall r0 h ∷ []) ok).0
 
       other : s ≡ named → ⊥
       other same =
           let one : same_code named s ≡ true = ap (λ z. same_code named z) same ∙ same_code_itself named in
-          let differ : true ≡ false = sym (ap (λ b. b && has_row code_cmp r0.sessions s) one ∙ ap (has_row code_cmp r0.sessions) same ∙ there_is) ∙ away in cc
+          let differ : true ≡ false =
+          sym (ap (λ b. b && has_row code_cmp r0.sessions s) one ∙ ap (has_row code_cmp r0.sessions) same
+          ∙ there_is) ∙ away in cc
   spared_row r so (row.OfCandidate c x) unset away ok = record {
     session = so.alike.session;
     papers = so.alike.papers;
@@ -261,30 +286,36 @@ module _ (r0 : Relations) (refer : refers r0 ≡ true) (s : Code) where
     granted = so.alike.granted;
   }
     where
-      candidates : (b : Bool) → has_live_entry r0 s c ≡ b → filter (has_live_entry r0 s) (keys_of (put_row nat_cmp r.candidates c x)) ≡ filter (has_live_entry r0 s) (keys_of r.candidates)
+      candidates : (b : Bool) → has_live_entry r0 s c ≡ b
+          → filter (has_live_entry r0 s) (keys_of (put_row nat_cmp r.candidates c x))
+          ≡ filter (has_live_entry r0 s) (keys_of r.candidates)
       candidates true entered =
           let stored = there_at (row_at nat_cmp r.candidates c) (so.grows.candidates c (known c entered)) in
-          ap (filter (has_live_entry r0 s)) (put_keys nat_cmp nat_cmp_total r.candidates c x stored.0 so.rising stored.1)
+          ap (filter (has_live_entry r0 s))
+          (put_keys nat_cmp nat_cmp_total r.candidates c x stored.0 so.rising stored.1)
         where
           there_at : {A : Type 0} (o : Option A) → is_some o ≡ true → (a : A) × (o ≡ Some a)
           there_at None some = absurd (let differ : false ≡ true = some in cc)
           there_at (Some a) some = (a, refl)
       candidates false out = numbers_filtered (has_live_entry r0 s) r.candidates c x out
-  spared_row r so (row.OfEntry c p) unset away ok = inner (has_row entry_cmp r.entries (c, p))
+  spared_row r so (row.OfEntry c p) unset away ok = record {
+    session = so.alike.session;
+    papers = so.alike.papers;
+    paper_rows = so.alike.paper_rows;
+    entries =
+        rows_with_by table.Entries r.entries (c, p) (record { live = true })
+        (λ es. of_session es ≡ of_session r.entries) refl
+        (put_filtered entry_cmp entries_exact (λ (e : (ℕ × Code) × Entry). is_paper_of r0 s e.0.1) r.entries (c, p)
+        (record { live = true }) (λ w. away)) ∙ so.alike.entries;
+    openings = so.alike.openings;
+    halls = so.alike.halls;
+    candidates = so.alike.candidates;
+    in_force = so.alike.in_force;
+    granted = so.alike.granted;
+  }
     where
-      inner : (b : Bool) → SpeakAlike r0 (cond b r (record r { entries = put_row entry_cmp r.entries (c, p) (record { live = true }) })) s
-      inner true = so.alike
-      inner false = record {
-        session = so.alike.session;
-        papers = so.alike.papers;
-        paper_rows = so.alike.paper_rows;
-        entries = put_filtered entry_cmp entries_exact (λ (e : (ℕ × Code) × Entry). is_paper_of r0 s e.0.1) r.entries (c, p) (record { live = true }) (λ w. away) ∙ so.alike.entries;
-        openings = so.alike.openings;
-        halls = so.alike.halls;
-        candidates = so.alike.candidates;
-        in_force = so.alike.in_force;
-        granted = so.alike.granted;
-      }
+      of_session : List ((ℕ × Code) × Entry) → List ((ℕ × Code) × Entry)
+      of_session es = filter (λ (e : (ℕ × Code) × Entry). is_paper_of r0 s e.0.1) es
   spared_row r so (row.OfArrangement c x) unset away ok = record {
     session = so.alike.session;
     papers = so.alike.papers;
@@ -295,7 +326,7 @@ module _ (r0 : Relations) (refer : refers r0 ≡ true) (s : Code) where
     candidates = so.alike.candidates;
     in_force = λ d entered.
         ap (arrangement_by (granted_arrangement r s d) (session_day r s) (standing_grants r d))
-        (put_elsewhere nat_cmp exact_unsigned r.arrangements c d x
+        (put_elsewhere nat_cmp nat_cmp_total r.arrangements c d x
         (key_apart nat_cmp exact_unsigned d c (other d entered)))
         ∙ so.alike.in_force d entered;
     granted = so.alike.granted;
@@ -305,19 +336,6 @@ module _ (r0 : Relations) (refer : refers r0 ≡ true) (s : Code) where
       other d entered same =
           let member : is_member r0 s d ≡ true = ap (λ b. b && has_live_entry r0 s d) (known d entered) ∙ entered in
           let differ : true ≡ false = sym member ∙ ap (is_member r0 s) same ∙ away in cc
-
-  spared_rises : (r : Relations) → KeysRise nat_cmp r.candidates → (x : Row) → KeysRise nat_cmp (with_row r x).candidates
-  spared_rises r up (row.OfSession named x) = up
-  spared_rises r up (row.OfPaper p x) = up
-  spared_rises r up (row.OfHall h x) = up
-  spared_rises r up (row.OfOpening named h x) = up
-  spared_rises r up (row.OfCandidate c x) = put_rises nat_cmp nat_cmp_total r.candidates c x up
-  spared_rises r up (row.OfEntry c p) = inner (has_row entry_cmp r.entries (c, p))
-    where
-      inner : (b : Bool) → KeysRise nat_cmp (cond b r (record r { entries = put_row entry_cmp r.entries (c, p) (record { live = true }) })).candidates
-      inner true = up
-      inner false = up
-  spared_rises r up (row.OfArrangement c x) = up
 
   spared_rows : (r : Relations) → IsSpared r → (rows : List Row) → list_any (sets_session s) rows ≡ false
       → list_any (λ (x : Row). row_reaches r0 x s) rows ≡ false → rows_refusal r0 rows ≡ None
@@ -330,7 +348,7 @@ module _ (r0 : Relations) (refer : refers r0 ≡ true) (s : Code) where
       let next : IsSpared (with_row r x) = record {
         alike = spared_row r so x others.0 apart.0 checked.0;
         grows = grows_both r0 r (with_row r x) so.grows (grows_row r x);
-        rising = spared_rises r so.rising x;
+        rising = table_in_order r x table.Candidates so.rising;
         appeals = appeals_row r x ∙ so.appeals;
         standing = standing_row r x ∙ so.standing;
       } in
@@ -339,16 +357,21 @@ module _ (r0 : Relations) (refer : refers r0 ≡ true) (s : Code) where
   pub import_spares : KeysRise nat_cmp r0.candidates → (rows : List Row) → list_any (sets_session s) rows ≡ false
       → list_any (λ (x : Row). row_reaches r0 x s) rows ≡ false → rows_refusal r0 rows ≡ None
       → SpeakAlike r0 (with_rows r0 rows) s
-  import_spares up rows unset away ok = spared_rows r0 (record { alike = alike_itself r0 s; grows = grows_none r0; rising = up; appeals = refl; standing = refl }) rows unset away ok
+  import_spares up rows unset away ok =
+      spared_rows r0 (record
+      { alike = alike_itself r0 s; grows = grows_none r0; rising = up; appeals = refl; standing = refl }) rows unset
+      away ok
 
 -- ---- entries and openings
 
-pub live_spares : (r : Relations) (c : ℕ) (p : Code) (live : Bool) (s : Code) → is_paper_of r s p ≡ false → SpeakAlike r (with_live r c p live) s
+pub live_spares : (r : Relations) (c : ℕ) (p : Code) (live : Bool) (s : Code) → is_paper_of r s p ≡ false
+    → SpeakAlike r (with_live r c p live) s
 live_spares r c p live s away = record {
   session = refl;
   papers = λ q. refl;
   paper_rows = λ q of. refl;
-  entries = put_filtered entry_cmp entries_exact (λ (e : (ℕ × Code) × Entry). is_paper_of r s e.0.1) r.entries (c, p) (record { live = live }) (λ w. away);
+  entries = put_filtered entry_cmp entries_exact (λ (e : (ℕ × Code) × Entry). is_paper_of r s e.0.1) r.entries (c, p)
+      (record { live = live }) (λ w. away);
   openings = λ h. refl;
   halls = λ h opened. refl;
   candidates = refl;
@@ -356,14 +379,16 @@ live_spares r c p live s away = record {
   granted = λ d. refl;
 }
 
-pub closing_spares : (r : Relations) (named h s : Code) → same_code named s ≡ false → SpeakAlike r (without_opening r named h) s
+pub closing_spares : (r : Relations) (named h s : Code) → same_code named s ≡ false
+    → SpeakAlike r (without_opening r named h) s
 closing_spares r named h s away = record {
   session = refl;
   papers = λ q. refl;
   paper_rows = λ q of. refl;
   entries = refl;
   openings = λ k. removed_elsewhere opening_cmp openings_exact r.openings (named, h) (s, k)
-      (key_apart opening_cmp openings_exact (s, k) (named, h) (λ same. other_code s named away (ap (λ (z : Code × Code). z.0) same)));
+      (key_apart opening_cmp openings_exact (s, k) (named, h)
+      (λ same. other_code s named away (ap (λ (z : Code × Code). z.0) same)));
   halls = λ k opened. refl;
   candidates = refl;
   in_force = λ d entered. refl;
@@ -388,7 +413,8 @@ module _ (c : ℕ) (own s : Code) (asked : Subject) (away : same_code own s ≡ 
   kept n row is = inner (same_code row.1.session own) refl
     where
       here : same_code row.1.session s ≡ true
-      here = (and_parts (same_code row.1.session s) (is_granted row.1.status) (and_parts (nat_eq row.0.0 n) (same_code row.1.session s && is_granted row.1.status) is).1).0
+      here = (and_parts (same_code row.1.session s) (is_granted row.1.status)
+          (and_parts (nat_eq row.0.0 n) (same_code row.1.session s && is_granted row.1.status) is).1).0
 
       no_way : (mine : Bool) → (mine && (false && supersedes asked row.1.subject)) ≡ false
       no_way true = refl
@@ -396,16 +422,22 @@ module _ (c : ℕ) (own s : Code) (asked : Subject) (away : same_code own s ≡ 
 
       inner : (b : Bool) → same_code row.1.session own ≡ b → given row ≡ row
       inner true same =
-          let one : same_code own s ≡ true = ap (λ z. same_code z s) (sym (same_code_exact row.1.session own same)) ∙ here in
+          let one : same_code own s ≡ true =
+          ap (λ z. same_code z s) (sym (same_code_exact row.1.session own same)) ∙ here in
           absurd (let differ : true ≡ false = sym one ∙ away in cc)
-      inner false other = ap (λ b. cond (nat_eq row.0.0 c && (b && supersedes asked row.1.subject)) (row.0, record row.1 { status = superseded row.1.status }) row) other
+      inner false other = ap
+          (λ b. cond (nat_eq row.0.0 c && (b && supersedes asked row.1.subject))
+          (row.0, record row.1 { status = superseded row.1.status }) row) other
           ∙ ap (λ b. cond b (row.0, record row.1 { status = superseded row.1.status }) row) (no_way (nat_eq row.0.0 c))
 
-  out : (n : ℕ) (row : (ℕ × Code) × Appeal) → is_granted_appeal s n row ≡ false → is_granted_appeal s n (given row) ≡ false
+  out : (n : ℕ) (row : (ℕ × Code) × Appeal) → is_granted_appeal s n row ≡ false
+      → is_granted_appeal s n (given row) ≡ false
   out n row is = inner (gives_way c own asked row)
     where
-      inner : (b : Bool) → is_granted_appeal s n (cond b (row.0, record row.1 { status = superseded row.1.status }) row) ≡ false
-      inner true = ap (λ g. nat_eq row.0.0 n && (same_code row.1.session s && g)) (superseded_ungranted row.1.status) ∙ not_granted (nat_eq row.0.0 n) (same_code row.1.session s)
+      inner : (b : Bool) → is_granted_appeal s n
+          (cond b (row.0, record row.1 { status = superseded row.1.status }) row) ≡ false
+      inner true = ap (λ g. nat_eq row.0.0 n && (same_code row.1.session s && g)) (superseded_ungranted row.1.status)
+          ∙ not_granted (nat_eq row.0.0 n) (same_code row.1.session s)
       inner false = is
 
   given_keyed : (row : (ℕ × Code) × Appeal) → (given row).0 ≡ row.0
@@ -418,20 +450,24 @@ module _ (c : ℕ) (own s : Code) (asked : Subject) (away : same_code own s ≡ 
   given_for : (row : (ℕ × Code) × Appeal) → (given row).1.session ≡ row.1.session
   given_for row = inner (gives_way c own asked row)
     where
-      inner : (b : Bool) → (cond b (row.0, record row.1 { status = superseded row.1.status }) row).1.session ≡ row.1.session
+      inner : (b : Bool) → (cond b (row.0, record row.1 { status = superseded row.1.status }) row).1.session
+          ≡ row.1.session
       inner true = refl
       inner false = refl
 
   -- what is stored at the key is for the same session
-  still_for : (rows : List ((ℕ × Code) × Appeal)) (k : ℕ × Code) (a b : Appeal) → row_at appeal_cmp rows k ≡ Some a → row_at appeal_cmp (map given rows) k ≡ Some b → b.session ≡ a.session
+  still_for : (rows : List ((ℕ × Code) × Appeal)) (k : ℕ × Code) (a b : Appeal) → row_at appeal_cmp rows k ≡ Some a
+      → row_at appeal_cmp (map given rows) k ≡ Some b → b.session ≡ a.session
   still_for [] k a b at then = absurd (let differ : None ≡ Some a = at in cc)
   still_for (row ∷ rows) k a b at then =
       inner (is_at (appeal_cmp k) row.0) at
       (ap (λ q. cond (is_at (appeal_cmp k) q) (Some (given row).1) (row_at appeal_cmp (map given rows) k))
       (sym (given_keyed row)) ∙ then) (still_for rows k a b)
     where
-      inner : (here : Bool) → cond here (Some row.1) (row_at appeal_cmp rows k) ≡ Some a → cond here (Some (given row).1) (row_at appeal_cmp (map given rows) k) ≡ Some b
-          → (row_at appeal_cmp rows k ≡ Some a → row_at appeal_cmp (map given rows) k ≡ Some b → b.session ≡ a.session) → b.session ≡ a.session
+      inner : (here : Bool) → cond here (Some row.1) (row_at appeal_cmp rows k) ≡ Some a
+          → cond here (Some (given row).1) (row_at appeal_cmp (map given rows) k) ≡ Some b
+          → (row_at appeal_cmp rows k ≡ Some a → row_at appeal_cmp (map given rows) k ≡ Some b → b.session ≡ a.session)
+          → b.session ≡ a.session
       inner true was is rest =
           let old : row.1 ≡ a = cc in
           let new : (given row).1 ≡ b = cc in
@@ -439,7 +475,8 @@ module _ (c : ℕ) (own s : Code) (asked : Subject) (away : same_code own s ≡ 
       inner false was is rest = rest was is
 
   -- a grant for another session leaves what was granted for this one
-  grant_spares : (r : Relations) (k : ℕ × Code) (a v : Appeal) → row_at appeal_cmp r.appeals k ≡ Some a → a.session ≡ own → v.session ≡ own
+  grant_spares : (r : Relations) (k : ℕ × Code) (a v : Appeal) → row_at appeal_cmp r.appeals k ≡ Some a
+      → a.session ≡ own → v.session ≡ own
       → (n : ℕ) → granted_subjects (put_row appeal_cmp (map given r.appeals) k v) s n ≡ granted_subjects r.appeals s n
   grant_spares r k a v at mine new n =
       ap (map (λ (x : (ℕ × Code) × Appeal). x.1.subject))
@@ -453,11 +490,13 @@ module _ (c : ℕ) (own s : Code) (asked : Subject) (away : same_code own s ≡ 
       none false g = refl
 
       elsewhere : (x : Appeal) → same_code x.session s ≡ false → is_granted_appeal s n (k, x) ≡ false
-      elsewhere x other = ap (λ b. nat_eq k.0 n && (b && is_granted x.status)) other ∙ none (nat_eq k.0 n) (is_granted x.status)
+      elsewhere x other = ap (λ b. nat_eq k.0 n && (b && is_granted x.status)) other
+          ∙ none (nat_eq k.0 n) (is_granted x.status)
 
 -- if no standing grant of another appeal is superseded, none is, since the appeal itself bears no mark
 module _ (r : Relations) (d : Decision) (a : Appeal) (unmarked_own : is_marked r (d.number, d.reference) ≡ false) where
-  no_other : (row : (ℕ × Code) × Appeal) → is_ended r d a row ≡ false → (is_earlier d.number a.session a.subject row && is_marked r row.0) ≡ false
+  no_other : (row : (ℕ × Code) × Appeal) → is_ended r d a row ≡ false
+      → (is_earlier d.number a.session a.subject row && is_marked r row.0) ≡ false
   no_other row = by (same_code row.0.1 d.reference) refl
     where
       off : (b : Bool) → (b && false) ≡ false
@@ -469,57 +508,75 @@ module _ (r : Relations) (d : Decision) (a : Appeal) (unmarked_own : is_marked r
       alone false is = refl
 
       of_own : (b : Bool) → nat_eq row.0.0 d.number ≡ b → row.0.1 ≡ d.reference
-          → (((b && (same_code row.1.session a.session && supersedes a.subject row.1.subject)) && is_granted row.1.status) && is_marked r row.0) ≡ false
+          → (((b && (same_code row.1.session a.session && supersedes a.subject row.1.subject))
+          && is_granted row.1.status) && is_marked r row.0) ≡ false
       of_own true mine same =
-          ap (λ m. ((same_code row.1.session a.session && supersedes a.subject row.1.subject) && is_granted row.1.status) && m)
-          (ap (λ (n : ℕ). is_marked r (n, row.0.1)) (eqb-true row.0.0 d.number mine) ∙ ap (λ (t : Code). is_marked r (d.number, t)) same ∙ unmarked_own)
+          ap (λ m. ((same_code row.1.session a.session && supersedes a.subject row.1.subject)
+          && is_granted row.1.status) && m)
+          (ap (λ (n : ℕ). is_marked r (n, row.0.1)) (eqb-true row.0.0 d.number mine)
+          ∙ ap (λ (t : Code). is_marked r (d.number, t)) same ∙ unmarked_own)
           ∙ off ((same_code row.1.session a.session && supersedes a.subject row.1.subject) && is_granted row.1.status)
       of_own false other same = refl
 
-      by : (b : Bool) → same_code row.0.1 d.reference ≡ b → ((is_earlier d.number a.session a.subject row && is_marked r row.0) && not b) ≡ false
+      by : (b : Bool) → same_code row.0.1 d.reference ≡ b
+          → ((is_earlier d.number a.session a.subject row && is_marked r row.0) && not b) ≡ false
           → (is_earlier d.number a.session a.subject row && is_marked r row.0) ≡ false
       by true same is = of_own (nat_eq row.0.0 d.number) refl (same_code_exact row.0.1 d.reference same)
       by false other is = alone (is_earlier d.number a.session a.subject row && is_marked r row.0) is
 
   none_ended : (rows : List ((ℕ × Code) × Appeal)) → list_any (is_ended r d a) rows ≡ false
-      → list_any (λ (e : (ℕ × Code) × Appeal). is_earlier d.number a.session a.subject e && is_marked r e.0) rows ≡ false
+      → list_any (λ (e : (ℕ × Code) × Appeal). is_earlier d.number a.session a.subject e && is_marked r e.0) rows
+      ≡ false
   none_ended [] none = refl
   none_ended (row ∷ rows) none =
       let parts = neither_any (is_ended r d a row) (list_any (is_ended r d a) rows) none in
-      ap (λ b. b || list_any (λ (e : (ℕ × Code) × Appeal). is_earlier d.number a.session a.subject e && is_marked r e.0) rows) (no_other row parts.0) ∙ none_ended rows parts.1
+      ap (λ b. b || list_any
+      (λ (e : (ℕ × Code) × Appeal). is_earlier d.number a.session a.subject e && is_marked r e.0) rows)
+      (no_other row parts.0) ∙ none_ended rows parts.1
 
 -- if no standing grant is superseded, the appellant's are the same
 module _ (r : Relations) (c : ℕ) (own : Code) (asked : Subject) where
-  still_standing : (rows : List ((ℕ × Code) × Appeal)) → list_any (λ (e : (ℕ × Code) × Appeal). is_earlier c own asked e && is_marked r e.0) rows ≡ false
+  still_standing : (rows : List ((ℕ × Code) × Appeal))
+      → list_any (λ (e : (ℕ × Code) × Appeal). is_earlier c own asked e && is_marked r e.0) rows ≡ false
       → filter (is_standing r c) (map (giving_way c own asked) rows) ≡ filter (is_standing r c) rows
   still_standing [] none = refl
   still_standing (row ∷ rows) none =
-      let parts = neither_any (is_earlier c own asked row && is_marked r row.0) (list_any (λ (e : (ℕ × Code) × Appeal). is_earlier c own asked e && is_marked r e.0) rows) none in
+      let parts = neither_any (is_earlier c own asked row && is_marked r row.0)
+      (list_any (λ (e : (ℕ × Code) × Appeal). is_earlier c own asked e && is_marked r e.0) rows) none in
       inner (gives_way c own asked row) refl parts.0 (still_standing rows parts.1)
     where
       Stays : (ℕ × Code) × Appeal → Type 0
-      Stays changed = (cond (is_standing r c changed) (changed ∷ filter (is_standing r c) (map (giving_way c own asked) rows)) (filter (is_standing r c) (map (giving_way c own asked) rows)))
+      Stays changed = (cond (is_standing r c changed)
+          (changed ∷ filter (is_standing r c) (map (giving_way c own asked) rows))
+          (filter (is_standing r c) (map (giving_way c own asked) rows)))
           ≡ cond (is_standing r c row) (row ∷ filter (is_standing r c) rows) (filter (is_standing r c) rows)
 
       superseded_row : (ℕ × Code) × Appeal
       superseded_row = (row.0, record row.1 { status = superseded row.1.status })
 
-      unmarked : (mine granted marked : Bool) → ((true && granted) && marked) ≡ false → (mine && (granted && marked)) ≡ false
+      unmarked : (mine granted marked : Bool) → ((true && granted) && marked) ≡ false
+          → (mine && (granted && marked)) ≡ false
       unmarked true granted marked off = off
       unmarked false granted marked off = refl
 
       inner : (b : Bool) → gives_way c own asked row ≡ b → ((b && is_granted row.1.status) && is_marked r row.0) ≡ false
-          → filter (is_standing r c) (map (giving_way c own asked) rows) ≡ filter (is_standing r c) rows → Stays (cond b superseded_row row)
+          → filter (is_standing r c) (map (giving_way c own asked) rows) ≡ filter (is_standing r c) rows
+          → Stays (cond b superseded_row row)
       inner true gives off rest =
-          ap (λ b. cond b (superseded_row ∷ filter (is_standing r c) (map (giving_way c own asked) rows)) (filter (is_standing r c) (map (giving_way c own asked) rows)))
-          (ap (λ g. nat_eq row.0.0 c && (g && is_marked r row.0)) (superseded_ungranted row.1.status) ∙ never_marked (nat_eq row.0.0 c) (is_marked r row.0))
+          ap (λ b. cond b (superseded_row ∷ filter (is_standing r c) (map (giving_way c own asked) rows))
+          (filter (is_standing r c) (map (giving_way c own asked) rows)))
+          (ap (λ g. nat_eq row.0.0 c && (g && is_marked r row.0)) (superseded_ungranted row.1.status)
+          ∙ never_marked (nat_eq row.0.0 c) (is_marked r row.0))
           ∙ rest
-          ∙ sym (ap (λ b. cond b (row ∷ filter (is_standing r c) rows) (filter (is_standing r c) rows)) (unmarked (nat_eq row.0.0 c) (is_granted row.1.status) (is_marked r row.0) off))
+          ∙ sym (ap (λ b. cond b (row ∷ filter (is_standing r c) rows) (filter (is_standing r c) rows))
+          (unmarked (nat_eq row.0.0 c) (is_granted row.1.status) (is_marked r row.0) off))
       inner false stays off rest = ap (λ t. cond (is_standing r c row) (row ∷ t) t) rest
 
 -- nobody without a live entry fits anywhere
 unentered_fits : (r : Relations) (s : Code) (c : ℕ) (h : Code) → has_live_entry r s c ≡ false → fits r s c h ≡ false
-unentered_fits r s c h out = ap (λ b. b && (suits_opened (sitting_terms r s c) (opened_room r s h) && not (list_any (same_code h) (barred_halls r s c)))) out
+unentered_fits r s c h out =
+    ap (λ b. b && (suits_opened (sitting_terms r s c) (opened_room r s h)
+    && not (list_any (same_code h) (barred_halls r s c)))) out
 
 module _ (r : Relations) (refer : refers r ≡ true) (stand : marks_were_granted r ≡ true) (d : Decision) (s : Code)
     (a : Appeal) (at : appeal_at r d.number d.reference ≡ Some a) (open_yet : is_open a.status ≡ true) where
@@ -535,10 +592,13 @@ module _ (r : Relations) (refer : refers r ≡ true) (stand : marks_were_granted
   unmarked : is_marked r key ≡ false
   unmarked = unmarked_open r d a stand at open_yet
 
-  own_standing : ends_standing r d a ≡ false → standing_grants (with_decisions r (put_row appeal_cmp given_rows key granted_row) r.standing) d.number ≡ standing_grants r d.number
+  own_standing : ends_standing r d a ≡ false
+      → standing_grants (with_decisions r (put_row appeal_cmp given_rows key granted_row) r.standing) d.number
+      ≡ standing_grants r d.number
   own_standing none =
       ap (filter_map (λ (x : (ℕ × Code) × Appeal). standing_grant r x.1))
-      (put_passed_over appeal_cmp appeals_exact (is_standing r d.number) given_rows key granted_row (never true) (λ b then. never (is_granted b.status))
+      (put_passed_over appeal_cmp appeals_exact (is_standing r d.number) given_rows key granted_row (never true)
+      (λ b then. never (is_granted b.status))
       ∙ still_standing r d.number a.session a.subject r.appeals (none_ended r d a unmarked r.appeals none))
     where
       never : (g : Bool) → (nat_eq d.number d.number && (g && is_marked r key)) ≡ false
@@ -546,25 +606,34 @@ module _ (r : Relations) (refer : refers r ≡ true) (stand : marks_were_granted
 
   -- a grant, which sets or ends a standing one or neither, leaves the seating of a session that it does not touch
   grant_seating : (o : Outcome) → d.outcome ≡ o → is_grant o ≡ true → grant_reaches r d a s ≡ false
-      → SameSeating (seating r s) (seating (with_decisions r (put_row appeal_cmp given_rows key granted_row) (with_mark d r.standing)) s)
-  grant_seating o is grants untouched = seating_by r (put_row appeal_cmp given_rows key granted_row) (with_mark d r.standing) s (λ n h. by_number n h (nat_eq d.number n) refl)
+      → SameSeating (seating r s)
+      (seating (with_decisions r (put_row appeal_cmp given_rows key granted_row) (with_mark d r.standing)) s)
+  grant_seating o is grants untouched =
+      seating_by r (put_row appeal_cmp given_rows key granted_row) (with_mark d r.standing) s
+      (λ n h. by_number n h (nat_eq d.number n) refl)
     where
-      parts : (same_code a.session s ≡ false) × (((bears_mark d.outcome || ends_standing r d a) && is_member r s d.number) ≡ false)
-      parts = neither_any (same_code a.session s) ((bears_mark d.outcome || ends_standing r d a) && is_member r s d.number) untouched
+      parts : (same_code a.session s ≡ false)
+          × (((bears_mark d.outcome || ends_standing r d a) && is_member r s d.number) ≡ false)
+      parts = neither_any (same_code a.session s)
+          ((bears_mark d.outcome || ends_standing r d a) && is_member r s d.number) untouched
 
       t : Relations
       t = with_decisions r (put_row appeal_cmp given_rows key granted_row) (with_mark d r.standing)
 
-      granted_same : (n : ℕ) → granted_subjects (put_row appeal_cmp given_rows key granted_row) s n ≡ granted_subjects r.appeals s n
+      granted_same : (n : ℕ)
+          → granted_subjects (put_row appeal_cmp given_rows key granted_row) s n ≡ granted_subjects r.appeals s n
       granted_same n = grant_spares d.number a.session s a.subject parts.0 r key a granted_row at refl refl n
 
       made_is : with_outcome r d a ≡ t
       made_is =
-          ap (λ (u : Outcome). with_decisions r (put_row appeal_cmp (with_superseded d.number a u r.appeals) key (record a { status = decided u d.answer })) (with_mark d r.standing)) is
+          ap (λ (u : Outcome). with_decisions r
+          (put_row appeal_cmp (with_superseded d.number a u r.appeals) key
+          (record a { status = decided u d.answer })) (with_mark d r.standing)) is
           ∙ by_outcome o grants
         where
           by_outcome : (u : Outcome) → is_grant u ≡ true
-              → with_decisions r (put_row appeal_cmp (with_superseded d.number a u r.appeals) key (record a { status = decided u d.answer })) (with_mark d r.standing)
+              → with_decisions r (put_row appeal_cmp (with_superseded d.number a u r.appeals) key
+              (record a { status = decided u d.answer })) (with_mark d r.standing)
               ≡ with_decisions r (put_row appeal_cmp given_rows key granted_row) (with_mark d r.standing)
           by_outcome outcome.Grant granting = refl
           by_outcome outcome.Standing granting = refl
@@ -573,12 +642,19 @@ module _ (r : Relations) (refer : refers r ≡ true) (stand : marks_were_granted
       -- the appellant, if they are a member
       of_member : (h : Code) → has_live_entry r s d.number ≡ true → fits t s d.number h ≡ fits r s d.number h
       of_member h entered =
-          let member : is_member r s d.number ≡ true = ap (λ b. b && has_live_entry r s d.number) (entered_known r (parted r refer).entries s d.number entered) ∙ entered in
+          let member : is_member r s d.number ≡ true =
+          ap (λ b. b && has_live_entry r s d.number)
+          (entered_known r (parted r refer table.Entries) s d.number entered) ∙ entered in
           let none = neither_any (bears_mark d.outcome) (ends_standing r d a)
           (only_first (bears_mark d.outcome || ends_standing r d a) (is_member r s d.number) member parts.1) in
-          fits_same r (put_row appeal_cmp given_rows key granted_row) (with_mark d r.standing) s d.number (granted_same d.number)
-          (ap (λ b. standing_grants (with_decisions r (put_row appeal_cmp given_rows key granted_row) (cond b (put_row appeal_cmp r.standing key tt) (without_mark key r.standing))) d.number) none.0
-          ∙ ap (λ marks. standing_grants (with_decisions r (put_row appeal_cmp given_rows key granted_row) marks) d.number) (unmarked_same r.standing key unmarked)
+          fits_same r (put_row appeal_cmp given_rows key granted_row) (with_mark d r.standing) s d.number
+          (granted_same d.number)
+          (ap (λ b. standing_grants
+          (with_decisions r (put_row appeal_cmp given_rows key granted_row)
+          (cond b (put_row appeal_cmp r.standing key tt) (without_mark key r.standing))) d.number) none.0
+          ∙ ap (λ marks. standing_grants
+          (with_decisions r (put_row appeal_cmp given_rows key granted_row) marks) d.number)
+          (unmarked_same r.standing key unmarked)
           ∙ own_standing none.1) h
         where
           only_first : (x y : Bool) → y ≡ true → (x && y) ≡ false → x ≡ false
@@ -590,39 +666,55 @@ module _ (r : Relations) (refer : refers r ≡ true) (stand : marks_were_granted
       of_appellant h false out = unentered_fits t s d.number h out ∙ sym (unentered_fits r s d.number h out)
 
       by_number : (n : ℕ) (h : Code) (b : Bool) → nat_eq d.number n ≡ b → fits t s n h ≡ fits r s n h
-      by_number n h true mine = subst (λ m. fits t s m h ≡ fits r s m h) (eqb-true d.number n mine) (of_appellant h (has_live_entry r s d.number) refl)
+      by_number n h true mine =
+          subst (λ m. fits t s m h ≡ fits r s m h) (eqb-true d.number n mine)
+          (of_appellant h (has_live_entry r s d.number) refl)
       by_number n h false other =
           fits_same r (put_row appeal_cmp given_rows key granted_row) (with_mark d r.standing) s n (granted_same n)
           (ap (λ u. standing_grants u n) (sym made_is) ∙ others_standing_grants r d a n other) h
 
-  outcome_spares : (o : Outcome) → d.outcome ≡ o → (is_grant o && grant_reaches r d a s) ≡ false → SameSeating (seating r s) (seating (with_outcome r d a) s)
-  outcome_spares outcome.Grant is away = subst (λ (u : Relations). SameSeating (seating r s) (seating u s)) (sym (made_as outcome.Grant is)) (grant_seating outcome.Grant is refl away)
+  outcome_spares : (o : Outcome) → d.outcome ≡ o → (is_grant o && grant_reaches r d a s) ≡ false
+      → SameSeating (seating r s) (seating (with_outcome r d a) s)
+  outcome_spares outcome.Grant is away =
+      subst (λ (u : Relations). SameSeating (seating r s) (seating u s)) (sym (made_as outcome.Grant is))
+      (grant_seating outcome.Grant is refl away)
     where
       made_as : (o : Outcome) → d.outcome ≡ o
           → with_outcome r d a
           ≡ with_decisions r (put_row appeal_cmp (with_superseded d.number a o r.appeals) key
           (record a { status = decided o d.answer })) (with_mark d r.standing)
-      made_as o e = ap (λ (u : Outcome). with_decisions r (put_row appeal_cmp (with_superseded d.number a u r.appeals) key (record a { status = decided u d.answer })) (with_mark d r.standing)) e
-  outcome_spares outcome.Standing is away = subst (λ (u : Relations). SameSeating (seating r s) (seating u s)) (sym (made_as outcome.Standing is)) (grant_seating outcome.Standing is refl away)
+      made_as o e = ap (λ (u : Outcome). with_decisions r
+          (put_row appeal_cmp (with_superseded d.number a u r.appeals) key (record a { status = decided u d.answer }))
+          (with_mark d r.standing)) e
+  outcome_spares outcome.Standing is away =
+      subst (λ (u : Relations). SameSeating (seating r s) (seating u s)) (sym (made_as outcome.Standing is))
+      (grant_seating outcome.Standing is refl away)
     where
       made_as : (o : Outcome) → d.outcome ≡ o
           → with_outcome r d a
           ≡ with_decisions r (put_row appeal_cmp (with_superseded d.number a o r.appeals) key
           (record a { status = decided o d.answer })) (with_mark d r.standing)
-      made_as o e = ap (λ (u : Outcome). with_decisions r (put_row appeal_cmp (with_superseded d.number a u r.appeals) key (record a { status = decided u d.answer })) (with_mark d r.standing)) e
+      made_as o e = ap (λ (u : Outcome). with_decisions r
+          (put_row appeal_cmp (with_superseded d.number a u r.appeals) key (record a { status = decided u d.answer }))
+          (with_mark d r.standing)) e
   outcome_spares outcome.Refuse is away =
       subst (λ (u : Relations). SameSeating (seating r s) (seating u s)) (sym made_as)
       (put_seating_same r key (record a { status = status.Refused d.answer }) refl
-      (λ b there_is. let same : a ≡ b = (let both : Some a ≡ Some b = sym at ∙ there_is in cc) in ap (λ (x : Appeal). is_granted x.status) (sym same) ∙ open_ungranted a.status open_yet) s)
+      (λ b there_is. let same : a ≡ b = (let both : Some a ≡ Some b = sym at ∙ there_is in cc) in
+      ap (λ (x : Appeal). is_granted x.status) (sym same) ∙ open_ungranted a.status open_yet) s)
     where
-      made_as : with_outcome r d a ≡ with_appeals r (put_row appeal_cmp r.appeals key (record a { status = status.Refused d.answer }))
+      made_as : with_outcome r d a
+          ≡ with_appeals r (put_row appeal_cmp r.appeals key (record a { status = status.Refused d.answer }))
       made_as = ap (λ (u : Outcome). with_decisions r
           (put_row appeal_cmp (with_superseded d.number a u r.appeals) key (record a { status = decided u d.answer }))
           (cond (bears_mark u) (put_row appeal_cmp r.standing key tt) (without_mark key r.standing))) is
-          ∙ ap (with_decisions r (put_row appeal_cmp r.appeals key (record a { status = status.Refused d.answer }))) (unmarked_same r.standing key unmarked)
+          ∙ ap (with_decisions r (put_row appeal_cmp r.appeals key (record a { status = status.Refused d.answer })))
+          (unmarked_same r.standing key unmarked)
 
-module _ (r : Relations) (refer : refers r ≡ true) (stand : marks_were_granted r ≡ true) (today : ℕ) (d : Decision) (s : Code) where
-  pub decision_spares : decision_refusal r today d ≡ None → decision_reaches r d s ≡ false → SameSeating (seating r s) (seating (with_decision r d) s)
+module _ (r : Relations) (refer : refers r ≡ true) (stand : marks_were_granted r ≡ true) (today : ℕ) (d : Decision)
+    (s : Code) where
+  pub decision_spares : decision_refusal r today d ≡ None → decision_reaches r d s ≡ false
+      → SameSeating (seating r s) (seating (with_decision r d) s)
   decision_spares ok away = inner (appeal_at r d.number d.reference) refl ok
     where
       same : SameSeating (seating r s) (seating r s)
@@ -634,10 +726,15 @@ module _ (r : Relations) (refer : refers r ≡ true) (stand : marks_were_granted
       by_case a at true checked = same
       by_case a at false checked =
           outcome_spares r refer stand d s a at
-          (there (is_open a.status) refusal.NotOpenAppeal ((is_too_late r a.session today, refusal.TooLate) ∷ not_arrangement a d.outcome ∷ grant_checks r d.number a d.outcome) checked) d.outcome refl
-          (ap (λ o. is_grant d.outcome && option_map_or (λ (x : Appeal). grant_reaches r d x s) o false) (sym at) ∙ away)
+          (there (is_open a.status) refusal.NotOpenAppeal
+          ((is_too_late r a.session today, refusal.TooLate) ∷ not_arrangement a d.outcome
+          ∷ grant_checks r d.number a d.outcome) checked) d.outcome refl
+          (ap (λ o. is_grant d.outcome && option_map_or (λ (x : Appeal). grant_reaches r d x s) o false) (sym at)
+          ∙ away)
 
-      inner : (o : Option Appeal) → appeal_at r d.number d.reference ≡ o → first_refusal (decision_checks r today d o) ≡ None → SameSeating (seating r s) (seating (with_decided r d o) s)
+      inner : (o : Option Appeal) → appeal_at r d.number d.reference ≡ o
+          → first_refusal (decision_checks r today d o) ≡ None
+          → SameSeating (seating r s) (seating (with_decided r d o) s)
       inner None none checked = same
       inner (Some a) at checked = by_case a at (is_made r d a) checked
 
@@ -649,55 +746,76 @@ module _ (before : State) (good : IsGood before) (up : IsInOrder before) (today 
   spared_by (command.Import import) t is unset away =
       let r = before.relations in
       let none = unrefused (import_refusal r import.rows) (with_rows r import.rows) t is in
-      let checked = neither (rows_refusal r import.rows) (first_refusal (too_many (with_rows r import.rows) ∷ [])) none in
-      subst (λ u. SameSeating (seating r s) (seating u s)) (made (import_refusal r import.rows) (with_rows r import.rows) t is)
-      (alike_seating r (with_rows r import.rows) s (import_spares r good.refer s (up.tables table.Candidates) import.rows unset
-      (neither_any (list_any (λ (x : Row). row_reaches r x s) import.rows) (is_of_sessions import.kind && has_standing_member r s) away).0 checked.0))
+      let checked = neither (rows_refusal r import.rows)
+      (first_refusal (too_many (with_rows r import.rows) ∷ [])) none in
+      subst (λ u. SameSeating (seating r s) (seating u s))
+      (made (import_refusal r import.rows) (with_rows r import.rows) t is)
+      (alike_seating r (with_rows r import.rows) s
+      (import_spares r good.refer s (up.tables table.Candidates) import.rows unset
+      (neither_any (list_any (λ (x : Row). row_reaches r x s) import.rows)
+      (is_of_sessions import.kind && has_standing_member r s) away).0 checked.0))
   spared_by (command.Withdraw c p) t is unset away =
       let r = before.relations in
-      subst (λ u. SameSeating (seating r s) (seating u s)) (made (withdrawal_refusal r c p) (with_live r c p false) t is)
+      subst (λ u. SameSeating (seating r s) (seating u s))
+      (made (withdrawal_refusal r c p) (with_live r c p false) t is)
       (alike_seating r (with_live r c p false) s (live_spares r c p false s away))
   spared_by (command.Reinstate c p) t is unset away =
       let r = before.relations in
-      subst (λ u. SameSeating (seating r s) (seating u s)) (made (reinstatement_refusal r c p) (with_live r c p true) t is)
+      subst (λ u. SameSeating (seating r s) (seating u s))
+      (made (reinstatement_refusal r c p) (with_live r c p true) t is)
       (alike_seating r (with_live r c p true) s (live_spares r c p true s away))
   spared_by (command.CloseHall named h) t is unset away =
       let r = before.relations in
       let none = unrefused (closing_refusal r named h) (without_opening r named h) t is in
-      let known : has_row code_cmp r.sessions named ≡ true = there (has_row code_cmp r.sessions named) refusal.UnknownSession (no_hall r h ∷ not_opened r named h ∷ []) none in
-      subst (λ u. SameSeating (seating r s) (seating u s)) (made (closing_refusal r named h) (without_opening r named h) t is)
-      (alike_seating r (without_opening r named h) s (closing_spares r named h s (unnamed r known (same_code named s) refl away)))
+      let known : has_row code_cmp r.sessions named ≡ true =
+      there (has_row code_cmp r.sessions named) refusal.UnknownSession
+      (no_hall r h ∷ not_opened r named h ∷ []) none in
+      subst (λ u. SameSeating (seating r s) (seating u s))
+      (made (closing_refusal r named h) (without_opening r named h) t is)
+      (alike_seating r (without_opening r named h) s
+      (closing_spares r named h s (unnamed r known (same_code named s) refl away)))
     where
-      unnamed : (r : Relations) → has_row code_cmp r.sessions named ≡ true → (b : Bool) → same_code named s ≡ b → names r named s ≡ false → b ≡ false
+      unnamed : (r : Relations) → has_row code_cmp r.sessions named ≡ true → (b : Bool) → same_code named s ≡ b
+          → names r named s ≡ false → b ≡ false
       unnamed r known true same out =
-          absurd (let differ : true ≡ false = sym (ap (λ b. b && has_row code_cmp r.sessions s) same ∙ ap (has_row code_cmp r.sessions) (sym (same_code_exact named s same)) ∙ known) ∙ out in cc)
+          absurd (let differ : true ≡ false =
+          sym (ap (λ b. b && has_row code_cmp r.sessions s) same
+          ∙ ap (has_row code_cmp r.sessions) (sym (same_code_exact named s same)) ∙ known) ∙ out in cc)
       unnamed r known false same out = refl
   spared_by (command.Lodge l) t is unset away =
       let r = before.relations in
       let refused = lodgings.lodging_refusal r before.seats today l in
       let none = unrefused refused (lodgings.with_lodging r today l) t is in
-      let standing = neither (lodgings.lodging_refusal_but_limits r before.seats today l) (first_refusal (lodgings.one_too_many r today l ∷ [])) none in
-      (lodging_settled before good today l t standing.0 (sym (made refused (lodgings.with_lodging r today l) t is))).seated s
+      let standing = neither (lodgings.lodging_refusal_but_limits r before.seats today l)
+      (first_refusal (lodgings.one_too_many r today l ∷ [])) none in
+      (lodging_settled before good today l t standing.0
+      (sym (made refused (lodgings.with_lodging r today l) t is))).seated s
   spared_by (command.Retract c reference) t is unset away =
       let r = before.relations in
       let refused = lodgings.retraction_refusal r c reference in
       let none = unrefused refused (lodgings.with_retraction r c reference) t is in
-      (retraction_settled before good c reference t up.tables none (sym (made refused (lodgings.with_retraction r c reference) t is))).seated s
+      (retraction_settled before good c reference t up.tables none
+      (sym (made refused (lodgings.with_retraction r c reference) t is))).seated s
   spared_by (command.Decide d) t is unset away =
       let r = before.relations in
       let none = unrefused (decision_refusal r today d) (with_decision r d) t is in
       subst (λ u. SameSeating (seating r s) (seating u s)) (made (decision_refusal r today d) (with_decision r d) t is)
       (decision_spares r good.refer good.marks today d s none away)
 
-  pub spared : (done : Command) (t : Relations) → change done today before ≡ Ok t → touches before.relations done s ≡ false → SameSeating (seating before.relations s) (seating t s)
+  pub spared : (done : Command) (t : Relations) → change done today before ≡ Ok t
+      → touches before.relations done s ≡ false → SameSeating (seating before.relations s) (seating t s)
   spared done t is away =
-      spared_by done t is (untouched_is_unset before.relations good.refer s done away) (untouched_is_unreached before.relations good.refer s done away)
+      spared_by done t is (untouched_is_unset before.relations good.refer s done away)
+      (untouched_is_unreached before.relations good.refer s done away)
 
   -- and its plan
-  pub untouched_stays : (done : Command) (after : State) (reply : Reply) → Step done today before (Ok reply) after → touches before.relations done s ≡ false
-      → SameSeating (seating before.relations s) (seating after.relations s) × SamePlan (plan_of after.seats s) (plan_of before.seats s)
+  pub untouched_stays : (done : Command) (after : State) (reply : Reply) → Step done today before (Ok reply) after
+      → touches before.relations done s ≡ false
+      → SameSeating (seating before.relations s) (seating after.relations s)
+      × SamePlan (plan_of after.seats s) (plan_of before.seats s)
   untouched_stays done after reply step away =
       let changed = new_facts done today before reply after step in
       let same = spared done after.relations changed away in
-      let to : StepTo done before (Ok reply) after (Ok after.relations) = subst (StepTo done before (Ok reply) after) changed step in
+      let to : StepTo done before (Ok reply) after (Ok after.relations) =
+      subst (StepTo done before (Ok reply) after) changed step in
       (same, (to.1 s).untouched same)

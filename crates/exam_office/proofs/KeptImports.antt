@@ -1,5 +1,6 @@
 -- An import of what no list shows leaves the lists of members and open halls.
-use Rattle.std.proofs.Common.{◌≡◌, ℕ, ◌||◌, Bool, true, false, cond, List, [], ◌∷◌, filter, Option, None, Some, is_some, refl, ap, sym, subst, ◌∙◌}
+use Rattle.std.proofs.Common.{◌≡◌, ℕ, ◌||◌, Bool, true, false, cond, List, [], ◌∷◌, filter, Option, None, Some, is_some}
+use Rattle.std.proofs.Common.{refl, ap, sym, subst, ◌∙◌}
 use Rattle.std.specs.List.{cons_option, filter_map, list_any}
 use Rattle.std.specs.List.Sorted.{IsStrictlySortedBy}
 use Rattle.std.specs.Map.{keys_of}
@@ -44,11 +45,13 @@ is_unlisted kind.Entries = false
 is_unlisted kind.Arrangements = true
 
 -- elements that make nothing may be left out before
-parted : (h : ℕ → Option Entrant) (p : ℕ → Bool) → ((c : ℕ) → p c ≡ false → h c ≡ None) → (cs : List ℕ) → filter_map h cs ≡ filter_map h (filter p cs)
+parted : (h : ℕ → Option Entrant) (p : ℕ → Bool) → ((c : ℕ) → p c ≡ false → h c ≡ None) → (cs : List ℕ)
+    → filter_map h cs ≡ filter_map h (filter p cs)
 parted h p none [] = refl
 parted h p none (c ∷ cs) = inner (p c) refl (parted h p none cs)
   where
-    inner : (b : Bool) → p c ≡ b → filter_map h cs ≡ filter_map h (filter p cs) → cons_option (h c) (filter_map h cs) ≡ filter_map h (cond b (c ∷ filter p cs) (filter p cs))
+    inner : (b : Bool) → p c ≡ b → filter_map h cs ≡ filter_map h (filter p cs)
+        → cons_option (h c) (filter_map h cs) ≡ filter_map h (cond b (c ∷ filter p cs) (filter p cs))
     inner true is rest = ap (cons_option (h c)) rest
     inner false is rest = ap (λ o. cons_option o (filter_map h cs)) (none c is) ∙ rest
 
@@ -69,10 +72,12 @@ none_set s (x ∷ rows) of =
     inner (row.OfArrangement c v) is = refl
 
 -- and reach none
-none_reached : (r : Relations) (s : Code) (rows : List Row) → AreOfKind kind.Candidates rows → list_any (λ (x : Row). row_reaches r x s) rows ≡ false
+none_reached : (r : Relations) (s : Code) (rows : List Row) → AreOfKind kind.Candidates rows
+    → list_any (λ (x : Row). row_reaches r x s) rows ≡ false
 none_reached r s [] of = refl
 none_reached r s (x ∷ rows) of =
-    ap (λ b. b || list_any (λ (y : Row). row_reaches r y s) rows) (inner x (All-head (λ y. kind_of y ≡ kind.Candidates) x rows of))
+    ap (λ b. b || list_any (λ (y : Row). row_reaches r y s) rows)
+    (inner x (All-head (λ y. kind_of y ≡ kind.Candidates) x rows of))
     ∙ none_reached r s rows (All-tail (λ y. kind_of y ≡ kind.Candidates) x rows of)
   where
     inner : (y : Row) → kind_of y ≡ kind.Candidates → row_reaches r y s ≡ false
@@ -102,11 +107,16 @@ module _ (r : Relations) (lists : SessionLists) (are : AreListsOf r lists) where
     numbers = entrants_are_members (record r { candidates = candidates });
     members = λ s. are.members s ∙ sym (same_entrants s);
     halls = are.halls;
-    rising = λ s. record { numbers = subst (IsStrictlySortedBy nat_cmp) (sym (same s)) (are.rising s).numbers; codes = (are.rising s).codes };
+    rising = λ s. record {
+      numbers = subst (IsStrictlySortedBy nat_cmp) (sym (same s)) (are.rising s).numbers;
+      codes = (are.rising s).codes;
+    };
   }
     where
-      unlisted : (s : Code) (c : ℕ) → has_live_entry r s c ≡ false → option_map (entrant c) (least_live_paper r s c) ≡ None
-      unlisted s c out = inner (least_live_paper r s c) (sym (any_is (is_live_entry r s c) (λ (e : (ℕ × Code) × Entry). e.0.1) r.entries) ∙ out)
+      unlisted : (s : Code) (c : ℕ) → has_live_entry r s c ≡ false
+          → option_map (entrant c) (least_live_paper r s c) ≡ None
+      unlisted s c out = inner (least_live_paper r s c)
+          (sym (any_is (is_live_entry r s c) (λ (e : (ℕ × Code) × Entry). e.0.1) r.entries) ∙ out)
         where
           inner : (o : Option Code) → is_some o ≡ false → option_map (entrant c) o ≡ None
           inner None none = refl
@@ -114,23 +124,35 @@ module _ (r : Relations) (lists : SessionLists) (are : AreListsOf r lists) where
 
       same_entrants : (s : Code) → entrants (record r { candidates = candidates }) s ≡ entrants r s
       same_entrants s =
-          parted (λ c. option_map (entrant c) (least_live_paper r s c)) (has_live_entry r s) (unlisted s) (keys_of candidates)
+          parted (λ c. option_map (entrant c) (least_live_paper r s c)) (has_live_entry r s) (unlisted s)
+          (keys_of candidates)
           ∙ ap (filter_map (λ c. option_map (entrant c) (least_live_paper r s c))) (same s)
-          ∙ sym (parted (λ c. option_map (entrant c) (least_live_paper r s c)) (has_live_entry r s) (unlisted s) (keys_of r.candidates))
+          ∙ sym (parted (λ c. option_map (entrant c) (least_live_paper r s c)) (has_live_entry r s) (unlisted s)
+          (keys_of r.candidates))
 
-  kept : (k : Kind) (rows : List Row) → refers r ≡ true → AreInOrder r → rows_refusal r rows ≡ None → AreOfKind k rows → is_unlisted k ≡ true → AreListsOf (with_rows r rows) lists
+  kept : (k : Kind) (rows : List Row) → refers r ≡ true → AreInOrder r → rows_refusal r rows ≡ None → AreOfKind k rows
+      → is_unlisted k ≡ true → AreListsOf (with_rows r rows) lists
   kept k rows refer up known of keeps = inner k keeps of (import_only k r rows of)
     where
-      inner : (k : Kind) → is_unlisted k ≡ true → AreOfKind k rows → ChangesOnly k r (with_rows r rows) → AreListsOf (with_rows r rows) lists
-      inner kind.Sessions keeps of only = subst (λ (t : Relations). AreListsOf t lists) (sym only) (with_others (with_rows r rows).sessions r.halls r.arrangements)
+      inner : (k : Kind) → is_unlisted k ≡ true → AreOfKind k rows → ChangesOnly k r (with_rows r rows)
+          → AreListsOf (with_rows r rows) lists
+      inner kind.Sessions keeps of only =
+          subst (λ (t : Relations). AreListsOf t lists) (sym only)
+          (with_others (with_rows r rows).sessions r.halls r.arrangements)
       inner kind.Papers keeps of only = absurd (let differ : false ≡ true = keeps in cc)
-      inner kind.Halls keeps of only = subst (λ (t : Relations). AreListsOf t lists) (sym only) (with_others r.sessions (with_rows r rows).halls r.arrangements)
+      inner kind.Halls keeps of only =
+          subst (λ (t : Relations). AreListsOf t lists) (sym only)
+          (with_others r.sessions (with_rows r rows).halls r.arrangements)
       inner kind.Openings keeps of only = absurd (let differ : false ≡ true = keeps in cc)
       inner kind.Candidates keeps of only =
           subst (λ (t : Relations). AreListsOf t lists) (sym only)
-          (with_candidates (with_rows r rows).candidates (λ s. (import_spares r refer s (up table.Candidates) rows (none_set s rows of) (none_reached r s rows of) known).candidates))
+          (with_candidates (with_rows r rows).candidates
+          (λ s. (import_spares r refer s (up table.Candidates) rows (none_set s rows of)
+          (none_reached r s rows of) known).candidates))
       inner kind.Entries keeps of only = absurd (let differ : false ≡ true = keeps in cc)
-      inner kind.Arrangements keeps of only = subst (λ (t : Relations). AreListsOf t lists) (sym only) (with_others r.sessions r.halls (with_rows r rows).arrangements)
+      inner kind.Arrangements keeps of only =
+          subst (λ (t : Relations). AreListsOf t lists) (sym only)
+          (with_others r.sessions r.halls (with_rows r rows).arrangements)
 
 module _ (import : ImportRows) (r t : Relations) (was : WasMade (command.Import import) r t) where
   known : rows_refusal r import.rows ≡ None
@@ -139,10 +161,15 @@ module _ (import : ImportRows) (r t : Relations) (was : WasMade (command.Import 
   made : t ≡ with_rows r import.rows
   made = was.made ∙ ap (λ (u : Relations). with_rows u import.rows) was.facts
 
-  pub kept_import : (lists : SessionLists) → AreListsOf r lists → AreOfKind import.kind import.rows → is_unlisted import.kind ≡ true → AreListsOf t lists
+  pub kept_import : (lists : SessionLists) → AreListsOf r lists → AreOfKind import.kind import.rows
+      → is_unlisted import.kind ≡ true → AreListsOf t lists
   kept_import lists are of keeps =
       subst (λ (u : Relations). AreListsOf u lists) (sym made)
-      (kept r lists are import.kind import.rows (subst (λ (u : Relations). refers u ≡ true) was.facts was.good.refer) was.order known of keeps)
+      (kept r lists are import.kind import.rows
+      (subst (λ (u : Relations). refers u ≡ true) was.facts was.good.refer) was.order known of keeps)
 
-  pub import_opens : AreOfKind import.kind import.rows → import.kind ≡ kind.Openings → t ≡ record r { openings = t.openings }
-  import_opens of is = subst (λ (u : Relations). u ≡ record r { openings = u.openings }) (sym made) (import_only kind.Openings r import.rows (subst (λ k. AreOfKind k import.rows) is of))
+  pub import_opens : AreOfKind import.kind import.rows → import.kind ≡ kind.Openings
+      → t ≡ record r { openings = t.openings }
+  import_opens of is =
+      subst (λ (u : Relations). u ≡ record r { openings = u.openings }) (sym made)
+      (import_only kind.Openings r import.rows (subst (λ k. AreOfKind k import.rows) is of))

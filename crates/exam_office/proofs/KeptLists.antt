@@ -28,7 +28,8 @@ abbrev Rows : Type 0
 Rows = List ((ℕ × Code) × Appeal)
 
 module _ (r : Relations) (lists : SessionLists) (are : AreListsOf r lists) where
-  with_decisions : (appeals : Rows) (marks : List ((ℕ × Code) × Unit {0})) → AreListsOf (record r { appeals = appeals; standing = marks }) lists
+  with_decisions : (appeals : Rows) (marks : List ((ℕ × Code) × Unit {0}))
+      → AreListsOf (record r { appeals = appeals; standing = marks }) lists
   with_decisions appeals marks = record {
     numbers = are.numbers;
     members = are.members;
@@ -36,7 +37,8 @@ module _ (r : Relations) (lists : SessionLists) (are : AreListsOf r lists) where
     rising = λ s. record { numbers = (are.rising s).numbers; codes = (are.rising s).codes };
   }
 
-  either : (b : Bool) (appeals : Rows) (marks : List ((ℕ × Code) × Unit {0})) → AreListsOf (cond b r (record r { appeals = appeals; standing = marks })) lists
+  either : (b : Bool) (appeals : Rows) (marks : List ((ℕ × Code) × Unit {0}))
+      → AreListsOf (cond b r (record r { appeals = appeals; standing = marks })) lists
   either true appeals marks = are
   either false appeals marks = with_decisions appeals marks
 
@@ -49,23 +51,28 @@ module _ (today : ℕ) (office : State) (lists : SessionLists) (are : AreListsOf
   made_lists (command.Lodge l) keeps = inner (is_none (appeal_at office.relations l.number l.reference))
     where
       inner : (b : Bool) → AreListsOf (cond b (lodgings.with_appeal office.relations today l) office.relations) lists
-      inner true = with_decisions office.relations lists are (lodgings.with_appeal office.relations today l).appeals office.relations.standing
+      inner true = with_decisions office.relations lists are
+          (lodgings.with_appeal office.relations today l).appeals office.relations.standing
       inner false = are
   made_lists (command.Retract c reference) keeps = inner (appeal_at office.relations c reference)
     where
       inner : (o : Option Appeal) → AreListsOf (lodgings.with_retracted office.relations c reference o) lists
       inner None = are
-      inner (Some a) = either office.relations lists are (is_retracted a.status) (lodgings.with_retracted_appeal office.relations c reference a).appeals office.relations.standing
+      inner (Some a) = either office.relations lists are (is_retracted a.status)
+          (lodgings.with_retracted_appeal office.relations c reference a).appeals office.relations.standing
   made_lists (command.Decide d) keeps = inner (appeal_at office.relations d.number d.reference)
     where
       inner : (o : Option Appeal) → AreListsOf (with_decided office.relations d o) lists
       inner None = are
-      inner (Some a) = either office.relations lists are (is_made office.relations d a) (with_outcome office.relations d a).appeals (with_outcome office.relations d a).standing
+      inner (Some a) = either office.relations lists are (is_made office.relations d a)
+          (with_outcome office.relations d a).appeals (with_outcome office.relations d a).standing
 
-pub kept_lists : (done : Command) (r t : Relations) (lists : SessionLists) → WasMade done r t → keeps_lists done ≡ true → AreListsOf r lists → AreListsOf t lists
+pub kept_lists : (done : Command) (r t : Relations) (lists : SessionLists) → WasMade done r t → keeps_lists done ≡ true
+    → AreListsOf r lists → AreListsOf t lists
 kept_lists done r t lists was keeps are =
     subst (λ (u : Relations). AreListsOf u lists) (sym was.made)
-    (made_lists was.today was.office lists (subst (λ (u : Relations). AreListsOf u lists) (sym was.facts) are) done keeps)
+    (made_lists was.today was.office lists
+    (subst (λ (u : Relations). AreListsOf u lists) (sym was.facts) are) done keeps)
 
 -- ---- a hall closed
 

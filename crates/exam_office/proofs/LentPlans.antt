@@ -35,12 +35,16 @@ or_false true = refl
 or_false false = refl
 
 -- whether one of a list passes, once it is longer by one
-pub any_more : {A : Type 0} (p : A → Bool) (xs ys : List A) (x : A) → ys ≡ xs ++ x ∷ [] → list_any p ys ≡ (list_any p xs || p x)
-any_more p xs ys x is = ap (list_any p) is ∙ list_any-append p xs (x ∷ []) ∙ ap (λ b. list_any p xs || b) (or_false (p x))
+pub any_more : {A : Type 0} (p : A → Bool) (xs ys : List A) (x : A) → ys ≡ xs ++ x ∷ []
+    → list_any p ys ≡ (list_any p xs || p x)
+any_more p xs ys x is =
+    ap (list_any p) is ∙ list_any-append p xs (x ∷ []) ∙ ap (λ b. list_any p xs || b) (or_false (p x))
 
 -- the members of a session so far are copied, and one more is
-pub copied_step : (here now before : Bool) (mine first old new : Option Code) → old ≡ cond (here && before) (option_or mine first) first
-    → new ≡ cond (here && now) (option_or mine old) old → new ≡ cond (here && (before || now)) (option_or mine first) first
+pub copied_step : (here now before : Bool) (mine first old new : Option Code)
+    → old ≡ cond (here && before) (option_or mine first) first
+    → new ≡ cond (here && now) (option_or mine old) old
+    → new ≡ cond (here && (before || now)) (option_or mine first) first
 copied_step true true true None first old new was is = is ∙ was
 copied_step true true true (Some h) first old new was is = is
 copied_step true true false mine first old new was is = is ∙ ap (option_or mine) was
@@ -49,7 +53,8 @@ copied_step true false false mine first old new was is = is ∙ was
 copied_step false now before mine first old new was is = is ∙ was
 
 -- the plans of the sessions so far, and that of one more
-pub plans_step : (here listed before : Bool) (mine old new : Option Code) → old ≡ cond before mine None → (here ≡ true → listed ≡ false → mine ≡ None)
+pub plans_step : (here listed before : Bool) (mine old new : Option Code) → old ≡ cond before mine None
+    → (here ≡ true → listed ≡ false → mine ≡ None)
     → new ≡ cond (here && listed) (option_or mine old) old → new ≡ cond (before || here) mine None
 plans_step true true true None old new was none is = is ∙ was
 plans_step true true true (Some h) old new was none is = is
@@ -74,17 +79,23 @@ names_decide s t = let same = codes_decide t s in (λ e. sym (same.0 e), λ e. s
 any_named : (sessions : List Code) (s : Code) → Decides (list_any (λ t. same_code t s) sessions) (Contains sessions s)
 any_named sessions s = is_member-Decides names_decide sessions s
 
-pub plans_agree : (done : Command) (office : State) (plans : Seats) (sessions : List Code) → ((s : Code) → Contains sessions s ↔ IsTrue (reads office.relations done s))
-    → ((s : Code) (c : ℕ) → plan_of plans s c ≡ cond (list_any (λ t. same_code t s) sessions) (plan_of office.seats s c) None)
+pub plans_agree : (done : Command) (office : State) (plans : Seats) (sessions : List Code)
+    → ((s : Code) → Contains sessions s ↔ IsTrue (reads office.relations done s))
+    → ((s : Code) (c : ℕ)
+    → plan_of plans s c ≡ cond (list_any (λ t. same_code t s) sessions) (plan_of office.seats s c) None)
     → Agrees done office (record { relations = office.relations; seats = plans })
 plans_agree done office plans sessions exact copied = record {
   facts = refl;
-  read = λ s here c. copied s c ∙ ap (λ b. cond b (plan_of office.seats s c) None) ((any_named sessions s).1 ((exact s).1 here));
-  others = λ s out c. copied s c ∙ ap (λ b. cond b (plan_of office.seats s c) None) (none s out (list_any (λ t. same_code t s) sessions) refl);
+  read = λ s here c. copied s c
+      ∙ ap (λ b. cond b (plan_of office.seats s c) None) ((any_named sessions s).1 ((exact s).1 here));
+  others = λ s out c. copied s c
+      ∙ ap (λ b. cond b (plan_of office.seats s c) None) (none s out (list_any (λ t. same_code t s) sessions) refl);
 }
   where
-    none : (s : Code) → reads office.relations done s ≡ false → (b : Bool) → list_any (λ t. same_code t s) sessions ≡ b → b ≡ false
-    none s out true any = absurd (let differ : true ≡ false = sym ((exact s).0 ((any_named sessions s).0 any)) ∙ out in cc)
+    none : (s : Code) → reads office.relations done s ≡ false → (b : Bool) → list_any (λ t. same_code t s) sessions ≡ b
+        → b ≡ false
+    none s out true any =
+        absurd (let differ : true ≡ false = sym ((exact s).0 ((any_named sessions s).0 any)) ∙ out in cc)
     none s out false any = refl
 
 -- who is not listed among the members does not sit
@@ -98,8 +109,10 @@ unlisted office lists good are t s c same away = inner (plan_of office.seats s c
     here : is_listed lists s c ≡ false
     here = ap (λ q. is_listed lists q c) (sym (same_code_exact t s same)) ∙ away
 
-    listed_if : (es : List Entrant) → Contains (map (λ (e : Entrant). e.number) es) c → list_any (λ (e : Entrant). nat_eq e.number c) es ≡ true
-    listed_if es among = any_number es (is_member-Decides (λ a b. Decides-eqb a b) (map (λ (e : Entrant). e.number) es) c) among
+    listed_if : (es : List Entrant) → Contains (map (λ (e : Entrant). e.number) es) c
+        → list_any (λ (e : Entrant). nat_eq e.number c) es ≡ true
+    listed_if es among =
+        any_number es (is_member-Decides (λ a b. Decides-eqb a b) (map (λ (e : Entrant). e.number) es) c) among
       where
         any_number : (xs : List Entrant)
             → Decides (list_any (nat_eq c) (map (λ (e : Entrant). e.number) xs))
@@ -107,19 +120,24 @@ unlisted office lists good are t s c same away = inner (plan_of office.seats s c
             → list_any (λ (e : Entrant). nat_eq e.number c) xs ≡ true
         any_number xs decides among = sym (mapped xs) ∙ decides.1 among
           where
-            mapped : (ys : List Entrant) → list_any (nat_eq c) (map (λ (e : Entrant). e.number) ys) ≡ list_any (λ (e : Entrant). nat_eq e.number c) ys
+            mapped : (ys : List Entrant)
+                → list_any (nat_eq c) (map (λ (e : Entrant). e.number) ys)
+                ≡ list_any (λ (e : Entrant). nat_eq e.number c) ys
             mapped [] = refl
-            mapped (y ∷ ys) = ap (λ b. b || list_any (nat_eq c) (map (λ (e : Entrant). e.number) ys)) (number_flips c y.number) ∙ ap (λ b. nat_eq y.number c || b) (mapped ys)
+            mapped (y ∷ ys) = ap (λ b. b || list_any (nat_eq c) (map (λ (e : Entrant). e.number) ys))
+                (number_flips c y.number) ∙ ap (λ b. nat_eq y.number c || b) (mapped ys)
 
     inner : (o : Option Code) → plan_of office.seats s c ≡ o → o ≡ None
     inner None is = refl
     inner (Some h) is =
         let some : IsSome (plan_of office.seats s c) = subst (λ (o : Option Code). IsSome o) (sym is) refl in
-        let among : Contains (map (λ (e : Entrant). e.number) (listed lists.members.entries s)) c = subst (λ (ns : List ℕ). Contains ns c) (sym numbers) ((good.best s).lawful.members c some) in
+        let among : Contains (map (λ (e : Entrant). e.number) (listed lists.members.entries s)) c =
+        subst (λ (ns : List ℕ). Contains ns c) (sym numbers) ((good.best s).lawful.members c some) in
         absurd (let differ : true ≡ false = sym (listed_if (listed lists.members.entries s) among) ∙ here in cc)
 
 -- but for a lodging and a decision, a command reads what it touches
-pub reads_touched : (done : Command) → ((l : Lodging) → done ≡ command.Lodge l → ⊥) → ((d : Decision) → done ≡ command.Decide d → ⊥) → (r : Relations) (s : Code) → reads r done s ≡ touches r done s
+pub reads_touched : (done : Command) → ((l : Lodging) → done ≡ command.Lodge l → ⊥)
+    → ((d : Decision) → done ≡ command.Decide d → ⊥) → (r : Relations) (s : Code) → reads r done s ≡ touches r done s
 reads_touched (command.Import import) no_lodging no_decision r s = refl
 reads_touched (command.Withdraw c p) no_lodging no_decision r s = refl
 reads_touched (command.Reinstate c p) no_lodging no_decision r s = refl
@@ -129,7 +147,8 @@ reads_touched (command.Retract c reference) no_lodging no_decision r s = refl
 reads_touched (command.Decide d) no_lodging no_decision r s = absurd (no_decision d refl)
 
 -- a decision that grants reads what it touches
-pub grant_reads : (r : Relations) (d : Decision) (s : Code) → is_grant d.outcome ≡ true → reads r (command.Decide d) s ≡ touches r (command.Decide d) s
+pub grant_reads : (r : Relations) (d : Decision) (s : Code) → is_grant d.outcome ≡ true
+    → reads r (command.Decide d) s ≡ touches r (command.Decide d) s
 grant_reads r d s grants = inner (is_grant d.outcome) grants (appeal_at r d.number d.reference)
   where
     inner : (b : Bool) → b ≡ true → (o : Option Appeal)

@@ -11,14 +11,14 @@ use Rattle.exam_commands.specs.Limits.{within_limits}
 use Rattle.exam_commands.specs.NextPlans.{Plans, PlansBack}
 use Rattle.exam_commands.specs.Orders.{IsInOrder}
 use Rattle.exam_commands.specs.Parts.{Agrees, IsMadeIn, reads}
-use Rattle.exam_commands.specs.State.{Seats, State}
+use Rattle.exam_commands.specs.State.{Seats, State, office_of}
 use Rattle.exam_changes.specs.Undoing.{IsThere, TakesBack, restored}
 use Rattle.exam_office.specs.declared.part.Part.{Part}
 use Rattle.exam_office.specs.Relisting.{HasList, halls_before, members_before}
 
 -- its facts and its plans
 abbrev pub part_state : Part → State
-part_state part = record { relations = relations_of part.facts; seats = part.plans.entries }
+part_state part = office_of part.facts part.plans
 
 -- its lists are those of its facts
 abbrev pub HasLists : Part → Type 0

@@ -1,7 +1,7 @@
 //! The plans of an office that a command reads.
-ghost use Rattle.std.specs.Prelude.{◌≡◌, ◌↔◌, ◌&&◌, ℕ, nat_eq, Contains, if◌then◌else◌, IsTrue, IfOk, IfErr, OnOk};
+ghost use Rattle.std.specs.Prelude.{◌≡◌, ◌↔◌, ◌&&◌, ℕ, nat_eq, Contains, if◌then◌else◌, IsTrue, IfOk, OnOk};
 ghost use Rattle.std.specs.Option.{option_or};
-ghost use Rattle.exam_types.specs.declared.refusal.Refusal.TheVariants.{NoMemory};
+ghost use Rattle.exam_types.specs.Refusals.{OnlyMemory};
 ghost use Rattle.exam_rules.specs.Relations.{Code, relations_of, same_code};
 ghost use Rattle.exam_rules.specs.Seatings.{plan_of};
 ghost use Rattle.exam_commands.specs.Appeals.{appeal_at};
@@ -27,7 +27,7 @@ pub fn read_plans(
         → Contains read.0.items s ↔ IsTrue (spec.reads office.now.relations command.now s)) }
     ensures plans { IfOk result (λ read. spec.Agrees command.now office.now
         (record { relations = office.now.relations; seats = read.1.entries })) }
-    ensures memory { IfErr result (λ e. e ≡ NoMemory) }
+    ensures memory { OnlyMemory result }
 {
     office.show_good();
     let sessions = read_sessions(alloc, office.facts(), command)?;
@@ -47,7 +47,7 @@ fn copy_plan(
 ) -> Result<(), Refusal>
     ensures ok { OnOk result ((s : Code) (c : ℕ) → plan_of plans.new.entries s c
         ≡ spec.copied lists.now seats.now.entries session.now plans.old.entries s c) }
-    ensures memory { IfErr result (λ e. e ≡ NoMemory) }
+    ensures memory { OnlyMemory result }
 {
     for entrant in lists.members_of(session) {
         copy_seat(seats, session, entrant.number, plans)?;
@@ -66,7 +66,7 @@ fn copy_seat(
         ≡ (if same_code session.now s && nat_eq number c
         then option_or (plan_of seats.now.entries s c) (plan_of plans.old.entries s c)
         else plan_of plans.old.entries s c)) }
-    ensures memory { IfErr result (λ e. e ≡ NoMemory) }
+    ensures memory { OnlyMemory result }
 {
     match seats.get(&(*session, number)) {
         Some(hall) => add_seat(plans, session, number, *hall),
@@ -82,7 +82,7 @@ pub fn read_sessions(
 ) -> Result<Vec<SessionCode>, Refusal>
     ensures exact { IfOk result (λ codes. (s : Code)
         → Contains codes.items s ↔ IsTrue (spec.reads (relations_of facts.now) command.now s)) }
-    ensures memory { IfErr result (λ e. e ≡ NoMemory) }
+    ensures memory { OnlyMemory result }
 {
     match command {
         Command::Lodge(lodging) => one_session(alloc, lodging.session),
@@ -106,7 +106,7 @@ fn appeal_session(
     ensures exact { IfOk result (λ codes. (s : Code) → Contains codes.items s
         ↔ IsTrue (is_appeal_for (relations_of facts.now)
         (appeal_at (relations_of facts.now) decision.now.number decision.now.reference) s)) }
-    ensures memory { IfErr result (λ e. e ≡ NoMemory) }
+    ensures memory { OnlyMemory result }
 {
     match facts.appeals.get(&(decision.number, decision.reference)) {
         Some(appeal) if facts.sessions.contains_key(&appeal.session) => {
@@ -119,7 +119,7 @@ fn appeal_session(
 /// A list of one session.
 fn one_session(alloc: Global, session: SessionCode) -> Result<Vec<SessionCode>, Refusal>
     ensures exact { IfOk result (λ codes. (s : Code) → Contains codes.items s ↔ IsTrue (same_code session s)) }
-    ensures memory { IfErr result (λ e. e ≡ NoMemory) }
+    ensures memory { OnlyMemory result }
 {
     let mut codes = Vec::new(alloc);
     codes.push(session)?;

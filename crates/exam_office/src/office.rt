@@ -13,7 +13,7 @@ ghost use Rattle.exam_rules.specs.Relations.{Code, relations_of};
 ghost use Rattle.exam_commands.specs.Orders.{IsInOrder};
 ghost use Rattle.exam_commands.specs.Own.{own_of, shown};
 ghost use Rattle.exam_rules.specs.Sessions.{IsSessionRefusal};
-ghost use Rattle.exam_commands.specs.State.{empty_state};
+ghost use Rattle.exam_commands.specs.State.{empty_state, office_of};
 ghost use Rattle.exam_views.specs.Desks.{rows_without_desks};
 ghost use Rattle.exam_views.specs.Views.{IsViewOf};
 
@@ -39,15 +39,14 @@ pub struct Office {
 impl Model for Office {
     ghost use Rattle.exam_rules.specs.Relations.{relations_of};
     ghost use Rattle.exam_rules.specs.Lists.{AreListsOf};
-    ghost use Rattle.exam_commands.specs.State.{State};
+    ghost use Rattle.exam_commands.specs.State.{State, office_of};
     ghost use Rattle.exam_commands.specs.Good.{IsGood};
 
     ghost Value = { State };
 
-    ghost view = { λ a. record { relations = relations_of a.facts; seats = a.seats.entries } };
+    ghost view = { λ a. office_of a.facts a.seats };
 
-    ghost invariant = { λ a. IsGood (record { relations = relations_of a.facts; seats = a.seats.entries })
-        × AreListsOf (relations_of a.facts) a.lists };
+    ghost invariant = { λ a. IsGood (office_of a.facts a.seats) × AreListsOf (relations_of a.facts) a.lists };
 }
 
 impl Office {
@@ -65,13 +64,10 @@ impl Office {
     /// The office with these facts and plans. Refused with `BadStore` exactly if they are not good, unless there is not
     /// enough memory.
     pub fn from_parts(alloc: Global, facts: Facts, seats: Seats) -> Result<Self, Refusal>
-        ensures ok { IfOk result (λ office. office
-            ≡ record { relations = relations_of facts; seats = seats.entries }) }
-        ensures good { OnOk result
-            (IsGood (record { relations = relations_of facts; seats = seats.entries })) }
-        ensures refusal { IfErr result (λ e. (e ≡ NoMemory)
-            ⊎ ((e ≡ BadStore)
-            × (IsGood (record { relations = relations_of facts; seats = seats.entries }) → ⊥))) }
+        ensures ok { IfOk result (λ office. office ≡ office_of facts seats) }
+        ensures good { OnOk result (IsGood (office_of facts seats)) }
+        ensures refusal { IfErr result (λ e. (e ≡ NoMemory) ⊎ ((e ≡ BadStore)
+            × (IsGood (office_of facts seats) → ⊥))) }
     {
         let lists = good_lists(alloc, &facts, &seats)?;
         Ok(Office::holding(facts, lists, seats))
@@ -150,9 +146,9 @@ impl Office {
 
     /// The office with these facts and plans, which are good, and the lists of the facts.
     pub(crate) fn holding(facts: Facts, lists: SessionLists, seats: Seats) -> Self
-        requires good { IsGood (record { relations = relations_of facts; seats = seats.entries }) }
+        requires good { IsGood (office_of facts seats) }
         requires lists { AreListsOf (relations_of facts) lists }
-        ensures { result ≡ record { relations = relations_of facts; seats = seats.entries } }
+        ensures { result ≡ office_of facts seats }
     {
         Office {
             facts,
@@ -192,11 +188,9 @@ impl Office {
 /// plans are no good office, unless there is not enough memory.
 fn good_lists(alloc: Global, facts: &Facts, seats: &Seats) -> Result<SessionLists, Refusal>
     ensures ok { IfOk result (λ lists. AreListsOf (relations_of facts.now) lists) }
-    ensures good { OnOk result
-        (IsGood (record { relations = relations_of facts.now; seats = seats.now.entries })) }
-    ensures refusal { IfErr result (λ e. (e ≡ NoMemory)
-        ⊎ ((e ≡ BadStore)
-        × (IsGood (record { relations = relations_of facts.now; seats = seats.now.entries }) → ⊥))) }
+    ensures good { OnOk result (IsGood (office_of facts.now seats.now)) }
+    ensures refusal { IfErr result (λ e. (e ≡ NoMemory) ⊎ ((e ≡ BadStore)
+        × (IsGood (office_of facts.now seats.now) → ⊥))) }
 {
     let lists = session_lists(alloc, facts)?;
     match first_bad_listed(alloc, facts, &lists, seats)? {

@@ -1,13 +1,14 @@
 //! The part of an office that one command reads.
 ghost use Rattle.std.specs.Prelude.{◌≡◌, IfOk, IfErr, OnOk, OnErr};
 ghost use Rattle.exam_types.specs.declared.refusal.Refusal.TheVariants.{NoMemory};
+ghost use Rattle.exam_types.specs.Refusals.{OnlyMemory};
 ghost use Rattle.exam_rules.specs.Orders.{KeysRise};
 ghost use Rattle.exam_rules.specs.Relations.{relations_of, seat_cmp};
 ghost use Rattle.exam_commands.specs.declared.command.Command.{Command as Done};
 ghost use Rattle.exam_commands.specs.Good.{IsGood};
 ghost use Rattle.exam_commands.specs.Orders.{IsInOrder};
 ghost use Rattle.exam_commands.specs.Parts.{Agrees};
-ghost use Rattle.exam_commands.specs.State.{State};
+ghost use Rattle.exam_commands.specs.State.{State, office_of};
 
 use crate::lending::{read_plans, read_sessions};
 use crate::office::Office;
@@ -81,11 +82,9 @@ impl Part {
 
     /// A part with these facts and plans, wherever they come from. The step over it makes the lists that it needs.
     pub fn new(alloc: Global, facts: Facts, plans: Seats) -> Part
-        ensures state { spec.part_state result
-            ≡ record { relations = relations_of facts; seats = plans.entries } }
+        ensures state { spec.part_state result ≡ office_of facts plans }
         ensures ready { (done : Done) (office : State) → IsGood office → IsInOrder office
-            → Agrees done office (record { relations = relations_of facts; seats = plans.entries })
-            → spec.IsPartFor done result }
+            → Agrees done office (office_of facts plans) → spec.IsPartFor done result }
     {
         Part {
             facts,
@@ -101,7 +100,7 @@ impl Part {
     pub fn copy_of(alloc: Global, office: &Office, command: &Command) -> Result<Part, Refusal>
         ensures agrees { IfOk result (λ part. Agrees command.now office.now (spec.part_state part)) }
         ensures ready { IfOk result (spec.IsPartFor command.now) }
-        ensures memory { IfErr result (λ e. e ≡ NoMemory) }
+        ensures memory { OnlyMemory result }
     {
         office.show_good();
         office.show_order();
@@ -116,7 +115,7 @@ impl Part {
         ensures listed { OnOk result (spec.IsListed command.now self.new) }
         ensures state { spec.part_state self.new ≡ spec.part_state self.old }
         ensures err { OnErr result (self.new ≡ self.old) }
-        ensures memory { IfErr result (λ e. e ≡ NoMemory) }
+        ensures memory { OnlyMemory result }
     {
         if self.is_listed {
             return Ok(());
@@ -153,7 +152,7 @@ impl Part {
 
 fn copied_facts(facts: &Facts) -> Result<Facts, Refusal>
     ensures ok { IfOk result (λ copy. relations_of copy ≡ relations_of facts.now) }
-    ensures memory { IfErr result (λ e. e ≡ NoMemory) }
+    ensures memory { OnlyMemory result }
 {
     Ok(facts.clone()?)
 }

@@ -1,6 +1,7 @@
 //! One command over a part of an office.
 ghost use Rattle.std.specs.Prelude.{◌≡◌, ◌⊎◌, false, true, IsTrue, IfOk, IfErr, OnOk, OnErr};
 ghost use Rattle.exam_types.specs.declared.refusal.Refusal.TheVariants.{NoMemory};
+ghost use Rattle.exam_types.specs.Refusals.{OnlyMemory};
 ghost use Rattle.exam_rules.specs.Lists.{AreListsOf};
 ghost use Rattle.exam_rules.specs.Relations.{Code, Relations, relations_of};
 ghost use Rattle.exam_commands.specs.FactsMade.{WasMade, early_refusal, facts_made, may_pass_limit};
@@ -13,7 +14,7 @@ ghost use Rattle.exam_office.specs.declared.part.Part.{Part as Held};
 ghost use Rattle.exam_office.specs.HeldParts as held;
 ghost use Rattle.exam_office.specs.Relisting as listing;
 ghost use Rattle.exam_commands.specs.Singles.{AreSingle};
-ghost use Rattle.exam_commands.specs.State.{State};
+ghost use Rattle.exam_commands.specs.State.{State, office_of};
 ghost use Rattle.exam_commands.specs.Steps as steps;
 ghost use Rattle.exam_changes.specs.Undoing as undoing;
 
@@ -127,15 +128,14 @@ fn change(
     requires single { AreSingle (relations_of facts.old) }
     requires marks { IsTrue (marks_were_granted (relations_of facts.old)) }
     ensures ok { OnOk result (relations_of facts.new ≡ facts_made command.now today
-        (record { relations = relations_of facts.old; seats = plans.now.entries })) }
+        (office_of facts.old plans.now)) }
     ensures back { IfOk result (λ made. undoing.TakesBack made.0 (relations_of facts.new)
         (relations_of facts.old)) }
     ensures reply { IfOk result (λ made. made.1 ≡ planning.first_reply command.now (relations_of facts.old)
         (relations_of facts.new)) }
-    ensures checked { OnOk result (early_refusal command.now today
-        (record { relations = relations_of facts.old; seats = plans.now.entries }) ≡ None) }
+    ensures checked { OnOk result (early_refusal command.now today (office_of facts.old plans.now) ≡ None) }
     ensures refusal { IfErr result (λ e. (e ≡ NoMemory) ⊎ (early_refusal command.now today
-        (record { relations = relations_of facts.old; seats = plans.now.entries }) ≡ Some e)) }
+        (office_of facts.old plans.now) ≡ Some e)) }
     ensures same { OnErr result (relations_of facts.new ≡ relations_of facts.old) }
 {
     match command {
@@ -225,7 +225,7 @@ fn next_plans(
     requires limits { IsTrue (within_limits (relations_of facts.now)) }
     ensures plans { IfOk result (planning.AreNext command.now (relations_of facts.now) sessions.now
         plans.now.entries) }
-    ensures memory { IfErr result (λ e. e ≡ NoMemory) }
+    ensures memory { OnlyMemory result }
 {
     match command {
         Command::Lodge(_) | Command::Retract(_, _) => Ok(None),
@@ -252,7 +252,7 @@ fn granted_plans(
     requires limits { IsTrue (within_limits (relations_of facts.now)) }
     ensures plans { IfOk result (planning.AreDecided decision.now decision.now.outcome (relations_of facts.now)
         sessions.now plans.now.entries) }
-    ensures memory { IfErr result (λ e. e ≡ NoMemory) }
+    ensures memory { OnlyMemory result }
 {
     match decision.outcome {
         Outcome::Grant | Outcome::Standing => {

@@ -1,6 +1,6 @@
 //! The lists of members and open halls after a command.
-ghost use Rattle.std.specs.Prelude.{◌≡◌, ◌∷◌, List, IsTrue, IfOk, IfErr, OnOk, OnErr};
-ghost use Rattle.exam_types.specs.declared.refusal.Refusal.TheVariants.{NoMemory};
+ghost use Rattle.std.specs.Prelude.{◌≡◌, ◌∷◌, List, IsTrue, IfOk, OnOk, OnErr};
+ghost use Rattle.exam_types.specs.Refusals.{OnlyMemory};
 ghost use Rattle.exam_rules.specs.declared.listing.SessionLists.{SessionLists as Lists};
 ghost use Rattle.exam_rules.specs.Lists.{AreListsOf, closed, listed};
 ghost use Rattle.exam_rules.specs.Orders.{AreInOrder};
@@ -79,7 +79,7 @@ pub fn relist(
     ensures ok { OnOk result (AreListsOf (relations_of facts.now) lists.new) }
     ensures back { IfOk result (λ undo. spec.ListsBack undo lists.new lists.old) }
     ensures same { OnErr result (spec.SameLists lists.old lists.new) }
-    ensures memory { IfErr result (λ e. e ≡ NoMemory) }
+    ensures memory { OnlyMemory result }
 {
     match command {
         Command::Lodge(_) | Command::Retract(_, _) | Command::Decide(_) => Ok(ListUndo::Nothing),
@@ -103,7 +103,7 @@ fn relist_import(
     ensures ok { OnOk result (AreListsOf (relations_of facts.now) lists.new) }
     ensures back { IfOk result (λ undo. spec.ListsBack undo lists.new lists.old) }
     ensures same { OnErr result (spec.SameLists lists.old lists.new) }
-    ensures memory { IfErr result (λ e. e ≡ NoMemory) }
+    ensures memory { OnlyMemory result }
 {
     let rows = import.rows();
     match import.kind() {
@@ -131,7 +131,7 @@ fn relist_rows(
     ensures ok { OnOk result (AreListsOf (relations_of facts.now) lists.new) }
     ensures back { IfOk result (λ undo. spec.ListsBack undo lists.new lists.old) }
     ensures same { OnErr result (spec.SameLists lists.old lists.new) }
-    ensures memory { IfErr result (λ e. e ≡ NoMemory) }
+    ensures memory { OnlyMemory result }
 {
     let mut before = BTreeMap::new(alloc);
     match enter_rows(alloc, facts, lists, &mut before, rows) {
@@ -156,7 +156,7 @@ fn enter_rows(
     requires back { spec.ListsBack (undo.Several before.old) lists.old lists.old }
     ensures ok { OnOk result (AreListsOf (relations_of facts.now) lists.new) }
     ensures back { spec.ListsBack (undo.Several before.new) lists.new lists.old }
-    ensures memory { IfErr result (λ e. e ≡ NoMemory) }
+    ensures memory { OnlyMemory result }
 {
     for row in rows {
         enter_row(alloc, facts, lists, before, row)?;
@@ -178,7 +178,7 @@ fn enter_row(
         → AreListsOf (with_row r row.now) lists.new) }
     ensures back { (was : Lists) → spec.ListsBack (undo.Several before.old) lists.old was
         → spec.ListsBack (undo.Several before.new) lists.new was }
-    ensures memory { IfErr result (λ e. e ≡ NoMemory) }
+    ensures memory { OnlyMemory result }
 {
     let Row::OfEntry(number, paper) = row else {
         return Ok(());
@@ -216,7 +216,7 @@ fn set_aside(
     ensures there { OnOk result (IsTrue (has_row code_cmp lists.new.members.entries session)) }
     ensures back { (was : Lists) → spec.ListsBack (undo.Several before.old) lists.old was
         → spec.ListsBack (undo.Several before.new) lists.new was }
-    ensures memory { IfErr result (λ e. e ≡ NoMemory) }
+    ensures memory { OnlyMemory result }
 {
     if before.contains_key(&session) {
         return Ok(());
@@ -239,7 +239,7 @@ fn relist_entrant(
     ensures ok { OnOk result (AreListsOf (relations_of facts.now) lists.new) }
     ensures back { IfOk result (λ undo. spec.ListsBack undo lists.new lists.old) }
     ensures same { OnErr result (spec.SameLists lists.old lists.new) }
-    ensures memory { IfErr result (λ e. e ≡ NoMemory) }
+    ensures memory { OnlyMemory result }
 {
     match facts.papers.get(paper) {
         Some(row) => {
@@ -262,7 +262,7 @@ fn relist_halls(
         → AreListsOf (closed r session hall.now) lists.new) }
     ensures back { IfOk result (λ undo. spec.ListsBack undo lists.new lists.old) }
     ensures same { OnErr result (spec.SameLists lists.old lists.new) }
-    ensures memory { IfErr result (λ e. e ≡ NoMemory) }
+    ensures memory { OnlyMemory result }
 {
     let halls = lists.close(alloc, session, hall)?;
     Ok(ListUndo::Halls(session, halls))
@@ -273,7 +273,7 @@ fn list_anew(alloc: Global, facts: &Facts, lists: &mut SessionLists) -> Result<L
     ensures ok { OnOk result (AreListsOf (relations_of facts.now) lists.new) }
     ensures back { IfOk result (λ undo. spec.ListsBack undo lists.new lists.old) }
     ensures same { OnErr result (spec.SameLists lists.old lists.new) }
-    ensures memory { IfErr result (λ e. e ≡ NoMemory) }
+    ensures memory { OnlyMemory result }
 {
     let new = session_lists(alloc, facts)?;
     Ok(ListUndo::Whole(mem::replace(lists, new)))

@@ -1,6 +1,6 @@
 //! How the seats of some sessions replace others.
-ghost use Rattle.std.specs.Prelude.{◌≡◌, ℕ, false, IsTrue, OnOk, IfErr};
-ghost use Rattle.exam_types.specs.declared.refusal.Refusal.TheVariants.{NoMemory};
+ghost use Rattle.std.specs.Prelude.{◌≡◌, ℕ, false, IsTrue, OnOk};
+ghost use Rattle.exam_types.specs.Refusals.{OnlyMemory};
 ghost use Rattle.exam_rules.specs.Orders.{KeysRise};
 ghost use Rattle.exam_rules.specs.Relations.{Code, has_row, row_at, seat_cmp};
 ghost use Rattle.exam_commands.specs.Exchanges as spec;
@@ -19,7 +19,7 @@ pub fn put_seats(seats: &mut Seats, new: &Seats) -> Result<(), Refusal>
     ensures stays { (k : Code × ℕ) → IsTrue (has_row seat_cmp seats.old.entries k)
         → IsTrue (has_row seat_cmp seats.new.entries k) }
     ensures rises { KeysRise seat_cmp seats.new.entries }
-    ensures memory { IfErr result (λ e. e ≡ NoMemory) }
+    ensures memory { OnlyMemory result }
 {
     // The contract of `len` says that the keys rise.
     let _ = seats.len();

@@ -1,6 +1,6 @@
 //! One command, and lists of commands.
-ghost use Rattle.std.specs.Prelude.{◌≡◌, IfOk, IfErr, OnErr};
-ghost use Rattle.exam_types.specs.declared.refusal.Refusal.TheVariants.{NoMemory};
+ghost use Rattle.std.specs.Prelude.{◌≡◌, IfOk, OnErr};
+ghost use Rattle.exam_types.specs.Refusals.{OnlyMemory};
 ghost use Rattle.exam_rules.specs.Relations.{Code};
 ghost use Rattle.exam_commands.specs.Headline.{IsSeated};
 ghost use Rattle.exam_commands.specs.Steps as steps;
@@ -46,7 +46,7 @@ pub fn run(
 ) -> Result<Vec<Result<Reply, Refusal>>, Refusal>
     ensures run { IfOk result (λ replies. steps.Run commands.now office.old replies.items office.new) }
     ensures headline { (s : Code) → IsSeated office.new s }
-    ensures memory { IfErr result (λ e. e ≡ NoMemory) }
+    ensures memory { OnlyMemory result }
     ensures err { OnErr result (office.new ≡ office.old) }
 {
     // Shows the promise for a refusal here, and again after the commands.

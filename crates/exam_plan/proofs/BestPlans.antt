@@ -1,6 +1,7 @@
 -- Every problem has a best plan: of a lawful plan either the closed set is full, and it is best, or another lawful plan
 -- seats one more; and nobody can go on seating more for ever.
-use Rattle.std.proofs.Common.{◌≡◌, ◌⊎◌, ℕ, zero, suc, ◌+◌, ◌≤◌, Bool, true, false, ◌&&◌, List, length, get_or, Option, None, Some, is_some, nat_lt, refl, sym, ap, ◌∙◌, inl, inr, arith}
+use Rattle.std.proofs.Common.{◌≡◌, ◌⊎◌, ℕ, zero, suc, ◌+◌, ◌≤◌, Bool, true, false, ◌&&◌, List, length, get_or, Option}
+use Rattle.std.proofs.Common.{None, Some, is_some, nat_lt, refl, sym, ap, ◌∙◌, inl, inr, arith}
 use Rattle.std.specs.List.{range_with_len, list_any}
 use Rattle.std.proofs.lemmas.Bool.{cases_Bool, cases_lt, and_parts, and_from, ltb-true, lt-ltb}
 use Rattle.std.proofs.lemmas.List.Folds.{list_any_at, Any-from_list_any}
@@ -24,11 +25,14 @@ module _ (p : Problem) (good : IsProblem p) where
   same_drawn marks None = refl
   same_drawn marks (Some h) = refl
 
-  full_set : (q : Plan ℕ ℕ) (marks : List Bool) → IsClosure p good q marks → list_any (is_free q marks) (range_with_len 0 (length p.desk_counts)) ≡ false → IsClosedSet p q (λ h. get_or marks h false)
+  full_set : (q : Plan ℕ ℕ) (marks : List Bool) → IsClosure p good q marks
+      → list_any (is_free q marks) (range_with_len 0 (length p.desk_counts)) ≡ false
+      → IsClosedSet p q (λ h. get_or marks h false)
   full_set q marks closed none = record {
     full = λ h l t. elim (cases_lt (length (occupants (seating_of p) q h)) (get_or p.desk_counts h 0)) [
       | inl free ↦ (let m = below-member (length p.desk_counts) h l in
-          let some : list_any (is_free q marks) (range_with_len 0 (length p.desk_counts)) ≡ true = list_any_at (is_free q marks) (range_with_len 0 (length p.desk_counts)) m.0 h m.1
+          let some : list_any (is_free q marks) (range_with_len 0 (length p.desk_counts)) ≡ true =
+          list_any_at (is_free q marks) (range_with_len 0 (length p.desk_counts)) m.0 h m.1
           (ap (is_free q marks) m.2
           ∙ and_from (get_or marks h false)
           (nat_lt (length (occupants (seating_of p) q h)) (get_or p.desk_counts h 0)) t
@@ -43,26 +47,35 @@ module _ (p : Problem) (good : IsProblem p) where
   abbrev IsBetter : Plan ℕ ℕ → Plan ℕ ℕ → Type 0
   IsBetter q r = IsLawful (seating_of p) r × (size (seating_of p) r ≡ size (seating_of p) q + 1)
 
-  best_or_better : (q : Plan ℕ ℕ) → IsLawful (seating_of p) q → IsBest (seating_of p) q ⊎ ((r : Plan ℕ ℕ) × IsBetter q r)
+  best_or_better : (q : Plan ℕ ℕ) → IsLawful (seating_of p) q
+      → IsBest (seating_of p) q ⊎ ((r : Plan ℕ ℕ) × IsBetter q r)
   best_or_better q lawful =
       let found = closure p good q in
       elim (cases_Bool (list_any (is_free q found.0) (range_with_len 0 (length p.desk_counts)))) [
         | inl some ↦ (let a = Any-from_list_any (is_free q found.0) (range_with_len 0 (length p.desk_counts)) some in
-            let b = and_parts (get_or found.0 a.1 false) (nat_lt (length (occupants (seating_of p) q a.1)) (get_or p.desk_counts a.1 0)) a.4 in
+            let b = and_parts (get_or found.0 a.1 false)
+            (nat_lt (length (occupants (seating_of p) q a.1)) (get_or p.desk_counts a.1 0)) a.4 in
             let d = found.1.drawn a.1 b.0 in
             let r = routed p q d.0 a.1 d.1 in
             inr (
               augmented (seating_of p) q r.0 r.1 a.1,
               (
-                lawful-moved p q lawful r.0 r.2 r.1 a.1 r.3 r.4 (ltb-true (length (occupants (seating_of p) q a.1)) (get_or p.desk_counts a.1 0) b.1),
+                lawful-moved p q lawful r.0 r.2 r.1 a.1 r.3 r.4
+                    (ltb-true (length (occupants (seating_of p) q a.1)) (get_or p.desk_counts a.1 0) b.1),
                 size-moved p q lawful r.0 r.2 r.1 a.1 r.3 r.4,
               ),
             ))
-        | inr none ↦ inl (record { lawful = lawful; greatest = λ other also. closed_is_greatest p good q lawful (λ h. get_or found.0 h false) (full_set q found.0 found.1 none) other also })
+        | inr none ↦ inl (record {
+          lawful = lawful;
+          greatest =
+              λ other also. closed_is_greatest p good q lawful (λ h. get_or found.0 h false)
+              (full_set q found.0 found.1 none) other also;
+        })
       ]
 
   -- so many more can be seated at most
-  best_after : (rounds : ℕ) (q : Plan ℕ ℕ) → IsLawful (seating_of p) q → length p.fit ≤ size (seating_of p) q + rounds → (r : Plan ℕ ℕ) × IsBest (seating_of p) r
+  best_after : (rounds : ℕ) (q : Plan ℕ ℕ) → IsLawful (seating_of p) q → length p.fit ≤ size (seating_of p) q + rounds
+      → (r : Plan ℕ ℕ) × IsBest (seating_of p) r
   best_after zero q lawful few = (
     q,
     record {

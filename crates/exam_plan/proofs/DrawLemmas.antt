@@ -20,12 +20,15 @@ use Rattle.exam_plan.proofs.Steps.{plan_at-get_or}
 module _ (p : Problem) (m : List (Option ℕ)) (marks : ℕ → Bool) where
   -- what is marked after so many candidates
   abbrev pub IsSpread : (ℕ → Bool) → ℕ → Type 0
-  IsSpread next i = (h : ℕ) → IsMarked next h ↔ (IsMarked marks h ⊎ ((c : ℕ) × (c < i) × IsTrue (is_drawn marks (plan_at m c)) × IsTrue ((seating_of p).fits c h)))
+  IsSpread next i = (h : ℕ)
+      → IsMarked next h ↔ (IsMarked marks h
+      ⊎ ((c : ℕ) × (c < i) × IsTrue (is_drawn marks (plan_at m c)) × IsTrue ((seating_of p).fits c h)))
 
   at_place : (i : ℕ) (b : Bool) → b ≡ is_drawn marks (get_or m i None) → is_drawn marks (plan_at m i) ≡ b
   at_place i b told = ap (is_drawn marks) (plan_at-get_or m i) ∙ sym told
 
-  pub spread_more : (next after : ℕ → Bool) (i : ℕ) (b : Bool) → IsSpread next i → b ≡ is_drawn marks (get_or m i None) → b ≡ true
+  pub spread_more : (next after : ℕ → Bool) (i : ℕ) (b : Bool) → IsSpread next i → b ≡ is_drawn marks (get_or m i None)
+      → b ≡ true
       → MarksAll after (λ h. IsMarked next h ⊎ IsTrue ((seating_of p).fits i h)) → IsSpread after (i + 1)
   spread_more next after i b w told holds row h = (
     (λ t. elim ((row h).0 t) [
@@ -36,12 +39,14 @@ module _ (p : Problem) (m : List (Option ℕ)) (marks : ℕ → Bool) where
       | inl a ↦ inl ((w h).1 (inl a))
       | inr c ↦ elim (cases_lt c.0 i) [
         | inl l ↦ inl ((w h).1 (inr (c.0, l, c.2, c.3)))
-        | inr g ↦ inr (let l : c.0 < i + 1 = c.1 in let e : c.0 ≡ i = omega arith in subst (λ (z : ℕ). IsTrue ((seating_of p).fits z h)) e c.3)
+        | inr g ↦ inr (let l : c.0 < i + 1 = c.1 in let e : c.0 ≡ i = omega arith in
+            subst (λ (z : ℕ). IsTrue ((seating_of p).fits z h)) e c.3)
       ]
     ])),
   )
 
-  pub spread_skip : (next : ℕ → Bool) (i : ℕ) (b : Bool) → IsSpread next i → b ≡ is_drawn marks (get_or m i None) → b ≡ false → IsSpread next (i + 1)
+  pub spread_skip : (next : ℕ → Bool) (i : ℕ) (b : Bool) → IsSpread next i → b ≡ is_drawn marks (get_or m i None)
+      → b ≡ false → IsSpread next (i + 1)
   spread_skip next i b w told fails h = (
     (λ t. elim ((w h).0 t) [ inl k ↦ inl k | inr c ↦ inr (c.0, (let l : c.0 < i = c.1 in omega arith), c.2, c.3) ]),
     (λ s. (w h).1 (elim s [
@@ -55,11 +60,14 @@ module _ (p : Problem) (m : List (Option ℕ)) (marks : ℕ → Bool) where
   )
 
 -- a candidate past the last row is fitted by no hall
-pub spread_all : (p : Problem) (m : List (Option ℕ)) (marks next : ℕ → Bool) (n : ℕ) → length p.fit ≤ n → IsSpread p m marks next n
-    → MarksAll next (λ h. IsMarked marks h ⊎ ((c : ℕ) × IsTrue (is_drawn marks (plan_at m c)) × IsTrue ((seating_of p).fits c h)))
+pub spread_all : (p : Problem) (m : List (Option ℕ)) (marks next : ℕ → Bool) (n : ℕ) → length p.fit ≤ n
+    → IsSpread p m marks next n
+    → MarksAll next (λ h. IsMarked marks h
+    ⊎ ((c : ℕ) × IsTrue (is_drawn marks (plan_at m c)) × IsTrue ((seating_of p).fits c h)))
 spread_all p m marks next n all w h = (
   (λ t. elim ((w h).0 t) [ inl a ↦ inl a | inr c ↦ inr (c.0, c.2, c.3) ]),
-  (λ s. (w h).1 (elim s [ inl a ↦ inl a | inr c ↦ inr (c.0, (let l = fits_member p c.0 h c.2 in omega arith), c.1, c.2) ])),
+  (λ s. (w h).1 (elim s
+      [ inl a ↦ inl a | inr c ↦ inr (c.0, (let l = fits_member p c.0 h c.2 in omega arith), c.1, c.2) ])),
 )
 
 -- the halls of a set, and those of a row
@@ -67,8 +75,10 @@ pub union_marks : (p : Problem) (c next row after : ℕ) → ((h : ℕ) → hold
     → ((h : ℕ) → holds after h ≡ holds next h || holds row h)
     → MarksAll (holds after) (λ h. IsMarked (holds next) h ⊎ IsTrue ((seating_of p).fits c h))
 union_marks p c next row after fits union h = (
-  (λ t. elim (or_cases (holds next h) (holds row h) (sym (union h) ∙ t)) [ inl a ↦ inl a | inr r ↦ inr (sym (fits h) ∙ r) ]),
-  (λ s. union h ∙ elim s [ inl a ↦ or_left (holds next h) (holds row h) a | inr f ↦ or_right (holds next h) (holds row h) (fits h ∙ f) ]),
+  (λ t. elim (or_cases (holds next h) (holds row h) (sym (union h) ∙ t))
+      [ inl a ↦ inl a | inr r ↦ inr (sym (fits h) ∙ r) ]),
+  (λ s. union h ∙ elim s
+      [ inl a ↦ or_left (holds next h) (holds row h) a | inr f ↦ or_right (holds next h) (holds row h) (fits h ∙ f) ]),
 )
 
 module _ (p : Problem) (q : Plan ℕ ℕ) where
@@ -77,10 +87,13 @@ module _ (p : Problem) (q : Plan ℕ ℕ) where
   draws_below good (suc j) h d = fits_below p good d.0 h d.2
 
   pub draws_more : (marks next : ℕ → Bool) → ((h : ℕ) → IsMarked marks h → (j : ℕ) × Draws p q j h)
-      → MarksAll next (λ h. IsMarked marks h ⊎ ((c : ℕ) × IsTrue (is_drawn marks (q c)) × IsTrue ((seating_of p).fits c h))) → (h : ℕ) → IsMarked next h → (j : ℕ) × Draws p q j h
+      → MarksAll next (λ h. IsMarked marks h
+      ⊎ ((c : ℕ) × IsTrue (is_drawn marks (q c)) × IsTrue ((seating_of p).fits c h))) → (h : ℕ) → IsMarked next h
+      → (j : ℕ) × Draws p q j h
   draws_more marks next drawn wide h t = elim ((wide h).0 t) [ inl a ↦ drawn h a | inr c ↦ at c.0 (q c.0) refl c.1 c.2 ]
     where
-      at : (c : ℕ) (o : Option ℕ) → q c ≡ o → IsTrue (is_drawn marks (q c)) → IsTrue ((seating_of p).fits c h) → (j : ℕ) × Draws p q j h
+      at : (c : ℕ) (o : Option ℕ) → q c ≡ o → IsTrue (is_drawn marks (q c)) → IsTrue ((seating_of p).fits c h)
+          → (j : ℕ) × Draws p q j h
       at c None e d f = (suc 0, (c, inl e, f))
       at c (Some k) e d f = let r = drawn k (sym (ap (is_drawn marks) e) ∙ d) in (suc r.0, (c, inr (k, e, r.1), f))
 
@@ -92,26 +105,39 @@ module _ (p : Problem) (q : Plan ℕ ℕ) where
 
 -- ---- lists of the indices that pass
 
-pub filter_next : (P : ℕ → Bool) (i : ℕ) (b : Bool) → P i ≡ b → filter P (range_with_len 0 (i + 1)) ≡ filter P (range_with_len 0 i) ++ cond b (i ∷ []) []
-filter_next P i b e = ap (filter P) (range_next i) ∙ filter-append P (range_with_len 0 i) (i ∷ []) ∙ ap (λ t. filter P (range_with_len 0 i) ++ cond t (i ∷ []) []) e
+pub filter_next : (P : ℕ → Bool) (i : ℕ) (b : Bool) → P i ≡ b
+    → filter P (range_with_len 0 (i + 1)) ≡ filter P (range_with_len 0 i) ++ cond b (i ∷ []) []
+filter_next P i b e =
+    ap (filter P) (range_next i) ∙ filter-append P (range_with_len 0 i) (i ∷ [])
+    ∙ ap (λ t. filter P (range_with_len 0 i) ++ cond t (i ∷ []) []) e
 
-pub filter_takes : (P : ℕ → Bool) (i : ℕ) (xs : List ℕ) → xs ≡ filter P (range_with_len 0 i) → P i ≡ true → xs ++ i ∷ [] ≡ filter P (range_with_len 0 (i + 1))
+pub filter_takes : (P : ℕ → Bool) (i : ℕ) (xs : List ℕ) → xs ≡ filter P (range_with_len 0 i) → P i ≡ true
+    → xs ++ i ∷ [] ≡ filter P (range_with_len 0 (i + 1))
 filter_takes P i xs so_far e = ap (λ ys. ys ++ i ∷ []) so_far ∙ sym (filter_next P i true e)
 
-pub filter_leaves : (P : ℕ → Bool) (i : ℕ) (xs : List ℕ) → xs ≡ filter P (range_with_len 0 i) → P i ≡ false → xs ≡ filter P (range_with_len 0 (i + 1))
-filter_leaves P i xs so_far e = so_far ∙ sym (append-nil (filter P (range_with_len 0 i))) ∙ sym (filter_next P i false e)
+pub filter_leaves : (P : ℕ → Bool) (i : ℕ) (xs : List ℕ) → xs ≡ filter P (range_with_len 0 i) → P i ≡ false
+    → xs ≡ filter P (range_with_len 0 (i + 1))
+filter_leaves P i xs so_far e =
+    so_far ∙ sym (append-nil (filter P (range_with_len 0 i))) ∙ sym (filter_next P i false e)
 
-pub length_next : (P : ℕ → Bool) (i n : ℕ) (b : Bool) → n ≡ length (filter P (range_with_len 0 i)) → P i ≡ b → n + bit b ≡ length (filter P (range_with_len 0 (i + 1)))
-length_next P i n true counted e = (let a : length (filter P (range_with_len 0 (i + 1))) ≡ length (filter P (range_with_len 0 i) ++ i ∷ []) = ap length (filter_next P i true e) in
+pub length_next : (P : ℕ → Bool) (i n : ℕ) (b : Bool) → n ≡ length (filter P (range_with_len 0 i)) → P i ≡ b
+    → n + bit b ≡ length (filter P (range_with_len 0 (i + 1)))
+length_next P i n true counted e =
+    (let a : length (filter P (range_with_len 0 (i + 1))) ≡ length (filter P (range_with_len 0 i) ++ i ∷ []) =
+    ap length (filter_next P i true e) in
     let l : length (filter P (range_with_len 0 i) ++ i ∷ [])
     ≡ length (filter P (range_with_len 0 i)) + length (i ∷ []) =
     length-append (filter P (range_with_len 0 i)) (i ∷ []) in let one : length (i ∷ []) ≡ 1 =
     refl in omega (arith, a, l, one, counted))
-length_next P i n false counted e = (let a : length (filter P (range_with_len 0 (i + 1))) ≡ length (filter P (range_with_len 0 i) ++ []) = ap length (filter_next P i false e) in
-    let l : length (filter P (range_with_len 0 i) ++ []) ≡ length (filter P (range_with_len 0 i)) = ap length (append-nil (filter P (range_with_len 0 i))) in omega (arith, a, l, counted))
+length_next P i n false counted e =
+    (let a : length (filter P (range_with_len 0 (i + 1))) ≡ length (filter P (range_with_len 0 i) ++ []) =
+    ap length (filter_next P i false e) in
+    let l : length (filter P (range_with_len 0 i) ++ []) ≡ length (filter P (range_with_len 0 i)) =
+    ap length (append-nil (filter P (range_with_len 0 i))) in omega (arith, a, l, counted))
 
 pub length_below : (P : ℕ → Bool) (n : ℕ) → length (filter P (range_with_len 0 n)) ≤ n
-length_below P n = omega (arith, length-filter P (range_with_len 0 n), count_by-le-length P (range_with_len 0 n), length-range_with_len 0 n)
+length_below P n = omega
+    (arith, length-filter P (range_with_len 0 n), count_by-le-length P (range_with_len 0 n), length-range_with_len 0 n)
 
 pub none_test : (m : List (Option ℕ)) (i : ℕ) (b : Bool) → is_some (get_or m i None) ≡ not b → is_none (plan_at m i) ≡ b
 none_test m i b told = ap is_none (plan_at-get_or m i) ∙ at (get_or m i None) b told

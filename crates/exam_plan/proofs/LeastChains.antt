@@ -24,15 +24,20 @@ module _ {C H : Type 0} (g : Seating C H) (candidates : IsTotalOrder g.candidate
   pub chain_cmp_total : IsTotalOrder (chain_cmp g)
   chain_cmp_total =
       then_total (on_total (λ (a : Chain C H). length a.hops) nat_cmp_total)
-      (then_total (on_total (λ (a : Chain C H). a.hops) (lists_total (then_total (on_total (λ (x : H × C). x.0) halls) (on_total (λ (x : H × C). x.1) candidates))))
+      (then_total (on_total (λ (a : Chain C H). a.hops)
+      (lists_total (then_total (on_total (λ (x : H × C). x.0) halls) (on_total (λ (x : H × C). x.1) candidates))))
       (on_total (λ (a : Chain C H). a.last) halls))
 
   pub chain_cmp_exact : IsAntisymmetric (chain_cmp g)
   chain_cmp_exact a b e =
       let rest = (both_tie _ _ e).1 in
-      let hops : a.hops ≡ b.hops = slice_cmp-IsAntisymmetric (exact_pairs g.hall_cmp g.candidate_cmp exact_halls exact_candidates) a.hops b.hops (both_tie _ _ rest).0 in
+      let hops : a.hops ≡ b.hops =
+      slice_cmp-IsAntisymmetric (exact_pairs g.hall_cmp g.candidate_cmp exact_halls exact_candidates) a.hops b.hops
+      (both_tie _ _ rest).0 in
       let last : a.last ≡ b.last = exact_halls a.last b.last (both_tie _ _ rest).1 in
       λ i. record { hops = hops i; last = last i }
 
-  pub least_chain_is_one : (plan : Plan C H) (c : C) (a b : Chain C H) → IsLeastChain g plan c a → IsLeastChain g plan c b → a ≡ b
-  least_chain_is_one plan c a b l m = chain_cmp_exact a b (tied _ _ (chain_cmp_total.antisymm a b) (l.least b m.is_chain) (m.least a l.is_chain))
+  pub least_chain_is_one : (plan : Plan C H) (c : C) (a b : Chain C H) → IsLeastChain g plan c a
+      → IsLeastChain g plan c b → a ≡ b
+  least_chain_is_one plan c a b l m =
+      chain_cmp_exact a b (tied _ _ (chain_cmp_total.antisymm a b) (l.least b m.is_chain) (m.least a l.is_chain))

@@ -1,5 +1,6 @@
 -- Lists that rise: the numbers below a bound that pass a test, and lists with the same elements.
-use Rattle.std.proofs.Common.{◌≡◌, ℕ, zero, suc, ◌+◌, ◌<◌, Bool, true, false, cond, ◌||◌, List, [], ◌∷◌, ◌++◌, get_or, nat_eq, refl, sym, ap, ◌∙◌, inl, inr, subst, arith, zero-add}
+use Rattle.std.proofs.Common.{◌≡◌, ℕ, zero, suc, ◌+◌, ◌<◌, Bool, true, false, cond, ◌||◌, List, [], ◌∷◌, ◌++◌, get_or}
+use Rattle.std.proofs.Common.{nat_eq, refl, sym, ap, ◌∙◌, inl, inr, subst, arith, zero-add}
 use Rattle.std.specs.Prelude.{All, Contains, filter}
 use Rattle.std.specs.List.{range_with_len, list_any, AllByRecursion}
 use Rattle.std.specs.List.Sorted.{IsStrictlySortedBy}
@@ -7,7 +8,8 @@ use Rattle.std.specs.Ordering.{nat_cmp}
 use Rattle.std.specs.Cmp.{nat_cmp_is}
 use Rattle.std.specs.declared.cmp.Ordering.TheVariants.{Less}
 use Rattle.std.proofs.lemmas.Bool.{cases_eq, cases_lt, eq-eqb, ne_eqb, eqb-true}
-use Rattle.std.proofs.lemmas.List.Elements.{All-filter, All-contains, All-from_get_or, filter_passes, filter-append, Contains-push, Contains-append_left}
+use Rattle.std.proofs.lemmas.List.Elements.{All-filter, All-contains, All-from_get_or, filter_passes, filter-append}
+use Rattle.std.proofs.lemmas.List.Elements.{Contains-push, Contains-append_left}
 use Rattle.std.proofs.lemmas.List.Folds.{list_any_at, Any-from_list_any}
 use Rattle.std.proofs.lemmas.List.Kept.{IsStrictlySortedBy-filter}
 use Rattle.std.proofs.lemmas.List.FromFn.{length-range_with_len, get_or-range_with_len}
@@ -24,11 +26,13 @@ range_below n = All-from_get_or (λ x. x < n) (range_with_len 0 n) 0
 
 pub passing : (P : ℕ → Bool) (n x : ℕ) → Contains (filter P (range_with_len 0 n)) x → (x < n) × (P x ≡ true)
 passing P n x c = (
-  All-contains (λ y. y < n) (filter P (range_with_len 0 n)) x (All-filter P (λ y. y < n) (range_with_len 0 n) (range_below n)) c,
+  All-contains (λ y. y < n) (filter P (range_with_len 0 n)) x
+      (All-filter P (λ y. y < n) (range_with_len 0 n) (range_below n)) c,
   All-contains (λ y. P y ≡ true) (filter P (range_with_len 0 n)) x (filter_passes P (range_with_len 0 n)) c,
 )
 
-pub next_filter : (P : ℕ → Bool) (n : ℕ) (b : Bool) → P n ≡ b → filter P (range_with_len 0 (suc n)) ≡ filter P (range_with_len 0 n) ++ cond b (n ∷ []) []
+pub next_filter : (P : ℕ → Bool) (n : ℕ) (b : Bool) → P n ≡ b
+    → filter P (range_with_len 0 (suc n)) ≡ filter P (range_with_len 0 n) ++ cond b (n ∷ []) []
 next_filter P n b e =
     ap (filter P) (range_more 0 n ∙ ap (λ k. range_with_len 0 n ++ k ∷ []) (zero-add n))
     ∙ filter-append P (range_with_len 0 n) (n ∷ []) ∙ ap (λ t. filter P (range_with_len 0 n) ++ cond t (n ∷ []) []) e
@@ -60,37 +64,52 @@ filter_sorted P n = IsStrictlySortedBy-filter nat_cmp P (range_with_len 0 n) (ra
 
 pub later_all : (x : ℕ) (xs : List ℕ) → AllByRecursion (λ y. nat_cmp x y ≡ Less) xs → list_any (nat_eq x) xs ≡ false
 later_all x [] a = refl
-later_all x (y ∷ ys) a = ap (λ b. b || list_any (nat_eq x) ys) (ne_eqb x y (λ s. let l : x < y = ranked x y Less (sym a.0) in omega arith)) ∙ later_all x ys a.1
+later_all x (y ∷ ys) a =
+    ap (λ b. b || list_any (nat_eq x) ys) (ne_eqb x y (λ s. let l : x < y = ranked x y Less (sym a.0) in omega arith))
+    ∙ later_all x ys a.1
 
 pub listed_in : (xs : List ℕ) (x : ℕ) → Contains xs x → list_any (nat_eq x) xs ≡ true
 listed_in xs x m = list_any_at (nat_eq x) xs m.0 x m.1 (eq-eqb x (get_or xs m.0 x) (sym m.2))
 
 pub in_listed : (xs : List ℕ) (x : ℕ) → list_any (nat_eq x) xs ≡ true → Contains xs x
-in_listed xs x t = let a = Any-from_list_any (nat_eq x) xs t in let same : x ≡ a.1 = eqb-true x a.1 a.4 in subst (λ (z : ℕ). Contains xs z) (sym same) (a.0, a.2, a.3)
+in_listed xs x t = let a = Any-from_list_any (nat_eq x) xs t in let same : x ≡ a.1 =
+    eqb-true x a.1 a.4 in subst (λ (z : ℕ). Contains xs z) (sym same) (a.0, a.2, a.3)
 
 -- ---- lists that rise and have the same elements
 
-less_than_all : (x y : ℕ) (ys : List ℕ) → x < y → AllByRecursion (λ z. nat_cmp y z ≡ Less) ys → AllByRecursion (λ z. nat_cmp x z ≡ Less) ys
+less_than_all : (x y : ℕ) (ys : List ℕ) → x < y → AllByRecursion (λ z. nat_cmp y z ≡ Less) ys
+    → AllByRecursion (λ z. nat_cmp x z ≡ Less) ys
 less_than_all x y [] l a = tt
-less_than_all x y (z ∷ zs) l a = (sym (nat_cmp_is x z Less (let m : y < z = ranked y z Less (sym a.0) in omega (arith, l, m))), less_than_all x y zs l a.1)
+less_than_all x y (z ∷ zs) l a = (
+  sym (nat_cmp_is x z Less (let m : y < z = ranked y z Less (sym a.0) in omega (arith, l, m))),
+  less_than_all x y zs l a.1,
+)
 
 -- the first of a rising list is in no list whose first is greater
-not_first : (x y : ℕ) (xs ys : List ℕ) → x < y → AllByRecursion (λ z. nat_cmp y z ≡ Less) ys → ((z : ℕ) → list_any (nat_eq z) (x ∷ xs) ≡ list_any (nat_eq z) (y ∷ ys)) → ⊥
+not_first : (x y : ℕ) (xs ys : List ℕ) → x < y → AllByRecursion (λ z. nat_cmp y z ≡ Less) ys
+    → ((z : ℕ) → list_any (nat_eq z) (x ∷ xs) ≡ list_any (nat_eq z) (y ∷ ys)) → ⊥
 not_first x y xs ys l later same =
     let here : list_any (nat_eq x) (x ∷ xs) ≡ true = ap (λ b. b || list_any (nat_eq x) xs) (eq-eqb x x refl) in
-    let away : list_any (nat_eq x) (y ∷ ys) ≡ false = later_all x (y ∷ ys) (sym (nat_cmp_is x y Less l), less_than_all x y ys l later) in
+    let away : list_any (nat_eq x) (y ∷ ys) ≡ false =
+    later_all x (y ∷ ys) (sym (nat_cmp_is x y Less l), less_than_all x y ys l later) in
     let z : true ≡ false = sym here ∙ same x ∙ away in cc
 
-pub rising_are_same : (xs ys : List ℕ) → IsStrictlySortedBy nat_cmp xs → IsStrictlySortedBy nat_cmp ys → ((z : ℕ) → list_any (nat_eq z) xs ≡ list_any (nat_eq z) ys) → xs ≡ ys
+pub rising_are_same : (xs ys : List ℕ) → IsStrictlySortedBy nat_cmp xs → IsStrictlySortedBy nat_cmp ys
+    → ((z : ℕ) → list_any (nat_eq z) xs ≡ list_any (nat_eq z) ys) → xs ≡ ys
 unfolding IsStrictlySortedBy
 rising_are_same [] [] s t same = refl
-rising_are_same [] (y ∷ ys) s t same = absurd (let e : list_any (nat_eq y) (y ∷ ys) ≡ true = ap (λ b. b || list_any (nat_eq y) ys) (eq-eqb y y refl) in let z : false ≡ true = same y ∙ e in cc)
-rising_are_same (x ∷ xs) [] s t same = absurd (let e : list_any (nat_eq x) (x ∷ xs) ≡ true = ap (λ b. b || list_any (nat_eq x) xs) (eq-eqb x x refl) in let z : true ≡ false = sym e ∙ same x in cc)
+rising_are_same [] (y ∷ ys) s t same =
+    absurd (let e : list_any (nat_eq y) (y ∷ ys) ≡ true = ap (λ b. b || list_any (nat_eq y) ys) (eq-eqb y y refl) in
+    let z : false ≡ true = same y ∙ e in cc)
+rising_are_same (x ∷ xs) [] s t same =
+    absurd (let e : list_any (nat_eq x) (x ∷ xs) ≡ true = ap (λ b. b || list_any (nat_eq x) xs) (eq-eqb x x refl) in
+    let z : true ≡ false = sym e ∙ same x in cc)
 rising_are_same (x ∷ xs) (y ∷ ys) s t same = elim (cases_eq x y) [
   | inl e ↦ ap (λ z. z ∷ xs) e ∙ ap (λ zs. y ∷ zs) (rising_are_same xs ys s.1 t.1 (λ z. elim (cases_eq z x) [
     | inl at ↦ later_all z xs (subst (λ (w : ℕ). AllByRecursion (λ v. nat_cmp w v ≡ Less) xs) (sym at) s.0)
         ∙ sym (later_all z ys (subst (λ (w : ℕ). AllByRecursion (λ v. nat_cmp w v ≡ Less) ys) (sym e ∙ sym at) t.0))
-    | inr n ↦ sym (ap (λ b. b || list_any (nat_eq z) xs) (ne_eqb z x n)) ∙ same z ∙ ap (λ b. b || list_any (nat_eq z) ys) (ne_eqb z y (λ w. n (w ∙ sym e)))
+    | inr n ↦ sym (ap (λ b. b || list_any (nat_eq z) xs) (ne_eqb z x n)) ∙ same z
+        ∙ ap (λ b. b || list_any (nat_eq z) ys) (ne_eqb z y (λ w. n (w ∙ sym e)))
   ]))
   | inr n ↦ elim (cases_lt x y) [
     | inl l ↦ absurd (not_first x y xs ys l t.0 same)
@@ -99,7 +118,8 @@ rising_are_same (x ∷ xs) (y ∷ ys) s t same = elim (cases_eq x y) [
 ]
 
 -- what one list has and the other has is tested alike
-pub same_tests : (xs ys : List ℕ) → ((z : ℕ) → Contains xs z → Contains ys z) → ((z : ℕ) → Contains ys z → Contains xs z) → (z : ℕ) → list_any (nat_eq z) xs ≡ list_any (nat_eq z) ys
+pub same_tests : (xs ys : List ℕ) → ((z : ℕ) → Contains xs z → Contains ys z)
+    → ((z : ℕ) → Contains ys z → Contains xs z) → (z : ℕ) → list_any (nat_eq z) xs ≡ list_any (nat_eq z) ys
 same_tests xs ys there back z = at (list_any (nat_eq z) xs) (list_any (nat_eq z) ys) refl refl
   where
     at : (a b : Bool) → list_any (nat_eq z) xs ≡ a → list_any (nat_eq z) ys ≡ b → a ≡ b
@@ -110,16 +130,21 @@ same_tests xs ys there back z = at (list_any (nat_eq z) xs) (list_any (nat_eq z)
 
 -- ---- the numbers that pass, as a list that was there before
 
-pub any_passing : (P : ℕ → Bool) (n h : ℕ) → (P h ≡ true → h < n) → list_any (nat_eq h) (filter P (range_with_len 0 n)) ≡ P h
+pub any_passing : (P : ℕ → Bool) (n h : ℕ) → (P h ≡ true → h < n)
+    → list_any (nat_eq h) (filter P (range_with_len 0 n)) ≡ P h
 any_passing P n h below = at (list_any (nat_eq h) (filter P (range_with_len 0 n))) (P h) refl refl
   where
     at : (a b : Bool) → list_any (nat_eq h) (filter P (range_with_len 0 n)) ≡ a → P h ≡ b → a ≡ b
     at true true d e = refl
     at false false d e = refl
-    at true false d e = let t = passing P n h (in_listed (filter P (range_with_len 0 n)) h d) in let f : false ≡ true = sym e ∙ t.1 in cc
-    at false true d e = let t = listed_in (filter P (range_with_len 0 n)) h (passes_in P n h (below e) e) in let f : false ≡ true = sym d ∙ t in cc
+    at true false d e = let t = passing P n h (in_listed (filter P (range_with_len 0 n)) h d) in let f : false ≡ true =
+        sym e ∙ t.1 in cc
+    at false true d e = let t =
+        listed_in (filter P (range_with_len 0 n)) h (passes_in P n h (below e) e) in let f : false ≡ true =
+        sym d ∙ t in cc
 
-pub row_again : (P : ℕ → Bool) (n : ℕ) (row : List ℕ) → IsStrictlySortedBy nat_cmp row → All (λ h. h < n) row → ((h : ℕ) → P h ≡ list_any (nat_eq h) row) → filter P (range_with_len 0 n) ≡ row
+pub row_again : (P : ℕ → Bool) (n : ℕ) (row : List ℕ) → IsStrictlySortedBy nat_cmp row → All (λ h. h < n) row
+    → ((h : ℕ) → P h ≡ list_any (nat_eq h) row) → filter P (range_with_len 0 n) ≡ row
 row_again P n row sorted below tests =
     rising_are_same (filter P (range_with_len 0 n)) row (filter_sorted P n) sorted
     (λ h. any_passing P n h (λ e. listed_below n row h below (sym (tests h) ∙ e)) ∙ tests h)

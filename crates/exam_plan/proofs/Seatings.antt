@@ -1,5 +1,6 @@
 -- The seating of a problem: its counts, and what fits.
-use Rattle.std.proofs.Common.{◌≡◌, ℕ, ◌+◌, ◌<◌, true, false, IsTrue, List, [], ◌∷◌, length, get_or, Option, None, Some, IfSome, is_some, is_none, nat_eq, refl, sym, ap, ◌∙◌, inl, inr, arith}
+use Rattle.std.proofs.Common.{◌≡◌, ℕ, ◌+◌, ◌<◌, true, false, IsTrue, List, [], ◌∷◌, length, get_or, Option, None, Some}
+use Rattle.std.proofs.Common.{IfSome, is_some, is_none, nat_eq, refl, sym, ap, ◌∙◌, inl, inr, arith}
 use Rattle.std.specs.Prelude.{All, Contains}
 use Rattle.std.specs.List.{range_with_len, list_any, AllByRecursion}
 use Rattle.std.proofs.lemmas.Bool.{cases_lt, or_cases, eqb-true}
@@ -16,16 +17,21 @@ pub is_hall-sits_at : (p : Problem) (h : ℕ) (o : Option ℕ) → is_hall (seat
 is_hall-sits_at p h None = refl
 is_hall-sits_at p h (Some k) = refl
 
-pub length-occupants : (p : Problem) (q : Plan ℕ ℕ) (h : ℕ) → length (occupants (seating_of p) q h) ≡ count_below (λ c. sits_at h (q c)) (length p.fit)
+pub length-occupants : (p : Problem) (q : Plan ℕ ℕ) (h : ℕ)
+    → length (occupants (seating_of p) q h) ≡ count_below (λ c. sits_at h (q c)) (length p.fit)
 length-occupants p q h = length-filter (λ c. is_hall (seating_of p) h (q c)) (range_with_len 0 (length p.fit))
     ∙ count_by-range (λ c. is_hall (seating_of p) h (q c)) (length p.fit)
-    ∙ count_below-same (λ c. is_hall (seating_of p) h (q c)) (λ c. sits_at h (q c)) (length p.fit) (λ c l. ap bit (is_hall-sits_at p h (q c)))
+    ∙ count_below-same (λ c. is_hall (seating_of p) h (q c)) (λ c. sits_at h (q c)) (length p.fit)
+    (λ c l. ap bit (is_hall-sits_at p h (q c)))
 
 pub size-count : (p : Problem) (q : Plan ℕ ℕ) → size (seating_of p) q ≡ count_below (λ c. is_some (q c)) (length p.fit)
 size-count p q = count_by-range (λ c. is_some (q c)) (length p.fit)
 
-pub length-unseated : (p : Problem) (q : Plan ℕ ℕ) → length (unseated (seating_of p) q) ≡ count_below (λ c. is_none (q c)) (length p.fit)
-length-unseated p q = length-filter (λ c. is_none (q c)) (range_with_len 0 (length p.fit)) ∙ count_by-range (λ c. is_none (q c)) (length p.fit)
+pub length-unseated : (p : Problem) (q : Plan ℕ ℕ)
+    → length (unseated (seating_of p) q) ≡ count_below (λ c. is_none (q c)) (length p.fit)
+length-unseated p q =
+    length-filter (λ c. is_none (q c)) (range_with_len 0 (length p.fit))
+    ∙ count_by-range (λ c. is_none (q c)) (length p.fit)
 
 pub member-below : (n c : ℕ) → Contains (range_with_len 0 n) c → c < n
 member-below n c m =
@@ -55,13 +61,17 @@ listed_below n row h all t = any_below h n row (recursion_from_All (λ k. k < n)
 pub fits_member : (p : Problem) (c h : ℕ) → IsTrue ((seating_of p).fits c h) → c < length p.fit
 fits_member p c h t = elim (cases_lt c (length p.fit)) [
   | inl l ↦ l
-  | inr m ↦ absurd (let e : get_or p.fit c [] ≡ [] = get_or_past p.fit c [] m in let z : false ≡ true = sym (ap (list_any (nat_eq h)) e) ∙ t in cc)
+  | inr m ↦ absurd (let e : get_or p.fit c [] ≡ [] = get_or_past p.fit c [] m in
+      let z : false ≡ true = sym (ap (list_any (nat_eq h)) e) ∙ t in cc)
 ]
 
 pub fits_below : (p : Problem) → IsProblem p → (c h : ℕ) → IsTrue ((seating_of p).fits c h) → h < length p.desk_counts
 fits_below p good c h t =
     let P : List ℕ → Type 0 = λ hs. All (λ k. k < length p.desk_counts) hs in
-    any_below h (length p.desk_counts) (get_or p.fit c []) (recursion_from_All (λ k. k < length p.desk_counts) (get_or p.fit c []) (All-get_or P p.fit c [] (fits_member p c h t) good.exist)) t
+    any_below h (length p.desk_counts) (get_or p.fit c [])
+    (recursion_from_All (λ k. k < length p.desk_counts) (get_or p.fit c [])
+    (All-get_or P p.fit c [] (fits_member p c h t) good.exist)) t
 
-pub lawful_exists : (p : Problem) → IsProblem p → (q : Plan ℕ ℕ) → IsLawful (seating_of p) q → (c : ℕ) → IfSome (q c) (λ h. h < length p.desk_counts)
+pub lawful_exists : (p : Problem) → IsProblem p → (q : Plan ℕ ℕ) → IsLawful (seating_of p) q → (c : ℕ)
+    → IfSome (q c) (λ h. h < length p.desk_counts)
 lawful_exists p good q l c = IfSome_then (q c) (l.fitting c) (fits_below p good c)

@@ -5,20 +5,25 @@ use Rattle.exam_plan.specs.HallSets.{holds}
 use Rattle.exam_plan.specs.Problems.{Problem, plan_at, seating_of}
 use Rattle.exam_plan.specs.Repair.{ListsDead, SweepsDead}
 use Rattle.exam_plan.specs.Searches.{IsKept, IsNextTurn}
-use Rattle.exam_plan.proofs.Sweeping.{IsSwept, SweepsDead-push, done, done_more, done_same, first_done, swept_none, swept_first, swept_more, swept_skip}
+use Rattle.exam_plan.proofs.Sweeping.{IsSwept, SweepsDead-push, done, done_more, done_same, first_done, swept_none}
+use Rattle.exam_plan.proofs.Sweeping.{swept_first, swept_more, swept_skip}
 
 -- a sweep after so many turns
-pub record IsUnderWay (p : Problem) (first : Option ℕ) (before : List (Option ℕ)) (sweep : Progress) (i : ℕ) : Type 0 where
+pub record IsUnderWay (p : Problem) (first : Option ℕ) (before : List (Option ℕ)) (sweep : Progress)
+    (i : ℕ) : Type 0 where
   pub kept : IsKept p sweep
   pub swept : IsSwept p first (plan_at before) (plan_at sweep.plan.items) (holds sweep.dead) i
-  pub deaths : SweepsDead (seating_of p) (plan_at before) [] (done p first i) (plan_at sweep.plan.items) sweep.listed.items
+  pub deaths : SweepsDead (seating_of p) (plan_at before) [] (done p first i)
+      (plan_at sweep.plan.items) sweep.listed.items
 
-pub begun : (p : Problem) (sweep : Progress) (before : List (Option ℕ)) → IsKept p sweep → sweep.plan.items ≡ before → sweep.listed.items ≡ [] → IsUnderWay p None before sweep 0
+pub begun : (p : Problem) (sweep : Progress) (before : List (Option ℕ)) → IsKept p sweep → sweep.plan.items ≡ before
+    → sweep.listed.items ≡ [] → IsUnderWay p None before sweep 0
 begun p sweep before kept same none = record {
   kept = kept;
   swept = subst (λ (m : List (Option ℕ)). IsSwept p None (plan_at m) (plan_at sweep.plan.items) (holds sweep.dead) 0)
       same (swept_none p (plan_at sweep.plan.items) (holds sweep.dead) kept.lawful kept.closed);
-  deaths = subst (λ (m : List (Option ℕ)). SweepsDead (seating_of p) (plan_at m) [] (done p None 0) (plan_at sweep.plan.items) sweep.listed.items) same ((λ d. refl), none);
+  deaths = subst (λ (m : List (Option ℕ)). SweepsDead (seating_of p) (plan_at m) [] (done p None 0)
+      (plan_at sweep.plan.items) sweep.listed.items) same ((λ d. refl), none);
 }
 
 pub first_turn : (p : Problem) (sweep next : Progress) (before : List (Option ℕ)) (c : ℕ) → c < length p.fit
@@ -26,14 +31,19 @@ pub first_turn : (p : Problem) (sweep next : Progress) (before : List (Option �
     → IsUnderWay p (Some c) before next 0
 first_turn p sweep next before c below same none turn = record {
   kept = turn.kept;
-  swept = subst (λ (m : List (Option ℕ)). IsSwept p (Some c) (plan_at m) (plan_at next.plan.items) (holds next.dead) 0) same
-      (swept_first p (plan_at sweep.plan.items) (holds next.dead) c (plan_at next.plan.items) below turn.kept.lawful turn.kept.closed turn.seated turn.settled turn.turn);
-  deaths = subst (λ (m : List (Option ℕ)). SweepsDead (seating_of p) (plan_at m) [] (done p (Some c) 0) (plan_at next.plan.items) next.listed.items) same
-      (subst (λ (cs : List ℕ). SweepsDead (seating_of p) (plan_at sweep.plan.items) [] cs (plan_at next.plan.items) next.listed.items) (sym (first_done p c below)) (
+  swept = subst (λ (m : List (Option ℕ)). IsSwept p (Some c) (plan_at m) (plan_at next.plan.items) (holds next.dead) 0)
+      same
+      (swept_first p (plan_at sweep.plan.items) (holds next.dead) c
+      (plan_at next.plan.items) below turn.kept.lawful turn.kept.closed turn.seated turn.settled turn.turn);
+  deaths = subst (λ (m : List (Option ℕ)). SweepsDead (seating_of p) (plan_at m) [] (done p (Some c) 0)
+      (plan_at next.plan.items) next.listed.items) same
+      (subst (λ (cs : List ℕ). SweepsDead (seating_of p) (plan_at sweep.plan.items) [] cs
+      (plan_at next.plan.items) next.listed.items) (sym (first_done p c below)) (
         plan_at next.plan.items,
         next.listed.items,
         turn.turn,
-        subst (λ (xs : List ℕ). ListsDead (seating_of p) (plan_at sweep.plan.items) c xs next.listed.items) none turn.deaths,
+        subst (λ (xs : List ℕ). ListsDead (seating_of p) (plan_at sweep.plan.items) c xs next.listed.items) none
+            turn.deaths,
         ((λ d. refl), refl),
       ));
 }
@@ -54,7 +64,8 @@ one_turn p first before sweep next i way away turn = record {
       (plan_at next.plan.items) next.listed.items way.deaths turn.turn turn.deaths);
 }
 
-pub no_turn : (p : Problem) (first : Option ℕ) (before : List (Option ℕ)) (sweep : Progress) (i : ℕ) → IsUnderWay p first before sweep i → first ≡ Some i → IsUnderWay p first before sweep (i + 1)
+pub no_turn : (p : Problem) (first : Option ℕ) (before : List (Option ℕ)) (sweep : Progress) (i : ℕ)
+    → IsUnderWay p first before sweep i → first ≡ Some i → IsUnderWay p first before sweep (i + 1)
 no_turn p first before sweep i way same = record {
   kept = way.kept;
   swept = swept_skip p first (plan_at before) (plan_at sweep.plan.items) (holds sweep.dead) i way.swept same;

@@ -1,4 +1,4 @@
--- Augmenting chains.
+-- Augmenting chains: the augmenting paths of a matching, from an unseated candidate to a free desk.
 use Rattle.std.specs.Prelude.{◌≡◌, ◌≢◌, ◌<◌, ℕ, zero, suc, IsTrue, List, [], ◌∷◌, ◌++◌, length, map, if◌then◌else◌}
 use Rattle.std.specs.Prelude.{AllPairs, Some}
 use Rattle.std.specs.declared.cmp.Ordering.{Ordering}
@@ -27,7 +27,8 @@ module _ {C H : Type 0} where
       IsTrue (g.fits c hop.0) × (HasFreeDesk g plan hop.0 → ⊥) × (plan hop.1 ≡ Some hop.0)
       × Leads g plan hop.1 hops last
 
-  -- c leads to the hall: it fits c, or it fits an occupant of a hall to which c leads, so many times
+  -- c leads to the hall by an alternating path: it fits c, or it fits an occupant of a hall to which c leads, so many
+  -- times
   abbrev pub LeadsTo : Seating C H → Plan C H → C → ℕ → H → Type 0
   LeadsTo g plan c zero h = IsTrue (g.fits c h)
   LeadsTo g plan c (suc j) h =

@@ -1,8 +1,7 @@
--- Candidates and halls by indices and by names, and plans and chains read by the others.
-use Rattle.std.specs.Prelude.{ℕ, nat_eq, map, Option, None, if◌then◌else◌}
+-- Candidates and halls by indices and by names, and plans read by the others.
+use Rattle.std.specs.Prelude.{ℕ, nat_eq, Option, None, if◌then◌else◌}
 use Rattle.std.specs.Option.{option_map, option_and_then}
 use Rattle.exam_plan.specs.Matching.{Seating, Plan}
-use Rattle.exam_plan.specs.Chains.{Chain}
 
 -- a seating by indices and one by names; the name of each index, and the index of each name that has one
 pub record Naming (C H : Type 0) : Type 0 where
@@ -25,10 +24,3 @@ module _ {C H : Type 0} (name : Naming C H) where
   -- a plan by names, read by indices: nobody sits under an index that is not that of its name
   abbrev pub indexed_plan : Plan C H → Plan ℕ ℕ
   indexed_plan q i = option_and_then (at_index q i) (name.candidate_index (name.candidate i))
-
-  abbrev pub named_hop : ℕ × ℕ → H × C
-  named_hop hop = (name.hall hop.0, name.candidate hop.1)
-
-  -- a chain by indices, read by names
-  abbrev pub named_chain : Chain ℕ ℕ → Chain C H
-  named_chain chain = record { hops = map named_hop chain.hops; last = name.hall chain.last }

@@ -1,5 +1,6 @@
 -- The repair of a plan.
-use Rattle.std.specs.Prelude.{◌≡◌, ◌⊎◌, ◌↔◌, ℕ, Contains, Bool, ◌&&◌, nat_lt, not, List, [], ◌∷◌, ◌++◌, filter, count_by, Option}
+use Rattle.std.specs.Prelude.{◌≡◌, ◌⊎◌, ◌↔◌, ℕ, Contains, Bool, ◌&&◌, nat_lt, not, List, [], ◌∷◌, ◌++◌, filter}
+use Rattle.std.specs.Prelude.{count_by, Option}
 use Rattle.std.specs.Prelude.{None, Some, if◌then◌else◌}
 use Rattle.std.specs.List.{list_any}
 use Rattle.std.specs.List.Sorted.{IsStrictlySortedBy}
@@ -62,7 +63,8 @@ module _ {C H : Type 0} where
   abbrev pub IsSweep : Seating C H → Option C → Plan C H → Plan C H → Type 0
   IsSweep g first before after = Sweeps g before (sweep_order g first) after
 
-  -- what a search from c without a chain adds to the dead halls: those to which c leads, rising
+  -- what a search from c without a chain adds to the dead halls: those to which c leads, rising (the halls of a
+  -- Hungarian tree)
   pub record AreNewlyDead (g : Seating C H) (plan : Plan C H) (c : C) (dead halls : List H) : Type 0 where
     pub rising : IsStrictlySortedBy g.hall_cmp halls
     pub exact : (h : H) → Contains halls h ↔ (((j : ℕ) × LeadsTo g plan c j h) × (Contains dead h → ⊥))

@@ -1,7 +1,8 @@
 -- The searches: from which halls a free desk can be reached, and to which halls a candidate leads. A set of
 -- halls is a test of halls here.
 use Rattle.std.specs.Prelude.{◌≡◌, ◌⊎◌, ◌↔◌, ℕ, zero, suc, ◌+◌, ◌<◌, ◌≤◌, Bool, true, false, IsTrue, List, [], ◌∷◌}
-use Rattle.std.specs.Prelude.{length, Option, None, Some, IsSome, slice_index, slice_index_or, nat_eq, count_by, Contains}
+use Rattle.std.specs.Prelude.{length, Option, None, Some, IsSome, slice_index, slice_index_or, nat_eq, count_by}
+use Rattle.std.specs.Prelude.{Contains}
 use Rattle.std.specs.Prelude.{vec_capacity, ◌&&◌, if◌then◌else◌}
 use Rattle.std.specs.List.{range_with_len, IsDistinct}
 use Rattle.std.specs.Option.{option_map_or}

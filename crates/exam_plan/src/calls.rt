@@ -1,6 +1,7 @@
 //! The calls on a problem and a plan.
-ghost use Rattle.std.specs.Prelude.{◌≡◌, ◌<◌, ℕ, length, IfOk, IsOk, IfErr, IfSome, IsSome, IsTrue, Contains, nat_eq, ◌↔◌};
+ghost use Rattle.std.specs.Prelude.{◌≡◌, ◌<◌, ℕ, length, IfOk, IsOk, IfSome, IsSome, IsTrue, Contains, nat_eq, ◌↔◌};
 ghost use Rattle.std.specs.List.{IsDistinct};
+ghost use Rattle.exam_types.specs.Refusals.{OnlyMemory};
 ghost use Rattle.exam_plan.specs.Matching.{IsLawful, IsBest, SamePlan, IsCertificate, IsContested, unseated};
 ghost use Rattle.exam_plan.specs.Problems.{IsPlan, seating_of, plan_at, desk_numbers};
 ghost use Rattle.exam_plan.specs.Repair.{kept_part, IsDeadList, IsSweep};
@@ -20,7 +21,7 @@ pub fn keep_lawful(problem: &Problem, mut plan: Plan) -> Result<Plan, Refusal>
         SamePlan (plan_at new.items) (kept_part (seating_of problem.now) (plan_at plan.items))) }
     ensures lawful { IfOk result (λ new. IsLawful (seating_of problem.now) (plan_at new.items)) }
     ensures accepted { IsOk result }
-    ensures memory { IfErr result (λ e. e ≡ Refusal.NoMemory) }
+    ensures memory { OnlyMemory result }
 {
     keeping::put_out_unfit(problem, plan.as_mut_slice());
     keeping::put_out_crowded(problem, plan.as_mut_slice());
@@ -50,7 +51,7 @@ pub fn sweep_dead(
     ensures dead { IfOk result (λ (new, dead). (h : ℕ) → Contains dead.items h
         ↔ ((c : ℕ) × IsContested (seating_of problem.now) c × IsTrue ((seating_of problem.now).fits c h))) }
     ensures once { IfOk result (λ (new, dead). IsDistinct nat_eq dead.items) }
-    ensures memory { IfErr result (λ e. e ≡ Refusal.NoMemory) }
+    ensures memory { OnlyMemory result }
 {
     let mut sweep = turns::start(alloc, problem, plan)?;
     if let Some(candidate) = first {
@@ -80,7 +81,7 @@ pub fn sweep(
         → IsSome (plan_at new.items c)) }
     ensures chains { IfOk result (λ new.
         IsSweep (seating_of problem.now) first (plan_at plan.items) (plan_at new.items)) }
-    ensures memory { IfErr result (λ e. e ≡ Refusal.NoMemory) }
+    ensures memory { OnlyMemory result }
 {
     let (swept, _) = sweep_dead(alloc, problem, plan, first)?;
     Ok(swept)
@@ -96,7 +97,7 @@ pub fn shortage(alloc: Global, problem: &Problem, plan: &Plan) -> Result<Shortag
         ≡ length (unseated (seating_of problem.now) (plan_at plan.now.items))) }
     ensures contested { IfOk result (λ s. (c : ℕ) → Contains s.candidates.items c
         ↔ IsContested (seating_of problem.now) c) }
-    ensures memory { IfErr result (λ e. e ≡ Refusal.NoMemory) }
+    ensures memory { OnlyMemory result }
 {
     let contested = contest::contested_halls(problem, plan.as_slice());
     Ok(Shortage {
@@ -110,7 +111,7 @@ pub fn shortage(alloc: Global, problem: &Problem, plan: &Plan) -> Result<Shortag
 pub fn desks(alloc: Global, problem: &Problem, plan: &Plan) -> Result<Vec<Option<u32>>, Refusal>
     requires { IsPlan problem.now plan.now.items }
     ensures numbers { IfOk result (λ numbers. numbers.items ≡ desk_numbers problem.now plan.now.items) }
-    ensures memory { IfErr result (λ e. e ≡ Refusal.NoMemory) }
+    ensures memory { OnlyMemory result }
 {
     numbering::desk_numbers(alloc, problem, plan.as_slice())
 }

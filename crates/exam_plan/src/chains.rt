@@ -4,7 +4,8 @@ ghost use Rattle.std.specs.Prelude.{MatchOption, slice_index, slice_set};
 ghost use Rattle.exam_plan.specs.HallSets.{most_halls, holds};
 ghost use Rattle.exam_plan.specs.Problems.{IsPlan, seating_of, plan_at};
 ghost use Rattle.exam_plan.specs.Chains.{HasFreeDesk, LeadsTo};
-ghost use Rattle.exam_plan.specs.Searches.{IsMarked, MarksAll, IsTouching, Reaches, AreLayers, AreInward, AreOnward, IsOnward, CanReach};
+ghost use Rattle.exam_plan.specs.Searches.{IsMarked, MarksAll, IsTouching, Reaches, AreLayers, AreInward, AreOnward};
+ghost use Rattle.exam_plan.specs.Searches.{IsOnward, CanReach};
 ghost use Rattle.exam_plan.specs.Searches.{IsAdvanced, IsFound};
 
 use crate::hall_set::HallSet;

@@ -1,6 +1,7 @@
 //! Who is contested when desks are short: the search forwards from the unseated candidates.
-ghost use Rattle.std.specs.Prelude.{◌≡◌, ◌⊎◌, ℕ, IsTrue, length, IfOk, IfErr, filter};
+ghost use Rattle.std.specs.Prelude.{◌≡◌, ◌⊎◌, ℕ, IsTrue, length, IfOk, filter};
 ghost use Rattle.std.specs.List.{range_with_len};
+ghost use Rattle.exam_types.specs.Refusals.{OnlyMemory};
 ghost use Rattle.exam_plan.specs.HallSets.{holds, halls_below};
 ghost use Rattle.exam_plan.specs.Matching.{unseated};
 ghost use Rattle.exam_plan.specs.Problems.{IsProblem, seating_of, plan_at};
@@ -59,7 +60,7 @@ pub fn contested_halls(problem: &Problem, plan: &[Option<usize>]) -> HallSet
 /// The halls of the set, rising.
 pub fn listed(alloc: Global, halls: usize, set: HallSet) -> Result<Vec<usize>, Refusal>
     ensures listed { IfOk result (λ indices. indices.items ≡ halls_below halls set) }
-    ensures memory { IfErr result (λ e. e ≡ Refusal.NoMemory) }
+    ensures memory { OnlyMemory result }
 {
     let mut listed = Vec::new(alloc);
     for hall in 0..halls {
@@ -78,7 +79,7 @@ pub fn drawn_in(
 ) -> Result<Vec<usize>, Refusal>
     ensures candidates { IfOk result (λ candidates. candidates.items
         ≡ filter (λ c. is_drawn (holds marked) (plan_at plan.now c)) (range_with_len 0 (length plan.now))) }
-    ensures memory { IfErr result (λ e. e ≡ Refusal.NoMemory) }
+    ensures memory { OnlyMemory result }
 {
     let mut candidates = Vec::new(alloc);
     for (candidate, place) in plan.iter().enumerate() {

@@ -1,5 +1,6 @@
 //! Sets of halls, each hall by its number.
-ghost use Rattle.std.specs.Prelude.{◌≡◌, ◌↔◌, ◌<◌, ◌≤◌, ◌%◌, ◌^◌, ◌||◌, ◌&&◌, ℕ, false, not, slice_index, nat_eq, if◌then◌else◌, IsTrue, MatchOption};
+ghost use Rattle.std.specs.Prelude.{◌≡◌, ◌↔◌, ◌<◌, ◌≤◌, ◌%◌, ◌^◌, ◌||◌, ◌&&◌, ℕ, false, not, slice_index, nat_eq};
+ghost use Rattle.std.specs.Prelude.{if◌then◌else◌, IsTrue, MatchOption};
 ghost use Rattle.exam_plan.specs.HallSets.{most_halls, holds, IsLeast, set_of_mask};
 
 use std::marker::Model;

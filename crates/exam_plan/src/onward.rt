@@ -1,6 +1,8 @@
 //! Which halls fit some occupant of each hall, kept as people move.
-ghost use Rattle.std.specs.Prelude.{◌≡◌, ◌<◌, ◌≤◌, ◌&&◌, ℕ, true, nat_eq, if◌then◌else◌, length, Option, Some, IfOk, IfErr, IsTrue};
+ghost use Rattle.std.specs.Prelude.{◌≡◌, ◌<◌, ◌≤◌, ◌&&◌, ℕ, true, nat_eq, if◌then◌else◌, length, Option, Some, IfOk};
+ghost use Rattle.std.specs.Prelude.{IsTrue};
 ghost use Rattle.std.specs.Prelude.{slice_index, slice_set};
+ghost use Rattle.exam_types.specs.Refusals.{OnlyMemory};
 ghost use Rattle.exam_plan.specs.HallSets.{most_halls, holds};
 ghost use Rattle.exam_plan.specs.Problems.{IsPlan, seating_of, plan_at};
 ghost use Rattle.exam_plan.specs.Searches.{IsOnward, IsShaped, IsEntered, IsLeft, tally_at};
@@ -47,7 +49,7 @@ impl Onward {
     /// A table with room for the halls of the problem, in which nobody is yet.
     pub fn new(alloc: Global, problem: &Problem) -> Result<Onward, Refusal>
         ensures kept { IfOk result (λ table. (plan : ℕ → Option ℕ) → IsOnward problem.now plan table) }
-        ensures memory { IfErr result (λ e. e ≡ Refusal.NoMemory) }
+        ensures memory { OnlyMemory result }
     {
         let halls = problem.hall_count();
         Ok(Onward {

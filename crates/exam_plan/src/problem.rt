@@ -1,7 +1,8 @@
 //! The seating problem of a session, by indices.
-ghost use Rattle.std.specs.Prelude.{◌≡◌, ℕ, ◌<◌, ◌≤◌, length, map, nat_eq, All, IsTrue, IfOk, IfErr};
+ghost use Rattle.std.specs.Prelude.{◌≡◌, ℕ, ◌<◌, ◌≤◌, length, map, nat_eq, All, IsTrue, IfOk};
 ghost use Rattle.std.specs.Prelude.{slice_index};
 ghost use Rattle.std.specs.List.{list_any, IsDistinct};
+ghost use Rattle.exam_types.specs.Refusals.{OnlyMemory};
 ghost use Rattle.exam_plan.specs.HallSets.{most_halls, holds, halls_below, sets_of};
 ghost use Rattle.exam_plan.specs.Problems.{IsProblem, most_members, seating_of};
 
@@ -56,7 +57,7 @@ fn set_of(row: &[usize]) -> HallSet
 /// The sets of the masks.
 fn sets_of_masks(alloc: Global, masks: &[Mask]) -> Result<Vec<HallSet>, Refusal>
     ensures sets { IfOk result (λ sets. sets.items ≡ sets_of masks.now) }
-    ensures memory { IfErr result (λ e. e ≡ Refusal.NoMemory) }
+    ensures memory { OnlyMemory result }
 {
     let sets = masks
         .iter()
@@ -85,7 +86,7 @@ impl Problem {
           fit = map (λ row. row.items) fit.items;
           rank = rank.items;
         }) }
-        ensures memory { IfErr result (λ e. e ≡ Refusal.NoMemory) }
+        ensures memory { OnlyMemory result }
     {
         let mut sets = Vec::with_capacity(alloc, fit.len())?;
         for row in fit.iter() {
@@ -117,7 +118,7 @@ impl Problem {
           fit = map (halls_below (length desks.items)) (sets_of fit.items);
           rank = rank.items;
         }) }
-        ensures memory { IfErr result (λ e. e ≡ Refusal.NoMemory) }
+        ensures memory { OnlyMemory result }
     {
         let sets = sets_of_masks(alloc, fit.as_slice())?;
         Ok(Problem {

@@ -1,6 +1,8 @@
 //! The turns of a sweep.
-ghost use Rattle.std.specs.Prelude.{◌≡◌, ◌<◌, ◌≤◌, ◌+◌, ◌++◌, ◌&&◌, ℕ, [], length, not, nat_eq, nat_lt, All, IfSome, IfOk, IfErr, slice_index};
+ghost use Rattle.std.specs.Prelude.{◌≡◌, ◌<◌, ◌≤◌, ◌+◌, ◌++◌, ◌&&◌, ℕ, [], length, not, nat_eq, nat_lt, All, IfSome};
+ghost use Rattle.std.specs.Prelude.{IfOk, slice_index};
 ghost use Rattle.std.specs.Prelude.{vec_capacity};
+ghost use Rattle.exam_types.specs.Refusals.{OnlyMemory};
 ghost use Rattle.exam_plan.specs.HallSets.{most_halls, holds, halls_below};
 ghost use Rattle.exam_plan.specs.Matching.{IsLawful};
 ghost use Rattle.exam_plan.specs.Chains.{HasFreeDesk};
@@ -39,7 +41,7 @@ fn occupancy(alloc: Global, halls: usize, plan: &[Option<usize>]) -> Result<Vec<
     ensures sized { IfOk result (λ counts. length counts.items ≡ halls) }
     ensures counts { IfOk result (λ counts. (h : ℕ) → h < halls
         → slice_index counts.items h ≡ count_at (plan_at plan.now) h (length plan.now)) }
-    ensures memory { IfErr result (λ e. e ≡ Refusal.NoMemory) }
+    ensures memory { OnlyMemory result }
 {
     let mut counts = vec![in alloc; 0usize; halls]?;
     for place in plan {
@@ -74,7 +76,7 @@ pub fn start(alloc: Global, problem: &Problem, plan: Plan) -> Result<Progress, R
     ensures kept { IfOk result (λ sweep. IsKept problem.now sweep) }
     ensures plan { IfOk result (λ sweep. sweep.plan.items ≡ plan.items) }
     ensures none { IfOk result (λ sweep. sweep.listed.items ≡ []) }
-    ensures memory { IfErr result (λ e. e ≡ Refusal.NoMemory) }
+    ensures memory { OnlyMemory result }
 {
     let halls = problem.hall_count();
     let counts = occupancy(alloc, halls, plan.as_slice())?;

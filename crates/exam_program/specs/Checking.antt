@@ -1,14 +1,11 @@
 -- What the command `check` finds and prints, which looks for the first bad table.
-use Rattle.std.specs.Prelude.{◌≡◌, ℕ, List, Option, None, Some, Result, Ok, Err, IsTrue, IfOk, IfErr, OnOk}
+use Rattle.std.specs.Prelude.{◌≡◌, ℕ, List, Option, None, Some, Result, Ok, Err, IsTrue, IfOk, IfErr}
 use Rattle.sqlite.specs.Held.{Held, state}
 use Rattle.sqlite.specs.State.{HasCleanDisk, Survives}
 use Rattle.sqlite_trees.specs.declared.store.Store.{Ghosts}
-use Rattle.sqlite_trees.specs.Tree.{Trees}
 use Rattle.exam_types.specs.declared.refusal.Refusal.{Refusal}
-use Rattle.exam_sql.specs.Made.{ContainsMade}
 use Rattle.exam_tables.specs.Loaded.{OnlyReads}
-use Rattle.exam_store.specs.Found.{IsNoOlder}
-use Rattle.exam_check.specs.FirstBad.{IsFirstBadTable}
+use Rattle.exam_check.specs.FirstBad.{FindsBad}
 use Rattle.exam_check.specs.Lines.{check_text}
 use Rattle.exam_check.specs.Refused.{FailsToCheck, is_check_refusal}
 use Rattle.exam_check.specs.declared.tables.Table.{Table}
@@ -36,9 +33,7 @@ TellsTable contents found before result after =
 -- database is only read.
 pub record IsChecked {S : Type 0} (g : Ghosts S) (was : Held S) (answered : Result (Option Table) Refusal)
     (now : Held S) : Type 0 where
-  pub found : HasCleanDisk (state g now) → IfOk answered (λ found. (all : Trees)
-      → ContainsMade (state g was).now all → IsFirstBadTable (state g was).now all found)
-  pub newest : HasCleanDisk (state g now) → OnOk answered (IsNoOlder (state g was).now)
+  pub found : HasCleanDisk (state g now) → IfOk answered (FindsBad (state g was).now)
   pub told : IfErr answered (λ e. IsTrue (is_check_refusal e))
   pub refusal : HasCleanDisk (state g now) → IfErr answered (FailsToCheck g was now)
   pub left : HasCleanDisk (state g now) → OnlyReads (state g was) (state g now) answered

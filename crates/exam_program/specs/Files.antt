@@ -111,10 +111,10 @@ Leads g job result v office (Some done) w new files =
 Leads g job result v office None w new files =
     (new ≡ office) × HoldStill g job result v files office × HoldOfficeIn g w files new
 
--- An office leads to another over lines in turn. Each line is carried out over a connection whose tables keep the office
--- that the files held, in its version.
-abbrev pub LeadsInTurn : {D O E : Type 0} → disk.Ghosts D → Contents O → Contents E → ℕ → Office → List Said → ℕ → Office
-    → Files D → Type 0
+-- An office leads to another over lines in turn. Each line is carried out over a connection whose tables keep the
+-- office that the files held, in its version.
+abbrev pub LeadsInTurn : {D O E : Type 0} → disk.Ghosts D → Contents O → Contents E → ℕ → Office → List Said → ℕ
+    → Office → Files D → Type 0
 LeadsInTurn g contents errors v office [] w new last = (w ≡ v) × (new ≡ office) × HoldOfficeIn g w last new
 LeadsInTurn {D} {O} {E} g contents errors v office (said ∷ rest) w new last =
     (was : Held (FileStore D g)) × (before : O) × (untold : E) × (result : Result ℕ JobFault)

@@ -17,7 +17,7 @@ use Rattle.exam_line.specs.Lines as line
 use Rattle.exam_tables.specs.Inside.{IsOurs}
 use Rattle.exam_tables.specs.Transactions.{Commits, IsSound}
 use Rattle.exam_tables.specs.Versions.{FailsToCreate, IsBlank}
-use Rattle.exam_store.specs.Found.{FailsToOpen, Finds, MakesEmpty, is_open_refusal}
+use Rattle.exam_store.specs.Found.{FailsToFind, Finds, MakesEmpty, is_open_refusal}
 use Rattle.exam_store.specs.Kept.{Keeps}
 
 -- ---- the office in an open database
@@ -42,10 +42,6 @@ HasTables line.init db = IsBlank db ⊎ IsOurs db
 HasTables job db = IsOurs db
 
 -- ---- why none is opened
-
--- no office is found, or a transaction is already open
-abbrev pub FailsToFind : {S : Type 0} → Ghosts S → Held S → Held S → Refusal → Type 0
-FailsToFind g was now e = ((e ≡ Store) × IsTrue now.in_transaction) ⊎ FailsToOpen g was now e
 
 abbrev pub FailsToOpenFor : {S : Type 0} → Ghosts S → Job → Held S → Held S → Refusal → Type 0
 FailsToOpenFor g line.init was now e =

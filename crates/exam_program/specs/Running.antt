@@ -30,8 +30,8 @@ TellsEnd errors (Ok done) before after = after ≡ before
 TellsEnd errors (Err fault) before after =
     IsTold errors (connection_fault_text (http_fault_number fault)) before after
 
--- A connection ended: the store changed as if at most one request had asked for it on this day, and at most one line was
--- told.
+-- A connection ended: the store changed as if at most one request had asked for it on this day, and at most one line
+-- was told.
 abbrev pub EndsOne : {S E : Type 0} → Ghosts S → Contents E → ℕ → OfficeIn S → E → OfficeIn S → E → Type 0
 EndsOne g errors today old untold new told =
     (end : Result (Unit {0}) HttpFault) × ServedOn g today old new × TellsEnd errors end untold told

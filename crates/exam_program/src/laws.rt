@@ -10,9 +10,10 @@ pub fn files_show_their_office<D: Disk + Drop>()
     ensures { ShowTheirOffice D.Disk }
 {}
 
-/// Lines follow one another, each over the files that the one before it gave back: whatever they are, each finds the office
-/// that the files hold, in its version, and leaves one. An office that is opened is one of the newest version, and the
-/// files hold it after the line; any other line leaves the office as it is, and `migrate` may bring it to that version.
+/// Lines follow one another, each over the files that the one before it gave back: whatever they are, each finds the
+/// office that the files hold, in its version, and leaves one. An office that is opened is one of the newest version,
+/// and the files hold it after the line; any other line leaves the office as it is, and `migrate` may bring it to that
+/// version.
 pub fn lines_lead_an_office_on<D: Disk + Drop, O: Write, E: Write>()
     ensures { LinesLead D.Disk O.contents E.contents }
 {

@@ -5,11 +5,13 @@ use Rattle.matchit.specs.Route.{Scan}
 use Rattle.matchit.specs.Router.{InsertsRead, Refused, RouteOf, nearest}
 use Rattle.matchit.specs.Rows.{RowsOf}
 use Rattle.matchit.specs.declared.error.InsertError.{InsertError}
-use Rattle.matchit.specs.declared.error.InsertError.TheVariants.{Conflict, InvalidCatchAll, InvalidParam, InvalidParamSegment, OutOfMemory}
+use Rattle.matchit.specs.declared.error.InsertError.TheVariants.{Conflict, InvalidCatchAll, InvalidParam}
+use Rattle.matchit.specs.declared.error.InsertError.TheVariants.{InvalidParamSegment, OutOfMemory}
 use Rattle.exam_request.specs.Table.{FreePattern, with_read}
 use Rattle.exam_request.specs.declared.routes.Route.{Route}
 
-refused : (p : List ℕ) (rows : RowsOf (RouteOf Route)) (e : InsertError) → nearest p rows ≡ None → Refused p rows e → e ≡ OutOfMemory
+refused : (p : List ℕ) (rows : RowsOf (RouteOf Route)) (e : InsertError) → nearest p rows ≡ None → Refused p rows e
+    → e ≡ OutOfMemory
 refused p rows (Conflict with) free h = cc (free, h.1)
 refused p rows OutOfMemory free h = refl
 refused p rows InvalidParamSegment free h = absurd h

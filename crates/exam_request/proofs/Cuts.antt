@@ -31,18 +31,40 @@ cut (b ∷ path) = by (b == 47) refl (cut path)
     by : (v : Bool) → (b == 47) ≡ v → Cut path → Cut (b ∷ path)
     by true e c =
         let is : b ≡ 47 = grind (arith, nat_tests) in
-        inr (path, record { behind_is = rw e refl; text = rw (e, is) refl; segment_is = rw (e, is) refl; slash = rw e refl })
+        inr (
+          path,
+          record {
+            behind_is = rw e refl;
+            text = rw (e, is) refl;
+            segment_is = rw (e, is) refl;
+            slash = rw e refl;
+          },
+        )
     by false e (inl w) =
-        inl (record { behind_is = rw e w.behind_is; part_is = rw e (ap (λ x. b ∷ x) w.part_is); segment_is = rw e (ap (λ x. b ∷ x) w.segment_is); slash = rw e w.slash })
+        inl (record {
+          behind_is = rw e w.behind_is;
+          part_is = rw e (ap (λ x. b ∷ x) w.part_is);
+          segment_is = rw e (ap (λ x. b ∷ x) w.segment_is);
+          slash = rw e w.slash;
+        })
     by false e (inr (rest, w)) =
-        inr (rest, record { behind_is = rw e w.behind_is; text = rw e (ap (λ x. b ∷ x) w.text); segment_is = rw e (ap (λ x. b ∷ x) w.segment_is); slash = rw e w.slash })
+        inr (
+          rest,
+          record {
+            behind_is = rw e w.behind_is;
+            text = rw e (ap (λ x. b ∷ x) w.text);
+            segment_is = rw e (ap (λ x. b ∷ x) w.segment_is);
+            slash = rw e w.slash;
+          },
+        )
 
 no_slash_later : (n : ℕ) (path : List ℕ) → has_slash path ≡ false → has_slash (drop n path) ≡ false
 no_slash_later zero path h = h
 no_slash_later (suc n) [] h = refl
 no_slash_later (suc n) (b ∷ path) h = by (b == 47) h (no_slash_later n path)
   where
-    by : (v : Bool) → cond v true (has_slash path) ≡ false → (has_slash path ≡ false → has_slash (drop n path) ≡ false) → has_slash (drop n path) ≡ false
+    by : (v : Bool) → cond v true (has_slash path) ≡ false → (has_slash path ≡ false → has_slash (drop n path) ≡ false)
+        → has_slash (drop n path) ≡ false
     by true h later = absurd (true≢false h)
     by false h later = later h
 
@@ -52,7 +74,8 @@ cuts_none path h = by (pointwise nat_eq (47 ∷ []) (drop (length path - 1) path
   where
     by : (v : Bool) → pointwise nat_eq (47 ∷ []) (drop (length path - 1) path) ≡ v → cuts path (47 ∷ []) ≡ false
     by true e =
-        let ends : 47 ∷ [] ≡ drop (length path - 1) path = (bytes_decides (47 ∷ []) (drop (length path - 1) path)).0 e in
+        let ends : 47 ∷ [] ≡ drop (length path - 1) path =
+        (bytes_decides (47 ∷ []) (drop (length path - 1) path)).0 e in
         let none = no_slash_later (length path - 1) path h in
         absurd (true≢false (rw (← ends) at none))
     by false e = rw e (grind (arith, nat_tests))

@@ -1,5 +1,6 @@
 -- A day has no byte that JSON escapes, so its text is in the body as it is.
-use Rattle.std.proofs.Common.{◌≡◌, ◌∙◌, ◌++◌, ◌+◌, ◌<◌, ◌%◌, ◌/◌, ℕ, zero, suc, List, [], ◌∷◌, refl, sym, ap, subst, append_assoc, arith}
+use Rattle.std.proofs.Common.{◌≡◌, ◌∙◌, ◌++◌, ◌+◌, ◌<◌, ◌%◌, ◌/◌, ℕ, zero, suc, List, [], ◌∷◌, refl, sym, ap, subst}
+use Rattle.std.proofs.Common.{append_assoc, arith}
 use Rattle.std.specs.Prelude.{codes}
 use Rattle.std.specs.Fmt.{digits as decimal_digits}
 use Rattle.std.specs.List.{flat_map}
@@ -16,7 +17,8 @@ abbrev IsPlain : List ℕ → Type 0
 IsPlain text = flat_map escape_byte text ≡ text
 
 joined : (these those : List ℕ) → IsPlain these → IsPlain those → IsPlain (these ++ those)
-joined these those a b = flat_map-append escape_byte these those ∙ (ap (λ x. x ++ flat_map escape_byte those) a ∙ ap (λ x. these ++ x) b)
+joined these those a b =
+    flat_map-append escape_byte these those ∙ (ap (λ x. x ++ flat_map escape_byte those) a ∙ ap (λ x. these ++ x) b)
 
 one : (b : ℕ) → 34 < b → b < 92 → IsPlain (b ∷ [])
 unfolding escape_byte
@@ -27,7 +29,9 @@ one b above below = ap (λ x. x ++ []) plain
 
 plain_digits : (k n : ℕ) → IsPlain (digits k n)
 plain_digits zero n = refl
-plain_digits (suc k) n = joined (digits k (n / 10)) ((48 + n % 10) ∷ []) (plain_digits k (n / 10)) (one (48 + n % 10) (omega arith) (omega arith))
+plain_digits (suc k) n =
+    joined (digits k (n / 10)) ((48 + n % 10) ∷ []) (plain_digits k (n / 10))
+    (one (48 + n % 10) (omega arith) (omega arith))
 
 plain_date : (y m d : ℕ) → IsPlain (date_text y m d)
 unfolding escape_byte
@@ -38,14 +42,18 @@ plain_date y m d =
 plain_day : (n : ℕ) → IsPlain (day_text n)
 plain_day n = subst IsPlain (sym (day_text-is n)) (plain_date (year_of n) (month_of n) (month_day_of n))
 
-pub closing : (day : ℕ) (none first second all text : List ℕ) → none ≡ [] → first ≡ none ++ codes "{\"day\":\"" → second ≡ first ++ text
+pub closing : (day : ℕ) (none first second all text : List ℕ) → none ≡ []
+    → first ≡ none ++ codes "{\"day\":\"" → second ≡ first ++ text
     → all ≡ second ++ codes "\",\"error\":13}" → text ≡ day_text day → all ≡ closing_body day
 unfolding decimal_digits escape_byte
 closing day none first second all text is_none is_first is_second is_all is =
-    is_all ∙ (ap (λ x. x ++ codes "\",\"error\":13}") made ∙ ap (λ x. codes "{\"day\":\"" ++ x) (sym (append_assoc plain (34 ∷ []) (codes ",\"error\":13}"))))
+    is_all ∙ (ap (λ x. x ++ codes "\",\"error\":13}") made ∙ ap (λ x. codes "{\"day\":\"" ++ x)
+    (sym (append_assoc plain (34 ∷ []) (codes ",\"error\":13}"))))
   where
     plain : List ℕ
     plain = flat_map escape_byte (day_text day)
 
     made : second ≡ codes "{\"day\":\"" ++ plain
-    made = is_second ∙ (ap (λ x. x ++ text) (is_first ∙ ap (λ x. x ++ codes "{\"day\":\"") is_none) ∙ ap (λ x. codes "{\"day\":\"" ++ x) (is ∙ sym (plain_day day)))
+    made = is_second ∙ (ap (λ x. x ++ text)
+        (is_first ∙ ap (λ x. x
+        ++ codes "{\"day\":\"") is_none) ∙ ap (λ x. codes "{\"day\":\"" ++ x) (is ∙ sym (plain_day day)))

@@ -1,5 +1,6 @@
 -- Where a head ends, from the front of the bytes on.
-use Rattle.std.proofs.Common.{◌≡◌, ◌+◌, ◌-◌, ◌≤◌, ℕ, zero, suc, List, [], ◌∷◌, length, take, drop, Bool, true, false, Option, Some, None, refl, sym, ap, subst, ◌∙◌, arith}
+use Rattle.std.proofs.Common.{◌≡◌, ◌+◌, ◌-◌, ◌≤◌, ℕ, zero, suc, List, [], ◌∷◌, length, take, drop, Bool, true, false}
+use Rattle.std.proofs.Common.{Option, Some, None, refl, sym, ap, subst, ◌∙◌, arith}
 use Rattle.std.specs.Prelude.{option_map}
 use Rattle.std.specs.Str.{bytes_eq}
 use Rattle.std.proofs.lemmas.List.{length-drop, take-take, take_all}
@@ -47,7 +48,8 @@ same_begin : (n : ℕ) (xs : List ℕ) → 4 ≤ n → begins (take n xs) ≡ be
 same_begin n xs h = ap (bytes_eq empty_line) (take-take 4 n xs h)
 
 -- the first bytes hold no end of a head, so the first end begins at most three bytes before they end
-skipped : (n : ℕ) (xs : List ℕ) → n + 3 ≤ length xs → head_len (take (n + 3) xs) ≡ None → head_len xs ≡ option_map (λ k. n + k) (head_len (drop n xs))
+skipped : (n : ℕ) (xs : List ℕ) → n + 3 ≤ length xs → head_len (take (n + 3) xs) ≡ None
+    → head_len xs ≡ option_map (λ k. n + k) (head_len (drop n xs))
 skipped zero xs long none = from_zero (head_len xs)
 skipped (suc n) [] long none = absurd (omega arith)
 skipped (suc n) (b ∷ rest) long none =
@@ -62,14 +64,18 @@ skipped (suc n) (b ∷ rest) long none =
     behind : drop 1 (take (suc n + 3) (b ∷ rest)) ≡ take (n + 3) rest
     behind = ap (λ k. drop 1 (take k (b ∷ rest))) size
 
-    by : (t : Bool) → begins (b ∷ rest) ≡ t → (head_len (take (n + 3) rest) ≡ None → head_len rest ≡ option_map (λ k. n + k) (head_len (drop n rest)))
+    by : (t : Bool) → begins (b ∷ rest) ≡ t
+        → (head_len (take (n + 3) rest) ≡ None → head_len rest ≡ option_map (λ k. n + k) (head_len (drop n rest)))
         → head_len (b ∷ rest) ≡ option_map (λ k. suc n + k) (head_len (drop n rest))
-    by true t next = absurd (let found = found_here _ (front ∙ t) in let differ : Some 4 ≡ None = sym found ∙ none in cc)
+    by true t next = absurd
+        (let found = found_here _ (front ∙ t) in let differ : Some 4 ≡ None = sym found ∙ none in cc)
     by false t next =
         let shorter = none_before _ (sym (not_here _ (front ∙ t)) ∙ none) in
-        not_here (b ∷ rest) t ∙ ap (option_map suc) (next (ap head_len (sym behind) ∙ shorter)) ∙ one_more n (head_len (drop n rest))
+        not_here (b ∷ rest) t ∙ ap (option_map suc) (next (ap head_len (sym behind) ∙ shorter))
+        ∙ one_more n (head_len (drop n rest))
 
-pub from_seen : (seen : ℕ) (xs : List ℕ) → seen ≤ length xs → head_len (take seen xs) ≡ None → head_len xs ≡ option_map (λ k. (seen - 3) + k) (head_len (drop (seen - 3) xs))
+pub from_seen : (seen : ℕ) (xs : List ℕ) → seen ≤ length xs → head_len (take seen xs) ≡ None
+    → head_len xs ≡ option_map (λ k. (seen - 3) + k) (head_len (drop (seen - 3) xs))
 from_seen zero xs within none = from_zero (head_len xs)
 from_seen (suc zero) xs within none = from_zero (head_len xs)
 from_seen (suc (suc zero)) xs within none = from_zero (head_len xs)

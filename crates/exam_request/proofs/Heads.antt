@@ -12,17 +12,24 @@ use Rattle.exam_request.specs.declared.fault.Fault.TheVariants.{Head}
 use Rattle.exam_request.specs.Sizes.{most_lines}
 
 -- the parser found a head of just these bytes
-pub whole_head : (head : List ℕ) (headers : List HeaderSpan) (r : RequestSpans) (answer : Result Said Fault) → HasWholeLines head
-    → IsRequestOf head headers r → length headers ≤ most_lines → r.len ≡ length head → ((h : RequestHead) → IsRequestAt head headers r h → answer ≡ said_by h)
+pub whole_head : (head : List ℕ) (headers : List HeaderSpan) (r : RequestSpans) (answer : Result Said Fault)
+    → HasWholeLines head
+    → IsRequestOf head headers r → length headers ≤ most_lines → r.len ≡ length head
+    → ((h : RequestHead) → IsRequestAt head headers r h → answer ≡ said_by h)
     → Judges head answer
 whole_head head headers r answer lines of room all said =
     let h = of.0 in
     let at = of.1 in
     let ends : drop r.len head ≡ [] = rw all (drop_all (length head) head (omega arith)) in
     let count : length (take r.headers headers) ≡ length h.fields =
-    sym (length-map (take r.headers headers) (header_bytes head)) ∙ ap length at.fields ∙ length-map h.fields name_and_value in
+    sym (length-map (take r.headers headers) (header_bytes head)) ∙ ap length at.fields
+    ∙ length-map h.fields name_and_value in
     let few : length h.fields ≤ most_lines = omega (arith, length-take r.headers headers) in
-    inr (h, record { lines = lines; reads = subst (λ rest. ReadsRequest head h rest) ends at.reads; few = few }, said h at)
+    inr (
+      h,
+      record { lines = lines; reads = subst (λ rest. ReadsRequest head h rest) ends at.reads; few = few },
+      said h at,
+    )
 
 -- these bytes are no head
 pub no_head : (head : List ℕ) → ((h : RequestHead) → IsHead head h → ⊥) → Judges head (Err Head)

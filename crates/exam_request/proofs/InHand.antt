@@ -1,11 +1,13 @@
 -- What the bytes in hand say of the whole input.
-use Rattle.std.proofs.Common.{◌≡◌, ◌+◌, ◌-◌, ◌≤◌, ◌<◌, ℕ, suc, List, [], ◌∷◌, ◌++◌, length, take, drop, cond, Bool, true, false, Option, Some, None, refl, sym, ap, subst, ◌∙◌, arith, append-nil}
+use Rattle.std.proofs.Common.{◌≡◌, ◌+◌, ◌-◌, ◌≤◌, ◌<◌, ℕ, suc, List, [], ◌∷◌, ◌++◌, length, take, drop, cond, Bool}
+use Rattle.std.proofs.Common.{true, false, Option, Some, None, refl, sym, ap, subst, ◌∙◌, arith, append-nil}
 use Rattle.std.specs.Prelude.{IfSome, Ok, Err, nat_lt, option_map, ⊤}
 use Rattle.std.specs.Str.{bytes_eq}
 use Rattle.std.specs.Io.KnownBytes.{Consumes, IsAtEnd, Keeps}
 use Rattle.std.proofs.KnownBytes.{Consumes-trans}
 use Rattle.std.proofs.lemmas.Bool.{le-ltb, lt-ltb}
-use Rattle.std.proofs.lemmas.List.{drop-append-le, length-append, length-take, length-take-le, nil_from_length, take-append-le, take-take, take_all}
+use Rattle.std.proofs.lemmas.List.{drop-append-le, length-append, length-take, length-take-le, nil_from_length}
+use Rattle.std.proofs.lemmas.List.{take-append-le, take-take, take_all}
 use Rattle.std.proofs.lemmas.Slice.{take-put_mid}
 use Rattle.std.proofs.lemmas.Slice.Eq.{bytes_eq-Decides}
 use Rattle.std.proofs.Math.Seq.{take-append-add, take-append_seam}
@@ -16,7 +18,8 @@ use Rattle.exam_request.specs.declared.fault.Fault.TheVariants.{Head, Size}
 use Rattle.exam_request.specs.Sizes.{most_head}
 
 -- a read of n bytes behind the first a
-pub read_behind : (a k n : ℕ) (xs ys : List ℕ) → a ≤ length xs → n ≤ length ys → take (a + n) (put_mid a k xs ys) ≡ take a xs ++ take n ys
+pub read_behind : (a k n : ℕ) (xs ys : List ℕ) → a ≤ length xs → n ≤ length ys
+    → take (a + n) (put_mid a k xs ys) ≡ take a xs ++ take n ys
 read_behind a k n xs ys p q =
     let whole = take-put_mid a k xs ys (a + length ys) refl p in
     let front = length-take-le a xs p in
@@ -35,7 +38,8 @@ head_within [] n h = cc h
 head_within (b ∷ rest) n h = here (begins (b ∷ rest)) refl h (head_len rest) refl (head_within rest)
   where
     here : (t : Bool) → begins (b ∷ rest) ≡ t → cond t (Some 4) (option_map suc (head_len rest)) ≡ Some n
-        → (o : Option ℕ) → head_len rest ≡ o → ((m : ℕ) → head_len rest ≡ Some m → (4 ≤ m) × (m ≤ length rest)) → (4 ≤ n) × (n ≤ length (b ∷ rest))
+        → (o : Option ℕ) → head_len rest ≡ o → ((m : ℕ) → head_len rest ≡ Some m → (4 ≤ m) × (m ≤ length rest))
+        → (4 ≤ n) × (n ≤ length (b ∷ rest))
     here true t h o r more = let e : 4 ≡ n = cc in let l = begins_long (b ∷ rest) t in (omega arith, omega arith)
     here false t h None r more = let e : option_map suc None ≡ Some n = rw r at h in cc e
     here false t h (Some m) r more =
@@ -50,10 +54,12 @@ head_stays [] ys n h = cc h
 head_stays (b ∷ rest) ys n h =
     let long = head_within (b ∷ rest) n h in
     let four : 4 ≤ length (b ∷ rest) = omega arith in
-    let same : begins ((b ∷ rest) ++ ys) ≡ begins (b ∷ rest) = ap (bytes_eq empty_line) (take-append-le 4 (b ∷ rest) ys four) in
+    let same : begins ((b ∷ rest) ++ ys) ≡ begins (b ∷ rest) =
+    ap (bytes_eq empty_line) (take-append-le 4 (b ∷ rest) ys four) in
     here (begins (b ∷ rest)) refl same h (head_len rest) refl (λ m. head_stays rest ys m)
   where
-    here : (t : Bool) → begins (b ∷ rest) ≡ t → begins ((b ∷ rest) ++ ys) ≡ begins (b ∷ rest) → cond t (Some 4) (option_map suc (head_len rest)) ≡ Some n
+    here : (t : Bool) → begins (b ∷ rest) ≡ t → begins ((b ∷ rest) ++ ys) ≡ begins (b ∷ rest)
+        → cond t (Some 4) (option_map suc (head_len rest)) ≡ Some n
         → (o : Option ℕ) → head_len rest ≡ o → ((m : ℕ) → head_len rest ≡ Some m → head_len (rest ++ ys) ≡ Some m)
         → cond (begins ((b ∷ rest) ++ ys)) (Some 4) (option_map suc (head_len (rest ++ ys))) ≡ Some n
     here true t s h o r more = rw (s, t) h
@@ -68,7 +74,8 @@ front xs rest h =
     (take m rest, ap (λ k. take k (xs ++ rest)) (sym e) ∙ take-append-add xs rest m)
 
 -- the head is in hand
-pub in_hand : (old new : Option (List ℕ)) (xs : List ℕ) (n : ℕ) → length xs ≤ most_head → head_len xs ≡ Some n → Consumes old new xs → HeadRead old new xs n
+pub in_hand : (old new : Option (List ℕ)) (xs : List ℕ) (n : ℕ) → length xs ≤ most_head → head_len xs ≡ Some n
+    → Consumes old new xs → HeadRead old new xs n
 in_hand old new xs n few h c = record { within = (head_within xs n h).1; consumed = c; head = λ rest. stands rest }
   where
     stands : (rest : List ℕ) → head_of (xs ++ rest) ≡ Ok (take n xs, drop n xs ++ rest)
@@ -77,11 +84,14 @@ in_hand old new xs n few h c = record { within = (head_within xs n h).1; consume
         let f = front xs rest few in
         let found : head_len (take most_head (xs ++ rest)) ≡ Some n = rw f.1 (head_stays xs f.0 n h) in
         ap (head_or_fault (xs ++ rest)) found
-        ∙ ap (λ a. Ok (a, drop n (xs ++ rest))) (take-append-le n xs rest w) ∙ ap (λ d. Ok (take n xs, d)) (drop-append-le n xs rest w)
+        ∙ ap (λ a. Ok (a, drop n (xs ++ rest))) (take-append-le n xs rest w)
+        ∙ ap (λ d. Ok (take n xs, d)) (drop-append-le n xs rest w)
 
 -- what was given says it whatever follows
-pub gave_all : (P : List ℕ → Type 0) (old new : Option (List ℕ)) (xs : List ℕ) (most : ℕ) → length xs ≤ most → Consumes old new xs → ((rest : List ℕ) → P (xs ++ rest)) → Gave most old new P
-gave_all P old new xs most few c says = record { given = xs; few = few; consumed = c; says = subst P (append-nil xs) (says []); known = whole old new c }
+pub gave_all : (P : List ℕ → Type 0) (old new : Option (List ℕ)) (xs : List ℕ) (most : ℕ) → length xs ≤ most
+    → Consumes old new xs → ((rest : List ℕ) → P (xs ++ rest)) → Gave most old new P
+gave_all P old new xs most few c says =
+    record { given = xs; few = few; consumed = c; says = subst P (append-nil xs) (says []); known = whole old new c }
   where
     whole : (o n : Option (List ℕ)) → Consumes o n xs → IfSome o P
     whole None n c = tt
@@ -89,8 +99,10 @@ gave_all P old new xs most few c says = record { given = xs; few = few; consumed
     whole (Some input) (Some rest) c = subst P (sym c) (says rest)
 
 -- what was given says it, and nothing follows
-pub gave_end : (P : List ℕ → Type 0) (old new : Option (List ℕ)) (xs : List ℕ) (most : ℕ) → length xs ≤ most → Consumes old new xs → IsAtEnd new → P xs → Gave most old new P
-gave_end P old new xs most few c end says = record { given = xs; few = few; consumed = c; says = says; known = whole old new c end }
+pub gave_end : (P : List ℕ → Type 0) (old new : Option (List ℕ)) (xs : List ℕ) (most : ℕ) → length xs ≤ most
+    → Consumes old new xs → IsAtEnd new → P xs → Gave most old new P
+gave_end P old new xs most few c end says =
+    record { given = xs; few = few; consumed = c; says = says; known = whole old new c end }
   where
     whole : (o n : Option (List ℕ)) → Consumes o n xs → IsAtEnd n → IfSome o P
     whole None n c end = tt
@@ -98,42 +110,56 @@ gave_end P old new xs most few c end says = record { given = xs; few = few; cons
     whole (Some input) (Some rest) c end = subst P (sym (c ∙ ap (λ r. xs ++ r) end ∙ append-nil xs)) says
 
 -- the input ended without a head
-pub cut_short : (old new : Option (List ℕ)) (xs : List ℕ) → length xs < most_head → head_len xs ≡ None → Consumes old new xs → IsAtEnd new → Gave most_head old new (λ input. head_of input ≡ Err Head)
+pub cut_short : (old new : Option (List ℕ)) (xs : List ℕ) → length xs < most_head → head_len xs ≡ None
+    → Consumes old new xs → IsAtEnd new → Gave most_head old new (λ input. head_of input ≡ Err Head)
 cut_short old new xs few h c end =
     let short : take most_head xs ≡ xs = take_all most_head xs (omega arith) in
     let less : nat_lt (length xs) most_head ≡ true = lt-ltb (length xs) most_head few in
-    let cut : head_of xs ≡ Err Head = ap (λ i. head_or_fault xs (head_len i)) short ∙ ap (head_or_fault xs) h ∙ rw less refl in
+    let cut : head_of xs ≡ Err Head =
+    ap (λ i. head_or_fault xs (head_len i)) short ∙ ap (head_or_fault xs) h ∙ rw less refl in
     gave_end (λ input. head_of input ≡ Err Head) old new xs most_head (omega arith) c end cut
 
 -- the room ended without one
-pub too_long : (old new : Option (List ℕ)) (xs : List ℕ) → length xs ≡ most_head → head_len xs ≡ None → Consumes old new xs → Gave most_head old new (λ input. head_of input ≡ Err Size)
-too_long old new xs few h c = gave_all (λ input. head_of input ≡ Err Size) old new xs most_head (omega arith) c (λ rest. long rest)
+pub too_long : (old new : Option (List ℕ)) (xs : List ℕ) → length xs ≡ most_head → head_len xs ≡ None
+    → Consumes old new xs → Gave most_head old new (λ input. head_of input ≡ Err Size)
+too_long old new xs few h c =
+    gave_all (λ input. head_of input ≡ Err Size) old new xs most_head (omega arith) c (λ rest. long rest)
   where
     long : (rest : List ℕ) → head_of (xs ++ rest) ≡ Err Size
     long rest =
         let front_is : take most_head (xs ++ rest) ≡ xs = rw (← few) (take-append_seam xs rest) in
         let size : most_head ≤ length (xs ++ rest) = omega (arith, length-append xs rest) in
-        ap (λ i. head_or_fault (xs ++ rest) (head_len i)) front_is ∙ ap (head_or_fault (xs ++ rest)) h ∙ rw (le-ltb (length (xs ++ rest)) most_head size) refl
+        ap (λ i. head_or_fault (xs ++ rest) (head_len i)) front_is ∙ ap (head_or_fault (xs ++ rest)) h
+        ∙ rw (le-ltb (length (xs ++ rest)) most_head size) refl
 
 -- a read that failed took nothing
-pub none_taken : (old mid new : Option (List ℕ)) (had : List ℕ) → Consumes old mid had → Keeps mid new → Consumes old new had
+pub none_taken : (old mid new : Option (List ℕ)) (had : List ℕ) → Consumes old mid had → Keeps mid new
+    → Consumes old new had
 none_taken None mid new had c k = tt
 none_taken (Some input) None new had c k = absurd c
 none_taken (Some input) (Some rest) None had c k = absurd k
 none_taken (Some input) (Some rest) (Some left) had c k = c ∙ ap (λ r. had ++ r) (sym k)
 
 -- a read failed
-pub gave_up : (old mid new : Option (List ℕ)) (buffer : List ℕ) (filled most : ℕ) → Consumes old mid (take filled buffer) → Keeps mid new → filled ≤ most → Gave most old new (λ input. ⊤)
+pub gave_up : (old mid new : Option (List ℕ)) (buffer : List ℕ) (filled most : ℕ)
+    → Consumes old mid (take filled buffer) → Keeps mid new → filled ≤ most → Gave most old new (λ input. ⊤)
 gave_up old mid new buffer filled most c k few =
-    gave_all (λ input. ⊤) old new (take filled buffer) most (omega (arith, length-take filled buffer)) (none_taken old mid new (take filled buffer) c k) (λ rest. tt)
+    gave_all (λ input. ⊤) old new (take filled buffer) most (omega (arith, length-take filled buffer))
+    (none_taken old mid new (take filled buffer) c k) (λ rest. tt)
 
 -- a turn that met the end of the input
-pub ended : (old mid new : Option (List ℕ)) (had now : List ℕ) → Consumes old mid had → More mid new had now → length now ≡ length had → Consumes old new had × IsAtEnd new
+pub ended : (old mid new : Option (List ℕ)) (had now : List ℕ) → Consumes old mid had → More mid new had now
+    → length now ≡ length had → Consumes old new had × IsAtEnd new
 ended old mid new had now c m same =
     let none : length m.got ≡ 0 = omega (arith, ap length m.now_is, length-append had m.got) in
-    let empty = nil_from_length m.got none in
-    (subst (Consumes old new) (append-nil had) (Consumes-trans old mid new had [] c (subst (Consumes mid new) empty m.consumed)), m.at_end empty)
+    let empty = nil_from_length m.got none in (
+      subst (Consumes old new) (append-nil had)
+          (Consumes-trans old mid new had [] c (subst (Consumes mid new) empty m.consumed)),
+      m.at_end empty,
+    )
 
 -- a turn that took more
-pub taken : (old mid new : Option (List ℕ)) (had now : List ℕ) → Consumes old mid had → More mid new had now → Consumes old new now
-taken old mid new had now c m = subst (Consumes old new) (sym m.now_is) (Consumes-trans old mid new had m.got c m.consumed)
+pub taken : (old mid new : Option (List ℕ)) (had now : List ℕ) → Consumes old mid had → More mid new had now
+    → Consumes old new now
+taken old mid new had now c m =
+    subst (Consumes old new) (sym m.now_is) (Consumes-trans old mid new had m.got c m.consumed)

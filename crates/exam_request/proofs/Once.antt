@@ -16,6 +16,7 @@ one_saying head a b (inr x) (inr y) =
 
 pub one_asking : (r : Result (List ℕ × List ℕ) Fault) (a b : Result Request Fault)
     → MatchResult r (λ p. (said : Result Said Fault) × Judges p.0 said × (a ≡ asked_with p.1 said)) (λ e. a ≡ Err e)
-    → MatchResult r (λ p. (said : Result Said Fault) × Judges p.0 said × (b ≡ asked_with p.1 said)) (λ e. b ≡ Err e) → a ≡ b
+    → MatchResult r (λ p. (said : Result Said Fault) × Judges p.0 said × (b ≡ asked_with p.1 said)) (λ e. b ≡ Err e)
+    → a ≡ b
 one_asking (Ok p) a b x y = x.2 ∙ ap (asked_with p.1) (one_saying p.0 x.0 y.0 x.1 y.1) ∙ sym y.2
 one_asking (Err e) a b x y = x ∙ sym y

@@ -1,5 +1,6 @@
 -- The walk over a table whose rows begin with the same tokens, with keys of any type.
-use Rattle.std.proofs.Common.{◌≡◌, ◌≢◌, ℕ, zero, suc, ◌-◌, ◌<◌, List, [], ◌∷◌, ◌++◌, length, drop, Option, Some, None, Bool, true, false, cond, refl, sym, ap, ◌∙◌, arith, ◌==◌, append-nil}
+use Rattle.std.proofs.Common.{◌≡◌, ◌≢◌, ℕ, zero, suc, ◌-◌, ◌<◌, List, [], ◌∷◌, ◌++◌, length, drop, Option, Some, None}
+use Rattle.std.proofs.Common.{Bool, true, false, cond, refl, sym, ap, ◌∙◌, arith, ◌==◌, append-nil}
 use Rattle.std.specs.Prelude.{option_and_then}
 use Rattle.std.proofs.lemmas.Bool.Decides.{nat_tests}
 use Rattle.matchit.specs.Level.{IsText}
@@ -26,7 +27,8 @@ module _ {K : Type 0} where
   step-append b [] y = refl
   step-append b (([], k) ∷ r) y = step-append b r y
   step-append b ((a ∷ t, k) ∷ r) y =
-      elim (a == b) as (λ v. cond v ((t, k) ∷ step b (r ++ y)) (step b (r ++ y)) ≡ cond v ((t, k) ∷ step b r) (step b r) ++ step b y) [
+      elim (a == b) as (λ v. cond v ((t, k) ∷ step b (r ++ y)) (step b (r ++ y))
+      ≡ cond v ((t, k) ∷ step b r) (step b r) ++ step b y) [
         | true ↦ ap (λ x. (t, k) ∷ x) (step-append b r y)
         | false ↦ step-append b r y
       ]
@@ -63,7 +65,8 @@ module _ {K : Type 0} where
   unfolding seek
   seek-empty n [] = refl
   seek-empty (suc n) (b ∷ p) = seek-empty n p
-  seek-empty zero (b ∷ p) = simp (seek-empty 0 p, param_step-empty (b ∷ p), seek-empty (((param_step {K = K} [] (b ∷ p)).0) - 1) p)
+  seek-empty zero (b ∷ p) =
+      simp (seek-empty 0 p, param_step-empty (b ∷ p), seek-empty (((param_step {K = K} [] (b ∷ p)).0) - 1) p)
 
   pub seek-drop : (n : ℕ) (r : RowsOf K) (p : List ℕ) → seek n r p ≡ seek 0 r (drop n p)
   unfolding seek
@@ -72,18 +75,23 @@ module _ {K : Type 0} where
   seek-drop (suc n) r (b ∷ p) = seek-drop n r p
 
   -- rows with no parameter and no catch-all in front go on with the byte alone
-  pub by_byte : (r : RowsOf K) (y : ℕ) (p : List ℕ) → step param_token r ≡ [] → step catch_all_token r ≡ [] → seek 0 r (y ∷ p) ≡ seek 0 (step y r) p
+  pub by_byte : (r : RowsOf K) (y : ℕ) (p : List ℕ) → step param_token r ≡ [] → step catch_all_token r ≡ []
+      → seek 0 r (y ∷ p) ≡ seek 0 (step y r) p
   unfolding seek
-  by_byte r y p none one = rw (none, one) (simp (param_step-empty (y ∷ p), seek-empty ((param_step {K = K} [] (y ∷ p)).0 - 1) p, or_else-none))
+  by_byte r y p none one =
+      rw (none, one) (simp
+      (param_step-empty (y ∷ p), seek-empty ((param_step {K = K} [] (y ∷ p)).0 - 1) p, or_else-none))
 
-  pub by_byte-led : (x : ℕ) (w : List ℕ) (t : RowsOf K) (y : ℕ) (p : List ℕ) → x < 256 → seek 0 (led_by (x ∷ w) t) (y ∷ p) ≡ seek 0 (step y (led_by (x ∷ w) t)) p
+  pub by_byte-led : (x : ℕ) (w : List ℕ) (t : RowsOf K) (y : ℕ) (p : List ℕ) → x < 256
+      → seek 0 (led_by (x ∷ w) t) (y ∷ p) ≡ seek 0 (step y (led_by (x ∷ w) t)) p
   by_byte-led x w t y p h =
       let n1 : x ≢ param_token = λ e. omega arith in
       let n2 : x ≢ catch_all_token = λ e. omega arith in
       by_byte (led_by (x ∷ w) t) y p (step-miss param_token x w t n1) (step-miss catch_all_token x w t n2)
 
   -- bytes that all rows begin with
-  pub beginning : (w : List ℕ) (t : RowsOf K) (path : List ℕ) → IsText w → first (led_by w t) path ≡ option_and_then (first t) (rest_after w path)
+  pub beginning : (w : List ℕ) (t : RowsOf K) (path : List ℕ) → IsText w
+      → first (led_by w t) path ≡ option_and_then (first t) (rest_after w path)
   unfolding seek
   beginning [] t path h = ap (λ r. first r path) (led_by-nil t)
   beginning (x ∷ w) t [] h = own-led_by x w t
@@ -99,20 +107,24 @@ module _ {K : Type 0} where
           rw (step-miss y x w t n) (seek-empty 0 p)
 
   -- rows that begin with a byte, and others that begin with other bytes
-  pub beside : (x : ℕ) (w : List ℕ) (t others : RowsOf K) (path : List ℕ) → x < 256 → step x others ≡ [] → step param_token others ≡ [] → step catch_all_token others ≡ []
+  pub beside : (x : ℕ) (w : List ℕ) (t others : RowsOf K) (path : List ℕ) → x < 256 → step x others ≡ []
+      → step param_token others ≡ [] → step catch_all_token others ≡ []
       → first (led_by (x ∷ w) t ++ others) path ≡ or_else (first (led_by (x ∷ w) t) path) (first others path)
   unfolding seek
   beside x w t others [] h a b c = own-append (led_by (x ∷ w) t) others
   beside x w t others (y ∷ p) h a b c =
       let n1 : x ≢ param_token = λ e. omega arith in
       let n2 : x ≢ catch_all_token = λ e. omega arith in
-      let both = by_byte (led_by (x ∷ w) t ++ others) y p (step-append param_token (led_by (x ∷ w) t) others ∙ rw (step-miss param_token x w t n1) b)
+      let both = by_byte (led_by (x ∷ w) t ++ others) y p
+      (step-append param_token (led_by (x ∷ w) t) others ∙ rw (step-miss param_token x w t n1) b)
       (step-append catch_all_token (led_by (x ∷ w) t) others ∙ rw (step-miss catch_all_token x w t n2) c) in
       both ∙ ap (λ r. seek 0 r p) (step-append y (led_by (x ∷ w) t) others) ∙ by (y == x) refl
       ∙ sym (ap (λ q. or_else q (first others (y ∷ p))) (by_byte-led x w t y p h)
       ∙ ap (or_else (seek 0 (step y (led_by (x ∷ w) t)) p)) (by_byte others y p b c))
     where
-      by : (v : Bool) → (y == x) ≡ v → seek 0 (step y (led_by (x ∷ w) t) ++ step y others) p ≡ or_else (seek 0 (step y (led_by (x ∷ w) t)) p) (seek 0 (step y others) p)
+      by : (v : Bool) → (y == x) ≡ v
+          → seek 0 (step y (led_by (x ∷ w) t) ++ step y others) p
+          ≡ or_else (seek 0 (step y (led_by (x ∷ w) t)) p) (seek 0 (step y others) p)
       by true e =
           let xy : x ≡ y = grind (arith, nat_tests) in
           rw (← xy, a, append-nil, seek-empty 0 p, or_else-none)

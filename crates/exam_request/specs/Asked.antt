@@ -1,5 +1,6 @@
 -- What a request asks, as its bytes say.
-use Rattle.std.specs.Prelude.{◌≡◌, ◌+◌, ◌≤◌, ℕ, List, length, take, drop, Option, option_map, Result, Ok, Err, MatchResult, nat_lt, ⊤, if◌then◌else◌}
+use Rattle.std.specs.Prelude.{◌≡◌, ◌+◌, ◌≤◌, ℕ, List, length, take, drop, Option, option_map, Result, Ok, Err}
+use Rattle.std.specs.Prelude.{MatchResult, nat_lt, ⊤, if◌then◌else◌}
 use Rattle.exam_request.specs.Head.{Judges, LiesIn, Said, said_at}
 use Rattle.exam_send.specs.Given.{Gave}
 use Rattle.exam_request.specs.Input.{head_of}

@@ -1,7 +1,8 @@
 -- The numbers by which the faults of a request are answered.
 use Rattle.std.specs.Prelude.{ℕ}
 use Rattle.exam_request.specs.declared.fault.Fault.{Fault}
-use Rattle.exam_request.specs.declared.fault.Fault.TheVariants.{Head, Host, Length, Size, TransferCoding, Body, Route, Method}
+use Rattle.exam_request.specs.declared.fault.Fault.TheVariants.{Head, Host, Length, Size, TransferCoding, Body, Route}
+use Rattle.exam_request.specs.declared.fault.Fault.TheVariants.{Method}
 
 -- 31 to 38
 abbrev pub fault_number : Fault → ℕ

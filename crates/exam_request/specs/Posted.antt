@@ -1,5 +1,6 @@
 -- What the body of a posting lodges.
-use Rattle.std.specs.Prelude.{◌==◌, ◌<◌, ℕ, suc, List, Bool, IsTrue, length, Option, Some, None, option_map, option_and_then, nat_le, codes, bytes_eq, if◌then◌else◌}
+use Rattle.std.specs.Prelude.{◌==◌, ◌<◌, ℕ, suc, List, Bool, IsTrue, length, Option, Some, None, option_map}
+use Rattle.std.specs.Prelude.{option_and_then, nat_le, codes, bytes_eq, if◌then◌else◌}
 use Rattle.std.specs.Str.{is_utf8}
 use Rattle.json.specs.Json as json
 use Rattle.json.specs.Find as json_find

@@ -1,7 +1,7 @@
 //! JSON objects (RFC 8259) of texts, numbers, flags and nulls, and the body for a list of them.
-ghost use Rattle.std.specs.Prelude.{◌≡◌, IfOk, IfErr, OnOk, map, option_map};
+ghost use Rattle.std.specs.Prelude.{◌≡◌, IfOk, OnOk, map, option_map};
 ghost use Rattle.std.specs.Str.{IsAscii};
-ghost use Rattle.exam_types.specs.declared.refusal.Refusal.TheVariants.{NoMemory};
+ghost use Rattle.exam_types.specs.Refusals.{OnlyMemory};
 ghost use Rattle.exam_request.specs.Json as json;
 ghost use Rattle.exam_request.specs.Values.{data_of, object_data};
 ghost use Rattle.serde_json.specs.Data.{put};
@@ -19,7 +19,7 @@ pub type Object = Map<String, Value>;
 pub fn put_text(object: &mut Object, alloc: Global, name: &str, text: &str) -> Result<(), Refusal>
     ensures ok { OnOk result (members_view object.new.entries
         ≡ put name.now (data_of (json.text text.now)) (members_view object.old.entries)) }
-    ensures memory { IfErr result (λ e. e ≡ NoMemory) }
+    ensures memory { OnlyMemory result }
 {
     let value = Value::try_from_str(alloc, text)?;
     Ok(serde_json::put(object, alloc, name, value)?)
@@ -35,7 +35,7 @@ pub fn put_text_or_null(
     ensures ok { OnOk result (members_view object.new.entries
         ≡ put name.now (data_of (json.or_null json.text (option_map (λ t. t.now) text.entry)))
         (members_view object.old.entries)) }
-    ensures memory { IfErr result (λ e. e ≡ NoMemory) }
+    ensures memory { OnlyMemory result }
 {
     match text {
         Some(text) => put_text(object, alloc, name, text),
@@ -52,7 +52,7 @@ pub fn put_number(
 ) -> Result<(), Refusal>
     ensures ok { OnOk result (members_view object.new.entries
         ≡ put name.now (data_of (json.number number)) (members_view object.old.entries)) }
-    ensures memory { IfErr result (λ e. e ≡ NoMemory) }
+    ensures memory { OnlyMemory result }
 {
     Ok(serde_json::put(object, alloc, name, Value::from(number))?)
 }
@@ -61,7 +61,7 @@ pub fn put_number(
 pub fn put_flag(object: &mut Object, alloc: Global, name: &str, flag: bool) -> Result<(), Refusal>
     ensures ok { OnOk result (members_view object.new.entries
         ≡ put name.now (data_of (json.flag flag)) (members_view object.old.entries)) }
-    ensures memory { IfErr result (λ e. e ≡ NoMemory) }
+    ensures memory { OnlyMemory result }
 {
     Ok(serde_json::put(object, alloc, name, Value::Bool(flag))?)
 }
@@ -75,7 +75,7 @@ pub fn put_number_or_null(
 ) -> Result<(), Refusal>
     ensures ok { OnOk result (members_view object.new.entries
         ≡ put name.now (data_of (json.or_null json.number number)) (members_view object.old.entries)) }
-    ensures memory { IfErr result (λ e. e ≡ NoMemory) }
+    ensures memory { OnlyMemory result }
 {
     match number {
         Some(number) => put_number(object, alloc, name, number),
@@ -98,7 +98,7 @@ pub fn ascii_text(bytes: &[u8]) -> &str
 pub fn list_body(alloc: Global, name: &str, rows: Vec<Value>) -> Result<Vec<u8>, Refusal>
     ensures ok { IfOk result (λ body. (all : _) → map view rows.items ≡ map object_data all
         → body.items ≡ json.list_body name.now all) }
-    ensures memory { IfErr result (λ e. e ≡ NoMemory) }
+    ensures memory { OnlyMemory result }
 {
     let mut object = Map::new(alloc);
     serde_json::put(&mut object, alloc, name, Value::Array(rows))?;

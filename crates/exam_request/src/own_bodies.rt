@@ -1,8 +1,8 @@
 //! The bodies that show a candidate their own rows.
-ghost use Rattle.std.specs.Prelude.{◌≡◌, ◌++◌, IfOk, IfErr, OnOk, flat_map, map, option_map};
+ghost use Rattle.std.specs.Prelude.{◌≡◌, ◌++◌, IfOk, OnOk, flat_map, map, option_map};
 ghost use Rattle.std.specs.Str.{IsAscii};
-ghost use Rattle.exam_types.specs.declared.refusal.Refusal.TheVariants.{NoMemory};
 ghost use Rattle.exam_types.specs.Days.{day_text};
+ghost use Rattle.exam_types.specs.Refusals.{OnlyMemory};
 ghost use Rattle.exam_commands.specs.Own.{shown, shown_session};
 ghost use Rattle.exam_commands.specs.Words.{subject_text};
 ghost use Rattle.exam_request.specs.Bodies as spec;
@@ -30,7 +30,7 @@ pub enum Page {
 /// The body that shows a candidate this page.
 pub fn page_body(alloc: Global, page: Page, own: &Own) -> Result<Vec<u8>, Refusal>
     ensures ok { IfOk result (λ body. body.items ≡ spec.page_body page (shown own.now)) }
-    ensures memory { IfErr result (λ e. e ≡ NoMemory) }
+    ensures memory { OnlyMemory result }
 {
     match page {
         Page::Seats => seats_body(alloc, own),
@@ -42,7 +42,7 @@ pub fn page_body(alloc: Global, page: Page, own: &Own) -> Result<Vec<u8>, Refusa
 /// The body that shows a candidate's seats.
 pub fn seats_body(alloc: Global, own: &Own) -> Result<Vec<u8>, Refusal>
     ensures ok { IfOk result (λ body. body.items ≡ spec.seats_body (shown own.now)) }
-    ensures memory { IfErr result (λ e. e ≡ NoMemory) }
+    ensures memory { OnlyMemory result }
 {
     let seats = seat_values(alloc, &own.sessions)?;
     list_body(alloc, "seats", seats)
@@ -51,7 +51,7 @@ pub fn seats_body(alloc: Global, own: &Own) -> Result<Vec<u8>, Refusal>
 fn seat_values(alloc: Global, sessions: &[OwnSession]) -> Result<Vec<Value>, Refusal>
     ensures ok { IfOk result (λ values. map view values.items
         ≡ map object_data (map spec.seat_object (map shown_session sessions.now))) }
-    ensures memory { IfErr result (λ e. e ≡ NoMemory) }
+    ensures memory { OnlyMemory result }
 {
     let mut values = Vec::new(alloc);
     for session in sessions {
@@ -72,7 +72,7 @@ struct SeatTexts {
 
 fn seat_texts(alloc: Global, own: &OwnSession) -> Result<SeatTexts, Refusal>
     ensures ok { IfOk result (HasSeatTexts (shown_session own.now)) }
-    ensures memory { IfErr result (λ e. e ≡ NoMemory) }
+    ensures memory { OnlyMemory result }
 {
     let mut date = Vec::new(alloc);
     own.day.write_to(&mut date)?;
@@ -94,7 +94,7 @@ fn seat_texts(alloc: Global, own: &OwnSession) -> Result<SeatTexts, Refusal>
 fn seat_value(alloc: Global, own: &OwnSession, texts: &SeatTexts) -> Result<Value, Refusal>
     requires { HasSeatTexts (shown_session own.now) texts.now }
     ensures ok { IfOk result (λ value. view value ≡ object_data (spec.seat_object (shown_session own.now))) }
-    ensures memory { IfErr result (λ e. e ≡ NoMemory) }
+    ensures memory { OnlyMemory result }
 {
     let mut seat = Map::new(alloc);
     put_text(&mut seat, alloc, "date", ascii_text(&texts.date))?;
@@ -145,7 +145,7 @@ struct MissedPaper {
 /// The body that shows a candidate's clashes.
 pub fn clashes_body(alloc: Global, own: &Own) -> Result<Vec<u8>, Refusal>
     ensures ok { IfOk result (λ body. body.items ≡ spec.clashes_body (shown own.now)) }
-    ensures memory { IfErr result (λ e. e ≡ NoMemory) }
+    ensures memory { OnlyMemory result }
 {
     let mut missed = Vec::new(alloc);
     collect_missed(&mut missed, &own.sessions)?;
@@ -156,7 +156,7 @@ pub fn clashes_body(alloc: Global, own: &Own) -> Result<Vec<u8>, Refusal>
 fn clash_values(alloc: Global, rows: &[MissedPaper]) -> Result<Vec<Value>, Refusal>
     ensures ok { IfOk result (λ values. map view values.items
         ≡ map object_data (map spec.clash_object rows.now)) }
-    ensures memory { IfErr result (λ e. e ≡ NoMemory) }
+    ensures memory { OnlyMemory result }
 {
     let mut values = Vec::new(alloc);
     for row in rows {
@@ -168,7 +168,7 @@ fn clash_values(alloc: Global, rows: &[MissedPaper]) -> Result<Vec<Value>, Refus
 fn collect_missed(rows: &mut Vec<MissedPaper>, sessions: &[OwnSession]) -> Result<(), Refusal>
     ensures ok { OnOk result (rows.new.items
         ≡ rows.old.items ++ flat_map spec.missed_in (map shown_session sessions.now)) }
-    ensures memory { IfErr result (λ e. e ≡ NoMemory) }
+    ensures memory { OnlyMemory result }
 {
     for session in sessions {
         push_missed(rows, session, &session.clashes)?;
@@ -183,7 +183,7 @@ fn push_missed(
 ) -> Result<(), Refusal>
     ensures ok { OnOk result (rows.new.items
         ≡ rows.old.items ++ map (spec.missed_paper (shown_session own.now)) papers.now) }
-    ensures memory { IfErr result (λ e. e ≡ NoMemory) }
+    ensures memory { OnlyMemory result }
 {
     for paper in papers {
         rows.push(MissedPaper {
@@ -198,7 +198,7 @@ fn push_missed(
 #[tactic(auto, unfolding(crate::specs::Bodies::clash_object))]
 fn clash_value(alloc: Global, row: &MissedPaper) -> Result<Value, Refusal>
     ensures ok { IfOk result (λ value. view value ≡ object_data (spec.clash_object row.now)) }
-    ensures memory { IfErr result (λ e. e ≡ NoMemory) }
+    ensures memory { OnlyMemory result }
 {
     let mut clash = Map::new(alloc);
     put_text(&mut clash, alloc, "paper", ascii_text(row.paper.as_bytes()))?;
@@ -220,7 +220,7 @@ fn clash_value(alloc: Global, row: &MissedPaper) -> Result<Value, Refusal>
 /// The body that shows a candidate's appeals.
 pub fn appeals_body(alloc: Global, own: &Own) -> Result<Vec<u8>, Refusal>
     ensures ok { IfOk result (λ body. body.items ≡ spec.appeals_body (shown own.now)) }
-    ensures memory { IfErr result (λ e. e ≡ NoMemory) }
+    ensures memory { OnlyMemory result }
 {
     let appeals = appeal_values(alloc, &own.appeals)?;
     list_body(alloc, "appeals", appeals)
@@ -229,7 +229,7 @@ pub fn appeals_body(alloc: Global, own: &Own) -> Result<Vec<u8>, Refusal>
 fn appeal_values(alloc: Global, rows: &[OwnAppeal]) -> Result<Vec<Value>, Refusal>
     ensures ok { IfOk result (λ values. map view values.items
         ≡ map object_data (map spec.appeal_object rows.now)) }
-    ensures memory { IfErr result (λ e. e ≡ NoMemory) }
+    ensures memory { OnlyMemory result }
 {
     let mut values = Vec::new(alloc);
     for row in rows {
@@ -240,7 +240,7 @@ fn appeal_values(alloc: Global, rows: &[OwnAppeal]) -> Result<Vec<Value>, Refusa
 
 fn appeal_value(alloc: Global, row: &OwnAppeal) -> Result<Value, Refusal>
     ensures ok { IfOk result (λ value. view value ≡ object_data (spec.appeal_object row.now)) }
-    ensures memory { IfErr result (λ e. e ≡ NoMemory) }
+    ensures memory { OnlyMemory result }
 {
     let mut lodged = Vec::new(alloc);
     row.appeal.lodged.write_to(&mut lodged)?;
@@ -278,7 +278,7 @@ fn appeal_value_of(
     requires subject { subject.now ≡ subject_text row.now.appeal.subject }
     requires ascii { IsAscii subject.now }
     ensures ok { IfOk result (λ value. view value ≡ object_data (spec.appeal_object row.now)) }
-    ensures memory { IfErr result (λ e. e ≡ NoMemory) }
+    ensures memory { OnlyMemory result }
 {
     let appeal = &row.appeal;
     let mut shown = Map::new(alloc);

@@ -8,12 +8,15 @@ use Rattle.exam_rules.specs.Relations.{Code, same_code}
 use Rattle.exam_rules.specs.Granted.{Subject, barred_by, first_made}
 use Rattle.exam_rules.specs.Sessions.{asked_hall, barred_halls_in, granted_subjects, head_of}
 
-any_of : (h : Code) (asked : List Subject) → list_any (same_code h) (filter_map asked_hall asked) ≡ is_some (head_of (filter_map (barred_by h) asked))
+any_of : (h : Code) (asked : List Subject)
+    → list_any (same_code h) (filter_map asked_hall asked) ≡ is_some (head_of (filter_map (barred_by h) asked))
 any_of h [] = refl
 any_of h (subject.Hall k ∷ asked) = step (same_code h k) refl (any_of h asked)
   where
-    step : (b : Bool) → same_code h k ≡ b → list_any (same_code h) (filter_map asked_hall asked) ≡ is_some (head_of (filter_map (barred_by h) asked))
-        → list_any (same_code h) (filter_map asked_hall (subject.Hall k ∷ asked)) ≡ is_some (head_of (filter_map (barred_by h) (subject.Hall k ∷ asked)))
+    step : (b : Bool) → same_code h k ≡ b
+        → list_any (same_code h) (filter_map asked_hall asked) ≡ is_some (head_of (filter_map (barred_by h) asked))
+        → list_any (same_code h) (filter_map asked_hall (subject.Hall k ∷ asked))
+        ≡ is_some (head_of (filter_map (barred_by h) (subject.Hall k ∷ asked)))
     step true e more = rw e refl
     step false e more = rw e more
 any_of h (subject.Clash p ∷ asked) = any_of h asked

@@ -17,20 +17,24 @@ use Rattle.exam_rules.proofs.Naming.{numbers_rise, codes_rise, fit_member, fit_o
 use Rattle.exam_plan.proofs.ChainNames.{Follows}
 
 -- if names rise with their indices, they compare as the indices
-order_kept : {Y : Type 0} (S : Y → Y → Ordering) → IsTotalOrder S → (name : ℕ → Y) (P : ℕ → Type 0) → ((i j : ℕ) → P i → P j → nat_cmp i j ≡ Less → S (name i) (name j) ≡ Less)
+order_kept : {Y : Type 0} (S : Y → Y → Ordering) → IsTotalOrder S → (name : ℕ → Y) (P : ℕ → Type 0)
+    → ((i j : ℕ) → P i → P j → nat_cmp i j ≡ Less → S (name i) (name j) ≡ Less)
     → (i j : ℕ) → P i → P j → S (name i) (name j) ≡ nat_cmp i j
 order_kept S o name P rise i j p q = elim (cases_order i j) [
   | inl e ↦ ap (λ k. S (name i) (name k)) (sym e) ∙ tied_itself o (name i) ∙ nat_cmp_is i j Equal e
   | inr w ↦ elim w [
     | inl l ↦ rise i j p q (sym (nat_cmp_is i j Less l)) ∙ nat_cmp_is i j Less l
-    | inr g ↦ o.antisymm (name i) (name j) ∙ ap ordering_reverse (rise j i q p (sym (nat_cmp_is j i Less g))) ∙ nat_cmp_is i j Greater g
+    | inr g ↦ o.antisymm (name i) (name j) ∙ ap ordering_reverse (rise j i q p (sym (nat_cmp_is j i Less g)))
+        ∙ nat_cmp_is i j Greater g
   ]
 ]
 
 pub follows : (r : Relations) (s : Code) → ListsRise r s → Follows (naming r s)
 follows r s up = record {
-  candidates = order_kept nat_cmp nat_cmp_total (number_at r s) (Contains (indexed_seating r s).members) (numbers_rise r s up);
-  halls = order_kept code_cmp nat_list_cmp_total (hall_at r s) (λ j. hall_index r s (hall_at r s j) ≡ Some j) (codes_rise r s up);
+  candidates = order_kept nat_cmp nat_cmp_total (number_at r s) (Contains (indexed_seating r s).members)
+      (numbers_rise r s up);
+  halls = order_kept code_cmp nat_list_cmp_total (hall_at r s) (λ j. hall_index r s (hall_at r s j) ≡ Some j)
+      (codes_rise r s up);
   same_a = λ i j. (exact_unsigned_eq i j, eq-eqb i j);
   same_b = λ c d. (exact_unsigned_eq c d, eq-eqb c d);
   fit_members = fit_member r s;

@@ -1,5 +1,6 @@
 -- Which of the standing grants counts on a day: the last of those that are not later.
-use Rattle.std.proofs.Common.{◌≡◌, ◌⊎◌, ◌↔◌, ℕ, zero, suc, ◌<◌, ◌≤◌, Bool, true, false, cond, List, [], ◌∷◌, length, filter, None, Some, inl, inr, refl, sym, ap, subst, ◌∙◌, arith}
+use Rattle.std.proofs.Common.{◌≡◌, ◌⊎◌, ◌↔◌, ℕ, zero, suc, ◌<◌, ◌≤◌, Bool, true, false, cond, List, [], ◌∷◌, length}
+use Rattle.std.proofs.Common.{filter, None, Some, inl, inr, refl, sym, ap, subst, ◌∙◌, arith}
 use Rattle.std.specs.Prelude.{Contains, All, fold, nat_le}
 use Rattle.std.specs.List.{AllByRecursion}
 use Rattle.std.specs.declared.cmp.Ordering.{Ordering}
@@ -14,7 +15,8 @@ use Rattle.exam_rules.specs.declared.standing.StandingGrant.{StandingGrant}
 use Rattle.exam_rules.specs.Sessions.{last_until, later_of, standing_cmp}
 
 grants_total : IsTotalOrder standing_cmp
-grants_total = then_total (on_total (λ (g : StandingGrant). g.day) nat_cmp_total) (on_total (λ (g : StandingGrant). g.session) nat_list_cmp_total)
+grants_total = then_total (on_total (λ (g : StandingGrant). g.day) nat_cmp_total)
+    (on_total (λ (g : StandingGrant). g.session) nat_list_cmp_total)
 
 less_is_not_greater : (o : Ordering) → is_lt o ≡ true → is_gt o ≡ false
 less_is_not_greater Less e = refl
@@ -50,7 +52,8 @@ module _ (day : ℕ) where
   abbrev IsLastFrom : StandingGrant → List StandingGrant → StandingGrant → Type 0
   IsLastFrom a xs g = ((g ≡ a) ⊎ IsAmong xs g) × (is_gt (standing_cmp a g) ≡ false) × AllByRecursion (IsBounded g) xs
 
-  with_later : (a b g : StandingGrant) (xs : List StandingGrant) → b.day ≤ day → (u : Bool) → is_lt (standing_cmp a b) ≡ u → IsLastFrom (cond u b a) xs g → IsLastFrom a (b ∷ xs) g
+  with_later : (a b g : StandingGrant) (xs : List StandingGrant) → b.day ≤ day → (u : Bool)
+      → is_lt (standing_cmp a b) ≡ u → IsLastFrom (cond u b a) xs g → IsLastFrom a (b ∷ xs) g
   with_later a b g xs early true less r = (
     elim r.0 [
       | inl s ↦ inr (subst (λ (z : StandingGrant). IsAmong (b ∷ xs) z) (sym s) (here b xs, early))
@@ -62,25 +65,41 @@ module _ (day : ℕ) where
   with_later a b g xs early false less r = (
     elim r.0 [ inl s ↦ inl s | inr is ↦ inr (among_further b g xs is) ],
     r.1,
-    ((λ l. upto grants_total b a g (ap is_gt (grants_total.antisymm b a) ∙ turned_not_greater (standing_cmp a b) less) r.1), r.2),
+    (
+      (λ l. upto grants_total b a g
+          (ap is_gt (grants_total.antisymm b a) ∙ turned_not_greater (standing_cmp a b) less) r.1),
+      r.2,
+    ),
   )
 
-  last_from : (xs : List StandingGrant) (a g : StandingGrant) → fold later_of (Some a) (filter in_time xs) ≡ Some g → IsLastFrom a xs g
+  last_from : (xs : List StandingGrant) (a g : StandingGrant) → fold later_of (Some a) (filter in_time xs) ≡ Some g
+      → IsLastFrom a xs g
   last_from [] a g e =
-      let s : a ≡ g = same_Some a g e in (inl (sym s), subst (λ (z : StandingGrant). is_gt (standing_cmp a z) ≡ false) s (ap is_gt (tied_itself grants_total a)), tt)
+      let s : a ≡ g = same_Some a g e in (
+        inl (sym s),
+        subst (λ (z : StandingGrant). is_gt (standing_cmp a z) ≡ false) s
+            (ap is_gt (tied_itself grants_total a)),
+        tt,
+      )
   last_from (b ∷ xs) a g e = inner (λ k. last_from xs k g) (in_time b) refl e
     where
       inner : ((k : StandingGrant) → fold later_of (Some k) (filter in_time xs) ≡ Some g → IsLastFrom k xs g)
           → (t : Bool) → in_time b ≡ t
           → fold later_of (Some a) (cond t (b ∷ filter in_time xs) (filter in_time xs)) ≡ Some g
           → IsLastFrom a (b ∷ xs) g
-      inner rest true early e = let l : b.day ≤ day = grind arith in with_later a b g xs l (is_lt (standing_cmp a b)) refl (rest (cond (is_lt (standing_cmp a b)) b a) e)
+      inner rest true early e = let l : b.day ≤ day =
+          grind arith in with_later a b g xs l (is_lt (standing_cmp a b)) refl
+          (rest (cond (is_lt (standing_cmp a b)) b a) e)
       inner rest false late e =
           let r = rest a e in
-          let away : day < b.day = grind arith in
-          (elim r.0 [ inl s ↦ inl s | inr is ↦ inr (among_further b g xs is) ], r.1, ((λ (l : b.day ≤ day). absurd (omega arith)), r.2))
+          let away : day < b.day = grind arith in (
+            elim r.0 [ inl s ↦ inl s | inr is ↦ inr (among_further b g xs is) ],
+            r.1,
+            ((λ (l : b.day ≤ day). absurd (omega arith)), r.2),
+          )
 
-  last_of : (xs : List StandingGrant) (g : StandingGrant) → fold later_of None (filter in_time xs) ≡ Some g → IsAmong xs g × AllByRecursion (IsBounded g) xs
+  last_of : (xs : List StandingGrant) (g : StandingGrant) → fold later_of None (filter in_time xs) ≡ Some g
+      → IsAmong xs g × AllByRecursion (IsBounded g) xs
   last_of [] g e = cc
   last_of (b ∷ xs) g e = inner (last_of xs g) (in_time b) refl e
     where
@@ -132,4 +151,7 @@ module _ (day : ℕ) where
       ap (λ t. fold later_of None (cond t (b ∷ filter in_time xs) (filter in_time xs))) out ∙ none_if_late xs late.1
 
   pub none_counts : (xs : List StandingGrant) → (last_until day xs ≡ None) ↔ All (λ (g : StandingGrant). day < g.day) xs
-  none_counts xs = ((λ e. All-from_recursion IsLate xs (all_late xs e)), (λ late. none_if_late xs (recursion_from_All IsLate xs late)))
+  none_counts xs = (
+    (λ e. All-from_recursion IsLate xs (all_late xs e)),
+    (λ late. none_if_late xs (recursion_from_All IsLate xs late)),
+  )

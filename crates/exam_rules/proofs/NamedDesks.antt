@@ -9,7 +9,8 @@ use Rattle.exam_plan.proofs.NumberLaws.{number_fits, numbers_differ}
 use Rattle.exam_plan.proofs.Renaming.{IsLawful-indexed}
 use Rattle.exam_rules.specs.Relations.{Code, Relations}
 use Rattle.exam_rules.specs.Sessions.{members}
-use Rattle.exam_rules.specs.Seatings.{indexed_seating, seating, problem_of, desks, fits, open_halls, fitting_places, comes_before}
+use Rattle.exam_rules.specs.Seatings.{indexed_seating, seating, problem_of, desks, fits, open_halls, fitting_places}
+use Rattle.exam_rules.specs.Seatings.{comes_before}
 use Rattle.exam_rules.specs.Names.{naming, ListsRise, number_at, index_of, hall_index, named_plan, indexed_plan}
 use Rattle.exam_rules.proofs.Naming.{renames, index_below, order_same}
 use Rattle.exam_rules.proofs.Following.{follows}
@@ -47,20 +48,26 @@ module _ (r : Relations) (s : Code) (up : ListsRise r s) (q : Plan ℕ Code) (la
             ∙ ap (option_and_then (hall_index r s)) e ∙ hall.1;
       }
 
-  number_is : (c : ℕ) (h : Code) (p : Place c h) → desk_number (seating r s) (comes_before r s) q c ≡ desk_number (indexed_seating r s) (ranks_before (problem_of r s)) (indexed_plan r s q) p.index
+  number_is : (c : ℕ) (h : Code) (p : Place c h)
+      → desk_number (seating r s) (comes_before r s) q c
+      ≡ desk_number (indexed_seating r s) (ranks_before (problem_of r s)) (indexed_plan r s q) p.index
   number_is c h p =
       ap (λ (plan : Plan ℕ Code). desk_number (seating r s) (comes_before r s) plan c) (sym back)
-      ∙ desk_number-named (naming r s) (renames r s up) (comes_before r s) (ranks_before (problem_of r s)) (order_same r s) (indexed_plan r s q) lawful_indexed c p.index p.is
+      ∙ desk_number-named (naming r s) (renames r s up) (comes_before r s) (ranks_before (problem_of r s))
+      (order_same r s) (indexed_plan r s q) lawful_indexed c p.index p.is
 
   -- the number is one of the hall's desks
-  pub desk_within : (c n : ℕ) (h : Code) → q c ≡ Some h → desk_number (seating r s) (comes_before r s) q c ≡ Some n → n ≤ desks r s h
+  pub desk_within : (c n : ℕ) (h : Code) → q c ≡ Some h → desk_number (seating r s) (comes_before r s) q c ≡ Some n
+      → n ≤ desks r s h
   desk_within c n h e number =
       let p = place c h e in
       subst (λ k. n ≤ k) (sym ((renames r s up).desks h p.hall p.hall_is))
-      (number_fits (problem_of r s) (indexed_plan r s q) p.hall lawful_indexed p.index n p.sits (sym (number_is c h p) ∙ number))
+      (number_fits (problem_of r s) (indexed_plan r s q) p.hall lawful_indexed p.index n p.sits
+      (sym (number_is c h p) ∙ number))
 
   below : (c : ℕ) (h : Code) (p : Place c h) → p.index < length (problem_of r s).fit
-  below c h p = rw (length-map (members r s) (λ d. fitting_places r s d (open_halls r s))) (index_below r s c p.index p.is)
+  below c h p = rw (length-map (members r s) (λ d. fitting_places r s d (open_halls r s)))
+      (index_below r s c p.index p.is)
 
   -- and nobody else of the hall has it
   pub desk_apart : length (members r s) ≤ most_members → (c d : ℕ) (h : Code) → q c ≡ Some h → q d ≡ Some h
@@ -70,6 +77,9 @@ module _ (r : Relations) (s : Code) (up : ListsRise r s) (q : Plan ℕ Code) (la
       let pd = place d h ed in
       let one : Some pc.hall ≡ Some pd.hall = sym pc.hall_is ∙ pd.hall_is in
       let hall : pc.hall ≡ pd.hall = cc in
-      let index : pc.index ≡ pd.index = numbers_differ (problem_of r s) (indexed_plan r s q) pc.hall (is_problem r s up.numbers few) pc.index pd.index (below c h pc) (below d h pd) pc.sits
+      let index : pc.index ≡ pd.index =
+      numbers_differ (problem_of r s) (indexed_plan r s q) pc.hall
+      (is_problem r s up.numbers few) pc.index pd.index (below c h pc) (below d h pd) pc.sits
       (pd.sits ∙ sym one) (sym (number_is c h pc) ∙ same ∙ number_is d h pd) in
-      sym ((renames r s up).named c pc.index pc.is).0 ∙ ap (number_at r s) index ∙ ((renames r s up).named d pd.index pd.is).0
+      sym ((renames r s up).named c pc.index pc.is).0 ∙ ap (number_at r s) index
+      ∙ ((renames r s up).named d pd.index pd.is).0

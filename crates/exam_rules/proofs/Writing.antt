@@ -1,5 +1,6 @@
 -- What a plan by indices leaves when it is written seat by seat.
-use Rattle.std.proofs.Common.{◌≡◌, ℕ, ◌+◌, ◌<◌, ◌≤◌, ◌&&◌, Bool, true, false, cond, List, length, nat_eq, nat_lt, Option, None, Some, refl, ap, sym, ◌∙◌, arith, eq-eqb}
+use Rattle.std.proofs.Common.{◌≡◌, ℕ, ◌+◌, ◌<◌, ◌≤◌, ◌&&◌, Bool, true, false, cond, List, length, nat_eq, nat_lt}
+use Rattle.std.proofs.Common.{Option, None, Some, refl, ap, sym, ◌∙◌, arith, eq-eqb}
 use Rattle.std.specs.Option.{option_map, option_and_then, option_or}
 use Rattle.std.specs.declared.cmp.Ordering.{Ordering}
 use Rattle.std.specs.declared.cmp.Ordering.TheVariants.{Less, Equal, Greater}
@@ -22,12 +23,14 @@ then_eq Greater b = refl
 
 -- whether a seat's key is this one
 pub seat_at : (s t : Code) (n c : ℕ) → is_at (seat_cmp (s, n)) (t, c) ≡ (same_code s t && nat_eq n c)
-seat_at s t n c = then_eq (code_cmp s t) (nat_cmp n c) ∙ ap (λ x. x && is_eq (nat_cmp n c)) (sym (texts_ties s t)) ∙ ap (λ y. same_code s t && y) (sym (unsigned_ties n c))
+seat_at s t n c = then_eq (code_cmp s t) (nat_cmp n c) ∙ ap (λ x. x && is_eq (nat_cmp n c)) (sym (texts_ties s t))
+    ∙ ap (λ y. same_code s t && y) (sym (unsigned_ties n c))
 
 module _ (r : Relations) (s : Code) (plan : List (Option ℕ)) where
   -- if a member among the first i sits
   abbrev pub written : ℕ → ℕ → Option Code
-  written i c = option_and_then (λ k. cond (nat_lt k i) (option_map (hall_at r s) (plan_at plan k)) None) (index_of r s c)
+  written i c = option_and_then (λ k. cond (nat_lt k i) (option_map (hall_at r s) (plan_at plan k)) None)
+      (index_of r s c)
 
   pub written_all : (i : ℕ) → length (members r s) ≤ i → (c : ℕ) → written i c ≡ named_plan r s (plan_at plan) c
   written_all i past c = inner (index_of r s c) refl
@@ -36,11 +39,15 @@ module _ (r : Relations) (s : Code) (plan : List (Option ℕ)) where
           → option_and_then (λ k. cond (nat_lt k i) (option_map (hall_at r s) (plan_at plan k)) None) o
           ≡ option_and_then (λ k. option_map (hall_at r s) (plan_at plan k)) o
       inner None e = refl
-      inner (Some k) e = let below : k < length (members r s) = index_below r s c k e in ap (λ t. cond t (option_map (hall_at r s) (plan_at plan k)) None) (lt-ltb k i (omega arith))
+      inner (Some k) e = let below : k < length (members r s) =
+          index_below r s c k e in
+          ap (λ t. cond t (option_map (hall_at r s) (plan_at plan k)) None) (lt-ltb k i (omega arith))
 
   -- the next member at their place, and everybody else as before
-  pub written_more : ListsRise r s → (i : ℕ) → i < length (members r s) → (old new : Option Code) (c : ℕ) → old ≡ written i c
-      → (nat_eq (number_at r s i) c ≡ true → old ≡ None → new ≡ option_map (hall_at r s) (plan_at plan i)) → (nat_eq (number_at r s i) c ≡ false → new ≡ old) → new ≡ written (i + 1) c
+  pub written_more : ListsRise r s → (i : ℕ) → i < length (members r s) → (old new : Option Code) (c : ℕ)
+      → old ≡ written i c
+      → (nat_eq (number_at r s i) c ≡ true → old ≡ None → new ≡ option_map (hall_at r s) (plan_at plan i))
+      → (nat_eq (number_at r s i) c ≡ false → new ≡ old) → new ≡ written (i + 1) c
   written_more up i below old new c is own other = inner (nat_eq (number_at r s i) c) refl
     where
       same : (k : ℕ) → (k ≡ i → ⊥) → nat_lt k i ≡ nat_lt k (i + 1)
@@ -54,7 +61,9 @@ module _ (r : Relations) (s : Code) (plan : List (Option ℕ)) where
           (option_and_then (λ k. cond (nat_lt k i) (option_map (hall_at r s) (plan_at plan k)) None)) e
           ∙ ap (λ t. cond t (option_map (hall_at r s) (plan_at plan i)) None) (le-ltb i i (omega arith))
 
-      at : (o : Option ℕ) → index_of r s c ≡ o → written (i + 1) c ≡ option_and_then (λ k. cond (nat_lt k (i + 1)) (option_map (hall_at r s) (plan_at plan k)) None) o
+      at : (o : Option ℕ) → index_of r s c ≡ o
+          → written (i + 1) c ≡ option_and_then
+          (λ k. cond (nat_lt k (i + 1)) (option_map (hall_at r s) (plan_at plan k)) None) o
       at o e = ap (option_and_then (λ k. cond (nat_lt k (i + 1)) (option_map (hall_at r s) (plan_at plan k)) None)) e
 
       -- the next member is this one
@@ -81,15 +90,21 @@ module _ (r : Relations) (s : Code) (plan : List (Option ℕ)) where
       inner false e = other e ∙ is ∙ passed (index_of r s c) refl e
 
 -- one step: the seat of this candidate in this session is taken, the others stay
-pub seat_taken : (mine own : Bool) (x old new : Option Code) → new ≡ cond (mine && own) (option_or x old) old → mine ≡ true → own ≡ true → old ≡ None → new ≡ x
-seat_taken mine own x old new step m o none = step ∙ ap (λ t. cond (t && own) (option_or x old) old) m ∙ ap (λ t. cond t (option_or x old) old) o ∙ ap (option_or x) none ∙ inner x
+pub seat_taken : (mine own : Bool) (x old new : Option Code) → new ≡ cond (mine && own) (option_or x old) old
+    → mine ≡ true → own ≡ true → old ≡ None → new ≡ x
+seat_taken mine own x old new step m o none =
+    step ∙ ap (λ t. cond (t && own) (option_or x old) old) m ∙ ap (λ t. cond t (option_or x old) old) o
+    ∙ ap (option_or x) none ∙ inner x
   where
     inner : (x : Option Code) → option_or x None ≡ x
     inner None = refl
     inner (Some h) = refl
 
-pub seat_other : (mine own : Bool) (x old new : Option Code) → new ≡ cond (mine && own) (option_or x old) old → mine ≡ false → new ≡ old
+pub seat_other : (mine own : Bool) (x old new : Option Code) → new ≡ cond (mine && own) (option_or x old) old
+    → mine ≡ false → new ≡ old
 seat_other mine own x old new step m = step ∙ ap (λ t. cond (t && own) (option_or x old) old) m
 
-pub seat_of_other : (mine own : Bool) (x old new : Option Code) → new ≡ cond (mine && own) (option_or x old) old → mine ≡ true → own ≡ false → new ≡ old
-seat_of_other mine own x old new step m o = step ∙ ap (λ t. cond (t && own) (option_or x old) old) m ∙ ap (λ t. cond t (option_or x old) old) o
+pub seat_of_other : (mine own : Bool) (x old new : Option Code) → new ≡ cond (mine && own) (option_or x old) old
+    → mine ≡ true → own ≡ false → new ≡ old
+seat_of_other mine own x old new step m o =
+    step ∙ ap (λ t. cond (t && own) (option_or x old) old) m ∙ ap (λ t. cond t (option_or x old) old) o

@@ -1,6 +1,7 @@
 -- The members and the open halls of all sessions, as lists by session.
-use Rattle.std.specs.Prelude.{◌≡◌, ℕ, ◌-◌, not, length, slice_get, nat_eq, nat_lt, Bool, true, false, List, [], ◌∷◌}
-use Rattle.std.specs.Prelude.{◌++◌, map, filter, Option, None, Vec, if◌then◌else◌}
+use Rattle.std.specs.Prelude.{◌≡◌, ◌<◌, ℕ, ◌-◌, not, length, slice_get, slice_index_or, nat_eq, nat_lt, Bool, true}
+use Rattle.std.specs.Prelude.{false}
+use Rattle.std.specs.Prelude.{List, [], ◌∷◌, ◌++◌, map, filter, Option, None, Vec, if◌then◌else◌}
 use Rattle.std.specs.Global.{Global}
 use Rattle.std.specs.List.{filter_map, cons_option}
 use Rattle.std.specs.Map.{keys_of}
@@ -77,14 +78,20 @@ pub record SetsEntry (before after : Relations) (s : Code) (c : ℕ) : Type 0 wh
   pub papers : after.papers ≡ before.papers
   pub openings : after.openings ≡ before.openings
 
+-- the entrant at this place is this one
+abbrev pub StandsAt : List Entrant → ℕ → Entrant → Type 0
+StandsAt entrants place entrant =
+    (place < length entrants) × (slice_index_or entrants place entrant ≡ entrant)
+
+-- the entrant at this place, if there is one, has another number
+abbrev pub HasOtherAt : List Entrant → ℕ → ℕ → Type 0
+HasOtherAt entrants place number =
+    place < length entrants → (e : Entrant) → nat_eq (slice_index_or entrants place e).number number ≡ false
+
 -- ---- one candidate entered
 
 abbrev pub lesser_paper : Code → Code → Code
 lesser_paper p q = if is_lt (code_cmp p q) then p else q
-
--- the paper, or the one that there is already, if that is less
-abbrev pub lowered : Code → Option Code → Code
-lowered p least = option_map_or (lesser_paper p) least p
 
 -- The list with the candidate of this number before the first greater number: with this paper, or with the one with
 -- which they are listed already, if that is less.

@@ -1,9 +1,9 @@
 //! What granted appeals give a candidate in a session.
-ghost use Rattle.std.specs.Prelude.{◌≡◌, ◌&&◌, nat_le, [], filter, codes, IfOk, IfErr, Option};
-ghost use Rattle.exam_types.specs.declared.refusal.Refusal.TheVariants.{NoMemory};
+ghost use Rattle.std.specs.Prelude.{◌≡◌, ◌&&◌, nat_le, [], filter, codes, IfOk, Option};
 ghost use Rattle.std.specs.List.{list_any};
 ghost use Rattle.std.specs.BTreeMap.Range.{entries_between};
 ghost use Rattle.std.specs.declared.ops.Bound.TheVariants.{Unbounded, Excluded};
+ghost use Rattle.exam_types.specs.Refusals.{OnlyMemory};
 ghost use Rattle.exam_rules.specs.Relations.{Code, relations_of, appeal_cmp, is_row_of, same_code};
 ghost use Rattle.exam_rules.specs.Granted as granted;
 ghost use Rattle.exam_rules.specs.Sessions as spec;
@@ -150,7 +150,7 @@ pub fn barred_halls(
 ) -> Result<Vec<HallCode>, Refusal>
     ensures ok { IfOk result (λ halls. halls.items
         ≡ spec.barred_halls (relations_of facts.now) session.now number) }
-    ensures memory { IfErr result (λ e. e ≡ NoMemory) }
+    ensures memory { OnlyMemory result }
 {
     let mut halls = Vec::new(alloc);
     for (_, appeal) in appeals_of(facts, number) {

@@ -1,6 +1,6 @@
 //! A map with a list for each session.
-ghost use Rattle.std.specs.Prelude.{◌≡◌, ◌++◌, ◌∷◌, [], IfOk, IfErr, OnOk, IsTrue, if◌then◌else◌};
-ghost use Rattle.exam_types.specs.declared.refusal.Refusal.TheVariants.{NoMemory};
+ghost use Rattle.std.specs.Prelude.{◌≡◌, ◌++◌, ◌∷◌, [], IfOk, OnOk, IsTrue, if◌then◌else◌};
+ghost use Rattle.exam_types.specs.Refusals.{OnlyMemory};
 ghost use Rattle.exam_rules.specs.Relations.{Code, code_cmp, has_row, same_code};
 ghost use Rattle.exam_rules.specs.Lists as listing;
 
@@ -22,7 +22,7 @@ pub fn append_by_session<T: Copy + Drop>(
     ensures ok { OnOk result ((s : Code) → listing.listed lists.new.entries s
         ≡ (if same_code session s then listing.listed lists.old.entries s ++ value ∷ []
         else listing.listed lists.old.entries s)) }
-    ensures memory { IfErr result (λ e. e ≡ NoMemory) }
+    ensures memory { OnlyMemory result }
 {
     match lists.get_mut(&session) {
         Some(list) => {
@@ -40,7 +40,7 @@ pub fn append_by_session<T: Copy + Drop>(
 /// A list of one value.
 pub fn one<T: Copy + Drop>(alloc: Global, value: T) -> Result<Vec<T>, Refusal>
     ensures ok { IfOk result (λ list. list.items ≡ value ∷ []) }
-    ensures memory { IfErr result (λ e. e ≡ NoMemory) }
+    ensures memory { OnlyMemory result }
 {
     let mut list = Vec::new(alloc);
     list.push(value)?;
@@ -67,7 +67,7 @@ pub fn keep_list<T: Copy + Drop>(
     ensures kept { OnOk result (IsTrue (has_row code_cmp lists.new.entries session)) }
     ensures stay { (s : Code) → IsTrue (has_row code_cmp lists.old.entries s)
         → IsTrue (has_row code_cmp lists.new.entries s) }
-    ensures memory { IfErr result (λ e. e ≡ NoMemory) }
+    ensures memory { OnlyMemory result }
 {
     if lists.contains_key(&session) {
         return Ok(());

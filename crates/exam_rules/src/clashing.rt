@@ -1,7 +1,7 @@
 //! The clashes of a session.
 ghost use Rattle.std.specs.Prelude.{◌≡◌, ◌++◌, IsTrue, IfOk, IfErr, OnOk};
 ghost use Rattle.std.specs.List.{flat_map};
-ghost use Rattle.exam_types.specs.declared.refusal.Refusal.TheVariants.{NoMemory};
+ghost use Rattle.exam_types.specs.Refusals.{OnlyMemory};
 ghost use Rattle.exam_rules.specs.Relations.{relations_of, code_cmp, has_row};
 ghost use Rattle.exam_rules.specs.Sessions as spec;
 
@@ -36,7 +36,7 @@ pub fn clashes_among(
 ) -> Result<Vec<(Number, PaperCode)>, Refusal>
     ensures ok { IfOk result (λ list. list.items
         ≡ flat_map (spec.clashes_of (relations_of facts.now) session.now) numbers.now) }
-    ensures memory { IfErr result (λ e. e ≡ NoMemory) }
+    ensures memory { OnlyMemory result }
 {
     let mut list = Vec::new(alloc);
     for number in numbers {
@@ -54,7 +54,7 @@ fn push_clashes(
 ) -> Result<(), Refusal>
     ensures ok { OnOk result (list.new.items ≡ list.old.items
         ++ spec.clashes_of (relations_of facts.now) session.now number) }
-    ensures memory { IfErr result (λ e. e ≡ NoMemory) }
+    ensures memory { OnlyMemory result }
 {
     let sat = sitting_by_entries(facts, session, number);
     for (key, entry) in entries_of(facts, number) {

@@ -1,8 +1,8 @@
 //! The order of the desks in a hall.
-ghost use Rattle.std.specs.Prelude.{◌≡◌, ◌≤◌, length, map, count_by, IsSorted, IfOk, IfErr};
+ghost use Rattle.std.specs.Prelude.{◌≡◌, ◌≤◌, length, map, count_by, IsSorted, IfOk};
 ghost use Rattle.std.specs.Ordering.{is_lt};
+ghost use Rattle.exam_types.specs.Refusals.{OnlyMemory};
 ghost use Rattle.exam_plan.specs.Problems.{most_members};
-ghost use Rattle.exam_types.specs.declared.refusal.Refusal.TheVariants.{NoMemory};
 ghost use Rattle.exam_rules.specs.declared.listing.Entrant.{Entrant};
 ghost use Rattle.exam_rules.specs.Relations.{relations_of};
 ghost use Rattle.exam_rules.specs.Lists as listing;
@@ -41,7 +41,7 @@ pub fn entrant_keys(
     ensures ok { IfOk result (λ keys. keys.items
         ≡ map (seatings.desk_key (relations_of facts.now) session.now)
         (map (λ (entrant : Entrant). entrant.number) entrants.now)) }
-    ensures memory { IfErr result (λ e. e ≡ NoMemory) }
+    ensures memory { OnlyMemory result }
 {
     let mut keys = Vec::with_capacity(alloc, entrants.len())?;
     for entrant in entrants {
@@ -62,7 +62,7 @@ pub fn comes_before(key: &DeskKey, other: &DeskKey) -> bool
 pub fn ranks(alloc: Global, keys: &[DeskKey]) -> Result<Vec<u32>, Refusal>
     requires { length keys.now ≤ most_members }
     ensures ok { IfOk result (λ ranks. ranks.items ≡ seatings.ranks_of keys.now) }
-    ensures memory { IfErr result (λ e. e ≡ NoMemory) }
+    ensures memory { OnlyMemory result }
 {
     let mut sorted = Vec::from_slice(alloc, keys)?;
     sorted.sort()?;

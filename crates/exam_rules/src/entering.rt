@@ -1,8 +1,8 @@
 //! The lists of members and open halls, changed after a command.
-ghost use Rattle.std.specs.Prelude.{◌≡◌, ◌<◌, ◌++◌, length, filter, nat_lt, slice_set, IfOk, IfErr, OnOk, OnErr};
+ghost use Rattle.std.specs.Prelude.{◌≡◌, ◌<◌, ◌++◌, length, filter, nat_lt, slice_set, IfOk, OnOk, OnErr};
 ghost use Rattle.std.specs.Prelude.{IsTrue, false, if◌then◌else◌};
 ghost use Rattle.std.specs.List.Sorted.{IsNonDecreasingBy};
-ghost use Rattle.exam_types.specs.declared.refusal.Refusal.TheVariants.{NoMemory};
+ghost use Rattle.exam_types.specs.Refusals.{OnlyMemory};
 ghost use Rattle.exam_rules.specs.Relations.{Code, Relations, relations_of, code_cmp, same_code, has_row};
 ghost use Rattle.exam_rules.specs.Orders.{AreInOrder};
 ghost use Rattle.exam_rules.specs.Lists as listing;
@@ -30,7 +30,7 @@ fn listed_paper(facts: &Facts, session: &SessionCode, number: Number) -> Option<
 fn lesser(alloc: Global, entrants: &[Entrant], number: Number) -> Result<Vec<Entrant>, Refusal>
     ensures ok { IfOk result (λ list. list.items
         ≡ filter (λ (e : Entrant). nat_lt e.number number) entrants.now) }
-    ensures memory { IfErr result (λ e. e ≡ NoMemory) }
+    ensures memory { OnlyMemory result }
 {
     let list = entrants
         .iter()
@@ -48,7 +48,7 @@ fn push_greater(
 ) -> Result<(), Refusal>
     ensures ok { OnOk result (list.new.items ≡ list.old.items
         ++ filter (λ (e : Entrant). nat_lt number e.number) entrants.now) }
-    ensures memory { IfErr result (λ e. e ≡ NoMemory) }
+    ensures memory { OnlyMemory result }
 {
     let greater = entrants
         .iter()
@@ -66,7 +66,7 @@ fn placed(
     paper: Option<PaperCode>,
 ) -> Result<Vec<Entrant>, Refusal>
     ensures ok { IfOk result (λ list. list.items ≡ listing.placed number paper entrants.now) }
-    ensures memory { IfErr result (λ e. e ≡ NoMemory) }
+    ensures memory { OnlyMemory result }
 {
     let mut list = lesser(alloc, entrants, number)?;
     if let Some(paper) = paper {
@@ -83,7 +83,7 @@ fn without_hall(
     hall: &HallCode,
 ) -> Result<Vec<HallCode>, Refusal>
     ensures ok { IfOk result (λ list. list.items ≡ listing.without_hall hall.now halls.now) }
-    ensures memory { IfErr result (λ e. e ≡ NoMemory) }
+    ensures memory { OnlyMemory result }
 {
     let list = halls
         .iter()
@@ -112,7 +112,7 @@ fn enter_among(list: &mut Vec<Entrant>, number: Number, paper: PaperCode) -> Res
     ensures ok { OnOk result (IsNonDecreasingBy (λ (e : Entrant). e.number) list.old.items
         → list.new.items ≡ listing.entered number paper list.old.items) }
     ensures err { OnErr result (list.new.items ≡ list.old.items) }
-    ensures memory { IfErr result (λ e. e ≡ NoMemory) }
+    ensures memory { OnlyMemory result }
 {
     let entrants = list.as_slice();
     let place = place_of(entrants, number);
@@ -150,7 +150,7 @@ impl SessionLists {
         ensures halls { self.new.halls.entries ≡ self.old.halls.entries }
         ensures err { OnErr result ((s : Code)
             → listing.listed self.new.members.entries s ≡ listing.listed self.old.members.entries s) }
-        ensures memory { IfErr result (λ e. e ≡ NoMemory) }
+        ensures memory { OnlyMemory result }
     {
         // Because the candidates are in order, so are the members.
         facts.show_order();
@@ -168,7 +168,7 @@ impl SessionLists {
         ensures kept { OnOk result (IsTrue (has_row code_cmp self.new.members.entries session)) }
         ensures stay { (s : Code) → IsTrue (has_row code_cmp self.old.members.entries s)
             → IsTrue (has_row code_cmp self.new.members.entries s) }
-        ensures memory { IfErr result (λ e. e ≡ NoMemory) }
+        ensures memory { OnlyMemory result }
     {
         keep_list(alloc, &mut self.members, session)
     }
@@ -194,7 +194,7 @@ impl SessionLists {
             → IsTrue (has_row code_cmp self.new.members.entries s) }
         ensures err { OnErr result ((s : Code)
             → listing.listed self.new.members.entries s ≡ listing.listed self.old.members.entries s) }
-        ensures memory { IfErr result (λ e. e ≡ NoMemory) }
+        ensures memory { OnlyMemory result }
     {
         match self.members.get_mut(session) {
             Some(list) => enter_among(list, number, paper),
@@ -231,7 +231,7 @@ impl SessionLists {
         ensures members { self.new.members.entries ≡ self.old.members.entries }
         ensures err { OnErr result ((s : Code)
             → listing.listed self.new.halls.entries s ≡ listing.listed self.old.halls.entries s) }
-        ensures memory { IfErr result (λ e. e ≡ NoMemory) }
+        ensures memory { OnlyMemory result }
     {
         let list = without_hall(alloc, self.halls_of(&session), hall)?;
         keep_list(alloc, &mut self.halls, session)?;
@@ -251,7 +251,7 @@ impl SessionLists {
         ensures old { IfOk result (λ halls. halls ≡ self.old.halls) }
         ensures members { self.new.members ≡ self.old.members }
         ensures err { OnErr result (self.new.halls ≡ self.old.halls) }
-        ensures memory { IfErr result (λ e. e ≡ NoMemory) }
+        ensures memory { OnlyMemory result }
     {
         let halls = halls_by_session(alloc, facts)?;
         Ok(replace(&mut self.halls, halls))

@@ -1,9 +1,9 @@
 //! When a member ends, and which halls fit.
-ghost use Rattle.std.specs.Prelude.{◌≡◌, ◌<◌, ◌≤◌, ◌&&◌, ℕ, None, not, length, map, if◌then◌else◌, IsTrue, IfOk, IfErr};
+ghost use Rattle.std.specs.Prelude.{◌≡◌, ◌<◌, ◌≤◌, ◌&&◌, ℕ, None, not, length, map, if◌then◌else◌, IsTrue, IfOk};
 ghost use Rattle.std.specs.List.{list_any};
 ghost use Rattle.std.specs.Option.{option_map, option_and_then};
+ghost use Rattle.exam_types.specs.Refusals.{OnlyMemory};
 ghost use Rattle.exam_plan.specs.HallSets.{most_halls, holds, halls_below};
-ghost use Rattle.exam_types.specs.declared.refusal.Refusal.TheVariants.{NoMemory};
 ghost use Rattle.exam_rules.specs.Relations.{relations_of, code_cmp, row_at, same_code};
 ghost use Rattle.exam_rules.specs.Sessions as spec;
 ghost use Rattle.exam_rules.specs.Seatings as seatings;
@@ -244,7 +244,7 @@ pub fn fitting_places(
         ≡ seatings.fitting_places (relations_of facts.now) session.now number
         (map (λ hall. hall.0) halls.now)) }
     ensures exist { IfOk result (λ places. (h : ℕ) → IsTrue (holds places h) → h < length halls.now) }
-    ensures memory { IfErr result (λ e. e ≡ NoMemory) }
+    ensures memory { OnlyMemory result }
 {
     // A candidate who sits no paper is no member.
     if sat.is_none() {

@@ -1,9 +1,9 @@
 //! The members and the open halls of all sessions, listed in one walk over the facts.
 ghost use Rattle.std.specs.Prelude.{◌≡◌, ◌≢◌, ◌<◌, ◌≤◌, length, All, Contains, IsNone, IfSome, IfOk, IfErr, OnOk};
-ghost use Rattle.std.specs.Prelude.{IsTrue, true, false, nat_eq, nat_lt, slice_index_or, map, if◌then◌else◌};
+ghost use Rattle.std.specs.Prelude.{IsTrue, true, false, nat_lt, map, if◌then◌else◌};
 ghost use Rattle.std.specs.List.Sorted.{IsStrictlySortedBy, IsNonDecreasingBy, IsPartitionPoint};
 ghost use Rattle.std.specs.Ordering.{nat_cmp};
-ghost use Rattle.exam_types.specs.declared.refusal.Refusal.TheVariants.{NoMemory};
+ghost use Rattle.exam_types.specs.Refusals.{OnlyMemory};
 ghost use Rattle.exam_rules.specs.Relations.{Code, Relations, relations_of, no_relations, code_cmp, same_code};
 ghost use Rattle.exam_rules.specs.Relations.{has_row};
 ghost use Rattle.exam_rules.specs.Sessions as spec;
@@ -45,7 +45,7 @@ fn ends_with(entrants: &[Entrant], number: Number) -> bool
 /// Appends the entrant, unless the last is the same candidate.
 fn push_last(list: &mut Vec<Entrant>, entrant: Entrant) -> Result<(), Refusal>
     ensures ok { OnOk result (list.new.items ≡ listing.with_last entrant list.old.items) }
-    ensures memory { IfErr result (λ e. e ≡ NoMemory) }
+    ensures memory { OnlyMemory result }
 {
     if !ends_with(list.as_slice(), entrant.number) {
         list.push(entrant)?;
@@ -63,7 +63,7 @@ fn append_last(
     ensures ok { OnOk result ((s : Code) → listing.listed members.new.entries s
         ≡ (if same_code session s then listing.with_last entrant (listing.listed members.old.entries s)
         else listing.listed members.old.entries s)) }
-    ensures memory { IfErr result (λ e. e ≡ NoMemory) }
+    ensures memory { OnlyMemory result }
 {
     match members.get_mut(&session) {
         Some(list) => push_last(list, entrant),
@@ -96,7 +96,7 @@ fn append_member(
     ensures ok { OnOk result ((s : Code) → listing.listed members.new.entries s
         ≡ listing.with_member number (spec.least_live_paper (relations_of facts.now) s number)
         (listing.listed members.old.entries s)) }
-    ensures memory { IfErr result (λ e. e ≡ NoMemory) }
+    ensures memory { OnlyMemory result }
 {
     for (key, entry) in entries_of(facts, number) {
         if let Some(session) = entered_session(facts, &key.1, entry) {
@@ -113,7 +113,7 @@ fn members_by_session(alloc: Global, facts: &Facts) -> Result<BySession<Entrant>
         ≡ listing.entrants (relations_of facts.now) s) }
     ensures rising { OnOk result ((s : Code)
         → IsStrictlySortedBy nat_cmp (spec.members (relations_of facts.now) s)) }
-    ensures memory { IfErr result (λ e. e ≡ NoMemory) }
+    ensures memory { OnlyMemory result }
 {
     let mut members = BTreeMap::new(alloc);
     for (number, _) in &facts.candidates {
@@ -128,7 +128,7 @@ pub fn halls_by_session(alloc: Global, facts: &Facts) -> Result<BySession<HallCo
         ≡ seatings.open_halls (relations_of facts.now) s) }
     ensures rising { OnOk result ((s : Code)
         → IsStrictlySortedBy code_cmp (seatings.open_halls (relations_of facts.now) s)) }
-    ensures memory { IfErr result (λ e. e ≡ NoMemory) }
+    ensures memory { OnlyMemory result }
 {
     let mut halls = BTreeMap::new(alloc);
     for (key, _) in &facts.openings {
@@ -140,7 +140,7 @@ pub fn halls_by_session(alloc: Global, facts: &Facts) -> Result<BySession<HallCo
 /// The members and the open halls of all sessions.
 pub fn session_lists(alloc: Global, facts: &Facts) -> Result<SessionLists, Refusal>
     ensures ok { IfOk result (λ both. listing.AreListsOf (relations_of facts.now) both) }
-    ensures memory { IfErr result (λ e. e ≡ NoMemory) }
+    ensures memory { OnlyMemory result }
 {
     Ok(SessionLists {
         members: members_by_session(alloc, facts)?,
@@ -168,7 +168,7 @@ pub fn lists_with(
 pub fn numbers_of(alloc: Global, entrants: &[Entrant]) -> Result<Vec<Number>, Refusal>
     ensures ok { IfOk result (λ numbers. numbers.items
         ≡ map (λ (entrant : Entrant). entrant.number) entrants.now) }
-    ensures memory { IfErr result (λ e. e ≡ NoMemory) }
+    ensures memory { OnlyMemory result }
 {
     let numbers = entrants
         .iter()
@@ -189,10 +189,9 @@ pub fn place_of(entrants: &[Entrant], number: Number) -> usize
 
 /// The paper of the entrant at the place, if they have this number.
 pub fn paper_at(entrants: &[Entrant], place: usize, number: Number) -> Option<PaperCode>
-    ensures found { IfSome result (λ paper. (place < length entrants.now)
-        × (slice_index_or entrants.now place (listing.entrant number paper) ≡ listing.entrant number paper)) }
-    ensures none { IsNone result → place < length entrants.now
-        → (e : Entrant) → nat_eq (slice_index_or entrants.now place e).number number ≡ false }
+    ensures found { IfSome result (λ paper.
+        listing.StandsAt entrants.now place (listing.entrant number paper)) }
+    ensures none { IsNone result → listing.HasOtherAt entrants.now place number }
 {
     match entrants.get(place) {
         Some(entrant) => {

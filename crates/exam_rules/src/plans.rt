@@ -1,10 +1,10 @@
 //! Plans by names and by indices: a session's plan read from where candidates sit, and written there.
 ghost use Rattle.std.specs.Prelude.{◌≡◌, ◌<◌, ◌&&◌, ℕ, [], All, IfSome, None, Some, false, length, nat_eq, position};
-ghost use Rattle.std.specs.Prelude.{slice_index_or, if◌then◌else◌, IfOk, IfErr, OnOk};
+ghost use Rattle.std.specs.Prelude.{slice_index_or, if◌then◌else◌, IfOk, OnOk};
 ghost use Rattle.std.specs.Option.{option_map, option_or};
+ghost use Rattle.exam_types.specs.Refusals.{OnlyMemory};
 ghost use Rattle.exam_plan.specs.Matching.{SamePlan};
 ghost use Rattle.exam_plan.specs.Problems.{plan_at};
-ghost use Rattle.exam_types.specs.declared.refusal.Refusal.TheVariants.{NoMemory};
 ghost use Rattle.exam_rules.specs.Relations.{Code, Relations, same_code};
 ghost use Rattle.exam_rules.specs.Names.{ListsRise, named_plan};
 ghost use Rattle.exam_rules.specs.Plans as plans;
@@ -39,7 +39,7 @@ pub fn stored_plan(
 ) -> Result<Plan, Refusal>
     ensures ok { IfOk result (λ plan. plan.items
         ≡ plans.places_of seats.now.entries session.now halls.now numbers.now) }
-    ensures memory { IfErr result (λ e. e ≡ NoMemory) }
+    ensures memory { OnlyMemory result }
 {
     let plan = numbers
         .iter()
@@ -85,7 +85,7 @@ pub fn write_plan(
         → SamePlan (plan_of seats.new.entries session.now) (named_plan r session.now (plan_at plan.now))) }
     ensures others { OnOk result ((s : Code) (c : ℕ) → same_code session.now s ≡ false
         → plan_of seats.new.entries s c ≡ plan_of seats.old.entries s c) }
-    ensures memory { IfErr result (λ e. e ≡ NoMemory) }
+    ensures memory { OnlyMemory result }
 {
     for (index, number) in numbers.iter().enumerate() {
         add_place(seats, session, *number, halls, plan[index])?;
@@ -106,7 +106,7 @@ fn add_place(
         ≡ (if same_code session.now s && nat_eq number c
         then option_or (option_map (λ h. slice_index_or halls.now h []) place) (plan_of seats.old.entries s c)
         else plan_of seats.old.entries s c)) }
-    ensures memory { IfErr result (λ e. e ≡ NoMemory) }
+    ensures memory { OnlyMemory result }
 {
     match place {
         Some(place) => add_seat(seats, session, number, halls[place]),
@@ -123,7 +123,7 @@ pub fn add_seat(
 ) -> Result<(), Refusal>
     ensures ok { OnOk result ((s : Code) (c : ℕ) → plan_of seats.new.entries s c
         ≡ (if same_code session.now s && nat_eq number c then Some hall else plan_of seats.old.entries s c)) }
-    ensures memory { IfErr result (λ e. e ≡ NoMemory) }
+    ensures memory { OnlyMemory result }
 {
     seats.insert((*session, number), hall)?;
     Ok(())

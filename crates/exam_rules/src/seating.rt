@@ -7,6 +7,7 @@ ghost use Rattle.exam_plan.specs.Problems.{most_members};
 ghost use Rattle.exam_rules.specs.Names.{ListsRise};
 ghost use Rattle.exam_rules.specs.Lists.{AreListsOf};
 ghost use Rattle.exam_types.specs.declared.refusal.Refusal.TheVariants.{NoMemory, TooMany};
+ghost use Rattle.exam_types.specs.Refusals.{OnlyMemory};
 ghost use Rattle.exam_rules.specs.Relations.{relations_of, code_cmp, has_row};
 ghost use Rattle.exam_rules.specs.Sessions as spec;
 ghost use Rattle.exam_rules.specs.Seatings as seatings;
@@ -38,7 +39,7 @@ fn desk_counts(
 ) -> Result<Vec<u32>, Refusal>
     ensures ok { IfOk result (λ counts. counts.items
         ≡ map (seatings.desks (relations_of facts.now) session.now) halls.now) }
-    ensures memory { IfErr result (λ e. e ≡ NoMemory) }
+    ensures memory { OnlyMemory result }
 {
     let counts = halls
         .iter()
@@ -55,7 +56,7 @@ fn rooms(
 ) -> Result<Vec<(HallCode, Option<Room>)>, Refusal>
     ensures ok { IfOk result (λ rooms. rooms.items
         ≡ seatings.with_rooms (relations_of facts.now) session.now halls.now) }
-    ensures memory { IfErr result (λ e. e ≡ NoMemory) }
+    ensures memory { OnlyMemory result }
 {
     let rooms = halls
         .iter()
@@ -82,7 +83,7 @@ fn fit_rows(
         (map (λ hall. hall.0) halls.now)) keys.now) }
     ensures exist { IfOk result (λ rows.
         All (λ set. (h : ℕ) → IsTrue (holds set h) → h < length halls.now) (sets_of rows.items)) }
-    ensures memory { IfErr result (λ e. e ≡ NoMemory) }
+    ensures memory { OnlyMemory result }
 {
     let mut rows = Vec::with_capacity(alloc, keys.len())?;
     for key in keys {
@@ -109,7 +110,7 @@ fn fit_table(
         (spec.members (relations_of facts.now) session.now)) }
     ensures exist { IfOk result (λ rows.
         All (λ set. (h : ℕ) → IsTrue (holds set h) → h < length halls.now) (sets_of rows.items)) }
-    ensures memory { IfErr result (λ e. e ≡ NoMemory) }
+    ensures memory { OnlyMemory result }
 {
     let rooms = rooms(alloc, facts, session, halls)?;
     fit_rows(alloc, facts, session, keys, &rooms)
@@ -165,7 +166,7 @@ fn problem_over(
         ≡ seatings.open_halls (relations_of facts.now) session.now) }
     ensures ok { IfOk result (λ listed. listed.problem
         ≡ seatings.problem_of (relations_of facts.now) session.now) }
-    ensures memory { IfErr result (λ e. e ≡ NoMemory) }
+    ensures memory { OnlyMemory result }
 {
     let desks = desk_counts(alloc, facts, session, &halls)?;
     let fit = fit_table(alloc, facts, session, keys, &halls)?;

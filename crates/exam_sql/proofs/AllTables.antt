@@ -41,7 +41,8 @@ last_is = refl
 
 -- The table of marks is added to the ten tables of version 1, whatever rows they have: they keep them, and it has none.
 pub standing_added : AddsTable first_schema store_schema tables.standing
-standing_added = subst (λ s. AddsTable s store_schema tables.standing) first_is (subst (λ s. AddsTable (made 10) s tables.standing) last_is standing.adds)
+standing_added = subst (λ s. AddsTable s store_schema tables.standing) first_is
+    (subst (λ s. AddsTable (made 10) s tables.standing) last_is standing.adds)
 
 pub marks_listed : (lists_marks store_schema ≡ true) × (lists_marks first_schema ≡ false)
 unfolding store_schema first_schema same_name

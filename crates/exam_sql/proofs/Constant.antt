@@ -1,5 +1,6 @@
 -- A text that every database understands, whatever its schema.
-use Rattle.std.proofs.Common.{◌≡◌, ℕ, length, codes, List, [], ◌∷◌, inl, inr, Result, Ok, Err, arith, refl, ap, sym, ◌∙◌}
+use Rattle.std.proofs.Common.{◌≡◌, ℕ, length, codes, List, [], ◌∷◌, inl, inr, Result, Ok, Err, arith, refl, ap, sym}
+use Rattle.std.proofs.Common.{◌∙◌}
 use Rattle.sqlite_resolve.specs.declared.compiled.Compiled.{Compiled}
 use Rattle.sqlite_resolve.specs.declared.error.CompileError.{CompileError}
 use Rattle.sqlite_schema.specs.declared.schema.Schema.{Schema}

@@ -13,7 +13,8 @@ use Rattle.sqlite_schema.specs.Rules.{table_reals, index_reals}
 use Rattle.sqlite_rules.specs.Lists.{Has}
 use Rattle.sqlite_rules.proofs.ListLemmas.{test_has}
 use Rattle.sqlite_catalog.specs.declared.error.Refusal as alter
-use Rattle.sqlite_catalog.specs.declared.error.Refusal.TheVariants.{Invalid, NameTaken, BadName, TooBig, BadKey, BadText, Violates}
+use Rattle.sqlite_catalog.specs.declared.error.Refusal.TheVariants.{Invalid, NameTaken, BadName, TooBig, BadKey}
+use Rattle.sqlite_catalog.specs.declared.error.Refusal.TheVariants.{BadText, Violates}
 use Rattle.sqlite_catalog.specs.Calls.{RefusesTable, IsLongTable}
 use Rattle.sqlite_catalog.specs.Change.{is_used, is_reserved, automatics}
 use Rattle.sqlite_catalog.specs.Listing.{is_fit, is_formed}
@@ -45,7 +46,8 @@ pub record IsFree (schema : Schema) (table : Table) (text : List ℕ) : Type 0 w
   pub fit : is_fit (Text (codes "table")) (Text table.name) (Text table.name) (Text text) ≡ true
   pub short : 2 * length table.name + length text + 200 < 10 ^ 9
 
-module _ (schema : Schema) (table : Table) (text : List ℕ) (defined : table_defined_by text ≡ Ok table) (free : IsFree schema table text) where
+module _ (schema : Schema) (table : Table) (text : List ℕ) (defined : table_defined_by text ≡ Ok table)
+    (free : IsFree schema table text) where
   -- the text defines this table and no other
   same_table : (t : Table) → table_defined_by text ≡ Ok t → t ≡ table
   same_table t is =
@@ -56,14 +58,19 @@ module _ (schema : Schema) (table : Table) (text : List ℕ) (defined : table_de
   not_refused (Invalid e) bad = absurd (let both : Err e ≡ Ok table = sym bad ∙ defined in cc)
   not_refused NameTaken (t, is, taken) = names t (same_table t is) taken
     where
-      names : (t : Table) → t ≡ table → (is_used schema t.name ≡ true) ⊎ ((index : Index) × Has (automatics t 0 0 t.uniques) index × (is_used schema index.name ≡ true)) → ⊥
+      names : (t : Table) → t ≡ table
+          → (is_used schema t.name ≡ true)
+          ⊎ ((index : Index) × Has (automatics t 0 0 t.uniques) index × (is_used schema index.name ≡ true)) → ⊥
       names t same (inl used) = true≢false (sym used ∙ ap (λ (t : Table). is_used schema t.name) same ∙ free.name)
       names t same (inr (index, has, used)) =
           let among = subst (λ (t : Table). Has (automatics t 0 0 t.uniques) index) same has in
-          true≢false (sym used ∙ not-true _ (test_has (λ (i : Index). not (is_used schema i.name)) (automatics table 0 0 table.uniques) index free.keys among))
+          true≢false (sym used
+          ∙ not-true _ (test_has (λ (i : Index). not (is_used schema i.name))
+          (automatics table 0 0 table.uniques) index free.keys among))
   not_refused BadName (t, is, bad) = names t (same_table t is) bad
     where
-      names : (t : Table) → t ≡ table → (¬ IsUtf8 t.name) ⊎ ((is_reserved t.name ≡ true) × ((length t.uniques == 0) ≡ false)) → ⊥
+      names : (t : Table) → t ≡ table
+          → (¬ IsUtf8 t.name) ⊎ ((is_reserved t.name ≡ true) × ((length t.uniques == 0) ≡ false)) → ⊥
       names t same (inl not_utf8) = not_utf8 (subst (λ (t : Table). IsUtf8 t.name) (sym same) free.name_utf8)
       names t same (inr (own, _)) = true≢false (sym own ∙ ap (λ (t : Table). is_reserved t.name) same ∙ free.own)
   not_refused TooBig (t, is, big) = sizes t (same_table t is) big
@@ -72,19 +79,32 @@ module _ (schema : Schema) (table : Table) (text : List ℕ) (defined : table_de
           → (65536 ≤ next_tree schema + length t.uniques)
           ⊎ ((2 ^ 64 ≤ table_reals t)
           ⊎ ((key : List ℕ) × Has t.uniques key × (2 ^ 64 ≤ index_reals (table_reals t) key))) → ⊥
-      sizes t same (inl many) = omega (arith, subst (λ (t : Table). 65536 ≤ next_tree schema + length t.uniques) same many, free.few)
-      sizes t same (inr (inl wide)) = omega (arith, subst (λ (t : Table). 2 ^ 64 ≤ table_reals t) same wide, free.narrow)
+      sizes t same (inl many) =
+          omega (arith, subst (λ (t : Table). 65536 ≤ next_tree schema + length t.uniques) same many, free.few)
+      sizes t same (inr (inl wide)) =
+          omega (arith, subst (λ (t : Table). 2 ^ 64 ≤ table_reals t) same wide, free.narrow)
       sizes t same (inr (inr (key, has, wide))) =
           let among = subst (λ (t : Table). Has t.uniques key) same has in
-          let over : 2 ^ 64 ≤ index_reals (table_reals table) key = subst (λ (t : Table). 2 ^ 64 ≤ index_reals (table_reals t) key) same wide in
-          let under : nat_lt (index_reals (table_reals table) key) (2 ^ 64) ≡ true = test_has (λ key. nat_lt (index_reals (table_reals table) key) (2 ^ 64)) table.uniques key free.narrow_keys among in
+          let over : 2 ^ 64 ≤ index_reals (table_reals table) key =
+          subst (λ (t : Table). 2 ^ 64 ≤ index_reals (table_reals t) key) same wide in
+          let under : nat_lt (index_reals (table_reals table) key) (2 ^ 64) ≡ true =
+          test_has (λ key. nat_lt (index_reals (table_reals table) key) (2 ^ 64)) table.uniques key
+          free.narrow_keys among in
           omega (arith, ltb-true _ _ under, over)
   not_refused BadKey (t, is, bad) = true≢false (sym free.formed ∙ ap is_formed (sym (same_table t is)) ∙ bad)
-  not_refused BadText (t, is, bad) = true≢false (sym free.fit ∙ ap (λ (t : Table). is_fit (Text (codes "table")) (Text t.name) (Text t.name) (Text text)) (sym (same_table t is)) ∙ bad)
+  not_refused BadText (t, is, bad) =
+      true≢false (sym free.fit
+      ∙ ap (λ (t : Table). is_fit (Text (codes "table")) (Text t.name) (Text t.name) (Text text))
+      (sym (same_table t is)) ∙ bad)
   not_refused (Violates rule) bad = bad
 
   not_long : IsLongTable text → ⊥
-  not_long (t, is, long) = omega (arith, subst (λ (t : Table). 10 ^ 9 ≤ 2 * length t.name + length text + 200) (same_table t is) long, free.short)
+  not_long (t, is, long) =
+      omega (
+        arith,
+        subst (λ (t : Table). 10 ^ 9 ≤ 2 * length t.name + length text + 200) (same_table t is) long,
+        free.short,
+      )
 
   -- the table is made
   made : (db : Database) → db.schema ≡ schema → (stop : Option Error) → MakesTable text db (Err stop) → ⊥
@@ -97,11 +117,14 @@ module _ (schema : Schema) (table : Table) (text : List ℕ) (is : command_of (u
     (one : statement_of text (understood schema text) ≡ text) (defined : table_defined_by text ≡ Ok table)
     (uncounted : lacks_sequence (created schema table) ≡ false) (free : IsFree schema table text) where
   -- carrying it out does not stop either
-  not_stopped : (db : Database) → db.schema ≡ schema → (stop : Option Error) → Then (MakesTable text db) MakesSequence (Err stop) → ⊥
-  not_stopped db has stop (inl at_table) = made schema table text defined free db has stop (first_of {First = λ s. MakesTable text db (Err s)} stop at_table)
+  not_stopped : (db : Database) → db.schema ≡ schema → (stop : Option Error)
+      → Then (MakesTable text db) MakesSequence (Err stop) → ⊥
+  not_stopped db has stop (inl at_table) =
+      made schema table text defined free db has stop (first_of {First = λ s. MakesTable text db (Err s)} stop at_table)
   not_stopped db has stop (inr (after, makes, counts)) =
       let same : makes.table ≡ table = same_table schema table text defined free makes.table makes.defined in
-      let now : after.schema ≡ created schema table = makes.is ∙ ap (λ s. created s makes.table) has ∙ ap (created schema) same in
+      let now : after.schema ≡ created schema table =
+      makes.is ∙ ap (λ s. created s makes.table) has ∙ ap (created schema) same in
       let none : lacks_sequence after.schema ≡ false = ap lacks_sequence now ∙ uncounted in
       let given = rw none at counts in
       cc
@@ -127,16 +150,21 @@ module _ (schema : Schema) (table : Table) (text : List ℕ) (is : command_of (u
       escapes s (inr (name, inr it, held)) = absurd cc
 
   module _ (old new : State) (has : old.now.schema ≡ schema) where
-    never : (stop : Option Error) → Does old.step_limit (mode_of old) [] old.now (statement_of text (understood schema text)) None CreateTable (Err stop) → ⊥
+    never : (stop : Option Error)
+        → Does old.step_limit (mode_of old) [] old.now (statement_of text (understood schema text)) None CreateTable
+        (Err stop) → ⊥
     never stop does =
         let named = subst (λ t. Does old.step_limit (mode_of old) [] old.now t None CreateTable (Err stop)) one does in
-        not_stopped old.now has stop (first_of {First = λ s. Then (MakesTable text old.now) MakesSequence (Err s)} stop (first named))
+        not_stopped old.now has stop
+        (first_of {First = λ s. Then (MakesTable text old.now) MakesSequence (Err s)} stop (first named))
       where
         first : Defines (mode_of old) (Then (MakesTable text old.now) MakesSequence) (Err stop)
-            → (s : Option Error) × Then (MakesTable text old.now) MakesSequence (Err s) × ◌≡◌ {A = Result (Tally × Database) (Option Error)} (Err stop) (Err s)
+            → (s : Option Error) × Then (MakesTable text old.now) MakesSequence (Err s)
+            × ◌≡◌ {A = Result (Tally × Database) (Option Error)} (Err stop) (Err s)
         first (inl it) = it
         first (inr (after, makes, gives)) = absurd cc
 
     -- The text that makes the table fails only if memory runs out, or if the disk or the connection fails.
     pub fails_create : (e : Error) → ExecutesInside 0 text [] old new (Err e) → Fails old new ⊥ e
-    fails_create = fails_by text [] old new schema has CreateTable is creates_quietly plain whole ⊥ (λ e does. absurd (never (Some e) does)) never
+    fails_create = fails_by text [] old new schema has CreateTable is creates_quietly plain whole ⊥
+        (λ e does. absurd (never (Some e) does)) never

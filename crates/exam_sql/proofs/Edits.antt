@@ -37,14 +37,18 @@ use Rattle.exam_sql.proofs.Statements.{SetsRow, put_sets, sets_by, upsert_sets}
 
 -- the text, with these parameters, makes this of the rows
 pub record Edits (change : Trees → Trees) (text : List ℕ) (params : Row) : Type 1 where
-  pub does : (old new : State) (r : Result ℕ Error) → Executes text params old new r → OnOk r ((all : Trees) → ContainsIn store_schema old.now all → ContainsIn store_schema new.now (change all))
+  pub does : (old new : State) (r : Result ℕ Error) → Executes text params old new r
+      → OnOk r ((all : Trees) → ContainsIn store_schema old.now all → ContainsIn store_schema new.now (change all))
   pub answers : (old new : State) → old.now.schema ≡ store_schema → Answers text params old new
   -- if each row then has what it refers to, no foreign key refuses it
-  pub narrows : (limit : Option ℕ) (db : Database) (all : Trees) → ContainsIn store_schema db all → AllRefer (change all) → Refuses limit db text params → RefusesRows limit db text params
+  pub narrows : (limit : Option ℕ) (db : Database) (all : Trees) → ContainsIn store_schema db all
+      → AllRefer (change all) → Refuses limit db text params → RefusesRows limit db text params
 
 -- the text is this one statement, with so many parameters
 abbrev pub Means : Schema → List ℕ → Command → ℕ → Type 0
-Means schema text command count = (command_of (understood schema text) ≡ command) × IsPlain (understood schema text) × IsWhole text count (understood schema text)
+Means schema text command count =
+    (command_of (understood schema text) ≡ command) × IsPlain (understood schema text)
+    × IsWhole text count (understood schema text)
 
 -- The text puts the row into the table of this tree, in the place of the row with its key if there is one.
 pub record PutsRow (tree : ℕ) (key : List ℕ) (text : List ℕ) (row : Row) : Type 0 where
@@ -61,9 +65,11 @@ pub record PutsRow (tree : ℕ) (key : List ℕ) (text : List ℕ) (row : Row) :
   pub sets : (limit : Option ℕ) → SetsRow store_schema at table key target keyed limit way clauses terms width row row
 
 -- so it does no more than that
-pub put_edits : {tree : ℕ} {key : List ℕ} {text : List ℕ} {row : Row} → PutsRow tree key text row → Edits (with_row tree key row) text row
+pub put_edits : {tree : ℕ} {key : List ℕ} {text : List ℕ} {row : Row} → PutsRow tree key text row
+    → Edits (with_row tree key row) text row
 put_edits {tree} {key} {text} {row} puts = subst (λ n. Edits (with_row n key row) text row) puts.tree_is (record {
-  does = λ old new r h. sets_by store_schema puts.at puts.table key puts.target puts.keyed puts.way puts.clauses text puts.terms puts.width puts.means.0 puts.means.1 old new row row r puts.sets h;
+  does = λ old new r h. sets_by store_schema puts.at puts.table key puts.target puts.keyed puts.way puts.clauses text
+      puts.terms puts.width puts.means.0 puts.means.1 old new row row r puts.sets h;
   answers = λ old new has. answers text row old new store_schema has _ puts.means.0 tt puts.means.1 puts.means.2;
   narrows = λ limit db all was all_refer.
       put_refused store_schema puts.at puts.table key puts.target puts.keyed limit db all was text puts.way
@@ -71,10 +77,13 @@ put_edits {tree} {key} {text} {row} puts = subst (λ n. Edits (with_row n key ro
       (λ next holds. refers next _ holds all_refer);
 })
 
-module _ {at : ℕ} {table : Table} {key target : List ℕ} (keyed : IsKeyed store_schema at table key target) (text : List ℕ) (terms : List Term) where
-  module _ (width : ℕ) (first : Value) (columns row : Row) (fits : Fits table key first columns row) (source : value_rows row width (length terms / width) terms ≡ (first ∷ columns) ∷ []) where
+module _ {at : ℕ} {table : Table} {key target : List ℕ} (keyed : IsKeyed store_schema at table key target)
+    (text : List ℕ) (terms : List Term) where
+  module _ (width : ℕ) (first : Value) (columns row : Row) (fits : Fits table key first columns row)
+      (source : value_rows row width (length terms / width) terms ≡ (first ∷ columns) ∷ []) where
     -- INSERT OR REPLACE
-    pub replaces : Means store_schema text (InsertOr at Replace (Values terms width) []) (length row) → PutsRow table.tree key text row
+    pub replaces : Means store_schema text (InsertOr at Replace (Values terms width) []) (length row)
+        → PutsRow table.tree key text row
     replaces means = record {
       at = at;
       table = table;
@@ -86,7 +95,8 @@ module _ {at : ℕ} {table : Table} {key target : List ℕ} (keyed : IsKeyed sto
       terms = terms;
       width = width;
       means = means;
-      sets = λ limit. put_sets store_schema at table key target keyed limit terms width row first columns row fits source;
+      sets = λ limit. put_sets store_schema at table key target keyed limit terms width row first columns row fits
+          source;
     }
 
     -- INSERT .. ON CONFLICT .. DO UPDATE
@@ -94,7 +104,8 @@ module _ {at : ℕ} {table : Table} {key target : List ℕ} (keyed : IsKeyed sto
         → Means store_schema text
         (InsertOr at Abort (Values terms width) (on_conflict target table.tree filter project ∷ [])) (length row)
         → ((db : Trees) → overlay db [] table.tree ≡ db table.tree)
-        → ((t r : Row) (id : ℤ) → list_all (holds ((row ++ rowid t ∷ shown table (Int id ∷ columns)) ∷ r ∷ [])) filter ≡ same_rowid r t)
+        → ((t r : Row) (id : ℤ)
+        → list_all (holds ((row ++ rowid t ∷ shown table (Int id ∷ columns)) ∷ r ∷ [])) filter ≡ same_rowid r t)
         → ((t : Row) (id : ℤ) → same_key key (bare (places table) t) (Null ∷ row) ≡ true
         → eval_all project ((row ++ rowid t ∷ shown table (Int id ∷ columns)) ∷ t ∷ []) ≡ rowid t ∷ rowid t
         ∷ columns) → PutsRow table.tree key text row
@@ -109,16 +120,19 @@ module _ {at : ℕ} {table : Table} {key target : List ℕ} (keyed : IsKeyed sto
       terms = terms;
       width = width;
       means = means;
-      sets = λ limit. upsert_sets store_schema at table key target keyed limit terms width filter project own row first columns row fits source picked written;
+      sets = λ limit. upsert_sets store_schema at table key target keyed limit terms width filter project own row first
+          columns row fits source picked written;
     }
 
   -- DELETE by the key
   pub removes : (params : Row)
       → Means store_schema text (Delete at (record { lets = []; body = one_table table.tree terms (col 1 0 ∷ []) [] }))
       (length params) → ((db : Trees) → overlay db [] table.tree ≡ db table.tree)
-      → ((r : Row) → list_all (holds (params ∷ r ∷ [])) terms ≡ same_key key (bare (places table) r) (Null ∷ params)) → Edits (without_row table.tree key params) text params
+      → ((r : Row) → list_all (holds (params ∷ r ∷ [])) terms ≡ same_key key (bare (places table) r) (Null ∷ params))
+      → Edits (without_row table.tree key params) text params
   removes params means own picked = record {
-    does = λ old new r h. delete_by store_schema at table key target keyed terms text means.0 means.1 own old new params r picked h;
+    does = λ old new r h. delete_by store_schema at table key target keyed terms text means.0 means.1 own old new
+        params r picked h;
     answers = λ old new has. answers text params old new store_schema has _ means.0 tt means.1 means.2;
     narrows = λ limit db all was all_refer.
         delete_refused store_schema at table key target keyed limit db all was text terms means.0 means.1 params

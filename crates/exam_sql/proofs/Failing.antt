@@ -36,7 +36,8 @@ use Rattle.sqlite.specs.Rows.{rowids_for, mended, stamped}
 use Rattle.sqlite.specs.Does.{Does, Concludes, OnRows, AtPlace, Tally}
 use Rattle.sqlite.specs.Clock.{timed}
 use Rattle.sqlite.specs.State as state
-use Rattle.sqlite.specs.State.{State, Executes, ExecutesIn, IsNotRun, IsStatement, ExecutesInside, Escapes, EndsScope, IsMisplaced, shows_rows, is_pragma, text_of, mode_of, Runs, RunsCommand}
+use Rattle.sqlite.specs.State.{State, Executes, ExecutesIn, IsNotRun, IsStatement, ExecutesInside, Escapes, EndsScope}
+use Rattle.sqlite.specs.State.{IsMisplaced, shows_rows, is_pragma, text_of, mode_of, Runs, RunsCommand}
 use Rattle.sqlite.specs.Listing.{understood}
 use Rattle.sqlite.proofs.Callers.{IsPlain, command_of}
 use Rattle.exam_sql.specs.Refusals.{Refuses, RunsTo, Fails, is_failure}
@@ -52,7 +53,8 @@ left : {B : Type 0} {First : Option Error → Type 0} (e : Error)
     → ((f : Error) → First (Some f) → IsTrue (is_failure f)) → IsTrue (is_failure e)
 left {B} {First} e stopped named = go stopped.0 stopped.1 stopped.2
   where
-    go : (stop : Option Error) → First stop → ◌≡◌ {A = Result B (Option Error)} (Err (Some e)) (Err stop) → IsTrue (is_failure e)
+    go : (stop : Option Error) → First stop → ◌≡◌ {A = Result B (Option Error)} (Err (Some e)) (Err stop)
+        → IsTrue (is_failure e)
     go None first same = absurd cc
     go (Some f) first same = let it : e ≡ f = cc in subst (λ x. IsTrue (is_failure x)) (sym it) (named f first)
 
@@ -63,7 +65,8 @@ is : (e f : Error) → e ≡ f → IsTrue (is_failure f) → IsTrue (is_failure 
 is e f same named = subst (λ x. IsTrue (is_failure x)) (sym same) named
 
 -- this error is the one that is reported
-told : {A : Type 0} (e f : Error) → ◌≡◌ {A = Result A (Option Error)} (Err (Some e)) (Err (Some f)) → IsTrue (is_failure f) → IsTrue (is_failure e)
+told : {A : Type 0} (e f : Error) → ◌≡◌ {A = Result A (Option Error)} (Err (Some e)) (Err (Some f))
+    → IsTrue (is_failure f) → IsTrue (is_failure e)
 told e f same named = let it : e ≡ f = cc in is e f it named
 
 queried_named : (limit : Option ℕ) (db : Database) (q : Program) (params : Row) → Named (Queried limit db q params)
@@ -102,14 +105,17 @@ module _ (task : Task) where
   open task use {limit, keys, schema, table, params}
 
   counter_named : (db : Trees) → Named (Counter task db)
-  counter_named db = match_named table.is_counted (CounterIn task db (sequence schema)) (Gives None) (in_named (sequence schema)) (gives_named None)
+  counter_named db = match_named table.is_counted (CounterIn task db (sequence schema)) (Gives None)
+      (in_named (sequence schema)) (gives_named None)
     where
       in_named : (o : Option Table) → Named (CounterIn task db o)
       in_named None e h = told e InvalidQuery h refl
       in_named (Some counters) e h = absurd cc
 
   counts_named : (db : Trees) (counter : Option Row) (top : ℤ) → Named (Counts task db counter top)
-  counts_named db counter top = match_named _ (CountsIn task db counter top (sequence schema)) (Gives db) (in_named (sequence schema)) (gives_named db)
+  counts_named db counter top =
+      match_named _ (CountsIn task db counter top (sequence schema)) (Gives db) (in_named (sequence schema))
+      (gives_named db)
     where
       in_named : (o : Option Table) → Named (CountsIn task db counter top o)
       in_named None e h = told e InvalidQuery h refl
@@ -119,8 +125,10 @@ module _ (task : Task) where
   puts_named new db e (inl s) = left e s (λ f. edited_named schema keys db (edit_of db table [] Given 0 (new ∷ [])) f)
   puts_named new db e (inr on) = let h = on.2 in absurd cc
 
-  replaced : (new : Row) (db : Trees) (found : List Row) → Named (Then (Edited schema keys db (edit_of db table (ids_of found) Given 0 [])) (Puts task new))
-  replaced new db found e (inl s) = left e s (λ f. edited_named schema keys db (edit_of db table (ids_of found) Given 0 []) f)
+  replaced : (new : Row) (db : Trees) (found : List Row)
+      → Named (Then (Edited schema keys db (edit_of db table (ids_of found) Given 0 [])) (Puts task new))
+  replaced new db found e (inl s) =
+      left e s (λ f. edited_named schema keys db (edit_of db table (ids_of found) Given 0 []) f)
   replaced new db found e (inr on) = puts_named new on.0 e on.2
 
   clears_named : (way : Conflict) (new : Row) (db : Trees) (found : List Row) → Named (Clears task way new db found)
@@ -130,38 +138,47 @@ module _ (task : Task) where
   clears_named Replace new db (x ∷ more) e h = replaced new db (x ∷ more) e h
 
   updates_named : (q : Program) (given : Row) (db : Trees) → Named (Updates task q given db)
-  updates_named q given db e (inl s) = left e s (λ f. queried_named limit (record { schema = schema; trees = db }) q given f)
-  updates_named q given db e (inr (found, _, inl s)) = left e s (λ f. edited_named schema keys db (edit_of db table (ids_of found) Given 1 found) f)
+  updates_named q given db e (inl s) =
+      left e s (λ f. queried_named limit (record { schema = schema; trees = db }) q given f)
+  updates_named q given db e (inr (found, _, inl s)) =
+      left e s (λ f. edited_named schema keys db (edit_of db table (ids_of found) Given 1 found) f)
   updates_named q given db e (inr (found, _, inr on)) = let h = on.2 in absurd cc
 
   deletes_named : (q : Program) (db : Trees) → Named (Deletes task q db)
   deletes_named q db e (inl s) = left e s (λ f. queried_named limit (record { schema = schema; trees = db }) q params f)
-  deletes_named q db e (inr (found, _, inl s)) = left e s (λ f. edited_named schema keys db (edit_of db table (ids_of found) Given 0 []) f)
+  deletes_named q db e (inr (found, _, inl s)) =
+      left e s (λ f. edited_named schema keys db (edit_of db table (ids_of found) Given 0 []) f)
   deletes_named q db e (inr (found, _, inr on)) = let h = on.2 in absurd cc
 
   resolves_named : (new : Row) (db : Trees) (there : Row) (q : Option Program) → Named (Resolves task new db there q)
   resolves_named new db there None e h = absurd cc
   resolves_named new db there (Some q) e h = updates_named q (params ++ rowid there ∷ shown table new) db e h
 
-  meets_named : (Otherwise : Part Written) (new : Row) (db : Trees) (clause : Upsert) (found : List Row) → Named Otherwise → Named (Meets task Otherwise new db clause found)
+  meets_named : (Otherwise : Part Written) (new : Row) (db : Trees) (clause : Upsert) (found : List Row)
+      → Named Otherwise → Named (Meets task Otherwise new db clause found)
   meets_named Otherwise new db clause [] named = named
   meets_named Otherwise new db clause (there ∷ more) named = resolves_named new db there clause.update
 
-  upserts_named : (way : Conflict) (new : Row) (db : Trees) (clauses : List Upsert) → Named (Upserts task way new db clauses)
+  upserts_named : (way : Conflict) (new : Row) (db : Trees) (clauses : List Upsert)
+      → Named (Upserts task way new db clauses)
   upserts_named way new db [] e h = clears_named way new db h.0 e h.2
-  upserts_named way new db (clause ∷ more) e h = meets_named (Upserts task way new db more) new db clause h.0 (upserts_named way new db more) e h.2
+  upserts_named way new db (clause ∷ more) e h =
+      meets_named (Upserts task way new db more) new db clause h.0 (upserts_named way new db more) e h.2
 
-  judged_named : (way : Conflict) (clauses : List Upsert) (new : Row) (db : Trees) (verdict : Option Refusal) → Named (Judged task way clauses new db verdict)
+  judged_named : (way : Conflict) (clauses : List Upsert) (new : Row) (db : Trees) (verdict : Option Refusal)
+      → Named (Judged task way clauses new db verdict)
   judged_named way clauses new db None = upserts_named way new db clauses
   judged_named way clauses new db (Some why) =
       match_named (passes_over way why) (Gives (nothing db)) (λ out. out ≡ Err (Some (edit_error why)))
       (gives_named (nothing db)) (λ e h. told e (edit_error why) h (edit_named why))
 
-  tries_named : (way : Conflict) (clauses : List Upsert) (new : Row) (db : Trees) → Named (Tries task way clauses new db)
+  tries_named : (way : Conflict) (clauses : List Upsert) (new : Row) (db : Trees)
+      → Named (Tries task way clauses new db)
   tries_named way clauses new db e (inl full) = told e (edit_error NoRowid) full.1 (edit_named NoRowid)
   tries_named way clauses new db e (inr judged) = judged_named way clauses new db judged.0 e judged.2
 
-  each_named : (way : Conflict) (clauses : List Upsert) (sources : List Row) (top : ℤ) (done : Written) → Named (TriesEach task way clauses sources top done)
+  each_named : (way : Conflict) (clauses : List Upsert) (sources : List Row) (top : ℤ) (done : Written)
+      → Named (TriesEach task way clauses sources top done)
   each_named way clauses [] top done e h = absurd cc
   each_named way clauses (source ∷ more) top done e (inl s) =
       left e s (λ f. tries_named way clauses
@@ -172,12 +189,17 @@ module _ (task : Task) where
       (higher top (with_rowid (rowids_for table top) (done.trees table.tree)
       (cast_row table (mended way table source)))) (joined done on.0) e on.2
 
-  inserts_named : (way : Conflict) (clauses : List Upsert) (from : Source) (db : Trees) → Named (InsertsOr task way clauses from db)
-  inserts_named way clauses from db e (inl s) = left e s (λ f. sourced_named limit (record { schema = schema; trees = db }) (stamped table params) from f)
+  inserts_named : (way : Conflict) (clauses : List Upsert) (from : Source) (db : Trees)
+      → Named (InsertsOr task way clauses from db)
+  inserts_named way clauses from db e (inl s) =
+      left e s (λ f. sourced_named limit (record { schema = schema; trees = db }) (stamped table params) from f)
   inserts_named way clauses from db e (inr (found, _, inl s)) = left e s (λ f. counter_named db f)
-  inserts_named way clauses from db e (inr (found, _, inr (counter, _, inl s))) = left e s (λ f. each_named way clauses found (count_of counter) (nothing db) f)
-  inserts_named way clauses from db e (inr (found, _, inr (counter, _, inr (done, _, inl s)))) = left e s (λ f. counts_named done.0.trees counter done.1 f)
-  inserts_named way clauses from db e (inr (found, _, inr (counter, _, inr (done, _, inr on)))) = let h = on.2 in absurd cc
+  inserts_named way clauses from db e (inr (found, _, inr (counter, _, inl s))) =
+      left e s (λ f. each_named way clauses found (count_of counter) (nothing db) f)
+  inserts_named way clauses from db e (inr (found, _, inr (counter, _, inr (done, _, inl s)))) =
+      left e s (λ f. counts_named done.0.trees counter done.1 f)
+  inserts_named way clauses from db e (inr (found, _, inr (counter, _, inr (done, _, inr on)))) = let h =
+      on.2 in absurd cc
 
   concludes_named : (mode : Mode) (w : Written) → Named (Concludes task mode None w)
   concludes_named mode w e (inl s) =
@@ -195,17 +217,21 @@ IsOnRows (Delete at q) = Unit {0}
 IsOnRows _ = ⊥
 
 abbrev task_on : Option ℕ → Mode → Row → Database → Table → Task
-task_on limit mode params db table = record { limit = limit; keys = mode.keys; schema = db.schema; table = table; params = params }
+task_on limit mode params db table =
+    record { limit = limit; keys = mode.keys; schema = db.schema; table = table; params = params }
 
-on_insert : (task : Task) (mode : Mode) (way : Conflict) (clauses : List Upsert) (from : Source) (db : Trees) → Named (Then (InsertsOr task way clauses from db) (Concludes task mode None))
+on_insert : (task : Task) (mode : Mode) (way : Conflict) (clauses : List Upsert) (from : Source) (db : Trees)
+    → Named (Then (InsertsOr task way clauses from db) (Concludes task mode None))
 on_insert task mode way clauses from db e (inl s) = left e s (λ f. inserts_named task way clauses from db f)
 on_insert task mode way clauses from db e (inr went) = concludes_named task mode went.0 e went.2
 
-on_delete : (task : Task) (mode : Mode) (at : ℕ) (q : Program) (db : Trees) → Named (Then (Deletes task q db) (Concludes task mode None))
+on_delete : (task : Task) (mode : Mode) (at : ℕ) (q : Program) (db : Trees)
+    → Named (Then (Deletes task q db) (Concludes task mode None))
 on_delete task mode at q db e (inl s) = left e s (λ f. deletes_named task q db f)
 on_delete task mode at q db e (inr went) = concludes_named task mode went.0 e went.2
 
-does_named : (limit : Option ℕ) (mode : Mode) (params : Row) (db : Database) (text : List ℕ) (command : Command) → IsOnRows command → Named (Does limit mode params db text None command)
+does_named : (limit : Option ℕ) (mode : Mode) (params : Row) (db : Database) (text : List ℕ) (command : Command)
+    → IsOnRows command → Named (Does limit mode params db text None command)
 does_named limit mode params db text (InsertOr at way from clauses) rows =
     at_named (λ table. OnRows (task_on limit mode params db table) mode None (InsertOr at way from clauses) db.trees) _
     (λ table. on_insert (task_on limit mode params db table) mode way clauses from db.trees)
@@ -216,7 +242,8 @@ does_named limit mode params db text _ rows = absurd rows
 
 module _ (old new : State) (Refused : Type 0) where
   -- the disk, the memory or a row that is too big
-  pub cause : (e : Error) (TooBig : Type 0) → state.Fails old new TooBig e → (TooBig → Refused) → Fails old new Refused e
+  pub cause : (e : Error) (TooBig : Type 0) → state.Fails old new TooBig e → (TooBig → Refused)
+      → Fails old new Refused e
   cause e TooBig (OutOfMemory, same, why, back, tells) big = inl same
   cause e TooBig (Io, same, why, back, tells) big = inr (is e _ same refl, inl (inl why))
   cause e TooBig (Corrupt, same, why, back, tells) big = inr (is e _ same refl, inl (inl why))
@@ -227,7 +254,8 @@ module _ (old new : State) (Refused : Type 0) where
 -- what follows from the answer of a statement: the database does it, or why it fails
 pub record Answers (sql : List ℕ) (params : Row) (old new : State) : Type 0 where
   pub done : (count : ℕ) → Executes sql params old new (Ok count) → RunsTo old.step_limit sql params old.now new.now
-  pub fails : (e : Error) → ExecutesInside 0 sql params old new (Err e) → Fails old new (Refuses old.step_limit old.now sql params) e
+  pub fails : (e : Error) → ExecutesInside 0 sql params old new (Err e)
+      → Fails old new (Refuses old.step_limit old.now sql params) e
 
 -- the text is one statement with so many parameters
 abbrev pub IsWhole : List ℕ → ℕ → Result Compiled CompileError → Type 0
@@ -253,7 +281,8 @@ module _ (sql : List ℕ) (params : Row) (old new : State) (schema : Schema) (ha
     refused : (now : ℕ) (stop : Option Error)
         → Does old.step_limit (mode_of old) (timed params c.formats now) old.now (text_of sql c) c.returning c.command
         (Err stop) → Refuses old.step_limit old.now sql params
-    refused now stop does = (c, ap (λ s. understood s sql) has ∙ known, stop, rw (its_plain.1, append-nil params) at does)
+    refused now stop does =
+        (c, ap (λ s. understood s sql) has ∙ known, stop, rw (its_plain.1, append-nil params) at does)
 
     -- what it was done by
     tally_of : (k : Command) → IsOnRows k → (given : Row) (count : ℕ)
@@ -267,9 +296,11 @@ module _ (sql : List ℕ) (params : Row) (old new : State) (schema : Schema) (ha
     reached : (now : ℕ) (tally : Tally)
         → Does old.step_limit (mode_of old) (timed params c.formats now) old.now (text_of sql c) c.returning c.command
         (Ok (tally, new.now)) → RunsTo old.step_limit sql params old.now new.now
-    reached now tally does = (c, ap (λ s. understood s sql) has ∙ known, tally, rw (its_plain.1, append-nil params) at does)
+    reached now tally does =
+        (c, ap (λ s. understood s sql) has ∙ known, tally, rw (its_plain.1, append-nil params) at does)
 
-    command_done : (now count : ℕ) → RunsCommand old new sql c (timed params c.formats now) (Ok count) → RunsTo old.step_limit sql params old.now new.now
+    command_done : (now count : ℕ) → RunsCommand old new sql c (timed params c.formats now) (Ok count)
+        → RunsTo old.step_limit sql params old.now new.now
     command_done now count ran =
         let it = tally_of c.command its_rows (timed params c.formats now) count ran in
         reached now it.0 it.1
@@ -300,11 +331,16 @@ module _ (sql : List ℕ) (params : Row) (old new : State) (schema : Schema) (ha
   from_schema : {r : Result Compiled CompileError} → understood old.now.schema sql ≡ r → understood schema sql ≡ r
   from_schema it = ap (λ s. understood s sql) (sym has) ∙ it
 
-  command_fails : (c : Compiled) (known : understood schema sql ≡ Ok c) (now : ℕ) (e : Error) → RunsCommand old new sql c (timed params c.formats now) (Err e) → Why e
+  command_fails : (c : Compiled) (known : understood schema sql ≡ Ok c) (now : ℕ) (e : Error)
+      → RunsCommand old new sql c (timed params c.formats now) (Err e) → Why e
   command_fails c known now e (inl (inl wrong, same)) = absurd (misplaced c.command (its_rows c known) e wrong)
   command_fails c known now e (inl (inr (may, does), same)) =
       let named = rw ((its_plain c known).0) at does in
-      inr (does_named old.step_limit (mode_of old) (timed params c.formats now) old.now (text_of sql c) c.command (its_rows c known) e named, inr (refused c known now (Some e) does))
+      inr (
+        does_named old.step_limit (mode_of old) (timed params c.formats now) old.now (text_of sql c) c.command
+            (its_rows c known) e named,
+        inr (refused c known now (Some e) does),
+      )
   command_fails c known now e (inr failed) = cause old new _ e _ failed (λ big. refused c known now None big)
 
   done_as : (count : ℕ) → Executes sql params old new (Ok count) → RunsTo old.step_limit sql params old.now new.now
@@ -318,7 +354,8 @@ module _ (sql : List ℕ) (params : Row) (old new : State) (schema : Schema) (ha
   fails_as e (inl (inl (inl unknown, same))) = absurd (subst IsPlain (from_schema unknown.1) plain)
   fails_as e (inl (inl (inr (c, known, inl many), same))) = absurd (many.0 (its_whole c (from_schema known)).0)
   fails_as e (inl (inl (inr (c, known, inr (inl given)), same))) = absurd (given.0 (its_whole c (from_schema known)).1)
-  fails_as e (inl (inl (inr (c, known, inr (inr timeless)), same))) = absurd (timeless.0 (its_plain c (from_schema known)).1)
+  fails_as e (inl (inl (inr (c, known, inr (inr timeless)), same))) =
+      absurd (timeless.0 (its_plain c (from_schema known)).1)
   fails_as e (inl (inr failed)) = cause old new _ e _ failed (λ big. absurd big)
   fails_as e (inr (c, it, ran)) =
       let known = from_schema it.is in

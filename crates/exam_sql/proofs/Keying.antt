@@ -1,5 +1,6 @@
 -- A table of the office has one key, and no foreign key acts on its rows.
-use Rattle.std.proofs.Common.{◌≡◌, ◌&&◌, ◌||◌, ◌==◌, bytes_eq, ℕ, Bool, true, false, not, List, [], ◌∷◌, Some, None, slice_get, length, flat_map, refl}
+use Rattle.std.proofs.Common.{◌≡◌, ◌&&◌, ◌||◌, ◌==◌, bytes_eq, ℕ, Bool, true, false, not, List, [], ◌∷◌, Some, None}
+use Rattle.std.proofs.Common.{slice_get, length, flat_map, refl}
 use Rattle.std.specs.List.{filter_map, list_all, list_any}
 use Rattle.sqlite_value.specs.Order.{Row}
 use Rattle.sqlite_trees.specs.Tree.{Trees, rowid}
@@ -23,7 +24,9 @@ or_twice false = refl
 
 abbrev acts : ℕ → List Row → List Row → Bool → List Work
 acts tree olds news deletes =
-    flat_map (λ child. filter_map (λ ref. work_by 0 tree (pairs olds news) child ref (deed_for Enforced deletes ref) (parent_key store_schema.tables ref)) child.references) store_schema.tables
+    flat_map (λ child. filter_map
+    (λ ref. work_by 0 tree (pairs olds news) child ref (deed_for Enforced deletes ref)
+    (parent_key store_schema.tables ref)) child.references) store_schema.tables
 
 never : (tree : ℕ) (olds news : List Row) (deletes : Bool) → acts tree olds news deletes ≡ []
 unfolding store_schema
@@ -34,11 +37,17 @@ never tree olds news false = refl
 still : (tree : ℕ) (olds news : List Row) → works store_schema Enforced 0 tree olds news ≡ []
 still tree olds news = never tree olds news (length news == 0)
 
-module _ (d : Described) (place : slice_get store_schema.tables d.at ≡ Some d.table) (uncounted : d.table.is_counted ≡ false) (unstamped : d.table.stamps.terms ≡ [])
-    (apart : list_all (λ t. not (t.tree == d.table.tree) || bytes_eq (places t) (places d.table)) store_schema.tables ≡ true)
-    (barred : (a b : Row) → conflicts None store_schema.indexes d.table b a ≡ (same_rowid a b || same_key d.key (bare (places d.table) a) (bare (places d.table) b))) where
+module _ (d : Described) (place : slice_get store_schema.tables d.at ≡ Some d.table)
+    (uncounted : d.table.is_counted ≡ false) (unstamped : d.table.stamps.terms ≡ [])
+    (apart : list_all (λ t. not (t.tree == d.table.tree) || bytes_eq (places t) (places d.table)) store_schema.tables
+    ≡ true)
+    (barred : (a b : Row)
+    → conflicts None store_schema.indexes d.table b a
+    ≡ (same_rowid a b || same_key d.key (bare (places d.table) a) (bare (places d.table) b))) where
   abbrev pub Aims : List ℕ → Type 0
-  Aims target = (a b : Row) → conflicts (Some target) store_schema.indexes d.table b a ≡ same_key d.key (bare (places d.table) a) (bare (places d.table) b)
+  Aims target = (a b : Row)
+      → conflicts (Some target) store_schema.indexes d.table b a
+      ≡ same_key d.key (bare (places d.table) a) (bare (places d.table) b)
 
   -- a unique index has each key once
   pub by_index : Aims d.key
@@ -60,7 +69,9 @@ module _ (d : Described) (place : slice_get store_schema.tables d.at ≡ Some d.
       }
 
   -- the rowids are the keys
-  pub by_rowid : Aims (0 ∷ []) → ((a b : Row) → same_key d.key (bare (places d.table) a) (bare (places d.table) b) ≡ same_rowid a b) → IsKeyed store_schema d.at d.table d.key (0 ∷ [])
+  pub by_rowid : Aims (0 ∷ [])
+      → ((a b : Row) → same_key d.key (bare (places d.table) a) (bare (places d.table) b) ≡ same_rowid a b)
+      → IsKeyed store_schema d.at d.table d.key (0 ∷ [])
   by_rowid aimed is = record {
     place = place;
     uncounted = uncounted;

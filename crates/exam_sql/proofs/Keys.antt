@@ -82,7 +82,9 @@ int_same m n h = same_ints m n (tied_from (Int m) (Int n) h)
 
 -- what SQL takes for equal to a text is the text
 pub text_same : (v : Value) (t : List ℕ) → equal (first_key plain).collation v (Text t) ≡ true → v ≡ Text t
-text_same (Text s) t h = ap Text (slice_cmp-IsAntisymmetric nat_cmp-IsAntisymmetric s t (sym (value_cmp-Text s t) ∙ tied_from (Text s) (Text t) h))
+text_same (Text s) t h =
+    ap Text (slice_cmp-IsAntisymmetric nat_cmp-IsAntisymmetric s t
+    (sym (value_cmp-Text s t) ∙ tied_from (Text s) (Text t) h))
 text_same v t h = absurd (let class = class_tied v (Text t) (tied_from v (Text t) h) in cc)
 
 differ_ints : (m n : ℤ) → differ (Int m) (Int n) ≡ is_ne (value_cmp (Int m) (Int n))
@@ -93,7 +95,8 @@ pub same_place : (a b : ℕ) (xs ys : List ℕ) → (not (a == b) || bytes_eq xs
 same_place a b xs ys h e = (bytes_eq-Decides xs ys).0 (rw (eq-eqb a b e) at h)
 
 -- rows of a table with the same rowid are one
-pub tied_rows : (rows : List Row) (r s : Row) → IsShaped TableShape rows → Has rows r → Has rows s → same_rowid r s ≡ true → r ≡ s
+pub tied_rows : (rows : List Row) (r s : Row) → IsShaped TableShape rows → Has rows r → Has rows s
+    → same_rowid r s ≡ true → r ≡ s
 tied_rows rows r s shaped h k same =
     let a = int_is (rowid r) (all_has _ rows r shaped.1 h) in
     let b = int_is (rowid s) (all_has _ rows s shaped.1 k) in
@@ -122,10 +125,16 @@ alone_by_index schema table key none db shaped unique r s h k same =
     let a = int_is (rowid r) (all_has _ (db table.tree) r shaped.1 h) in
     let b = int_is (rowid s) (all_has _ (db table.tree) s shaped.1 k) in
     let apart : is_ne (value_cmp (Int (id_in (rowid r))) (Int (id_in (rowid s)))) ≡ true → ⊥ = λ ne.
-    let other : differ (rowid r) (rowid s) ≡ true = subst₂ (λ x y. differ x y ≡ true) (sym a) (sym b) (differ_ints _ _ ∙ ne) in
-    true≢false (sym (some_from _ (db table.tree) r h (both_true same other)) ∙ none db s (all_has _ (db table.tree) s unique k)) in
-    tied_same (db table.tree) r s shaped.0 h k (subst₂ (λ x y. value_cmp x y ≡ Equal) (sym a) (sym b) (tie_from _ apart))
+    let other : differ (rowid r) (rowid s) ≡ true =
+    subst₂ (λ x y. differ x y ≡ true) (sym a) (sym b) (differ_ints _ _ ∙ ne) in
+    true≢false (sym (some_from _ (db table.tree) r h (both_true same other))
+    ∙ none db s (all_has _ (db table.tree) s unique k)) in
+    tied_same (db table.tree) r s shaped.0 h k
+    (subst₂ (λ x y. value_cmp x y ≡ Equal) (sym a) (sym b) (tie_from _ apart))
 
 -- The rowids are the keys.
-pub alone_by_rowid : (schema : Schema) (table : Table) (key : List ℕ) → ((a b : Row) → same_key key (bare (places table) a) (bare (places table) b) ≡ same_rowid a b) → IsAlone schema table key
-alone_by_rowid schema table key is db shaped unique r s h k same = tied_rows (db table.tree) r s shaped h k (sym (is r s) ∙ same)
+pub alone_by_rowid : (schema : Schema) (table : Table) (key : List ℕ)
+    → ((a b : Row) → same_key key (bare (places table) a) (bare (places table) b) ≡ same_rowid a b)
+    → IsAlone schema table key
+alone_by_rowid schema table key is db shaped unique r s h k same =
+    tied_rows (db table.tree) r s shaped h k (sym (is r s) ∙ same)

@@ -1,5 +1,6 @@
 -- A statement whose rows would have what they refer to is refused by no foreign key.
-use Rattle.std.proofs.Common.{◌≡◌, inl, inr, ℕ, List, [], ◌∷◌, Some, None, Option, Ok, Err, Result, option_and_then, slice_get, refl, sym, ap, subst, ◌∙◌}
+use Rattle.std.proofs.Common.{◌≡◌, inl, inr, ℕ, List, [], ◌∷◌, Some, None, Option, Ok, Err, Result, option_and_then}
+use Rattle.std.proofs.Common.{slice_get, refl, sym, ap, subst, ◌∙◌}
 use Rattle.sqlite_value.specs.declared.value.Value.TheVariants.{Null}
 use Rattle.sqlite_value.specs.Order.{Row}
 use Rattle.sqlite_trees.specs.Tree.{Trees, with_tree}
@@ -28,7 +29,8 @@ use Rattle.exam_sql.proofs.Statements.{SetsRow, task, database_is}
 use Rattle.exam_sql.proofs.Deletes.{TakesRow, taking}
 
 -- a part that stopped at its first part
-pub first_of : {B : Type 0} {First : Option Error → Type 0} (stop : Option Error) → ((s : Option Error) × First s × ◌≡◌ {A = Result B (Option Error)} (Err stop) (Err s)) → First stop
+pub first_of : {B : Type 0} {First : Option Error → Type 0} (stop : Option Error)
+    → ((s : Option Error) × First s × ◌≡◌ {A = Result B (Option Error)} (Err stop) (Err s)) → First stop
 first_of {B} {First} stop it = let same : it.0 ≡ stop = cc in subst First same it.1
 
 -- where the foreign keys hold after what is written, it stops before
@@ -37,35 +39,46 @@ stops_writing : (task : Task) (command : Command) (db : Trees) (stop : Option Er
     → OnRows task at_once None command db (Err stop) → WritesRows task db command (Err stop)
 stops_writing task command db stop sound (inl it) = first_of {First = λ s. WritesRows task db command (Err s)} stop it
 stops_writing task command db stop sound (inr (w, wrote, inl tested)) = absurd (tested.1.0 (sound w wrote))
-stops_writing task command db stop sound (inr (w, wrote, inr (in_doubt, holds, inl returns))) = absurd (let e = returns.1 in cc)
-stops_writing task command db stop sound (inr (w, wrote, inr (in_doubt, holds, inr ended))) = absurd (let e = ended.2 in cc)
+stops_writing task command db stop sound (inr (w, wrote, inr (in_doubt, holds, inl returns))) =
+    absurd (let e = returns.1 in cc)
+stops_writing task command db stop sound (inr (w, wrote, inr (in_doubt, holds, inr ended))) =
+    absurd (let e = ended.2 in cc)
 
-module _ (schema : Schema) (at : ℕ) (table : Table) (key target : List ℕ) (keyed : IsKeyed schema at table key target) where
+module _ (schema : Schema) (at : ℕ) (table : Table) (key target : List ℕ)
+    (keyed : IsKeyed schema at table key target) where
   abbrev pub IsOn : Command → Type 0
   IsOn command =
-      (limit : Option ℕ) (params : Row) (text : List ℕ) (trees : Trees) (stop : Option Error) → Does limit at_once params (record { schema = schema; trees = trees }) text None command (Err stop)
+      (limit : Option ℕ) (params : Row) (text : List ℕ) (trees : Trees) (stop : Option Error)
+      → Does limit at_once params (record { schema = schema; trees = trees }) text None command (Err stop)
       → OnRows (task schema at table key target keyed limit params) at_once None command trees (Err stop)
 
-  pub on_insert : (way : Conflict) (clauses : List Upsert) (terms : List Term) (width : ℕ) → IsOn (InsertOr at way (Values terms width) clauses)
+  pub on_insert : (way : Conflict) (clauses : List Upsert) (terms : List Term) (width : ℕ)
+      → IsOn (InsertOr at way (Values terms width) clauses)
   on_insert way clauses terms width limit params text trees stop does =
       let command = InsertOr at way (Values terms width) clauses in
-      subst (λ o. AtPlace (λ t. OnRows (record { limit = limit; keys = Enforced; schema = schema; table = t; params = params }) at_once None command trees) o (Err stop)) keyed.place does
+      subst (λ o. AtPlace (λ t. OnRows
+      (record { limit = limit; keys = Enforced; schema = schema; table = t; params = params }) at_once None command
+      trees) o (Err stop)) keyed.place does
 
   on_delete : (terms : List Term) → IsOn (Delete at (taking schema at table key target keyed terms table.tree))
   on_delete terms limit params text trees stop does =
       let command = Delete at (taking schema at table key target keyed terms table.tree) in
-      subst (λ o. AtPlace (λ t. OnRows (record { limit = limit; keys = Enforced; schema = schema; table = t; params = params }) at_once None command trees) o (Err stop)) keyed.place does
+      subst (λ o. AtPlace (λ t. OnRows
+      (record { limit = limit; keys = Enforced; schema = schema; table = t; params = params }) at_once None command
+      trees) o (Err stop)) keyed.place does
 
   module _ (text : List ℕ) (command : Command) (is : command_of (understood schema text) ≡ command)
       (plain : IsPlain (understood schema text)) (on : IsOn command) (aims : written_table command ≡ Some at) where
     refused_rows : (limit : Option ℕ) (trees : Trees) (params : Row)
         → ((w : Written) → WritesRows (task schema at table key target keyed limit params) trees command (Ok w)
         → Refers among.All schema w.trees)
-        → Refuses limit (record { schema = schema; trees = trees }) text params → RefusesRows limit (record { schema = schema; trees = trees }) text params
+        → Refuses limit (record { schema = schema; trees = trees }) text params
+        → RefusesRows limit (record { schema = schema; trees = trees }) text params
     refused_rows limit trees params sound (c, known, stop, does) =
         let its_plain : (c.returning ≡ None) × (c.formats ≡ []) = subst IsPlain known plain in
         let its_command : c.command ≡ command = sym (ap command_of known) ∙ is in
-        let ran : Does limit at_once params (record { schema = schema; trees = trees }) (text_of text c) None command (Err stop) = rw (its_plain.0, its_command) at does in
+        let ran : Does limit at_once params (record { schema = schema; trees = trees }) (text_of text c) None command
+        (Err stop) = rw (its_plain.0, its_command) at does in
         let task = task schema at table key target keyed limit params in
         let stopped = stops_writing task command trees stop sound (on limit params _ trees stop ran) in
         let place : option_and_then (slice_get schema.tables) (written_table c.command) ≡ Some table =
@@ -82,7 +95,9 @@ module _ (schema : Schema) (at : ℕ) (table : Table) (key target : List ℕ) (k
         → (Refuses limit (record { schema = schema; trees = db.trees }) text params
         → RefusesRows limit (record { schema = schema; trees = db.trees }) text params) → Refuses limit db text params
         → RefusesRows limit db text params
-    within text params narrow refused = subst (λ d. RefusesRows limit d text params) (sym in_schema) (narrow (subst (λ d. Refuses limit d text params) in_schema refused))
+    within text params narrow refused =
+        subst (λ d. RefusesRows limit d text params) (sym in_schema)
+        (narrow (subst (λ d. Refuses limit d text params) in_schema refused))
 
     held : ContainsIn schema (record { schema = schema; trees = db.trees }) all
     held = subst (λ d. ContainsIn schema d all) in_schema was

@@ -6,7 +6,8 @@ use Rattle.sqlite_schema.specs.declared.schema.Schema.{Schema}
 use Rattle.sqlite_schema.specs.Names.{same_name}
 use Rattle.sqlite_trees.specs.Tree.{Trees}
 use Rattle.sqlite.specs.Effect.{Database}
-use Rattle.exam_sql.specs.Made.{ContainsMade, first_names, is_free, is_table, lists_marks, lists_newest, lists_tables, made_schema}
+use Rattle.exam_sql.specs.Made.{ContainsMade, first_names, is_free, is_table, lists_marks, lists_newest, lists_tables}
+use Rattle.exam_sql.specs.Made.{made_schema}
 use Rattle.exam_sql.specs.Tables.{first_schema, store_schema}
 
 made_listed : (has_marks : Bool) → lists_tables (made_schema has_marks) ≡ true

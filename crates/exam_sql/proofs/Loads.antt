@@ -1,5 +1,6 @@
 -- A text that loads a table shows its rows.
-use Rattle.std.proofs.Common.{◌≡◌, ◌⊎◌, IsTrue, sym, ap, ℕ, List, [], ◌∷◌, map, filter, true, false, Some, slice_get, refl, subst, ◌∙◌}
+use Rattle.std.proofs.Common.{◌≡◌, ◌⊎◌, IsTrue, sym, ap, ℕ, List, [], ◌∷◌, map, filter, true, false, Some, slice_get}
+use Rattle.std.proofs.Common.{refl, subst, ◌∙◌}
 use Rattle.std.specs.List.Sorted.{IsPermutation}
 use Rattle.std.proofs.lemmas.List.Sorted.{IsPermutation-sym, IsPermutation-trans, IsPermutation-map}
 use Rattle.sqlite_value.specs.declared.value.Value.TheVariants.{Null}
@@ -54,19 +55,26 @@ load_of schema d place is plain unlisted own shows = record {
 }
 
 -- what the query shows are the rows
-shows_all : (tree : ℕ) (at : List ℕ) (project : List Term) (db : Trees) (meant rows : List Row) → ((r : Row) → Null ∷ eval_all project ([] ∷ r ∷ []) ≡ bare at r)
-    → Holds at (db tree) meant → overlay db [] tree ≡ db tree → IsAnswer (one_table tree [] project []) (overlay db []) [] rows → IsPermutation meant (map (λ r. Null ∷ r) rows)
+shows_all : (tree : ℕ) (at : List ℕ) (project : List Term) (db : Trees) (meant rows : List Row)
+    → ((r : Row) → Null ∷ eval_all project ([] ∷ r ∷ []) ≡ bare at r)
+    → Holds at (db tree) meant → overlay db [] tree ≡ db tree
+    → IsAnswer (one_table tree [] project []) (overlay db []) [] rows
+    → IsPermutation meant (map (λ r. Null ∷ r) rows)
 shows_all tree at project db meant rows shows held own a =
     let show = λ (r : Row). eval_all project ([] ∷ r ∷ []) in
     let all : IsPermutation (map show (db tree)) rows =
     subst (λ l. IsPermutation (map show l) rows) (filter_all (λ _. true) (db tree) (all_of _ (λ _. refl) (db tree)))
-    (subst (λ l. IsPermutation (map show (filter (λ _. true) l)) rows) own (picks tree [] project [] (overlay db []) [] rows a)) in
-    let kept : map (λ r. Null ∷ r) (map show (db tree)) ≡ map (bare at) (db tree) = map-map (λ r. Null ∷ r) show (db tree) ∙ map_same (λ r. Null ∷ show r) (bare at) shows (db tree) in
-    let same = subst (λ l. IsPermutation l (map (λ r. Null ∷ r) rows)) kept (IsPermutation-map (λ r. Null ∷ r) _ _ all) in
+    (subst (λ l. IsPermutation (map show (filter (λ _. true) l)) rows) own
+    (picks tree [] project [] (overlay db []) [] rows a)) in
+    let kept : map (λ r. Null ∷ r) (map show (db tree)) ≡ map (bare at) (db tree) =
+    map-map (λ r. Null ∷ r) show (db tree) ∙ map_same (λ r. Null ∷ show r) (bare at) shows (db tree) in
+    let same = subst (λ l. IsPermutation l (map (λ r. Null ∷ r) rows)) kept
+    (IsPermutation-map (λ r. Null ∷ r) _ _ all) in
     IsPermutation-trans _ _ _ (IsPermutation-sym _ _ held.same) same
 
 -- a query changes nothing
-unchanged_by : (schema : Schema) (text : List ℕ) (old new : State) (rows : List Row) → old.now.schema ≡ schema → IsPlain (understood schema text) → Shown text [] old new rows → IsUnchanged old new
+unchanged_by : (schema : Schema) (text : List ℕ) (old new : State) (rows : List Row) → old.now.schema ≡ schema
+    → IsPlain (understood schema text) → Shown text [] old new rows → IsUnchanged old new
 unfolding Shown
 unchanged_by schema text old new rows has plain h =
     let known = sym h.1.is ∙ ap (λ s. understood s text) has in
@@ -82,10 +90,12 @@ module _ {schema : Schema} {tree : ℕ} {text : List ℕ} (load : IsLoad schema 
       let read = reads_as text [] old new schema was.schema_is _ load.is load.plain load.unlisted rows shown in
       let held = all_has _ schema.tables load.table was.rows (has_got schema.tables load.at load.table load.place) in (
         subst (λ t. IsPermutation (all t) (map (λ r. Null ∷ r) rows)) load.tree_is
-            (shows_all load.table.tree (places load.table) load.project old.now.trees (all load.table.tree) rows load.shows held (load.own old.now.trees) (read.answer Null)),
+            (shows_all load.table.tree (places load.table) load.project old.now.trees
+            (all load.table.tree) rows load.shows held (load.own old.now.trees) (read.answer Null)),
         unchanged_by schema text old new rows was.schema_is load.plain shown,
       )
 
   -- where it fails, it was understood
-  pub load_fails : (old new : State) → old.now.schema ≡ schema → (e : Error) → FailsToQuery text [] old new e → (e ≡ SqliteFailure OutOfMemory) ⊎ IsTrue (is_failure e)
+  pub load_fails : (old new : State) → old.now.schema ≡ schema → (e : Error) → FailsToQuery text [] old new e
+      → (e ≡ SqliteFailure OutOfMemory) ⊎ IsTrue (is_failure e)
   load_fails old new has e h = query_fails text [] old new schema has load.plain e h

@@ -1,5 +1,6 @@
 -- The table appeal: how it is made, what its texts mean, and what they do.
-use Rattle.std.proofs.Common.{Bool, map, List, None, Some, Option, [], ap, false, lit<, lit≤, refl, true, ℕ, ℤ, ◌++◌, ◌||◌, ◌∷◌, ◌≡◌}
+use Rattle.std.proofs.Common.{Bool, map, List, None, Some, Option, [], ap, false, lit<, lit≤, refl, true, ℕ, ℤ, ◌++◌}
+use Rattle.std.proofs.Common.{◌||◌, ◌∷◌, ◌≡◌}
 use Rattle.std.proofs.lemmas.Bool.{and_parts, not-true}
 use Rattle.sqlite.specs.Kind.TheVariants.{Text as KindText}
 use Rattle.sqlite_rules.specs.Cast.{cast}
@@ -40,12 +41,14 @@ create = (refl, refl, (refl, refl), (lit≤ tt, refl))
 
 pub adds : Adds appeal
 unfolding everything encode value_cmp fits_kind is_free_name same_name begins lib.Ieee.is_nan lib.Ieee.lt made
-adds = adds_by appeal create refl refl refl refl refl refl refl (appeal.create, (refl, refl)) (appeal.table.name, (refl, refl)) refl (lit< tt) (lit< tt) refl refl refl (lit< tt)
+adds = adds_by appeal create refl refl refl refl refl refl refl (appeal.create, (refl, refl))
+    (appeal.table.name, (refl, refl)) refl (lit< tt) (lit< tt) refl refl refl (lit< tt)
 
 -- it has one key, and no foreign key acts on its rows
 pub keyed : IsKeyed store_schema appeal.at appeal.table appeal.key appeal.key
 unfolding store_schema
-keyed = by_index appeal refl refl refl refl (λ a b. ap (λ x. same_rowid a b || x) (or_false _)) (λ a b. or_false _) (λ db s h. not-true _ (and_parts _ _ h).0)
+keyed = by_index appeal refl refl refl refl (λ a b. ap (λ x. same_rowid a b || x) (or_false _)) (λ a b. or_false _)
+    (λ db s h. not-true _ (and_parts _ _ h).0)
 
 cast_maybe : (o : Option (List ℕ)) → cast KindText (or_null Text o) ≡ or_null Text o
 cast_maybe None = refl

@@ -27,7 +27,8 @@ create = (refl, refl, (refl, refl), (lit≤ tt, refl))
 pub adds : Adds arrangement
 unfolding everything encode value_cmp fits_kind is_free_name same_name begins lib.Ieee.is_nan lib.Ieee.lt made
 adds =
-    adds_by arrangement create refl refl refl refl refl refl refl (arrangement.create, (refl, refl)) (arrangement.table.name, (refl, refl)) refl
+    adds_by arrangement create refl refl refl refl refl refl refl (arrangement.create, (refl, refl))
+    (arrangement.table.name, (refl, refl)) refl
     (lit< tt) (lit< tt) refl refl refl (lit< tt)
 
 -- it has one key, and no foreign key acts on its rows
@@ -48,7 +49,8 @@ module _ (number needs extra : ℤ) where
   columns = Null ∷ Int needs ∷ Int extra ∷ []
 
   fits : Fits arrangement.table arrangement.key (Int number) columns row
-  fits = fits_given arrangement.table arrangement.key number columns row refl (simp (cast_null, cast_int)) refl (λ r. refl)
+  fits = fits_given arrangement.table arrangement.key number columns row refl (simp (cast_null, cast_int)) refl
+      (λ r. refl)
 
   -- the row replaces the one with its key
   pub puts : PutsRow arrangement.table.tree arrangement.key arrangement.put row

@@ -28,7 +28,8 @@ create = (refl, refl, (refl, refl), (lit≤ tt, refl))
 pub adds : Adds candidate
 unfolding everything encode value_cmp fits_kind is_free_name same_name begins lib.Ieee.is_nan lib.Ieee.lt made
 adds =
-    adds_by candidate create refl refl refl refl refl refl refl (candidate.create, (refl, refl)) (candidate.table.name, (refl, refl)) refl
+    adds_by candidate create refl refl refl refl refl refl refl (candidate.create, (refl, refl))
+    (candidate.table.name, (refl, refl)) refl
     (lit< tt) (lit< tt) refl refl refl (lit< tt)
 
 -- it has one key, and no foreign key acts on its rows
@@ -62,7 +63,8 @@ module _ (number : ℤ) (name code : List ℕ) where
   -- the row replaces the one with its key
   pub puts : PutsRow candidate.table.tree candidate.key candidate.put row
   puts =
-      upserts keyed candidate.put (given_terms candidate.table) 4 (Int number) columns row fits refl (found_terms candidate.table)
+      upserts keyed candidate.put (given_terms candidate.table) 4 (Int number) columns row fits refl
+      (found_terms candidate.table)
       (changed_terms candidate.table) put_means (λ db. refl) finds becomes
 
 -- the text that loads shows each column, with the table of marks or without it

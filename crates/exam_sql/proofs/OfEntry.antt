@@ -29,13 +29,15 @@ create = (refl, refl, (refl, refl), (lit≤ tt, refl))
 pub adds : Adds entry
 unfolding everything encode value_cmp fits_kind is_free_name same_name begins lib.Ieee.is_nan lib.Ieee.lt made
 adds =
-    adds_by entry create refl refl refl refl refl refl refl (entry.create, (refl, refl)) (entry.table.name, (refl, refl)) refl
+    adds_by entry create refl refl refl refl refl refl refl (entry.create, (refl, refl))
+    (entry.table.name, (refl, refl)) refl
     (lit< tt) (lit< tt) refl refl refl (lit< tt)
 
 -- it has one key, and no foreign key acts on its rows
 pub keyed : IsKeyed store_schema entry.at entry.table entry.key entry.key
 unfolding store_schema
-keyed = by_index entry refl refl refl refl (λ a b. ap (λ x. same_rowid a b || x) (or_false _)) (λ a b. or_false _) (λ db s h. not-true _ (and_parts _ _ h).0)
+keyed = by_index entry refl refl refl refl (λ a b. ap (λ x. same_rowid a b || x) (or_false _)) (λ a b. or_false _)
+    (λ db s h. not-true _ (and_parts _ _ h).0)
 
 put_means : Replaces entry
 unfolding understood everything store_schema

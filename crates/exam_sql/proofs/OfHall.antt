@@ -31,13 +31,15 @@ create = (refl, refl, (refl, refl), (lit≤ tt, refl))
 pub adds : Adds hall
 unfolding everything encode value_cmp fits_kind is_free_name same_name begins lib.Ieee.is_nan lib.Ieee.lt made
 adds =
-    adds_by hall create refl refl refl refl refl refl refl (hall.create, (refl, refl)) (hall.table.name, (refl, refl)) refl
+    adds_by hall create refl refl refl refl refl refl refl (hall.create, (refl, refl))
+    (hall.table.name, (refl, refl)) refl
     (lit< tt) (lit< tt) refl refl refl (lit< tt)
 
 -- it has one key, and no foreign key acts on its rows
 pub keyed : IsKeyed store_schema hall.at hall.table hall.key hall.key
 unfolding store_schema
-keyed = by_index hall refl refl refl refl (λ a b. ap (λ x. same_rowid a b || x) (or_false _)) (λ a b. or_false _) (λ db s h. not-true _ (and_parts _ _ h).0)
+keyed = by_index hall refl refl refl refl (λ a b. ap (λ x. same_rowid a b || x) (or_false _)) (λ a b. or_false _)
+    (λ db s h. not-true _ (and_parts _ _ h).0)
 
 put_means : Changes hall hall.key
 unfolding understood everything store_schema

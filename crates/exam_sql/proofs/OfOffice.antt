@@ -36,7 +36,8 @@ create = (refl, refl, (refl, refl), (lit≤ tt, refl))
 
 pub adds : Adds office
 unfolding everything encode value_cmp fits_kind is_free_name same_name begins lib.Ieee.is_nan lib.Ieee.lt made
-adds = adds_by office create refl refl refl refl refl refl refl (office.create, (refl, refl)) (office.table.name, (refl, refl)) refl (lit< tt) (lit< tt) refl refl refl (lit< tt)
+adds = adds_by office create refl refl refl refl refl refl refl (office.create, (refl, refl))
+    (office.table.name, (refl, refl)) refl (lit< tt) (lit< tt) refl refl refl (lit< tt)
 
 -- it has one key, and no foreign key acts on its rows
 pub keyed : IsKeyed store_schema office.at office.table office.key (0 ∷ [])
@@ -51,7 +52,8 @@ abbrev pub columns : ℤ → ℤ → Row
 columns one version = Null ∷ Int version ∷ []
 
 pub fits : (one : ℤ) (version : ℤ) → Fits office.table office.key (Int one) (columns one version) (row one version)
-fits one version = fits_given office.table office.key one (columns one version) (row one version) refl (simp (cast_null, cast_int)) refl (λ r. refl)
+fits one version = fits_given office.table office.key one (columns one version) (row one version) refl
+    (simp (cast_null, cast_int)) refl (λ r. refl)
 
 abbrev pub terms : List Term
 terms = lit (Int (pos 1)) ∷ lit Null ∷ col 0 0 ∷ []
@@ -68,9 +70,11 @@ unfolding understood everything store_schema
 put_plain = (refl, refl)
 
 pub puts : (old new : State) (version : ℤ) (r : Result ℕ Error) → Executes put_text (Int version ∷ []) old new r
-    → OnOk r ((all : Trees) → ContainsIn store_schema old.now all → ContainsIn store_schema new.now (with_row office.table.tree office.key (row (pos 1) version) all))
+    → OnOk r ((all : Trees) → ContainsIn store_schema old.now all
+    → ContainsIn store_schema new.now (with_row office.table.tree office.key (row (pos 1) version) all))
 puts old new version r h =
-    sets_by store_schema office.at office.table office.key (0 ∷ []) keyed Replace [] put_text terms 3 put_is put_plain old new (Int version ∷ []) (row (pos 1) version) r
+    sets_by store_schema office.at office.table office.key
+    (0 ∷ []) keyed Replace [] put_text terms 3 put_is put_plain old new (Int version ∷ []) (row (pos 1) version) r
     (λ limit. put_sets store_schema office.at office.table office.key (0 ∷ []) keyed limit terms 3 (Int version ∷ [])
     (Int (pos 1)) (columns (pos 1) version) (row (pos 1) version) (fits (pos 1) version) refl) h
 
@@ -78,8 +82,10 @@ put_whole : IsWhole put_text 1 (understood store_schema put_text)
 unfolding understood everything store_schema
 put_whole = (lit≤ tt, refl)
 
-pub put_answers : (old new : State) (version : ℤ) → old.now.schema ≡ store_schema → Answers put_text (Int version ∷ []) old new
-put_answers old new version has = answers put_text (Int version ∷ []) old new store_schema has _ put_is tt put_plain put_whole
+pub put_answers : (old new : State) (version : ℤ) → old.now.schema ≡ store_schema
+    → Answers put_text (Int version ∷ []) old new
+put_answers old new version has =
+    answers put_text (Int version ∷ []) old new store_schema has _ put_is tt put_plain put_whole
 
 -- the text that loads shows each column, with the table of marks or without it
 pub loads : (has_marks : Bool) → IsLoad (made_schema has_marks) office.table.tree office.load

@@ -35,13 +35,15 @@ create = (refl, refl, (refl, refl), (lit≤ tt, refl))
 pub adds : Adds opening
 unfolding everything encode value_cmp fits_kind is_free_name same_name begins lib.Ieee.is_nan lib.Ieee.lt made
 adds =
-    adds_by opening create refl refl refl refl refl refl refl (opening.create, (refl, refl)) (opening.table.name, (refl, refl)) refl
+    adds_by opening create refl refl refl refl refl refl refl (opening.create, (refl, refl))
+    (opening.table.name, (refl, refl)) refl
     (lit< tt) (lit< tt) refl refl refl (lit< tt)
 
 -- it has one key, and no foreign key acts on its rows
 pub keyed : IsKeyed store_schema opening.at opening.table opening.key opening.key
 unfolding store_schema
-keyed = by_index opening refl refl refl refl (λ a b. ap (λ x. same_rowid a b || x) (or_false _)) (λ a b. or_false _) (λ db s h. not-true _ (and_parts _ _ h).0)
+keyed = by_index opening refl refl refl refl (λ a b. ap (λ x. same_rowid a b || x) (or_false _)) (λ a b. or_false _)
+    (λ db s h. not-true _ (and_parts _ _ h).0)
 
 put_means : Changes opening opening.key
 unfolding understood everything store_schema
@@ -61,7 +63,9 @@ module _ (session hall : List ℕ) (desks until reserved : ℤ) where
   becomes : Becomes opening row row
   unfolding first_key
   becomes t id same =
-      let both = and_parts _ _ same in ap₂ (λ v w. rowid t ∷ rowid t ∷ v ∷ w ∷ Int desks ∷ Int until ∷ Int reserved ∷ []) (text_same _ _ both.0) (text_same _ _ (and_parts _ _ both.1).0)
+      let both = and_parts _ _ same in
+      ap₂ (λ v w. rowid t ∷ rowid t ∷ v ∷ w ∷ Int desks ∷ Int until ∷ Int reserved ∷ []) (text_same _ _ both.0)
+      (text_same _ _ (and_parts _ _ both.1).0)
 
   -- the row replaces the one with its key
   pub puts : PutsRow opening.table.tree opening.key opening.put row
@@ -73,7 +77,9 @@ delete_means : Deletes opening delete_opening
 unfolding understood everything store_schema
 delete_means = (refl, (refl, refl), (lit≤ tt, refl))
 
-key_means : (params r : Row) → list_all (holds (params ∷ r ∷ [])) (key_terms opening.table) ≡ same_key opening.key (bare (places opening.table) r) (Null ∷ params)
+key_means : (params r : Row)
+    → list_all (holds (params ∷ r ∷ [])) (key_terms opening.table)
+    ≡ same_key opening.key (bare (places opening.table) r) (Null ∷ params)
 unfolding first_key
 key_means params r = refl
 

@@ -31,13 +31,15 @@ create = (refl, refl, (refl, refl), (lit≤ tt, refl))
 pub adds : Adds paper
 unfolding everything encode value_cmp fits_kind is_free_name same_name begins lib.Ieee.is_nan lib.Ieee.lt made
 adds =
-    adds_by paper create refl refl refl refl refl refl refl (paper.create, (refl, refl)) (paper.table.name, (refl, refl)) refl
+    adds_by paper create refl refl refl refl refl refl refl (paper.create, (refl, refl))
+    (paper.table.name, (refl, refl)) refl
     (lit< tt) (lit< tt) refl refl refl (lit< tt)
 
 -- it has one key, and no foreign key acts on its rows
 pub keyed : IsKeyed store_schema paper.at paper.table paper.key paper.key
 unfolding store_schema
-keyed = by_index paper refl refl refl refl (λ a b. ap (λ x. same_rowid a b || x) (or_false _)) (λ a b. or_false _) (λ db s h. not-true _ (and_parts _ _ h).0)
+keyed = by_index paper refl refl refl refl (λ a b. ap (λ x. same_rowid a b || x) (or_false _)) (λ a b. or_false _)
+    (λ db s h. not-true _ (and_parts _ _ h).0)
 
 put_means : Changes paper paper.key
 unfolding understood everything store_schema
@@ -56,7 +58,8 @@ module _ (code title session : List ℕ) (minutes requires : ℤ) where
 
   becomes : Becomes paper row row
   becomes t id same =
-      ap (λ v. rowid t ∷ rowid t ∷ v ∷ Text title ∷ Text session ∷ Int minutes ∷ Int requires ∷ []) (text_same _ _ (and_parts _ _ same).0)
+      ap (λ v. rowid t ∷ rowid t ∷ v ∷ Text title ∷ Text session ∷ Int minutes ∷ Int requires ∷ [])
+      (text_same _ _ (and_parts _ _ same).0)
 
   -- the row replaces the one with its key
   pub puts : PutsRow paper.table.tree paper.key paper.put row

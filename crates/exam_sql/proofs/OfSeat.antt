@@ -34,13 +34,15 @@ create = (refl, refl, (refl, refl), (lit≤ tt, refl))
 pub adds : Adds seat
 unfolding everything encode value_cmp fits_kind is_free_name same_name begins lib.Ieee.is_nan lib.Ieee.lt made
 adds =
-    adds_by seat create refl refl refl refl refl refl refl (seat.create, (refl, refl)) (seat.table.name, (refl, refl)) refl
+    adds_by seat create refl refl refl refl refl refl refl (seat.create, (refl, refl))
+    (seat.table.name, (refl, refl)) refl
     (lit< tt) (lit< tt) refl refl refl (lit< tt)
 
 -- it has one key, and no foreign key acts on its rows
 pub keyed : IsKeyed store_schema seat.at seat.table seat.key seat.key
 unfolding store_schema
-keyed = by_index seat refl refl refl refl (λ a b. ap (λ x. same_rowid a b || x) (or_false _)) (λ a b. or_false _) (λ db s h. not-true _ (and_parts _ _ h).0)
+keyed = by_index seat refl refl refl refl (λ a b. ap (λ x. same_rowid a b || x) (or_false _)) (λ a b. or_false _)
+    (λ db s h. not-true _ (and_parts _ _ h).0)
 
 put_means : Replaces seat
 unfolding understood everything store_schema
@@ -61,7 +63,9 @@ delete_means : Deletes seat delete_seat
 unfolding understood everything store_schema
 delete_means = (refl, (refl, refl), (lit≤ tt, refl))
 
-key_means : (params r : Row) → list_all (holds (params ∷ r ∷ [])) (key_terms seat.table) ≡ same_key seat.key (bare (places seat.table) r) (Null ∷ params)
+key_means : (params r : Row)
+    → list_all (holds (params ∷ r ∷ [])) (key_terms seat.table)
+    ≡ same_key seat.key (bare (places seat.table) r) (Null ∷ params)
 unfolding first_key
 key_means params r = refl
 

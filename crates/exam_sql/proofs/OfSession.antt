@@ -31,13 +31,15 @@ create = (refl, refl, (refl, refl), (lit≤ tt, refl))
 pub adds : Adds session
 unfolding everything encode value_cmp fits_kind is_free_name same_name begins lib.Ieee.is_nan lib.Ieee.lt made
 adds =
-    adds_by session create refl refl refl refl refl refl refl (session.create, (refl, refl)) (session.table.name, (refl, refl)) refl
+    adds_by session create refl refl refl refl refl refl refl (session.create, (refl, refl))
+    (session.table.name, (refl, refl)) refl
     (lit< tt) (lit< tt) refl refl refl (lit< tt)
 
 -- it has one key, and no foreign key acts on its rows
 pub keyed : IsKeyed store_schema session.at session.table session.key session.key
 unfolding store_schema
-keyed = by_index session refl refl refl refl (λ a b. ap (λ x. same_rowid a b || x) (or_false _)) (λ a b. or_false _) (λ db s h. not-true _ (and_parts _ _ h).0)
+keyed = by_index session refl refl refl refl (λ a b. ap (λ x. same_rowid a b || x) (or_false _)) (λ a b. or_false _)
+    (λ db s h. not-true _ (and_parts _ _ h).0)
 
 put_means : Changes session session.key
 unfolding understood everything store_schema

@@ -28,13 +28,15 @@ create = (refl, refl, (refl, refl), (lit≤ tt, refl))
 pub adds : Adds standing
 unfolding everything encode value_cmp fits_kind is_free_name same_name begins lib.Ieee.is_nan lib.Ieee.lt made
 adds =
-    adds_by standing create refl refl refl refl refl refl refl (standing.create, (refl, refl)) (standing.table.name, (refl, refl)) refl
+    adds_by standing create refl refl refl refl refl refl refl (standing.create, (refl, refl))
+    (standing.table.name, (refl, refl)) refl
     (lit< tt) (lit< tt) refl refl refl (lit< tt)
 
 -- it has one key, and no foreign key acts on its rows
 pub keyed : IsKeyed store_schema standing.at standing.table standing.key standing.key
 unfolding store_schema
-keyed = by_index standing refl refl refl refl (λ a b. ap (λ x. same_rowid a b || x) (or_false _)) (λ a b. or_false _) (λ db s h. not-true _ (and_parts _ _ h).0)
+keyed = by_index standing refl refl refl refl (λ a b. ap (λ x. same_rowid a b || x) (or_false _)) (λ a b. or_false _)
+    (λ db s h. not-true _ (and_parts _ _ h).0)
 
 put_means : Replaces standing
 unfolding understood everything store_schema

@@ -58,28 +58,40 @@ find_is_query schema base = refl
 abbrev pub has_key : Row → Row → Bool
 has_key key row = same_key tables.appeal.key row (Null ∷ key)
 
-key_means : (key r : Row) → list_all (holds (key ∷ r ∷ [])) (key_terms tables.appeal.table) ≡ has_key key (bare (places tables.appeal.table) r)
+key_means : (key r : Row)
+    → list_all (holds (key ∷ r ∷ [])) (key_terms tables.appeal.table)
+    ≡ has_key key (bare (places tables.appeal.table) r)
 unfolding first_key
 key_means key r = refl
 
 -- it shows the rows that have the key
-pub shows_key : (key : Row) (old new : State) (rows : List Row) (all : Trees) → ContainsIn store_schema old.now all → Shown find_appeal key old new rows
+pub shows_key : (key : Row) (old new : State) (rows : List Row) (all : Trees) → ContainsIn store_schema old.now all
+    → Shown find_appeal key old new rows
     → IsPermutation (filter (has_key key) (all 13)) (map (λ row. Null ∷ row) rows)
 shows_key key old new rows all was shown =
-    let read = reads_as find_appeal key old new store_schema was.schema_is _ query_is query_plain query_unlisted rows shown in
-    let held = held_at store_schema 8 tables.appeal.table (1 ∷ 2 ∷ []) (1 ∷ 2 ∷ []) appeal.keyed old.now.trees all was.rows in
+    let read = reads_as find_appeal key old new store_schema was.schema_is _ query_is query_plain query_unlisted rows
+    shown in
+    let held = held_at store_schema 8 tables.appeal.table (1 ∷ 2 ∷ [])
+    (1 ∷ 2 ∷ []) appeal.keyed old.now.trees all was.rows in
     let show = λ (r : Row). eval_all (column_terms tables.appeal.table) (key ∷ r ∷ []) in
     let test = λ (r : Row). list_all (holds (key ∷ r ∷ [])) (key_terms tables.appeal.table) in
     let columns = bare (places tables.appeal.table) in
     let passed = filter test (old.now.trees 13) in
-    let answer : IsPermutation (map show passed) rows = picks 13 (key_terms tables.appeal.table) (column_terms tables.appeal.table) [] (overlay old.now.trees []) key rows (read.answer Null) in
-    let bared : map (λ (row : Row). Null ∷ row) (map show passed) ≡ map columns passed = map-map (λ (row : Row). Null ∷ row) show passed ∙ map_same (λ r. Null ∷ show r) columns (λ r. refl) passed in
-    let tested : passed ≡ filter (λ (r : Row). has_key key (columns r)) (old.now.trees 13) = ap (λ (p : Row → Bool). filter p (old.now.trees 13)) (λ i r. key_means key r i) in
-    let chosen : map (λ (row : Row). Null ∷ row) (map show passed) ≡ filter (has_key key) (map columns (old.now.trees 13)) =
+    let answer : IsPermutation (map show passed) rows =
+    picks 13 (key_terms tables.appeal.table) (column_terms tables.appeal.table) []
+    (overlay old.now.trees []) key rows (read.answer Null) in
+    let bared : map (λ (row : Row). Null ∷ row) (map show passed) ≡ map columns passed =
+    map-map (λ (row : Row). Null ∷ row) show passed ∙ map_same (λ r. Null ∷ show r) columns (λ r. refl) passed in
+    let tested : passed ≡ filter (λ (r : Row). has_key key (columns r)) (old.now.trees 13) =
+    ap (λ (p : Row → Bool). filter p (old.now.trees 13)) (λ i r. key_means key r i) in
+    let chosen : map (λ (row : Row). Null ∷ row) (map show passed)
+    ≡ filter (has_key key) (map columns (old.now.trees 13)) =
     bared ∙ ap (map columns) tested ∙ sym (filter-map (has_key key) columns (old.now.trees 13)) in
-    let found = subst (λ l. IsPermutation l (map (λ (row : Row). Null ∷ row) rows)) chosen (IsPermutation-map (λ (row : Row). Null ∷ row) _ _ answer) in
+    let found = subst (λ l. IsPermutation l (map (λ (row : Row). Null ∷ row) rows)) chosen
+    (IsPermutation-map (λ (row : Row). Null ∷ row) _ _ answer) in
     IsPermutation-trans _ _ _ (IsPermutation-sym _ _ (IsPermutation-filter (has_key key) _ _ held.same)) found
 
 -- where it fails, the text was understood
-pub find_fails : (key : Row) (old new : State) → old.now.schema ≡ store_schema → (e : Error) → FailsToQuery find_appeal key old new e → (e ≡ SqliteFailure OutOfMemory) ⊎ IsTrue (is_failure e)
+pub find_fails : (key : Row) (old new : State) → old.now.schema ≡ store_schema → (e : Error)
+    → FailsToQuery find_appeal key old new e → (e ≡ SqliteFailure OutOfMemory) ⊎ IsTrue (is_failure e)
 find_fails key old new has e h = query_fails find_appeal key old new store_schema has query_plain e h

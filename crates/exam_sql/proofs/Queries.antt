@@ -1,5 +1,6 @@
 -- What a query on one table answers.
-use Rattle.std.proofs.Common.{◌≡◌, ℕ, List, [], ◌∷◌, ◌++◌, map, filter, flat_map, Bool, true, false, cond, refl, sym, ap, ap₂, subst, ◌∙◌}
+use Rattle.std.proofs.Common.{◌≡◌, ℕ, List, [], ◌∷◌, ◌++◌, map, filter, flat_map, Bool, true, false, cond, refl, sym}
+use Rattle.std.proofs.Common.{ap, ap₂, subst, ◌∙◌}
 use Rattle.std.specs.List.{list_all}
 use Rattle.std.specs.List.Sorted.{IsPermutation}
 use Rattle.std.proofs.lemmas.List.Sorted.{IsPermutation-map, Contains-permutation}
@@ -13,20 +14,28 @@ use Rattle.sqlite_rules.specs.Lists.{Has}
 use Rattle.sqlite_rules.proofs.ListLemmas.{has_contained, contains_had}
 use Rattle.exam_sql.specs.Plain.{one_table}
 
-pub chosen : {X Y : Type 0} (p : X → Bool) (f : X → Y) (xs : List X) → flat_map (λ x. cond (p x) (f x ∷ []) []) xs ≡ map f (filter p xs)
+pub chosen : {X Y : Type 0} (p : X → Bool) (f : X → Y) (xs : List X)
+    → flat_map (λ x. cond (p x) (f x ∷ []) []) xs ≡ map f (filter p xs)
 chosen p f [] = refl
-chosen p f (x ∷ xs) = elim (p x) as (λ b. cond b (f x ∷ []) [] ++ flat_map (λ x. cond (p x) (f x ∷ []) []) xs ≡ map f (cond b (x ∷ filter p xs) (filter p xs)))
+chosen p f (x ∷ xs) =
+    elim (p x) as (λ b. cond b (f x ∷ []) []
+    ++ flat_map (λ x. cond (p x) (f x ∷ []) []) xs ≡ map f (cond b (x ∷ filter p xs) (filter p xs)))
     [ true ↦ ap (λ l. f x ∷ l) (chosen p f xs) | false ↦ chosen p f xs ]
 
 -- the rows are those that pass, as they are shown
-pub picks : (tree : ℕ) (terms project : List Term) (order : List (Term × Key)) (db : Trees) (params : Row) (rows : List Row) → IsAnswer (one_table tree terms project order) db params rows
-    → IsPermutation (map (λ r. eval_all project (params ∷ r ∷ [])) (filter (λ r. list_all (holds (params ∷ r ∷ [])) terms) (db tree))) rows
+pub picks : (tree : ℕ) (terms project : List Term) (order : List (Term × Key)) (db : Trees) (params : Row)
+    (rows : List Row) → IsAnswer (one_table tree terms project order) db params rows
+    → IsPermutation (map (λ r. eval_all project (params ∷ r ∷ []))
+    (filter (λ r. list_all (holds (params ∷ r ∷ [])) terms) (db tree))) rows
 picks tree terms project order db params rows a =
     let q = one_table tree terms project order in
     let passed = filter (λ r. list_all (holds (params ∷ r ∷ [])) terms) (db tree) in
-    let staged : a.staged ≡ map (λ (r : Row). params ∷ r ∷ []) passed = a.grouped ∙ chosen _ (λ r. params ∷ r ∷ []) (db tree) in
-    let kept : a.kept ≡ map (λ (r : Row). output q (params ∷ r ∷ [])) passed = a.distinct ∙ ap (map (output q)) staged ∙ map-map (output q) (λ r. params ∷ r ∷ []) passed in
-    let all : IsPermutation (map (λ (o : Output). o.1) a.kept) (map (λ (o : Output). o.1) a.ordered) = IsPermutation-map (λ o. o.1) a.kept a.ordered a.same in
+    let staged : a.staged ≡ map (λ (r : Row). params ∷ r ∷ []) passed =
+    a.grouped ∙ chosen _ (λ r. params ∷ r ∷ []) (db tree) in
+    let kept : a.kept ≡ map (λ (r : Row). output q (params ∷ r ∷ [])) passed =
+    a.distinct ∙ ap (map (output q)) staged ∙ map-map (output q) (λ r. params ∷ r ∷ []) passed in
+    let all : IsPermutation (map (λ (o : Output). o.1) a.kept) (map (λ (o : Output). o.1) a.ordered) =
+    IsPermutation-map (λ o. o.1) a.kept a.ordered a.same in
     let front : map (λ (o : Output). o.1) a.kept ≡ map (λ r. eval_all project (params ∷ r ∷ [])) passed =
     ap (map (λ (o : Output). o.1)) kept ∙ map-map (λ (o : Output). o.1) (λ r. output q (params ∷ r ∷ [])) passed in
     subst (λ l. IsPermutation l rows) front (subst (IsPermutation (map (λ (o : Output). o.1) a.kept)) (sym a.shown) all)

@@ -1,7 +1,9 @@
 -- Why a query of a text that is understood fails.
-use Rattle.std.proofs.Common.{◌≡◌, ◌⊎◌, inl, inr, ℕ, List, Option, None, Some, Result, IsTrue, refl, sym, ap, subst, ◌∙◌}
+use Rattle.std.proofs.Common.{◌≡◌, ◌⊎◌, inl, inr, ℕ, List, Option, None, Some, Result, IsTrue, refl, sym, ap, subst}
+use Rattle.std.proofs.Common.{◌∙◌}
 use Rattle.sqlite_value.specs.Order.{Row}
-use Rattle.sqlite_trees.specs.declared.error.StoreError.TheVariants.{OutOfMemory as NoMemory, Io, Corrupt, Full, Broken, Unstorable}
+use Rattle.sqlite_trees.specs.declared.error.StoreError.TheVariants.{OutOfMemory as NoMemory, Io, Corrupt, Full, Broken}
+use Rattle.sqlite_trees.specs.declared.error.StoreError.TheVariants.{Unstorable}
 use Rattle.sqlite_schema.specs.declared.command.Command.{Command}
 use Rattle.sqlite_schema.specs.declared.command.Command.TheVariants.{Select, Rows}
 use Rattle.sqlite_schema.specs.declared.command.Returning.{Returning}
@@ -34,7 +36,8 @@ of_store old new e TooBig (Full, same, why, back, tells) = is e _ same refl
 of_store old new e TooBig (Broken, same, why, back, tells) = is e _ same refl
 of_store old new e TooBig (Unstorable, same, why, back, tells) = is e _ same refl
 
-of_read : (limit : Option ℕ) (command : Command) (db : Database) (params : Row) (e : Error) → RefusesToRead limit command db params e → IsKnown e
+of_read : (limit : Option ℕ) (command : Command) (db : Database) (params : Row) (e : Error)
+    → RefusesToRead limit command db params e → IsKnown e
 of_read limit (Select q names) db params e (inl typed) = is e _ typed.0 refl
 of_read limit (Select q names) db params e (inr (inl over)) = is e _ over.0 refl
 of_read limit (Select q names) db params e (inr (inr long)) = is e _ long.0 refl
@@ -51,7 +54,8 @@ query_fails sql params old new schema has plain = fails
     from_schema : {r : Result Compiled CompileError} → understood old.now.schema sql ≡ r → understood schema sql ≡ r
     from_schema it = ap (λ s. understood s sql) (sym has) ∙ it
 
-    shown : (c : Compiled) (now : ℕ) (e : Error) (what : Option Returning) → what ≡ None → FailsToShow old new sql c (timed params c.formats now) e what → IsKnown e
+    shown : (c : Compiled) (now : ℕ) (e : Error) (what : Option Returning) → what ≡ None
+        → FailsToShow old new sql c (timed params c.formats now) e what → IsKnown e
     shown c now e None none h = of_read old.step_limit c.command h.0 (timed params c.formats now) e h.2
     shown c now e (Some what) none h = absurd cc
 

@@ -16,7 +16,8 @@ use Rattle.sqlite.specs.declared.error.Error.{Error}
 use Rattle.sqlite.specs.Given.{HasBegun, HasGiven, Returns}
 use Rattle.sqlite.specs.Held.{Held, state}
 use Rattle.sqlite.specs.Listing.{understood, if_select, is_select, reads_listing, listing_schema}
-use Rattle.sqlite.specs.State.{State, CommitsShowing, Shown, FailsToQuery, FailsToShow, IsNotRun, IsUnchanged, IsRolledBack}
+use Rattle.sqlite.specs.State.{State, CommitsShowing, Shown, FailsToQuery, FailsToShow, IsNotRun, IsUnchanged}
+use Rattle.sqlite.specs.State.{IsRolledBack}
 
 -- the text has no RETURNING
 abbrev pub IsQuery : List ℕ → Type 0
@@ -49,7 +50,9 @@ module _ (text : List ℕ) (query : IsQuery text) where
 
   selected : (r : Result Compiled CompileError) (c : Compiled) → if_select r ≡ Ok c → r ≡ Ok c
   selected (Err e) c is = absurd cc
-  selected (Ok k) c is = elim (cases_Bool (is_select k.command)) [ inl is_one ↦ rw is_one at is | inr other ↦ absurd (let none = rw other at is in cc) ]
+  selected (Ok k) c is =
+      elim (cases_Bool (is_select k.command))
+      [ inl is_one ↦ rw is_one at is | inr other ↦ absurd (let none = rw other at is in cc) ]
 
   alone : (schema : Schema) (c : Compiled) → understood schema text ≡ Ok c → c.returning ≡ None
   unfolding understood
@@ -59,7 +62,8 @@ module _ (text : List ℕ) (query : IsQuery text) where
   ]
 
   -- where it succeeds, nothing has changed
-  pub shown_unchanged : (params : Row) (old new : State) (rows : List Row) → Shown text params old new rows → IsUnchanged old new
+  pub shown_unchanged : (params : Row) (old new : State) (rows : List Row) → Shown text params old new rows
+      → IsUnchanged old new
   unfolding Shown
   shown_unchanged params old new rows h = (rw (alone old.now.schema h.0 h.1.is) at h.2).3
 
@@ -69,7 +73,8 @@ module _ (text : List ℕ) (query : IsQuery text) where
   commits_nothing params s db h = let none = rw (alone s.now.schema h.0 h.1.is) at h.2 in cc
 
   -- where it begins, none of its rows is given yet, and nothing has changed
-  pub begun : {S : Type 0} (g : Ghosts S) (params : Row) (old new : Held S) → HasBegun g text params old new → HasGiven g text params new [] × IsUnchanged (state g old) (state g new)
+  pub begun : {S : Type 0} (g : Ghosts S) (params : Row) (old new : Held S) → HasBegun g text params old new
+      → HasGiven g text params new [] × IsUnchanged (state g old) (state g new)
   begun g params old new (inl h) = h
   begun g params old new (inr h) = absurd (returns_none (understood old.schema text) refl h.0)
     where
@@ -78,13 +83,15 @@ module _ (text : List ℕ) (query : IsQuery text) where
       returns_none (Err e) is some = some
 
 -- where a query fails, nothing has changed, or the transaction is undone
-pub failed_unchanged : (text : List ℕ) (params : Row) (old new : State) (e : Error) → FailsToQuery text params old new e → IsUnchanged old new ⊎ IsRolledBack old new
+pub failed_unchanged : (text : List ℕ) (params : Row) (old new : State) (e : Error)
+    → FailsToQuery text params old new e → IsUnchanged old new ⊎ IsRolledBack old new
 unfolding FailsToQuery IsNotRun
 failed_unchanged text params old new e (inl (inl (none, same))) = inl same
 failed_unchanged text params old new e (inl (inr (cause, told, has, back, tells))) = inr back
 failed_unchanged text params old new e (inr (c, it, fails)) = of_rows c.returning fails
   where
-    of_rows : (what : Option Returning) → FailsToShow old new text c (timed params c.formats it.now) e what → IsUnchanged old new ⊎ IsRolledBack old new
+    of_rows : (what : Option Returning) → FailsToShow old new text c (timed params c.formats it.now) e what
+        → IsUnchanged old new ⊎ IsRolledBack old new
     of_rows None h = inl h.3
     of_rows (Some what) (inl h) = inl h.1
     of_rows (Some what) (inr (cause, told, has, back, tells)) = inr back

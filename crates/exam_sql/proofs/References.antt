@@ -37,8 +37,10 @@ link_to child columns parent = link child.table.tree columns parent.table.tree p
 -- the foreign keys of the eleven tables, by their rows read by columns
 abbrev pub links : List Link
 links =
-    link_to tables.paper (3 ∷ []) tables.session ∷ link_to tables.opening (1 ∷ []) tables.session ∷ link_to tables.opening (2 ∷ []) tables.hall
-    ∷ link_to tables.entry (1 ∷ []) tables.candidate ∷ link_to tables.entry (2 ∷ []) tables.paper ∷ link_to tables.arrangement (1 ∷ []) tables.candidate
+    link_to tables.paper (3 ∷ []) tables.session ∷ link_to tables.opening (1 ∷ []) tables.session
+    ∷ link_to tables.opening (2 ∷ []) tables.hall
+    ∷ link_to tables.entry (1 ∷ []) tables.candidate ∷ link_to tables.entry (2 ∷ []) tables.paper
+    ∷ link_to tables.arrangement (1 ∷ []) tables.candidate
     ∷ link_to tables.appeal (1 ∷ []) tables.candidate ∷ link_to tables.appeal (3 ∷ []) tables.session
     ∷ link_to tables.seat (2 ∷ []) tables.candidate ∷ link_to tables.seat (1 ∷ 3 ∷ []) tables.opening
     ∷ link_to tables.standing (1 ∷ 2 ∷ []) tables.appeal ∷ []
@@ -57,25 +59,32 @@ AllRefer all = AllByRecursion (LinkHolds all) links
 module _ (child_places parent_places : List ℕ) (kept_child child kept_parent parent : List Row)
     (children : Holds child_places kept_child child) (parents : Holds parent_places kept_parent parent)
     (test kept_test : Row → Row → Bool)
-    (same : (p r : Row) → kept_test p r ≡ test (bare parent_places p) (bare child_places r)) (refers_all : AllByRecursion (λ r. list_any (λ p. test p r) parent ≡ true) child) where
+    (same : (p r : Row) → kept_test p r ≡ test (bare parent_places p) (bare child_places r))
+    (refers_all : AllByRecursion (λ r. list_any (λ p. test p r) parent ≡ true) child) where
   -- stored rows refer as the rows read by columns do
   kept : (r : Row) → Has kept_child r → list_any (λ p. kept_test p r) kept_parent ≡ true
   kept r h =
       let meant : list_any (λ p. test p (bare child_places r)) parent ≡ true =
-      all_has _ child (bare child_places r) refers_all (has_permuted _ _ _ children.same (mapped_has (bare child_places) kept_child r h)) in
+      all_has _ child (bare child_places r) refers_all
+      (has_permuted _ _ _ children.same (mapped_has (bare child_places) kept_child r h)) in
       let p = some_has (λ p. test p (bare child_places r)) parent meant in
-      let k = has_mapped (bare parent_places) kept_parent p.0 (has_permuted _ _ _ (IsPermutation-sym _ _ parents.same) p.1) in
-      some_from (λ p. kept_test p r) kept_parent k.0 k.1 (same k.0 r ∙ subst (λ q. test q (bare child_places r) ≡ true) k.2 p.2)
+      let k = has_mapped (bare parent_places) kept_parent p.0
+      (has_permuted _ _ _ (IsPermutation-sym _ _ parents.same) p.1) in
+      some_from (λ p. kept_test p r) kept_parent k.0 k.1
+      (same k.0 r ∙ subst (λ q. test q (bare child_places r) ≡ true) k.2 p.2)
 
 module _ (db all : Trees) where
-  from_rows : AllByRecursion (λ t. Holds (places t) (db t.tree) (all t.tree)) store_schema.tables → AllRefer all → Refers among.All store_schema db
+  from_rows : AllByRecursion (λ t. Holds (places t) (db t.tree) (all t.tree)) store_schema.tables → AllRefer all
+      → Refers among.All store_schema db
   unfolding store_schema same_name joined
   from_rows rows all_refer = (
     all_from _ (db 0) (λ r h. refl),
     (
       all_from _ (db 1) (λ r h. refl),
       (
-        all_from _ (db 3) (λ r h. both_true (or_right _ _ (kept (places tables.paper.table) (places tables.session.table) _ _ _ _ (rows.1.1.0) (rows.1.0) _ _ (λ p r. refl) (all_refer.0) r h)) refl),
+        all_from _ (db 3) (λ r h. both_true
+            (or_right _ _ (kept (places tables.paper.table) (places tables.session.table) _ _ _ _ (rows.1.1.0)
+            (rows.1.0) _ _ (λ p r. refl) (all_refer.0) r h)) refl),
         (
           all_from _ (db 5) (λ r h. refl),
           (
@@ -84,7 +93,9 @@ module _ (db all : Trees) where
               all_from _ (db 8) (λ r h. both_true
                   (or_right _ _ (kept (places tables.opening.table) (places tables.session.table) _ _ _ _
                   (rows.1.1.1.1.1.0) (rows.1.0) _ _ (λ p r. refl) (all_refer.1.0) r h))
-                  (both_true (or_right _ _ (kept (places tables.opening.table) (places tables.hall.table) _ _ _ _ (rows.1.1.1.1.1.0) (rows.1.1.1.0) _ _ (λ p r. refl) (all_refer.1.1.0) r h)) refl)),
+                  (both_true (or_right _ _
+                  (kept (places tables.opening.table) (places tables.hall.table) _ _ _ _ (rows.1.1.1.1.1.0)
+                  (rows.1.1.1.0) _ _ (λ p r. refl) (all_refer.1.1.0) r h)) refl)),
               (
                 all_from _ (db 10) (λ r h. both_true
                     (or_right _ _ (kept (places tables.entry.table) (places tables.candidate.table) _ _ _ _
@@ -132,5 +143,6 @@ module _ (db all : Trees) where
   )
 
 -- If what each row refers to exists, the foreign keys hold.
-pub refers : (db : Database) (all : Trees) → ContainsIn store_schema db all → AllRefer all → Refers among.All store_schema db.trees
+pub refers : (db : Database) (all : Trees) → ContainsIn store_schema db all → AllRefer all
+    → Refers among.All store_schema db.trees
 refers db all was all_refer = from_rows db.trees all was.rows all_refer

@@ -1,5 +1,6 @@
 -- Why a statement fails, where what the database itself may refuse is known.
-use Rattle.std.proofs.Common.{◌≡◌, ◌||◌, ◌≤◌, inl, inr, ℕ, List, [], length, false, None, Some, Option, Ok, Err, Result, sym, ap, subst, ◌∙◌, append-nil, IsTrue}
+use Rattle.std.proofs.Common.{◌≡◌, ◌||◌, ◌≤◌, inl, inr, ℕ, List, [], length, false, None, Some, Option, Ok, Err, Result}
+use Rattle.std.proofs.Common.{sym, ap, subst, ◌∙◌, append-nil, IsTrue}
 use Rattle.sqlite_value.specs.Order.{Row}
 use Rattle.sqlite_schema.specs.declared.command.Command.{Command}
 use Rattle.sqlite_schema.specs.declared.schema.Schema.{Schema}
@@ -10,7 +11,8 @@ use Rattle.sqlite.specs.Clock.{timed}
 use Rattle.sqlite.specs.Does.{Does}
 use Rattle.sqlite.specs.Effect.{is_query}
 use Rattle.sqlite.specs.Listing.{understood}
-use Rattle.sqlite.specs.State.{State, mode_of, Executes, ExecutesIn, ExecutesInside, EndsScope, Escapes, IsNotRun, IsMisplaced, RunsCommand, shows_rows, is_pragma, text_of}
+use Rattle.sqlite.specs.State.{State, mode_of, Executes, ExecutesIn, ExecutesInside, EndsScope, Escapes, IsNotRun}
+use Rattle.sqlite.specs.State.{IsMisplaced, RunsCommand, shows_rows, is_pragma, text_of}
 use Rattle.sqlite.proofs.Callers.{IsPlain, command_of, statement_of}
 use Rattle.exam_sql.specs.Refusals.{Fails, is_failure}
 use Rattle.exam_sql.proofs.Failing.{IsWhole, cause}
@@ -23,14 +25,17 @@ pub record IsQuiet (command : Command) : Type 1 where
 
 module _ (sql : List ℕ) (params : Row) (old new : State) (schema : Schema) (has : old.now.schema ≡ schema)
     (command : Command) (commands : command_of (understood schema sql) ≡ command) (silent : IsQuiet command)
-    (plain : IsPlain (understood schema sql)) (whole : IsWhole sql (length params) (understood schema sql)) (Refused : Type 0) where
+    (plain : IsPlain (understood schema sql)) (whole : IsWhole sql (length params) (understood schema sql))
+    (Refused : Type 0) where
   abbrev Why : Error → Type 0
   Why = Fails old new Refused
 
   abbrev Stops : Option Error → Type 0
-  Stops stop = Does old.step_limit (mode_of old) params old.now (statement_of sql (understood schema sql)) None command (Err stop)
+  Stops stop = Does old.step_limit (mode_of old) params old.now (statement_of sql (understood schema sql)) None command
+      (Err stop)
 
-  module _ (named : (e : Error) → Stops (Some e) → IsTrue (is_failure e)) (refused : (stop : Option Error) → Stops stop → Refused) where
+  module _ (named : (e : Error) → Stops (Some e) → IsTrue (is_failure e))
+      (refused : (stop : Option Error) → Stops stop → Refused) where
     -- what the database has of the text is what the schema has of it
     from_schema : {r : Result Compiled CompileError} → understood old.now.schema sql ≡ r → understood schema sql ≡ r
     from_schema it = ap (λ s. understood s sql) (sym has) ∙ it
@@ -48,23 +53,31 @@ module _ (sql : List ℕ) (params : Row) (old new : State) (schema : Schema) (ha
       its_text : text_of sql c ≡ statement_of sql (understood schema sql)
       its_text = sym (ap (statement_of sql) known)
 
-      stops : (now : ℕ) (stop : Option Error) → Does old.step_limit (mode_of old) (timed params c.formats now) old.now (text_of sql c) c.returning c.command (Err stop) → Stops stop
-      stops now stop does = subst (λ t. Does old.step_limit (mode_of old) params old.now t None command (Err stop)) its_text (rw (its_plain.0, its_plain.1, its_command, append-nil params) at does)
+      stops : (now : ℕ) (stop : Option Error)
+          → Does old.step_limit (mode_of old) (timed params c.formats now) old.now
+          (text_of sql c) c.returning c.command (Err stop) → Stops stop
+      stops now stop does =
+          subst (λ t. Does old.step_limit (mode_of old) params old.now t None command (Err stop)) its_text
+          (rw (its_plain.0, its_plain.1, its_command, append-nil params) at does)
 
       quiet : shows_rows false c ≡ false
       quiet = rw (its_plain.0, its_command) silent.rowless
 
       command_fails : (now : ℕ) (e : Error) → RunsCommand old new sql c (timed params c.formats now) (Err e) → Why e
-      command_fails now e (inl (inl wrong, same)) = absurd (silent.placed old e (subst (λ k. IsMisplaced old k e) its_command wrong))
-      command_fails now e (inl (inr (may, does), same)) = let it = stops now (Some e) does in inr (named e it, inr (refused (Some e) it))
+      command_fails now e (inl (inl wrong, same)) =
+          absurd (silent.placed old e (subst (λ k. IsMisplaced old k e) its_command wrong))
+      command_fails now e (inl (inr (may, does), same)) = let it =
+          stops now (Some e) does in inr (named e it, inr (refused (Some e) it))
       command_fails now e (inr failed) = cause old new _ e _ failed (λ big. refused None (stops now None big))
 
     fails_as : (e : Error) → Executes sql params old new (Err e) → Why e
     unfolding ExecutesIn IsNotRun
     fails_as e (inl (inl (inl unknown, same))) = absurd (subst IsPlain (from_schema unknown.1) plain)
     fails_as e (inl (inl (inr (c, known, inl many), same))) = absurd (many.0 (its_whole c (from_schema known)).0)
-    fails_as e (inl (inl (inr (c, known, inr (inl given)), same))) = absurd (given.0 (its_whole c (from_schema known)).1)
-    fails_as e (inl (inl (inr (c, known, inr (inr timeless)), same))) = absurd (timeless.0 (its_plain c (from_schema known)).1)
+    fails_as e (inl (inl (inr (c, known, inr (inl given)), same))) =
+        absurd (given.0 (its_whole c (from_schema known)).1)
+    fails_as e (inl (inl (inr (c, known, inr (inr timeless)), same))) =
+        absurd (timeless.0 (its_plain c (from_schema known)).1)
     fails_as e (inl (inr failed)) = cause old new _ e _ failed (λ big. absurd big)
     fails_as e (inr (c, it, ran)) =
         let known = from_schema it.is in
@@ -74,4 +87,5 @@ module _ (sql : List ℕ) (params : Row) (old new : State) (schema : Schema) (ha
     pub fails_by : (e : Error) → ExecutesInside 0 sql params old new (Err e) → Why e
     unfolding EndsScope
     fails_by e (inl (ran, same)) = fails_as e ran
-    fails_by e (inr ((c, it, ends), told_as, same)) = absurd (silent.stays old (subst (Escapes 0 old) (its_command c (from_schema it.is)) ends))
+    fails_by e (inr ((c, it, ends), told_as, same)) =
+        absurd (silent.stays old (subst (Escapes 0 old) (its_command c (from_schema it.is)) ends))

@@ -34,7 +34,8 @@ first_names = map (λ d. d.table.name) first_tables
 
 -- The tables of version 1 are tables of the schema, and so is that of the marks, or nothing has its name.
 unfoldable pub lists_tables : Schema → Bool
-lists_tables schema = list_all (is_table schema) first_names && (lists_marks schema || is_free schema (codes "standing"))
+lists_tables schema =
+    list_all (is_table schema) first_names && (lists_marks schema || is_free schema (codes "standing"))
 
 -- the eleven names are those of tables
 unfoldable pub lists_newest : Schema → Bool

@@ -1,5 +1,6 @@
 -- The eleven tables, each with its key and its texts.
-use Rattle.std.specs.Prelude.{codes, List, ℕ, [], ◌∷◌, ◌++◌, ◌+◌, ◌-◌, ◌*◌, ◌/◌, nat_lt, Bool, true, false, if◌then◌else◌}
+use Rattle.std.specs.Prelude.{codes, List, ℕ, [], ◌∷◌, ◌++◌, ◌+◌, ◌-◌, ◌*◌, ◌/◌, nat_lt, Bool, true, false}
+use Rattle.std.specs.Prelude.{if◌then◌else◌}
 use Rattle.std.specs.Prelude.{Option, Some, None, drop, fold, get_or, length, map, take}
 use Rattle.std.specs.List.{flat_map, range_with_len}
 use Rattle.sqlite.specs.Collation.TheVariants.{Binary}
@@ -157,7 +158,8 @@ replace_text table = codes "INSERT OR REPLACE INTO " ++ values_text table
 abbrev pub set_text : (Table → List (List ℕ)) → Table → List ℕ
 set_text changed table =
     codes "INSERT INTO " ++ values_text table ++ codes " ON CONFLICT" ++ in_brackets (key_names table)
-    ++ codes " DO UPDATE SET " ++ in_list (map (λ (name : List ℕ). name ++ codes " = excluded." ++ name) (changed table))
+    ++ codes " DO UPDATE SET "
+    ++ in_list (map (λ (name : List ℕ). name ++ codes " = excluded." ++ name) (changed table))
 
 -- the columns that are not of the key
 abbrev pub others : Table → List (List ℕ)
@@ -191,7 +193,8 @@ described at put table = record {
 
 -- the version
 abbrev pub office : Described
-office = described 0 (λ table. codes "INSERT OR REPLACE INTO office (one, version) VALUES (1, ?1)") (rowid_table 0 (codes "office")
+office = described 0 (λ table. codes "INSERT OR REPLACE INTO office (one, version) VALUES (1, ?1)")
+    (rowid_table 0 (codes "office")
     (integer (codes "one") ∷ integer (codes "version") ∷ [])
     [])
 

@@ -16,7 +16,8 @@ use Rattle.exam_store.specs.Stores.{OfficeIn}
 
 -- ---- a draft of the office that was lent to it
 
-module _ (done : Command) (today : ℕ) (draft : DraftIn) (lent office : State) (of : draft.before ≡ lent) (same : lent ≡ office) (step : Step done today lent (Ok draft.reply) draft.after) where
+module _ (done : Command) (today : ℕ) (draft : DraftIn) (lent office : State) (of : draft.before ≡ lent)
+    (same : lent ≡ office) (step : Step done today lent (Ok draft.reply) draft.after) where
   was : draft.before ≡ office
   was = of ∙ same
 
@@ -28,21 +29,31 @@ module _ (done : Command) (today : ℕ) (draft : DraftIn) (lent office : State) 
   draft_turns old new keeps = (draft.reply, draft.after, stepped, subst (λ b. Rekeeps b draft.after old new) was keeps)
 
   -- the command is refused since the office after it is not saved
-  pub draft_fails : (old new : Shown) (e : Refusal) → FailsToSave draft.before draft.after old new e → FailsToApply done today office old new e
-  draft_fails old new e failed = inr (inr (draft.reply, draft.after, stepped, subst (λ b. FailsToSave b draft.after old new e) was failed))
+  pub draft_fails : (old new : Shown) (e : Refusal) → FailsToSave draft.before draft.after old new e
+      → FailsToApply done today office old new e
+  draft_fails old new e failed =
+      inr (inr (draft.reply, draft.after, stepped, subst (λ b. FailsToSave b draft.after old new e) was failed))
 
 -- ---- one more command
 
-pub applies_more : (done : List (Command × ℕ)) (x : Command × ℕ) (replies : List (Result Reply Refusal)) (reply : Result Reply Refusal) (before mid after : State)
-    → Applies done before replies mid → MayApply x.0 x.1 mid reply after → Applies (done ++ x ∷ []) before (replies ++ reply ∷ []) after
-applies_more [] x [] reply before mid after so_far next = (after, subst (λ b. MayApply x.0 x.1 b reply after) so_far next, refl)
+pub applies_more : (done : List (Command × ℕ)) (x : Command × ℕ) (replies : List (Result Reply Refusal))
+    (reply : Result Reply Refusal) (before mid after : State)
+    → Applies done before replies mid → MayApply x.0 x.1 mid reply after
+    → Applies (done ++ x ∷ []) before (replies ++ reply ∷ []) after
+applies_more [] x [] reply before mid after so_far next =
+    (after, subst (λ b. MayApply x.0 x.1 b reply after) so_far next, refl)
 applies_more [] x (q ∷ replies) reply before mid after so_far next = absurd so_far
 applies_more (y ∷ done) x [] reply before mid after so_far next = absurd so_far
-applies_more (y ∷ done) x (q ∷ replies) reply before mid after so_far next = (so_far.0, so_far.1, applies_more done x replies reply so_far.0 mid after so_far.2 next)
+applies_more (y ∷ done) x (q ∷ replies) reply before mid after so_far next =
+    (so_far.0, so_far.1, applies_more done x replies reply so_far.0 mid after so_far.2 next)
 
-pub applied_more : {S : Type 0} (g : Ghosts S) (done : List (Command × ℕ)) (x : Command × ℕ) (replies : List (Result Reply Refusal)) (reply : Result Reply Refusal) (before mid after : OfficeIn S)
-    → AreApplied g done before replies mid → IsApplied g x.0 x.1 mid reply after → AreApplied g (done ++ x ∷ []) before (replies ++ reply ∷ []) after
-applied_more g [] x [] reply before mid after so_far next = (after, subst (λ b. IsApplied g x.0 x.1 b reply after) so_far next, refl)
+pub applied_more : {S : Type 0} (g : Ghosts S) (done : List (Command × ℕ)) (x : Command × ℕ)
+    (replies : List (Result Reply Refusal)) (reply : Result Reply Refusal) (before mid after : OfficeIn S)
+    → AreApplied g done before replies mid → IsApplied g x.0 x.1 mid reply after
+    → AreApplied g (done ++ x ∷ []) before (replies ++ reply ∷ []) after
+applied_more g [] x [] reply before mid after so_far next =
+    (after, subst (λ b. IsApplied g x.0 x.1 b reply after) so_far next, refl)
 applied_more g [] x (q ∷ replies) reply before mid after so_far next = absurd so_far
 applied_more g (y ∷ done) x [] reply before mid after so_far next = absurd so_far
-applied_more g (y ∷ done) x (q ∷ replies) reply before mid after so_far next = (so_far.0, so_far.1, applied_more g done x replies reply so_far.0 mid after so_far.2 next)
+applied_more g (y ∷ done) x (q ∷ replies) reply before mid after so_far next =
+    (so_far.0, so_far.1, applied_more g done x replies reply so_far.0 mid after so_far.2 next)

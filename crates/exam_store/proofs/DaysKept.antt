@@ -1,5 +1,6 @@
 -- The days of sessions and of appeals: those of an opened office, and what a command makes of them.
-use Rattle.std.proofs.Common.{All, ◌≡◌, ℕ, Bool, true, false, if◌then◌else◌, Option, Some, None, List, [], ◌∷◌, map, Ok, subst}
+use Rattle.std.proofs.Common.{All, ◌≡◌, ℕ, Bool, true, false, if◌then◌else◌, Option, Some, None, List, [], ◌∷◌, map, Ok}
+use Rattle.std.proofs.Common.{subst}
 use Rattle.std.specs.Prelude.{is_none}
 use Rattle.std.specs.List.{AllByRecursion}
 use Rattle.std.specs.Map.{values_of}
@@ -12,7 +13,7 @@ use Rattle.exam_types.specs.Days.{IsDay}
 use Rattle.exam_rules.specs.declared.rows.Appeal.{Appeal}
 use Rattle.exam_rules.specs.declared.rows.Session.{Session}
 use Rattle.exam_rules.specs.declared.rows.Subject.{Subject}
-use Rattle.exam_rules.specs.Relations.{Code, Relations, appeal_cmp, code_cmp, entry_cmp, has_row, put_row}
+use Rattle.exam_rules.specs.Relations.{Code, Relations, appeal_cmp, code_cmp, put_row}
 use Rattle.exam_rules.specs.Tables as table
 use Rattle.exam_commands.specs.declared.command.Command.{Command}
 use Rattle.exam_commands.specs.declared.command.Command.TheVariants as command
@@ -45,11 +46,14 @@ no_days = record { sessions = All-nil OfSession; appeals = All-nil OfAppeal }
 
 -- ---- an office whose values have the forms of their columns
 
-sessions_dated : (es : List (Code × Session)) → AllByRecursion (λ e. IsSession e.0 e.1) es → All OfSession (values_of es)
+sessions_dated : (es : List (Code × Session)) → AllByRecursion (λ e. IsSession e.0 e.1) es
+    → All OfSession (values_of es)
 sessions_dated [] forms = All-nil OfSession
-sessions_dated (e ∷ es) forms = All-cons OfSession e.1 (values_of es) (session_day e.1.day forms.0.1) (sessions_dated es forms.1)
+sessions_dated (e ∷ es) forms =
+    All-cons OfSession e.1 (values_of es) (session_day e.1.day forms.0.1) (sessions_dated es forms.1)
 
-appeals_dated : (es : List ((ℕ × Code) × Appeal)) → AllByRecursion (λ e. IsAppeal e.0 e.1) es → All OfAppeal (values_of es)
+appeals_dated : (es : List ((ℕ × Code) × Appeal)) → AllByRecursion (λ e. IsAppeal e.0 e.1) es
+    → All OfAppeal (values_of es)
 appeals_dated [] forms = All-nil OfAppeal
 appeals_dated (e ∷ es) forms = All-cons OfAppeal e.1 (values_of es) forms.0.6 (appeals_dated es forms.1)
 
@@ -68,22 +72,21 @@ one_of true r t here there = here
 one_of false r t here there = there
 
 with_row_days : (r : Relations) (x : Row) → HasDays r → HasRowDay x → HasDays (with_row r x)
-with_row_days r (row.OfSession s x) days day = record { sessions = All-values-insert_entry code_cmp s x OfSession r.sessions days.sessions day; appeals = days.appeals }
-with_row_days r (row.OfPaper p x) days day = record { sessions = days.sessions; appeals = days.appeals }
-with_row_days r (row.OfHall h x) days day = record { sessions = days.sessions; appeals = days.appeals }
-with_row_days r (row.OfOpening s h x) days day = record { sessions = days.sessions; appeals = days.appeals }
-with_row_days r (row.OfCandidate c x) days day = record { sessions = days.sessions; appeals = days.appeals }
-with_row_days r (row.OfEntry c p) days day =
-    one_of (has_row entry_cmp r.entries (c, p)) r
-    (record r { entries = put_row entry_cmp r.entries (c, p) (record { live = true }) }) days
-    (record { sessions = days.sessions; appeals = days.appeals })
-with_row_days r (row.OfArrangement c x) days day = record { sessions = days.sessions; appeals = days.appeals }
+with_row_days r (row.OfSession s x) days day =
+    record {
+      sessions = All-values-insert_entry code_cmp s x OfSession r.sessions days.sessions day;
+      appeals = days.appeals;
+    }
+with_row_days r x days day = record { sessions = days.sessions; appeals = days.appeals }
 
 with_rows_days : (r : Relations) (xs : List Row) → HasDays r → All HasRowDay xs → HasDays (with_rows r xs)
 with_rows_days r [] days each = days
-with_rows_days r (x ∷ xs) days each = with_rows_days (with_row r x) xs (with_row_days r x days (All-head HasRowDay x xs each)) (All-tail HasRowDay x xs each)
+with_rows_days r (x ∷ xs) days each =
+    with_rows_days (with_row r x) xs (with_row_days r x days (All-head HasRowDay x xs each))
+    (All-tail HasRowDay x xs each)
 
-put_appeal : (appeals : List ((ℕ × Code) × Appeal)) (key : ℕ × Code) (a : Appeal) → All OfAppeal (values_of appeals) → IsDay a.lodged → All OfAppeal (values_of (put_row appeal_cmp appeals key a))
+put_appeal : (appeals : List ((ℕ × Code) × Appeal)) (key : ℕ × Code) (a : Appeal) → All OfAppeal (values_of appeals)
+    → IsDay a.lodged → All OfAppeal (values_of (put_row appeal_cmp appeals key a))
 put_appeal appeals key a days day = All-values-insert_entry appeal_cmp key a OfAppeal appeals days day
 
 stored : (r : Relations) (c : ℕ) (reference : Code) → HasDays r → IfSome (appeal_at r c reference) OfAppeal
@@ -91,32 +94,42 @@ stored r c reference days = IfSome-lookup_from_All OfAppeal (is_at (appeal_cmp (
 
 lodging_days : (r : Relations) (today : ℕ) (l : Lodging) → HasDays r → IsDay today → HasDays (with_lodging r today l)
 lodging_days r today l days day =
-    one_of (is_none (appeal_at r l.number l.reference)) (with_appeal r today l) r (record { sessions = days.sessions; appeals = put_appeal r.appeals (l.number, l.reference) _ days.appeals day }) days
+    one_of (is_none (appeal_at r l.number l.reference)) (with_appeal r today l) r
+    (record {
+      sessions = days.sessions;
+      appeals = put_appeal r.appeals (l.number, l.reference) _ days.appeals day;
+    }) days
 
-retraction_days : (r : Relations) (c : ℕ) (reference : Code) (found : Option Appeal) → HasDays r → IfSome found OfAppeal → HasDays (with_retracted r c reference found)
+retraction_days : (r : Relations) (c : ℕ) (reference : Code) (found : Option Appeal) → HasDays r
+    → IfSome found OfAppeal → HasDays (with_retracted r c reference found)
 retraction_days r c reference None days day = days
 retraction_days r c reference (Some a) days day =
-    one_of (is_retracted a.status) r (with_retracted_appeal r c reference a) days (record { sessions = days.sessions; appeals = put_appeal r.appeals (c, reference) _ days.appeals day })
+    one_of (is_retracted a.status) r (with_retracted_appeal r c reference a) days
+    (record { sessions = days.sessions; appeals = put_appeal r.appeals (c, reference) _ days.appeals day })
 
-given_way : (c : ℕ) (s : Code) (asked : Subject) (es : List ((ℕ × Code) × Appeal)) → All OfAppeal (values_of es) → All OfAppeal (values_of (map (giving_way c s asked) es))
+given_way : (c : ℕ) (s : Code) (asked : Subject) (es : List ((ℕ × Code) × Appeal)) → All OfAppeal (values_of es)
+    → All OfAppeal (values_of (map (giving_way c s asked) es))
 given_way c s asked [] days = days
 given_way c s asked (e ∷ es) days =
     All-cons OfAppeal (giving_way c s asked e).1 (values_of (map (giving_way c s asked) es))
     (inner (gives_way c s asked e) (All-head OfAppeal e.1 (values_of es) days))
     (given_way c s asked es (All-tail OfAppeal e.1 (values_of es) days))
   where
-    inner : (b : Bool) → IsDay e.1.lodged → OfAppeal (if b then (e.0, record e.1 { status = superseded e.1.status }) else e).1
+    inner : (b : Bool) → IsDay e.1.lodged
+        → OfAppeal (if b then (e.0, record e.1 { status = superseded e.1.status }) else e).1
     inner true day = day
     inner false day = day
 
-superseded_days : (c : ℕ) (a : Appeal) (o : Outcome) (es : List ((ℕ × Code) × Appeal)) → All OfAppeal (values_of es) → All OfAppeal (values_of (with_superseded c a o es))
+superseded_days : (c : ℕ) (a : Appeal) (o : Outcome) (es : List ((ℕ × Code) × Appeal)) → All OfAppeal (values_of es)
+    → All OfAppeal (values_of (with_superseded c a o es))
 superseded_days c a o es days = inner (is_grant o)
   where
     inner : (b : Bool) → All OfAppeal (values_of (if b then map (giving_way c a.session a.subject) es else es))
     inner true = given_way c a.session a.subject es days
     inner false = days
 
-decision_days : (r : Relations) (d : Decision) (found : Option Appeal) → HasDays r → IfSome found OfAppeal → HasDays (with_decided r d found)
+decision_days : (r : Relations) (d : Decision) (found : Option Appeal) → HasDays r → IfSome found OfAppeal
+    → HasDays (with_decided r d found)
 decision_days r d None days day = days
 decision_days r d (Some a) days day =
     one_of (is_made r d a) r (with_outcome r d a) days
@@ -127,17 +140,28 @@ decision_days r d (Some a) days day =
           (superseded_days d.number a d.outcome r.appeals days.appeals) day;
     })
 
-changed_days : (done : Command) (today : ℕ) (before : State) (r : Relations) → HasDays before.relations → IsDay today → HasRowDays done → change done today before ≡ Ok r → HasDays r
-changed_days (command.Import import) today before r days day rows is = subst HasDays (made _ _ r is) (with_rows_days before.relations import.rows days rows)
-changed_days (command.Withdraw c p) today before r days day rows is = subst HasDays (made _ _ r is) (record { sessions = days.sessions; appeals = days.appeals })
-changed_days (command.Reinstate c p) today before r days day rows is = subst HasDays (made _ _ r is) (record { sessions = days.sessions; appeals = days.appeals })
-changed_days (command.CloseHall s h) today before r days day rows is = subst HasDays (made _ _ r is) (record { sessions = days.sessions; appeals = days.appeals })
-changed_days (command.Lodge l) today before r days day rows is = subst HasDays (made _ _ r is) (lodging_days before.relations today l days day)
+changed_days : (done : Command) (today : ℕ) (before : State) (r : Relations) → HasDays before.relations → IsDay today
+    → HasRowDays done → change done today before ≡ Ok r → HasDays r
+changed_days (command.Import import) today before r days day rows is =
+    subst HasDays (made _ _ r is) (with_rows_days before.relations import.rows days rows)
+changed_days (command.Withdraw c p) today before r days day rows is =
+    subst HasDays (made _ _ r is) (record { sessions = days.sessions; appeals = days.appeals })
+changed_days (command.Reinstate c p) today before r days day rows is =
+    subst HasDays (made _ _ r is) (record { sessions = days.sessions; appeals = days.appeals })
+changed_days (command.CloseHall s h) today before r days day rows is =
+    subst HasDays (made _ _ r is) (record { sessions = days.sessions; appeals = days.appeals })
+changed_days (command.Lodge l) today before r days day rows is =
+    subst HasDays (made _ _ r is) (lodging_days before.relations today l days day)
 changed_days (command.Retract c reference) today before r days day rows is =
-    subst HasDays (made _ _ r is) (retraction_days before.relations c reference (appeal_at before.relations c reference) days (stored before.relations c reference days))
+    subst HasDays (made _ _ r is)
+    (retraction_days before.relations c reference (appeal_at before.relations c reference) days
+    (stored before.relations c reference days))
 changed_days (command.Decide d) today before r days day rows is =
-    subst HasDays (made _ _ r is) (decision_days before.relations d (appeal_at before.relations d.number d.reference) days (stored before.relations d.number d.reference days))
+    subst HasDays (made _ _ r is)
+    (decision_days before.relations d (appeal_at before.relations d.number d.reference) days
+    (stored before.relations d.number d.reference days))
 
 pub command_days : (done : Command) (today : ℕ) (before after : State) (reply : Reply) → HasDays before.relations
     → IsDay today → HasRowDays done → Step done today before (Ok reply) after → HasDays after.relations
-command_days done today before after reply days day rows step = changed_days done today before after.relations days day rows (new_facts done today before reply after step)
+command_days done today before after reply days day rows step =
+    changed_days done today before after.relations days day rows (new_facts done today before reply after step)

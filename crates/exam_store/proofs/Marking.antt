@@ -1,5 +1,6 @@
 -- The table of marks is there since version 2.
-use Rattle.std.proofs.Common.{◌≡◌, ◌≢◌, ◌++◌, ℕ, Bool, true, false, not, if◌then◌else◌, true≢false, List, [], ◌∷◌, inl, inr, IsTrue, refl, sym, ap, subst, ◌∙◌}
+use Rattle.std.proofs.Common.{◌≡◌, ◌≢◌, ◌++◌, ℕ, Bool, true, false, not, if◌then◌else◌, true≢false, List, [], ◌∷◌, inl}
+use Rattle.std.proofs.Common.{inr, IsTrue, refl, sym, ap, subst, ◌∙◌}
 use Rattle.std.specs.Bool.{beq}
 use Rattle.sqlite_value.specs.declared.value.Value.TheVariants.{Null}
 use Rattle.sqlite_trees.specs.Tree.{Trees}
@@ -15,7 +16,8 @@ use Rattle.exam_tables.specs.Faults.{is_store_refusal}
 use Rattle.exam_tables.specs.Inside.{Contains}
 use Rattle.exam_tables.specs.Loaded.{AreUnderstood, IsUnderstood}
 use Rattle.exam_store.specs.Found.{is_open_refusal, version_texts}
-use Rattle.exam_tables.specs.Versions.{ContainsOf, HasVersion, IsKnown, IsOlder, IsVersion, marks_since, version, version_row}
+use Rattle.exam_tables.specs.Versions.{ContainsOf, HasVersion, IsKnown, IsOlder, IsVersion, marks_since, version}
+use Rattle.exam_tables.specs.Versions.{version_row}
 use Rattle.exam_tables.specs.declared.version.Version.{Version}
 
 listed : (has_marks : Bool) → lists_marks (made_schema has_marks) ≡ has_marks
@@ -27,10 +29,14 @@ pub listed_of : (v : ℕ) (db : Database) (all : Trees) → ContainsOf v db all 
 listed_of v db all was = ap lists_marks was.0.schema_is ∙ listed (marks_since v)
 
 -- tables that list marks so are those of the version
-pub is_of : (v : ℕ) (db : Database) (all : Trees) → lists_marks db.schema ≡ marks_since v → ContainsMade db all → ContainsOf v db all
+pub is_of : (v : ℕ) (db : Database) (all : Trees) → lists_marks db.schema ≡ marks_since v → ContainsMade db all
+    → ContainsOf v db all
 is_of v db all lists was =
-    let same : was.has_marks ≡ marks_since v = sym (listed was.has_marks) ∙ sym (ap lists_marks was.contains.schema_is) ∙ lists in
-    (subst (λ b. ContainsIn (made_schema b) db all) same was.contains, subst (λ b. b ≡ false → all 17 ≡ []) same was.unmarked)
+    let same : was.has_marks ≡ marks_since v =
+    sym (listed was.has_marks) ∙ sym (ap lists_marks was.contains.schema_is) ∙ lists in (
+      subst (λ b. ContainsIn (made_schema b) db all) same was.contains,
+      subst (λ b. b ≡ false → all 17 ≡ []) same was.unmarked,
+    )
 
 pub made_of : (v : ℕ) (db : Database) (all : Trees) → ContainsOf v db all → ContainsMade db all
 made_of v db all was = record { has_marks = marks_since v; contains = was.0; unmarked = was.1 }
@@ -56,18 +62,22 @@ no_older v (inl one) newest = let same : 1 ≡ version = sym one ∙ newest in c
 no_older v (inr two) newest = let same : 2 ≡ version = sym two ∙ newest in cc
 
 -- a database that is left as it was has the tables that it had
-pub still_of : (v : ℕ) (old new : State) (all : Trees) → IsUnchanged old new → ContainsOf v old.now all → ContainsOf v new.now all
+pub still_of : (v : ℕ) (old new : State) (all : Trees) → IsUnchanged old new → ContainsOf v old.now all
+    → ContainsOf v new.now all
 still_of v old new all same was = subst (λ (db : Database). ContainsOf v db all) (sym same.0.now_is) was
 
-pub still_made : (old new : State) (all : Trees) → IsUnchanged old new → ContainsMade old.now all → ContainsMade new.now all
+pub still_made : (old new : State) (all : Trees) → IsUnchanged old new → ContainsMade old.now all
+    → ContainsMade new.now all
 still_made old new all same was = subst (λ (db : Database). ContainsMade db all) (sym same.0.now_is) was
 
-one_more : (db : Database) (texts : List (List ℕ)) (text : List ℕ) → AreUnderstood db texts → IsUnderstood db text → AreUnderstood db (texts ++ text ∷ [])
+one_more : (db : Database) (texts : List (List ℕ)) (text : List ℕ) → AreUnderstood db texts → IsUnderstood db text
+    → AreUnderstood db (texts ++ text ∷ [])
 one_more db [] text all last = (last, tt)
 one_more db (t ∷ texts) text all last = (all.0, one_more db texts text all.1 last)
 
 -- of texts that are understood the first ones are
-pub some_understood : (db : Database) (texts more : List (List ℕ)) → AreUnderstood db (texts ++ more) → AreUnderstood db texts
+pub some_understood : (db : Database) (texts more : List (List ℕ)) → AreUnderstood db (texts ++ more)
+    → AreUnderstood db texts
 some_understood db [] more all = tt
 some_understood db (t ∷ texts) more all = (all.0, some_understood db texts more all.1)
 
@@ -76,7 +86,8 @@ pub understood_of : (v : ℕ) (db : Database) → AreUnderstood db held_texts �
     → (IsTrue (lists_marks db.schema) → IsUnderstood db load_standing) → AreUnderstood db (version_texts v)
 understood_of v db held lists marks = inner (marks_since v) lists
   where
-    inner : (b : Bool) → lists_marks db.schema ≡ b → AreUnderstood db (held_texts ++ (if b then load_standing ∷ [] else []))
+    inner : (b : Bool) → lists_marks db.schema ≡ b
+        → AreUnderstood db (held_texts ++ (if b then load_standing ∷ [] else []))
     inner true there = one_more db held_texts load_standing held (marks there)
     inner false none = held
 

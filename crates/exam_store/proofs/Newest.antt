@@ -11,7 +11,8 @@ use Rattle.exam_sql.specs.Made.{ContainsMade}
 use Rattle.exam_sql.proofs.Keys.{equal_itself}
 use Rattle.exam_store.proofs.Marking.{made_of, no_older, one_version}
 use Rattle.exam_commands.specs.State.{State as Office}
-use Rattle.exam_tables.specs.Versions.{FailsToCreate, FailsToMake, HasVersion, IsKnown, IsOlder, Widens, version, version_at, with_version}
+use Rattle.exam_tables.specs.Versions.{FailsToCreate, FailsToMake, HasVersion, IsKnown, IsOlder, Widens, version}
+use Rattle.exam_tables.specs.Versions.{version_at, with_version}
 use Rattle.exam_tables.proofs.Creating.{made_later}
 use Rattle.exam_store.specs.Found.{HoldsGood, Migrates}
 use Rattle.exam_store.specs.Kept.{HoldsOffice}
@@ -30,11 +31,17 @@ holds_with all office held = record {
 }
 
 -- tables of an older version that hold a good office of it are widened
-pub migrates : (old new : Database) (v : ℕ) → IsOlder v → ((all : Trees) → ContainsMade old all → HoldsGood v old all) → Widens old new → Migrates old new
+pub migrates : (old new : Database) (v : ℕ) → IsOlder v → ((all : Trees) → ContainsMade old all → HoldsGood v old all)
+    → Widens old new → Migrates old new
 migrates old new v older good widens = record {
   good = λ all was. (v, inl older, good all was);
   kept = λ w before office was.
-      record { all = with_version was.all; contains = widens was.all (made_of w old was.all was.contains); version = renewed w was.all was.version; held = holds_with was.all office was.held };
+      record {
+        all = with_version was.all;
+        contains = widens was.all (made_of w old was.all was.contains);
+        version = renewed w was.all was.version;
+        held = holds_with was.all office was.held;
+      };
   same = λ all was has. absurd (no_older v older (one_version v version all (good all was).1 has));
 }
 
@@ -52,10 +59,12 @@ none_good v all (inr (inl none)) = inr (inl none)
 none_good v all (inr (inr (office, held, wrong))) = inr (inr (office, held, λ good. wrong good.0))
 
 -- a version's number says what it can hold
-pub within_as : (v : Version) (office : Office) → IsKnown v → IsTrue (is_within v office) → IsTrue (is_within (version_at v.number) office)
+pub within_as : (v : Version) (office : Office) → IsKnown v → IsTrue (is_within v office)
+    → IsTrue (is_within (version_at v.number) office)
 within_as v office known within = subst (λ w. IsTrue (is_within w office)) known.1 within
 
-pub within_of : (v : Version) (office : Office) → IsKnown v → IsTrue (is_within (version_at v.number) office) → IsTrue (is_within v office)
+pub within_of : (v : Version) (office : Office) → IsKnown v → IsTrue (is_within (version_at v.number) office)
+    → IsTrue (is_within v office)
 within_of v office known within = subst (λ w. IsTrue (is_within w office)) (sym known.1) within
 
 -- why the tables are not made, where no transaction was under way
@@ -66,10 +75,12 @@ not_made old mid new e s clean up calm same (inl failed) = made_later old mid ne
 not_made old mid new e s clean up calm same (inr (told, going)) = absurd (both_ways _ (same.0.mode ∙ calm) going)
 
 -- a database with a good office of the newest version keeps none of an older one, and stays as it is
-pub newest_alone : (old new : Database) → ((all : Trees) → ContainsMade old all → HoldsGood version old all) → new ≡ old → Migrates old new
+pub newest_alone : (old new : Database) → ((all : Trees) → ContainsMade old all → HoldsGood version old all)
+    → new ≡ old → Migrates old new
 newest_alone old new good is = record {
   good = λ all was. (version, inr refl, good all was);
   kept = λ v before office was.
-      absurd (no_older v before (one_version v version was.all was.version (good was.all (made_of v old was.all was.contains)).1));
+      absurd (no_older v before
+      (one_version v version was.all was.version (good was.all (made_of v old was.all was.contains)).1));
   same = λ all was has. is;
 }

@@ -16,14 +16,19 @@ use Rattle.exam_tables.specs.Inside.{Contains}
 use Rattle.exam_store.specs.Kept.{HaveSameTables, Keeps}
 
 -- what one database holds, another with the same rows holds too
-carried : (tables : List Table) (here there one other all : Trees) → AllByRecursion (λ t. IsPermutation (one t.tree) (other t.tree)) tables
-    → AllByRecursion (λ t. Holds (places t) (here t.tree) (one t.tree)) tables → AllByRecursion (λ t. Holds (places t) (there t.tree) (other t.tree)) tables
-    → AllByRecursion (λ t. Holds (places t) (here t.tree) (all t.tree)) tables → AllByRecursion (λ t. Holds (places t) (there t.tree) (all t.tree)) tables
+carried : (tables : List Table) (here there one other all : Trees)
+    → AllByRecursion (λ t. IsPermutation (one t.tree) (other t.tree)) tables
+    → AllByRecursion (λ t. Holds (places t) (here t.tree) (one t.tree)) tables
+    → AllByRecursion (λ t. Holds (places t) (there t.tree) (other t.tree)) tables
+    → AllByRecursion (λ t. Holds (places t) (here t.tree) (all t.tree)) tables
+    → AllByRecursion (λ t. Holds (places t) (there t.tree) (all t.tree)) tables
 carried [] here there one other all same of_here of_there meant = tt
 carried (t ∷ tables) here there one other all same of_here of_there meant = (
   record {
     shaped = of_there.0.shaped;
-    same = IsPermutation-trans _ _ _ of_there.0.same (IsPermutation-trans _ _ _ (IsPermutation-sym _ _ same.0) (IsPermutation-trans _ _ _ (IsPermutation-sym _ _ of_here.0.same) meant.0.same));
+    same = IsPermutation-trans _ _ _ of_there.0.same
+        (IsPermutation-trans _ _ _ (IsPermutation-sym _ _ same.0)
+        (IsPermutation-trans _ _ _ (IsPermutation-sym _ _ of_here.0.same) meant.0.same));
   },
   carried tables here there one other all same.1 of_here.1 of_there.1 meant.1,
 )
@@ -55,8 +60,10 @@ module _ (here there : Database) (office : State) (one : Keeps here office) (oth
       let y = other.held.facts in
       each_table (λ t. IsPermutation (one.all t.tree) (other.all t.tree))
       (rw (one.version, other.version) (IsPermutation-refl _)) (both _ _ _ (x table.Sessions) (y table.Sessions))
-      (both _ _ _ (x table.Papers) (y table.Papers)) (both _ _ _ (x table.Halls) (y table.Halls)) (both _ _ _ (x table.Candidates) (y table.Candidates))
-      (both _ _ _ (x table.Openings) (y table.Openings)) (both _ _ _ (x table.Entries) (y table.Entries)) (both _ _ _ (x table.Arrangements) (y table.Arrangements))
+      (both _ _ _ (x table.Papers) (y table.Papers)) (both _ _ _ (x table.Halls) (y table.Halls))
+      (both _ _ _ (x table.Candidates) (y table.Candidates))
+      (both _ _ _ (x table.Openings) (y table.Openings)) (both _ _ _ (x table.Entries) (y table.Entries))
+      (both _ _ _ (x table.Arrangements) (y table.Arrangements))
       (both _ _ _ (x table.Appeals) (y table.Appeals)) (both _ _ _ one.held.seats other.held.seats)
       (both _ _ _ (x table.Standing) (y table.Standing))
 
@@ -68,5 +75,10 @@ module _ (here there : Database) (office : State) (one : Keeps here office) (oth
         other.contains.rows meant.rows;
   }
 
-pub same_tables : (here there : Database) (office : State) → Keeps here office → Keeps there office → HaveSameTables here there
-same_tables here there office one other = record { ours = (one.all, one.contains); same = λ all. (over here there office one other all, over there here office other one all) }
+pub same_tables : (here there : Database) (office : State) → Keeps here office → Keeps there office
+    → HaveSameTables here there
+same_tables here there office one other =
+    record {
+      ours = (one.all, one.contains);
+      same = λ all. (over here there office one other all, over there here office other one all);
+    }

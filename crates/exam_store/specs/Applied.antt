@@ -62,13 +62,18 @@ in_memory (Err e) = Err (if is_store_refusal e then NoMemory else e)
 
 -- ---- over an office in a database
 
+-- why the command is refused, where the tables are ours
+abbrev pub Refuses : {S : Type 0} → Ghosts S → Command → ℕ → OfficeIn S → Result Reply Refusal → OfficeIn S → Type 0
+Refuses g done today old reply new =
+    HasCleanDisk (state g new.database) → IsOurs (state g old.database).now
+    → IfErr reply (FailsToApply done today old.office (state g old.database) (state g new.database))
+
 -- what `apply` makes of an office in a database, and when it refuses
 pub record IsApplied {S : Type 0} (g : Ghosts S) (done : Command) (today : ℕ) (old : OfficeIn S)
     (reply : Result Reply Refusal) (new : OfficeIn S) : Type 0 where
   pub step : MayApply done today old.office reply new.office
   pub made : Commits (state g old.database) (state g new.database) reply (TurnsBy done today old.office)
-  pub refusal : HasCleanDisk (state g new.database) → IsOurs (state g old.database).now
-      → IfErr reply (FailsToApply done today old.office (state g old.database) (state g new.database))
+  pub refusal : Refuses g done today old reply new
   pub shut : (state g old.database).is_open ≡ false → Survives (state g old.database) (state g new.database) (λ _. ⊥)
 
 -- each command of a list is applied to what the one before it left

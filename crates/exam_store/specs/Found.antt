@@ -1,19 +1,21 @@
 -- What opening finds in a database, and how an older office becomes one of the newest version.
-use Rattle.std.specs.Prelude.{◌≡◌, ◌⊎◌, ◌++◌, ℕ, Bool, true, IsTrue, List, [], ◌∷◌, if◌then◌else◌}
+use Rattle.std.specs.Prelude.{◌≡◌, ◌⊎◌, ◌++◌, ℕ, Bool, true, false, IsTrue, List, [], ◌∷◌, if◌then◌else◌}
 use Rattle.sqlite_trees.specs.declared.store.Store.{Ghosts}
 use Rattle.sqlite_trees.specs.Tree.{Trees}
 use Rattle.sqlite.specs.Effect.{Database}
 use Rattle.sqlite.specs.State.{State, HasCleanDisk, IsUnchanged, Survives}
 use Rattle.sqlite.specs.Held.{Held, state}
 use Rattle.exam_types.specs.declared.refusal.Refusal.{Refusal}
-use Rattle.exam_types.specs.declared.refusal.Refusal.TheVariants.{Store, OldSchema}
+use Rattle.exam_types.specs.declared.refusal.Refusal.TheVariants.{BadStore, Store, OldSchema}
 use Rattle.exam_commands.specs.State.{State as Office, empty_state}
-use Rattle.exam_sql.specs.Made.{ContainsMade, lists_newest}
+use Rattle.exam_sql.specs.Made.{ContainsMade, lists_newest, lists_tables}
 use Rattle.exam_sql.specs.Texts.{held_texts, load_office, load_standing, load_texts}
 use Rattle.exam_tables.specs.Inside.{Contains, IsOurs}
 use Rattle.exam_store.specs.Kept.{Keeps, KeepsIn}
-use Rattle.exam_tables.specs.Loaded.{AreUnderstood, FailsThen, IsLoadRefusal, IsMadeHere}
-use Rattle.exam_tables.specs.Versions.{ContainsOf, FailsToMake, HasVersion, IsOlder, IsVersion, marks_since, version}
+use Rattle.exam_tables.specs.Loaded.{AreUnderstood, FailsThen, IsLeft, IsLoadRefusal, IsMadeHere}
+use Rattle.exam_tables.specs.Unasked.{IsUnasked}
+use Rattle.exam_tables.specs.Versions.{ContainsOf, FailsToCreate, FailsToMake, HasVersion, IsBlank, IsOlder}
+use Rattle.exam_tables.specs.Versions.{IsVersion, marks_since, version}
 use Rattle.exam_tables.specs.Faults.{is_store_refusal}
 use Rattle.exam_store.specs.Refused.{HoldsFormed, HoldsNone, IsGoodIn}
 
@@ -49,6 +51,24 @@ FindsOld old e =
 abbrev pub FailsToOpen : {S : Type 0} → Ghosts S → Held S → Held S → Refusal → Type 0
 FailsToOpen g old new e = FindsNone g old new e ⊎ FindsOld (state g old).now e
 
+-- a transaction is already open, or no office is opened
+abbrev pub FailsToFind : {S : Type 0} → Ghosts S → Held S → Held S → Refusal → Type 0
+FailsToFind g old new e = ((e ≡ Store) × IsTrue new.in_transaction) ⊎ FailsToOpen g old new e
+
+-- Why an opening is refused, and what it leaves: the database as it was, or undone back to the last commit.
+pub record RefusesOpening {S : Type 0} (g : Ghosts S) (old new : Held S) (e : Refusal) : Type 0 where
+  pub refusal : HasCleanDisk (state g new) → FailsToFind g old new e
+  -- where a name of the tables is that of something else, the schema alone decides
+  pub unlisted : HasCleanDisk (state g new) → lists_tables (state g old).now.schema ≡ false
+      → IsUnasked (state g old) (state g new) e
+  pub same : HasCleanDisk (state g new) → IsLeft (state g old) (state g new)
+  pub survives : Survives (state g old) (state g new) (λ _. ⊥)
+
+-- no empty office is made in a blank database, or the opening of what is there is refused
+pub record RefusesCreating {S : Type 0} (g : Ghosts S) (old new : Held S) (e : Refusal) : Type 0 where
+  pub blank : HasCleanDisk (state g new) → IsBlank (state g old).now → FailsToCreate (state g old) (state g new) e
+  pub other : (IsBlank (state g old).now → ⊥) → RefusesOpening g old new e
+
 abbrev pub is_open_refusal : Refusal → Bool
 is_open_refusal OldSchema = true
 is_open_refusal e = is_store_refusal e
@@ -68,6 +88,18 @@ abbrev pub HoldsGood : ℕ → Database → Trees → Type 0
 HoldsGood v db all =
     ContainsOf v db all × HasVersion v all × (office : Office) × HoldsFormed all office × IsGoodIn v office
 
+-- A database from which an office of this version was read: the tables of that version are there, with their columns,
+-- and hold a good office of it.
+pub record HadGood (db : Database) (v : ℕ) : Type 0 where
+  pub listed : IsTrue (lists_tables db.schema)
+  pub understood : AreUnderstood db (load_office ∷ version_texts v)
+  pub good : (all : Trees) → ContainsMade db all → HoldsGood v db all
+
+-- an office of the newest version stays as it is, also over a crash
+abbrev pub StaysNewest : State → State → ℕ → Type 0
+StaysNewest old new v =
+    v ≡ version → (HasCleanDisk new → IsUnchanged old new) × Survives old new (λ _. ⊥)
+
 -- A database with a good office of some version becomes one of the newest. If it kept an office in an older version, it
 -- keeps this one; if it had the newest version already, it stays as it is.
 pub record Migrates (old new : Database) : Type 0 where
@@ -84,3 +116,10 @@ FailsToMigrate g old new e =
     ((v : ℕ) → IsVersion v → (all : Trees) → ContainsOf v (state g old).now all → HoldsNone v all) e
     ⊎ (AreUnderstood (state g old).now (load_office ∷ held_texts)
     × (IsMadeHere (state g old).now → FailsToMake (state g old) (state g new) e)))
+
+-- why a migration is refused, and that the refusal of a bad office has written nothing
+pub record RefusesMigrating {S : Type 0} (g : Ghosts S) (old new : Held S) (e : Refusal) : Type 0 where
+  pub refusal : FailsToMigrate g old new e
+  pub unlisted : old.in_transaction ≡ false → lists_tables (state g old).now.schema ≡ false
+      → IsUnasked (state g old) (state g new) e
+  pub still : e ≡ BadStore → Survives (state g old) (state g new) (λ _. ⊥)

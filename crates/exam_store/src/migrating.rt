@@ -1,18 +1,15 @@
 //! Bringing an office of an older version to the newest.
-ghost use Rattle.std.specs.Prelude.{◌≡◌, ◌∷◌, false, IsTrue, IfOk, IfErr, OnOk};
+ghost use Rattle.std.specs.Prelude.{◌≡◌, false, IsTrue, IfOk, IfErr, OnOk};
 ghost use Rattle.sqlite.specs.Held.{state};
-ghost use Rattle.sqlite.specs.State.{HasCleanDisk, IsUnchanged, Survives};
-ghost use Rattle.exam_types.specs.declared.refusal.Refusal.TheVariants.{BadStore};
+ghost use Rattle.sqlite.specs.State.{HasCleanDisk};
 ghost use Rattle.exam_tables.specs.Faults.{is_store_refusal};
-ghost use Rattle.exam_tables.specs.Loaded.{AreUnderstood};
 ghost use Rattle.exam_tables.specs.Parts.{Loading};
 ghost use Rattle.exam_tables.specs.Transactions.{Commits};
 ghost use Rattle.exam_tables.specs.Unasked.{IsUnasked};
 ghost use Rattle.exam_tables.specs.Versions.{IsKnown, IsVersion, version};
-ghost use Rattle.exam_store.specs.Found.{FailsToMigrate, HoldsGood, Migrates, version_texts};
+ghost use Rattle.exam_store.specs.Found.{HadGood, Migrates, RefusesMigrating, StaysNewest};
 ghost use Rattle.exam_store.specs.Parts.{judged_part};
-ghost use Rattle.exam_sql.specs.Made.{ContainsMade, lists_tables};
-ghost use Rattle.exam_sql.specs.Texts.{load_office as office_text};
+ghost use Rattle.exam_sql.specs.Made.{lists_tables};
 
 use crate::loading::load_version;
 use exam_tables::{NEWEST, Version, save_widened, version_of};
@@ -25,24 +22,12 @@ use std::alloc::Global;
 /// the tables of no version hold a good office of it, and with `Store` also if a transaction is already open.
 pub fn migrate<S: Alter>(alloc: Global, conn: &mut Connection<S>) -> Result<(u8, u8), Refusal>
     ensures versions { IfOk result (λ v. IsVersion v.0 × (v.1 ≡ version)) }
-    ensures found { HasCleanDisk (state S.Store conn.new) → IfOk result (λ v. (all : _)
-        → ContainsMade (state S.Store conn.old).now all
-        → HoldsGood v.0 (state S.Store conn.old).now all) }
-    ensures understood { HasCleanDisk (state S.Store conn.new) → IfOk result (λ v.
-        AreUnderstood (state S.Store conn.old).now (office_text ∷ version_texts v.0)) }
+    ensures found { HasCleanDisk (state S.Store conn.new)
+        → IfOk result (λ v. HadGood (state S.Store conn.old).now v.0) }
     ensures made { Commits (state S.Store conn.old) (state S.Store conn.new) result Migrates }
-    ensures newest { IfOk result (λ v. v.0 ≡ version
-        → (HasCleanDisk (state S.Store conn.new) → IsUnchanged (state S.Store conn.old) (state S.Store conn.new))
-        × Survives (state S.Store conn.old) (state S.Store conn.new) (λ _. ⊥)) }
-    ensures still { HasCleanDisk (state S.Store conn.new) → IfErr result (λ e. e ≡ BadStore
-        → Survives (state S.Store conn.old) (state S.Store conn.new) (λ _. ⊥)) }
-    ensures refusal { HasCleanDisk (state S.Store conn.new)
-        → IfErr result (FailsToMigrate S.Store conn.old conn.new) }
-    ensures listed { HasCleanDisk (state S.Store conn.new)
-        → OnOk result (IsTrue (lists_tables (state S.Store conn.old).now.schema)) }
-    ensures unlisted { HasCleanDisk (state S.Store conn.new) → conn.old.in_transaction ≡ false
-        → lists_tables (state S.Store conn.old).now.schema ≡ false
-        → IfErr result (IsUnasked (state S.Store conn.old) (state S.Store conn.new)) }
+    ensures newest { IfOk result (λ v. StaysNewest (state S.Store conn.old) (state S.Store conn.new) v.0) }
+    ensures refused { HasCleanDisk (state S.Store conn.new)
+        → IfErr result (RefusesMigrating S.Store conn.old conn.new) }
     ensures told { IfErr result (λ e. IsTrue (is_store_refusal e)) }
 {
     if !conn.is_autocommit() {

@@ -2,7 +2,7 @@
 ghost use Rattle.std.specs.Prelude.{◌≡◌, List, false, IsTrue, IfOk, IfErr};
 ghost use Rattle.sqlite.specs.Held.{state};
 ghost use Rattle.sqlite.specs.State.{HasCleanDisk, Survives};
-ghost use Rattle.exam_types.specs.declared.refusal.Refusal.TheVariants.{NoMemory};
+ghost use Rattle.exam_types.specs.Refusals.{OnlyMemory};
 ghost use Rattle.exam_rules.specs.Orders.{KeysRise};
 ghost use Rattle.exam_rules.specs.Relations.{has_row, remove_row, seat_cmp};
 ghost use Rattle.exam_commands.specs.Exchanges.{HasRows, put_back};
@@ -50,7 +50,7 @@ pub fn save<S: Alter>(alloc: Global, conn: &mut Connection<S>, draft: &Draft) ->
 fn changes_of(alloc: Global, draft: &Draft) -> Result<Changes<'_>, Refusal>
     requires { IsGood draft.now.before → KeepsRows draft.now.before.relations draft.now.after.relations }
     ensures turns { IfOk result (TurnsTables draft.now.before draft.now.after) }
-    ensures memory { IfErr result (λ e. e ≡ NoMemory) }
+    ensures memory { OnlyMemory result }
 {
     // The office before the command is good, and its keys rise.
     draft.show_good();

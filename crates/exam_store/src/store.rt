@@ -7,6 +7,7 @@ ghost use Rattle.sqlite.specs.Held.{state};
 ghost use Rattle.sqlite.specs.State.{HasCleanDisk, Survives};
 ghost use Rattle.sqlite.specs.Steps.{over_memory};
 ghost use Rattle.exam_types.specs.declared.refusal.Refusal.TheVariants.{NoMemory, UnknownSession};
+ghost use Rattle.exam_types.specs.Refusals.{OnlyMemory};
 ghost use Rattle.exam_rules.specs.Relations.{Code, code_cmp, has_row};
 ghost use Rattle.exam_rules.specs.Sessions.{IsSessionRefusal};
 ghost use Rattle.exam_commands.specs.Good.{IsGood};
@@ -18,16 +19,16 @@ ghost use Rattle.exam_views.specs.Desks.{rows_without_desks};
 ghost use Rattle.exam_views.specs.Sources.{Gives, is_source_refusal};
 ghost use Rattle.exam_views.specs.Views.{IsViewOf, appeals_of};
 ghost use Rattle.exam_sql.specs.Made.{lists_tables};
-ghost use Rattle.exam_store.specs.Applied.{MayApply, FailsToApply, TurnsBy, Applies, AreApplied};
+ghost use Rattle.exam_store.specs.Applied.{MayApply, Refuses, TurnsBy, Applies, AreApplied};
 ghost use Rattle.exam_tables.specs.Faults.{is_store_refusal};
-ghost use Rattle.exam_store.specs.Found.{FailsToOpen, Finds, MakesEmpty, is_open_refusal};
-ghost use Rattle.exam_tables.specs.Inside.{IsOurs};
+ghost use Rattle.exam_store.specs.Found.{FailsToOpen, Finds, MakesEmpty, RefusesCreating, RefusesOpening};
+ghost use Rattle.exam_store.specs.Found.{is_open_refusal};
 ghost use Rattle.exam_tables.specs.Transactions.{IsSound, Commits};
 ghost use Rattle.exam_store.specs.InTurn.{FailsToRead, bound_after, rows_from};
 ghost use Rattle.exam_store.specs.contracts.store.Store.{the_row};
 ghost use Rattle.exam_store.specs.Kept.{IsKept, KeepsOurs, Rekeeps};
 ghost use Rattle.exam_store.specs.OnlyRead.{OnlyIsRead};
-ghost use Rattle.exam_tables.specs.Loaded.{IsLeft, OnlyReads};
+ghost use Rattle.exam_tables.specs.Loaded.{OnlyReads};
 ghost use Rattle.exam_tables.specs.Unasked.{IsUnasked};
 ghost use Rattle.exam_tables.specs.Versions.{FailsToCreate, IsBlank};
 
@@ -77,7 +78,7 @@ impl Store<MemStore> {
         ensures kept { IfOk result (λ store. IsKept (state over_memory store.database) store.office
             × IsTrue (state over_memory store.database).is_open) }
         ensures good { IfOk result (λ store. IsGood store.office × IsInOrder store.office) }
-        ensures memory { IfErr result (λ e. e ≡ NoMemory) }
+        ensures memory { OnlyMemory result }
     {
         let mut conn = Connection::open_in_memory(alloc)?;
         save_empty(&mut conn)?;
@@ -106,19 +107,7 @@ impl<S: Alter> Store<S> {
             Finds (state S.Store conn) (state S.Store store.database) store.office) }
         ensures kept { IfOk result (λ store. KeepsOurs (state S.Store store.database) store.office) }
         ensures good { IfOk result (λ store. IsGood store.office × IsInOrder store.office) }
-        ensures blank { IfErr result (λ e. HasCleanDisk (state S.Store e.1)
-            → IsBlank (state S.Store conn).now
-            → FailsToCreate (state S.Store conn) (state S.Store e.1) e.0) }
-        ensures refusal { IfErr result (λ e. HasCleanDisk (state S.Store e.1)
-            → (IsBlank (state S.Store conn).now → ⊥) → ((e.0 ≡ Refusal.Store) × IsTrue e.1.in_transaction)
-            ⊎ FailsToOpen S.Store conn e.1 e.0) }
-        ensures unlisted { IfErr result (λ e. HasCleanDisk (state S.Store e.1)
-            → (IsBlank (state S.Store conn).now → ⊥) → lists_tables (state S.Store conn).now.schema ≡ false
-            → IsUnasked (state S.Store conn) (state S.Store e.1) e.0) }
-        ensures same { IfErr result (λ e. HasCleanDisk (state S.Store e.1)
-            → (IsBlank (state S.Store conn).now → ⊥) → IsLeft (state S.Store conn) (state S.Store e.1)) }
-        ensures survives { IfErr result (λ e. (IsBlank (state S.Store conn).now → ⊥)
-            → Survives (state S.Store conn) (state S.Store e.1) (λ _. ⊥)) }
+        ensures refused { IfErr result (λ e. RefusesCreating S.Store conn e.1 e.0) }
         ensures told { IfErr result (λ e. IsTrue (is_open_refusal e.0)) }
     {
         match create_office(alloc, &mut conn) {
@@ -138,15 +127,7 @@ impl<S: Alter> Store<S> {
             Finds (state S.Store conn) (state S.Store store.database) store.office) }
         ensures kept { IfOk result (λ store. KeepsOurs (state S.Store store.database) store.office) }
         ensures good { IfOk result (λ store. IsGood store.office × IsInOrder store.office) }
-        ensures refusal { IfErr result (λ e. HasCleanDisk (state S.Store e.1)
-            → ((e.0 ≡ Refusal.Store) × IsTrue e.1.in_transaction)
-            ⊎ FailsToOpen S.Store conn e.1 e.0) }
-        ensures unlisted { IfErr result (λ e. HasCleanDisk (state S.Store e.1)
-            → lists_tables (state S.Store conn).now.schema ≡ false
-            → IsUnasked (state S.Store conn) (state S.Store e.1) e.0) }
-        ensures same { IfErr result (λ e. HasCleanDisk (state S.Store e.1)
-            → IsLeft (state S.Store conn) (state S.Store e.1)) }
-        ensures survives { IfErr result (λ e. Survives (state S.Store conn) (state S.Store e.1) (λ _. ⊥)) }
+        ensures refused { IfErr result (λ e. RefusesOpening S.Store conn e.1 e.0) }
         ensures told { IfErr result (λ e. IsTrue (is_open_refusal e.0)) }
     {
         match load_kept(alloc, &mut conn) {
@@ -163,10 +144,7 @@ impl<S: Alter> Store<S> {
             (state S.Store self.old.database).now (state S.Store self.new.database).now }
         ensures made { Commits (state S.Store self.old.database) (state S.Store self.new.database) result
             (TurnsBy command.now today self.old.office) }
-        ensures refusal { HasCleanDisk (state S.Store self.new.database)
-            → IsOurs (state S.Store self.old.database).now
-            → IfErr result (FailsToApply command.now today self.old.office
-            (state S.Store self.old.database) (state S.Store self.new.database)) }
+        ensures refusal { Refuses S.Store command.now today self.old result self.new }
         ensures shut { (state S.Store self.old.database).is_open ≡ false
             → Survives (state S.Store self.old.database) (state S.Store self.new.database) (λ _. ⊥) }
     {
@@ -199,16 +177,14 @@ impl<S: Alter> Store<S> {
         alloc: Global,
         commands: &[(Command, Day)],
     ) -> Result<Vec<Result<Reply, Refusal>>, Refusal>
-        ensures run { IfOk result (λ replies.
-            Applies commands.now self.old.office replies.items self.new.office) }
-        ensures each { IfOk result (λ replies.
-            AreApplied S.Store commands.now self.old replies.items self.new) }
+        ensures run { IfOk result (λ replies. Applies commands.now self.old.office replies.items self.new.office) }
+        ensures each { IfOk result (λ replies. AreApplied S.Store commands.now self.old replies.items self.new) }
         ensures kept { IsSound (state S.Store self.new.database) → Rekeeps self.old.office self.new.office
             (state S.Store self.old.database).now (state S.Store self.new.database).now }
         ensures was_open { IsSound (state S.Store self.new.database)
             → IsSound (state S.Store self.old.database) }
         ensures headline { (s : Code) → IsSeated self.new.office s }
-        ensures memory { IfErr result (λ e. e ≡ NoMemory) }
+        ensures memory { OnlyMemory result }
         ensures same { OnErr result (self.new ≡ self.old) }
     {
         // Shows the promise for a refusal here, and again after the commands.

@@ -1,5 +1,6 @@
 -- The appeals of a session, counted one by one.
-use Rattle.std.proofs.Common.{◌≡◌, ℕ, ◌+◌, ◌≤◌, ◌∷◌, [], List, Bool, true, false, cond, if◌then◌else◌, length, Bor, ap, arith}
+use Rattle.std.proofs.Common.{◌≡◌, ℕ, ◌+◌, ◌≤◌, ◌∷◌, [], List, Bool, true, false, cond, if◌then◌else◌, length, Bor, ap}
+use Rattle.std.proofs.Common.{arith}
 use Rattle.std.specs.List.{AllByRecursion}
 use Rattle.std.specs.Map.Iter.{deref_pair}
 use Rattle.exam_rules.specs.declared.rows.Appeal.{Appeal}
@@ -15,7 +16,8 @@ pub record HasCounted (s : Code) (all : List KeyedAppeal) (count : ℕ) (left : 
   pub many : count + length (appeals_in left s) ≡ length (appeals_in all s)
   pub forms : HaveForms left → HaveForms all
 
-length_cond : (b : Bool) (a : KeyedAppeal) (rest : List KeyedAppeal) → length (cond b (a ∷ rest) rest) ≡ (if b then 1 else 0) + length rest
+length_cond : (b : Bool) (a : KeyedAppeal) (rest : List KeyedAppeal)
+    → length (cond b (a ∷ rest) rest) ≡ (if b then 1 else 0) + length rest
 length_cond true a rest = omega arith
 length_cond false a rest = omega arith
 
@@ -23,16 +25,19 @@ few : (s : Code) (appeals : List KeyedAppeal) → length (appeals_in appeals s) 
 few s [] = omega arith
 few s (a ∷ rest) = at (same_code a.1.session s) (few s rest)
   where
-    at : (b : Bool) → length (appeals_in rest s) ≤ length rest → length (cond b (a ∷ appeals_in rest s) (appeals_in rest s)) ≤ length (a ∷ rest)
+    at : (b : Bool) → length (appeals_in rest s) ≤ length rest
+        → length (cond b (a ∷ appeals_in rest s) (appeals_in rest s)) ≤ length (a ∷ rest)
     at true h = omega (arith, h)
     at false h = omega (arith, h)
 
-module _ (s : Code) (all : List KeyedAppeal) (count one : ℕ) (old new : List KeyedAppeal) (x : Bor (ℕ × Code) × Bor Appeal) (counted : HasCounted s all count old) (is : old ≡ deref_pair x ∷ new)
+module _ (s : Code) (all : List KeyedAppeal) (count one : ℕ) (old new : List KeyedAppeal)
+    (x : Bor (ℕ × Code) × Bor Appeal) (counted : HasCounted s all count old) (is : old ≡ deref_pair x ∷ new)
     (one_is : one ≡ (if same_code x.1.now.session s then 1 else 0)) where
   sum_is : (count + one) + length (appeals_in new s) ≡ length (appeals_in all s)
   sum_is =
       let many = counted.many in
-      let here : length (appeals_in old s) ≡ length (appeals_in (deref_pair x ∷ new) s) = ap (λ (l : List KeyedAppeal). length (appeals_in l s)) is in
+      let here : length (appeals_in old s) ≡ length (appeals_in (deref_pair x ∷ new) s) =
+      ap (λ (l : List KeyedAppeal). length (appeals_in l s)) is in
       let parts = length_cond (same_code x.1.now.session s) (deref_pair x) (appeals_in new s) in
       omega (arith, many, here, parts, one_is)
 

@@ -1,5 +1,6 @@
 -- The tables are made one after another.
-use Rattle.std.proofs.Common.{◌≡◌, ◌==◌, ◌≤◌, ◌<◌, IsSome, false, inl, inr, ℕ, get_or, length, map, pos, List, [], ◌∷◌, Ok, Err, Result, OnOk, IfErr, IsTrue, refl, subst, sym, ap, arith, ◌∙◌}
+use Rattle.std.proofs.Common.{◌≡◌, ◌==◌, ◌≤◌, ◌<◌, IsSome, false, inl, inr, ℕ, get_or, length, map, pos, List, [], ◌∷◌}
+use Rattle.std.proofs.Common.{Ok, Err, Result, OnOk, IfErr, IsTrue, refl, subst, sym, ap, arith, ◌∙◌}
 use Rattle.std.specs.Borrow.{Bor}
 use Rattle.std.specs.List.Sorted.{IsPermutation}
 use Rattle.std.proofs.lemmas.Bool.{both_ways, cases_Bool, eqb-true}
@@ -31,7 +32,8 @@ use Rattle.exam_sql.proofs.OfOffice as office
 use Rattle.exam_sql.proofs.VersionFails.{version_fails}
 use Rattle.exam_tables.specs.Faults.{refusal_of, is_store_refusal}
 use Rattle.exam_tables.specs.Inside.{Ran}
-use Rattle.exam_tables.specs.Versions.{HasFirst, HasNoRows, HasRuled, IsBlank, Leads, FailsToMake, FailsToCreate, version}
+use Rattle.exam_tables.specs.Versions.{HasFirst, HasNoRows, HasRuled, IsBlank, Leads, FailsToMake, FailsToCreate}
+use Rattle.exam_tables.specs.Versions.{version}
 use Rattle.exam_tables.proofs.RowByRow.{survives_itself}
 use Rattle.exam_tables.proofs.Steps.{down_later, fails_for}
 
@@ -41,13 +43,15 @@ early mid new s clean = omega (arith, s.clean)
 
 -- a statement that is refused reports the error that the database gave
 abbrev pub Refused : List ℕ → Row → State → State → Result (Unit {0}) Refusal → Type 0
-Refused sql params old new result = HasCleanDisk new → IsTrue old.in_transaction → IfErr result (λ e. (error : Error) × (e ≡ refusal_of error) × ExecutesInside 0 sql params old new (Err error))
+Refused sql params old new result = HasCleanDisk new → IsTrue old.in_transaction
+    → IfErr result (λ e. (error : Error) × (e ≡ refusal_of error) × ExecutesInside 0 sql params old new (Err error))
 
 -- what a statement that was run makes
 pub leads_by : (before after : Database → Type 0) (old new : State) (sql : List ℕ) (params : Row)
     (result : Result (Unit {0}) Refusal)
     → ((count : ℕ) → Executes sql params old new (Ok count) → before old.now → after new.now)
-    → (before old.now → (error : Error) → ExecutesInside 0 sql params old new (Err error) → Fails old new (IsSome old.step_limit) error) → Refused sql params old new result
+    → (before old.now → (error : Error) → ExecutesInside 0 sql params old new (Err error)
+    → Fails old new (IsSome old.step_limit) error) → Refused sql params old new result
     → (HasCleanDisk new → IsTrue old.in_transaction → OnOk result (Ran sql params old new × IsTrue new.in_transaction))
     → (HasCleanDisk new → KeepsCommit old new) → Survives old new (λ _. ⊥)
     → IfErr result (λ e. IsTrue (is_store_refusal e)) → Leads before after old new result
@@ -72,7 +76,8 @@ leads_by before after old new sql params (Err e) does fails failed ran kept surv
     }
 
 -- what stood against the second of two steps stood against both
-pub made_later : (old mid new : State) (e : Refusal) → Survives old mid (λ _. ⊥) → HasCleanDisk mid → mid.faults ≤ new.faults → FailsToMake mid new e → FailsToMake old new e
+pub made_later : (old mid new : State) (e : Refusal) → Survives old mid (λ _. ⊥) → HasCleanDisk mid
+    → mid.faults ≤ new.faults → FailsToMake mid new e → FailsToMake old new e
 made_later old mid new e s clean up (inl lacks) = inl lacks
 made_later old mid new e s clean up (inr (told, inl down)) = inr (told, inl (down_later old mid new s clean up down))
 made_later old mid new e s clean up (inr (told, inr limited)) = inr (told, inr (subst IsSome s.limit limited))
@@ -102,12 +107,17 @@ leads_then before between after old mid new (Err e) a b = record {
 }
 
 -- a step that was refused, where others were to follow
-pub leads_refused : (before between after : Database → Type 0) (old new : State) (e : Refusal) → Leads before between old new (Err e) → Leads before after old new (Err e)
-leads_refused before between after old new e a = record { made = λ clean going. tt; failed = a.failed; kept = a.kept; survives = a.survives; told = a.told }
+pub leads_refused : (before between after : Database → Type 0) (old new : State) (e : Refusal)
+    → Leads before between old new (Err e) → Leads before after old new (Err e)
+leads_refused before between after old new e a =
+    record { made = λ clean going. tt; failed = a.failed; kept = a.kept; survives = a.survives; told = a.told }
 
 -- a table that is added with no rows leaves all without rows
-still_empty : (schema : Schema) (db : Database) (t : ℕ) → ContainsIn schema db (with_tree (λ tree. []) t []) → HasNoRows schema db
-still_empty schema db t was = contains_same schema db _ _ was (all_of _ (λ s. subst (λ rows. IsPermutation rows []) (sym (nothing s.tree)) (IsPermutation-refl [])) schema.tables)
+still_empty : (schema : Schema) (db : Database) (t : ℕ) → ContainsIn schema db (with_tree (λ tree. []) t [])
+    → HasNoRows schema db
+still_empty schema db t was =
+    contains_same schema db _ _ was
+    (all_of _ (λ s. subst (λ rows. IsPermutation rows []) (sym (nothing s.tree)) (IsPermutation-refl [])) schema.tables)
   where
     nothing : (u : ℕ) → with_tree (λ tree. []) t [] u ≡ []
     nothing u = elim (cases_Bool (u == t)) [ inl is ↦ rw is refl | inr other ↦ rw other refl ]
@@ -125,15 +135,18 @@ AreFirst texts = map (λ s. s.now) texts ≡ map (λ d. d.create) first_tables
 pub are_ten : (texts : List (Bor (List ℕ))) → AreFirst texts → length texts ≡ 10
 are_ten texts are = sym (length-map texts (λ s. s.now)) ∙ ap length are
 
-pub each_text : (texts : List (Bor (List ℕ))) → AreFirst texts → (k : ℕ) (d : Bor (List ℕ)) → k < length texts → (get_or texts k d).now ≡ (get_or first_tables k tables.office).create
+pub each_text : (texts : List (Bor (List ℕ))) → AreFirst texts → (k : ℕ) (d : Bor (List ℕ)) → k < length texts
+    → (get_or texts k d).now ≡ (get_or first_tables k tables.office).create
 each_text texts are k d below =
-    sym (get_or-map (λ s. s.now) texts k d [] below) ∙ ap (λ l. get_or l k []) are ∙ get_or-map (λ d. d.create) first_tables k tables.office [] (omega (arith, below, are_ten texts are))
+    sym (get_or-map (λ s. s.now) texts k d [] below) ∙ ap (λ l. get_or l k []) are
+    ∙ get_or-map (λ d. d.create) first_tables k tables.office [] (omega (arith, below, are_ten texts are))
 
 -- the text of a table
 pub table_leads : (before after : Schema) (d : Described) (text : List ℕ) → text ≡ d.create → AddsTable before after d
     → (old new : State) (result : Result (Unit {0}) Refusal) → Refused text [] old new result
     → (HasCleanDisk new → IsTrue old.in_transaction → OnOk result (Ran text [] old new × IsTrue new.in_transaction))
-    → (HasCleanDisk new → KeepsCommit old new) → Survives old new (λ _. ⊥) → IfErr result (λ e. IsTrue (is_store_refusal e)) → Leads (HasNoRows before) (HasNoRows after) old new result
+    → (HasCleanDisk new → KeepsCommit old new) → Survives old new (λ _. ⊥)
+    → IfErr result (λ e. IsTrue (is_store_refusal e)) → Leads (HasNoRows before) (HasNoRows after) old new result
 table_leads before after d text is adds old new result failed ran kept survives told =
     leads_by (HasNoRows before) (HasNoRows after) old new text [] result
     (λ count run was. still_empty after new.now d.table.tree
@@ -142,7 +155,8 @@ table_leads before after d text is adds old new result failed ran kept survives 
     ran kept survives told
 
 -- if the connection is shut, that alone explains a failed statement
-shut_fails : {A B : Type 0} (old new : State) (error : Error) → old.is_open ≡ false → Fails old new A error → Fails old new B error
+shut_fails : {A B : Type 0} (old new : State) (error : Error) → old.is_open ≡ false → Fails old new A error
+    → Fails old new B error
 shut_fails old new error shut (inl lacks) = inl lacks
 shut_fails old new error shut (inr (named, against)) = inr (named, inl (inr shut))
 
@@ -152,11 +166,13 @@ pub version_refused : (old new : State) (all : Trees) → HasRuled old.is_open a
     → Fails old new (IsSome old.step_limit) error
 version_refused old new all was error run = elim (cases_Bool old.is_open) [
   | inl is ↦ version_fails old new all (pos version) was.0 (was.1 is) error run
-  | inr shut ↦ shut_fails old new error shut ((office.put_answers old new (pos version) was.0.schema_is).fails error run)
+  | inr shut ↦ shut_fails old new error shut
+      ((office.put_answers old new (pos version) was.0.schema_is).fails error run)
 ]
 
 -- nothing is to be done
-pub leads_itself : (before after : Database → Type 0) (s : State) → (before s.now → after s.now) → Leads before after s s (Ok tt)
+pub leads_itself : (before after : Database → Type 0) (s : State) → (before s.now → after s.now)
+    → Leads before after s s (Ok tt)
 leads_itself before after s is =
     record {
       made = λ clean going. (is, going);
@@ -169,14 +185,16 @@ leads_itself before after s is =
     }
 
 -- if there are to be no marks, the table has none
-pub no_marks : (db : Database) (all : Trees) → all 17 ≡ [] → ContainsIn store_schema db (with_tree all 17 []) → ContainsIn store_schema db all
+pub no_marks : (db : Database) (all : Trees) → all 17 ≡ [] → ContainsIn store_schema db (with_tree all 17 [])
+    → ContainsIn store_schema db all
 no_marks db all none was =
     contains_same store_schema db _ _ was
     (all_of _ (λ s. subst (λ rows. IsPermutation (with_tree all 17 [] s.tree) rows) (same s.tree)
     (IsPermutation-refl _)) store_schema.tables)
   where
     same : (u : ℕ) → with_tree all 17 [] u ≡ all u
-    same u = elim (cases_Bool (u == 17)) [ inl is ↦ rw is (subst (λ n. [] ≡ all n) (sym (eqb-true u 17 is)) (sym none)) | inr other ↦ rw other refl ]
+    same u = elim (cases_Bool (u == 17))
+        [ inl is ↦ rw is (subst (λ n. [] ≡ all n) (sym (eqb-true u 17 is)) (sym none)) | inr other ↦ rw other refl ]
 
 -- nothing is the schema with no tables, and the ten tables are those of version 1
 pub blank_is_empty : (db : Database) → IsBlank db → HasNoRows (made 0) db
@@ -210,14 +228,17 @@ leads_from before after earlier later old new (Err e) first last a =
     }
 
 -- where no transaction was under way
-pub not_created : (old new : State) (result : Result (Unit {0}) Refusal) → IfErr result (FailsToMake old new) → IfErr result (FailsToCreate old new)
+pub not_created : (old new : State) (result : Result (Unit {0}) Refusal) → IfErr result (FailsToMake old new)
+    → IfErr result (FailsToCreate old new)
 not_created old new (Ok u) failed = tt
 not_created old new (Err e) failed = inl failed
 
 -- a connection to memory that was just opened lacks nothing but memory
-pub only_memory : (old new : Held MemStore) (e : Refusal) → IsEmpty (state over_memory old) → IsNew old → FailsToCreate (state over_memory old) (state over_memory new) e → e ≡ NoMemory
+pub only_memory : (old new : Held MemStore) (e : Refusal) → IsEmpty (state over_memory old) → IsNew old
+    → FailsToCreate (state over_memory old) (state over_memory new) e → e ≡ NoMemory
 only_memory old new e empty fresh (inl (inl lacks)) = lacks
 only_memory old new e empty fresh (inl (inr (told, inl (inl more)))) = absurd (omega (arith, more))
 only_memory old new e empty fresh (inl (inr (told, inl (inr shut)))) = absurd (both_ways _ shut empty.0.is_open)
-only_memory old new e empty fresh (inl (inr (told, inr limited))) = let some = rw fresh.unlimited at limited in absurd cc
+only_memory old new e empty fresh (inl (inr (told, inr limited))) = let some =
+    rw fresh.unlimited at limited in absurd cc
 only_memory old new e empty fresh (inr (told, going)) = absurd (both_ways _ fresh.autocommit going)

@@ -122,7 +122,8 @@ appeal_same x y h =
     let e : x.lodged ≡ y.lodged = number _ _ h4.1 in
     λ i. record { session = a i; subject = b i; reason = c i; status = d i; lodged = e i }
 
-pairs_exact : {A B : Type 0} {P : A → A → Ordering} {Q : B → B → Ordering} → CmpEqualImpliesEq P → CmpEqualImpliesEq Q → CmpEqualImpliesEq (pair_cmp P Q)
+pairs_exact : {A B : Type 0} {P : A → A → Ordering} {Q : B → B → Ordering} → CmpEqualImpliesEq P → CmpEqualImpliesEq Q
+    → CmpEqualImpliesEq (pair_cmp P Q)
 pairs_exact {P} {Q} first second = exact_pairs P Q first second
 
 -- the ten tables

@@ -1,24 +1,30 @@
 -- A new key in an ordered table is one more entry.
-use Rattle.std.proofs.Common.{◌≡◌, List, [], ◌∷◌, ◌++◌, map, sym, subst, Some, None, Ordering, Less, Equal, Greater, cond}
+use Rattle.std.proofs.Common.{◌≡◌, List, [], ◌∷◌, ◌++◌, map, sym, subst, Some, None, Ordering, Less, Equal, Greater}
+use Rattle.std.proofs.Common.{cond}
 use Rattle.std.specs.List.Sorted.{IsPermutation}
 use Rattle.std.specs.Ordering.{match_ordering, is_eq}
 use Rattle.std.specs.Map.{lookup}
 use Rattle.std.specs.BTreeMap.{is_at, insert_entry}
-use Rattle.std.proofs.lemmas.List.Sorted.{IsPermutation-refl, IsPermutation-cons, IsPermutation-trans, IsPermutation-map, IsPermutation-append_comm}
+use Rattle.std.proofs.lemmas.List.Sorted.{IsPermutation-refl, IsPermutation-cons, IsPermutation-trans}
+use Rattle.std.proofs.lemmas.List.Sorted.{IsPermutation-map, IsPermutation-append_comm}
 use Rattle.sqlite_value.specs.declared.value.Value.TheVariants.{Null}
 use Rattle.sqlite_value.specs.Order.{Row}
 use Rattle.sqlite_trees.proofs.ListLemmas.{map-map}
 use Rattle.exam_sql.proofs.RowLemmas.{swapped}
 
-pub inserted : {K X : Type 0} (cmp : K → K → Ordering) (k : K) (v : X) (es : List (K × X)) → lookup (is_at (cmp k)) es ≡ None → IsPermutation ((k, v) ∷ es) (insert_entry cmp es k v)
+pub inserted : {K X : Type 0} (cmp : K → K → Ordering) (k : K) (v : X) (es : List (K × X))
+    → lookup (is_at (cmp k)) es ≡ None → IsPermutation ((k, v) ∷ es) (insert_entry cmp es k v)
 inserted cmp k v [] none = IsPermutation-refl _
 inserted {K} {X} cmp k v (e ∷ es) none = go (cmp k e.0) none (inserted cmp k v es)
   where
-    go : (o : Ordering) → cond (is_eq o) (Some e.1) (lookup (is_at (cmp k)) es) ≡ None → (lookup (is_at (cmp k)) es ≡ None → IsPermutation ((k, v) ∷ es) (insert_entry cmp es k v))
-        → IsPermutation ((k, v) ∷ e ∷ es) (match_ordering o ((k, v) ∷ e ∷ es) ((e.0, v) ∷ es) (e ∷ insert_entry cmp es k v))
+    go : (o : Ordering) → cond (is_eq o) (Some e.1) (lookup (is_at (cmp k)) es) ≡ None
+        → (lookup (is_at (cmp k)) es ≡ None → IsPermutation ((k, v) ∷ es) (insert_entry cmp es k v))
+        → IsPermutation ((k, v) ∷ e ∷ es)
+        (match_ordering o ((k, v) ∷ e ∷ es) ((e.0, v) ∷ es) (e ∷ insert_entry cmp es k v))
     go Less none later = IsPermutation-refl _
     go Equal none later = absurd cc
-    go Greater none later = IsPermutation-trans _ (e ∷ (k, v) ∷ es) _ (swapped (k, v) e es) (IsPermutation-cons e _ _ (later none))
+    go Greater none later =
+        IsPermutation-trans _ (e ∷ (k, v) ∷ es) _ (swapped (k, v) e es) (IsPermutation-cons e _ _ (later none))
 
 -- one more row was read, and is one more entry
 pub one_read : {E R : Type 0} (f : E → R) (done all : List R) (row : R) (e : E) (old new : List E)
@@ -35,4 +41,6 @@ pub shown_entries : {E : Type 0} (f : E → Row) (meant rows : List Row) (entrie
     → IsPermutation meant (map (λ r. Null ∷ r) rows) → IsPermutation rows (map f entries)
     → IsPermutation meant (map (λ e. Null ∷ f e) entries)
 shown_entries f meant rows entries shown read =
-    IsPermutation-trans _ _ _ shown (subst (IsPermutation (map (λ r. Null ∷ r) rows)) (map-map (λ r. Null ∷ r) f entries) (IsPermutation-map (λ r. Null ∷ r) _ _ read))
+    IsPermutation-trans _ _ _ shown
+    (subst (IsPermutation (map (λ r. Null ∷ r) rows)) (map-map (λ r. Null ∷ r) f entries)
+    (IsPermutation-map (λ r. Null ∷ r) _ _ read))

@@ -13,29 +13,38 @@ use Rattle.exam_sql.proofs.References.{AllRefer}
 use Rattle.exam_tables.specs.declared.writing.Changes.{Changes}
 use Rattle.exam_tables.specs.Forms.{Form, IsOurTable, openings, seats, opening_key, seat_key, row_put, with_put}
 use Rattle.exam_tables.specs.Inside.{Contains, Write, delete_of}
-use Rattle.exam_tables.specs.OurTables.{sessions_ours, papers_ours, halls_ours, openings_ours, candidates_ours, entries_ours, arrangements_ours, appeals_ours, standing_ours, seats_ours}
+use Rattle.exam_tables.specs.OurTables.{sessions_ours, papers_ours, halls_ours, openings_ours, candidates_ours}
+use Rattle.exam_tables.specs.OurTables.{entries_ours, arrangements_ours, appeals_ours, standing_ours, seats_ours}
 use Rattle.exam_tables.specs.Writes.{openings_deleted, seats_deleted, all_put, all_deleted, all_saved}
 
 -- where after the write each row has what it refers to, no foreign key refuses it
 abbrev pub Narrows : Write → Type 0
-Narrows w = (limit : Option ℕ) (at : Database) (all : Trees) → Contains at all → AllRefer (w.change all) → Refuses limit at w.sql w.params → RefusesRows limit at w.sql w.params
+Narrows w = (limit : Option ℕ) (at : Database) (all : Trees) → Contains at all → AllRefer (w.change all)
+    → Refuses limit at w.sql w.params → RefusesRows limit at w.sql w.params
 
 every : {Y : Type 0} (f : Y → Write) → ((y : Y) → Narrows (f y)) → (ys : List Y) → AllByRecursion Narrows (map f ys)
 every f each [] = tt
 every f each (y ∷ ys) = (each y, every f each ys)
 
-together : (xs ys : List Write) → AllByRecursion Narrows xs → AllByRecursion Narrows ys → AllByRecursion Narrows (xs ++ ys)
+together : (xs ys : List Write) → AllByRecursion Narrows xs → AllByRecursion Narrows ys
+    → AllByRecursion Narrows (xs ++ ys)
 together [] ys one two = two
 together (x ∷ xs) ys one two = (one.0, together xs ys one.1 two)
 
-puts_narrow : {K X : Type 0} {cmp : K → K → Ordering} {form : Form K X} → IsOurTable cmp form → (rows : List (Bor K × Bor X)) → AllByRecursion Narrows (with_put form rows)
-puts_narrow {form = form} ours rows = every (λ r. row_put form r.0.now r.1.now) (λ y. (put_edits (ours.puts y.0.now y.1.now)).narrows) rows
+puts_narrow : {K X : Type 0} {cmp : K → K → Ordering} {form : Form K X} → IsOurTable cmp form
+    → (rows : List (Bor K × Bor X)) → AllByRecursion Narrows (with_put form rows)
+puts_narrow {form = form} ours rows =
+    every (λ r. row_put form r.0.now r.1.now) (λ y. (put_edits (ours.puts y.0.now y.1.now)).narrows) rows
 
 openings_delete_narrow : (c : Changes) → AllByRecursion Narrows (openings_deleted c)
-openings_delete_narrow c = every (λ k. delete_of delete_opening openings.tree openings.places (opening_key k.now)) (λ y. (opening.deletes y.now.0 y.now.1).narrows) c.openings.delete.items
+openings_delete_narrow c =
+    every (λ k. delete_of delete_opening openings.tree openings.places (opening_key k.now))
+    (λ y. (opening.deletes y.now.0 y.now.1).narrows) c.openings.delete.items
 
 seats_delete_narrow : (c : Changes) → AllByRecursion Narrows (seats_deleted c)
-seats_delete_narrow c = every (λ k. delete_of delete_seat seats.tree seats.places (seat_key k.now)) (λ y. (seat.deletes y.now.0 (pos y.now.1)).narrows) c.seats.delete.items
+seats_delete_narrow c =
+    every (λ k. delete_of delete_seat seats.tree seats.places (seat_key k.now))
+    (λ y. (seat.deletes y.now.0 (pos y.now.1)).narrows) c.seats.delete.items
 
 pub all_narrow : (c : Changes) → AllByRecursion Narrows (all_saved c)
 all_narrow c = together (all_put c) (all_deleted c)

@@ -43,7 +43,8 @@ use Rattle.exam_tables.proofs.Leaving.{bad_unchanged, not_bad_store}
 use Rattle.exam_tables.proofs.OneTable.{appeal_tells}
 
 appeals_mirrored : (j k : ℕ × Code) → appeal_cmp j k ≡ ordering_reverse (appeal_cmp k j)
-appeals_mirrored = (then_total (on_total (λ (k : ℕ × Code). k.0) nat_cmp_total) (on_total (λ (k : ℕ × Code). k.1) nat_list_cmp_total)).antisymm
+appeals_mirrored = (then_total (on_total (λ (k : ℕ × Code). k.0) nat_cmp_total)
+    (on_total (λ (k : ℕ × Code). k.1) nat_list_cmp_total)).antisymm
 
 -- the stored row of an appeal
 abbrev pub stored : KeyedAppeal → Row
@@ -72,38 +73,50 @@ module _ (key : ℕ × Code) (appeal : Appeal) where
   has_it a = is_eq (appeal_cmp a.0 key)
 
   -- no later key is this one
-  none_after : (more : List KeyedAppeal) → AllByRecursion (λ k. appeal_cmp key k ≡ Less) (keys_of more) → filter has_it more ≡ []
+  none_after : (more : List KeyedAppeal) → AllByRecursion (λ k. appeal_cmp key k ≡ Less) (keys_of more)
+      → filter has_it more ≡ []
   none_after [] above = refl
   none_after (b ∷ more) above =
       let other : has_it b ≡ false = ap is_eq (appeals_mirrored b.0 key ∙ ap ordering_reverse above.0) in
       ap (λ c. cond c (b ∷ filter has_it more) (filter has_it more)) other ∙ none_after more above.1
 
-  only_one : (appeals : List KeyedAppeal) → KeysRise appeal_cmp appeals → Has appeals it → filter has_it appeals ≡ it ∷ []
+  only_one : (appeals : List KeyedAppeal) → KeysRise appeal_cmp appeals → Has appeals it
+      → filter has_it appeals ≡ it ∷ []
   unfolding IsStrictlySortedBy
   only_one [] rises has = absurd has
   only_one (a ∷ more) rises (inl is) =
       let here : has_it a ≡ true = ap (λ (b : KeyedAppeal). has_it b) (sym is) ∙ tied _ (appeals_mirrored key key) in
-      let above : AllByRecursion (λ k. appeal_cmp key k ≡ Less) (keys_of more) = subst (λ (b : KeyedAppeal). AllByRecursion (λ k. appeal_cmp b.0 k ≡ Less) (keys_of more)) (sym is) rises.0 in
-      ap (λ c. cond c (a ∷ filter has_it more) (filter has_it more)) here ∙ ap (λ l. a ∷ l) (none_after more above) ∙ ap (λ (b : KeyedAppeal). b ∷ []) (sym is)
+      let above : AllByRecursion (λ k. appeal_cmp key k ≡ Less) (keys_of more) =
+      subst (λ (b : KeyedAppeal). AllByRecursion (λ k. appeal_cmp b.0 k ≡ Less) (keys_of more)) (sym is) rises.0 in
+      ap (λ c. cond c (a ∷ filter has_it more) (filter has_it more)) here ∙ ap (λ l. a ∷ l) (none_after more above)
+      ∙ ap (λ (b : KeyedAppeal). b ∷ []) (sym is)
   only_one (a ∷ more) rises (inr later) =
-      let below : appeal_cmp a.0 key ≡ Less = all_has (λ k. appeal_cmp a.0 k ≡ Less) (keys_of more) key rises.0 (mapped_has (λ (p : KeyedAppeal). p.0) more it later) in
+      let below : appeal_cmp a.0 key ≡ Less =
+      all_has (λ k. appeal_cmp a.0 k ≡ Less) (keys_of more) key rises.0
+      (mapped_has (λ (p : KeyedAppeal). p.0) more it later) in
       ap (λ c. cond c (a ∷ filter has_it more) (filter has_it more)) (ap is_eq below) ∙ only_one more rises.1 later
 
-  module _ (old new : State) (appeals : List KeyedAppeal) (has : HasAppealRows old.now appeals) (among : IsAmong appeals it) where
+  module _ (old new : State) (appeals : List KeyedAppeal) (has : HasAppealRows old.now appeals)
+      (among : IsAmong appeals it) where
     abbrev headed : KeyedAppeal → Row
     headed a = Null ∷ stored a
 
     -- SQL tells keys apart as the office does
     tested : filter (λ (a : KeyedAppeal). has_key (appeal_key key) (headed a)) appeals ≡ it ∷ []
-    tested = ap (λ (p : KeyedAppeal → Bool). filter p appeals) (λ i a. appeals_ours.keys.rows a it i) ∙ only_one appeals has.rises (has_contained appeals it among)
+    tested = ap (λ (p : KeyedAppeal → Bool). filter p appeals) (λ i a. appeals_ours.keys.rows a it i)
+        ∙ only_one appeals has.rises (has_contained appeals it among)
 
     -- the query shows its row alone
     pub shows_it : (rows : List Row) → Shown find_appeal (appeal_key key) old new rows → rows ≡ stored it ∷ []
     shows_it rows shown =
         let found = shows_key (appeal_key key) old new rows has.all has.contains shown in
         let held = IsPermutation-filter (has_key (appeal_key key)) _ _ has.same in
-        let chosen : filter (has_key (appeal_key key)) (map headed appeals) ≡ headed it ∷ [] = filter-map (has_key (appeal_key key)) headed appeals ∙ ap (map headed) tested in
-        bare rows (only (headed it) _ (IsPermutation-trans _ _ _ (subst (λ l. IsPermutation l (filter (has_key (appeal_key key)) (has.all 13))) chosen (IsPermutation-sym _ _ held)) found))
+        let chosen : filter (has_key (appeal_key key)) (map headed appeals) ≡ headed it ∷ [] =
+        filter-map (has_key (appeal_key key)) headed appeals ∙ ap (map headed) tested in
+        bare rows (only (headed it) _
+        (IsPermutation-trans _ _ _
+        (subst (λ l. IsPermutation l (filter (has_key (appeal_key key)) (has.all 13))) chosen
+        (IsPermutation-sym _ _ held)) found))
       where
         bare : (rows : List Row) → map (λ (row : Row). Null ∷ row) rows ≡ headed it ∷ [] → rows ≡ stored it ∷ []
         bare [] is = absurd cc
@@ -152,7 +165,8 @@ module _ (it : KeyedAppeal) (row : Row) where
 
 -- ---- why it is not confirmed
 
-one_row : {P : Row → Type 0} (rows : List Row) → length rows ≡ 1 → ((row : Row) → rows ≡ row ∷ [] → P row) → (row : Row) × (rows ≡ row ∷ []) × P row
+one_row : {P : Row → Type 0} (rows : List Row) → length rows ≡ 1 → ((row : Row) → rows ≡ row ∷ [] → P row)
+    → (row : Row) × (rows ≡ row ∷ []) × P row
 one_row [] many each = absurd cc
 one_row (row ∷ []) many each = (row, refl, each row refl)
 one_row (row ∷ other ∷ rows) many each = absurd (omega (arith, many))
@@ -162,8 +176,10 @@ module _ (it : KeyedAppeal) (old new : State) where
   Fails = FailsToConfirm it old new
 
   -- where the query showed rows, and they were compared with it
-  pub not_confirmed : (rows : List Row) → Shown find_appeal (appeal_key it.0) old new rows → (result : Result (Unit {0}) Refusal)
-      → (rows ≡ stored it ∷ [] → IfErr result (λ e. e ≡ NoMemory)) → IfErr result (λ e. (e ≡ NoMemory) ⊎ (e ≡ BadStore)) → IfErr result Fails
+  pub not_confirmed : (rows : List Row) → Shown find_appeal (appeal_key it.0) old new rows
+      → (result : Result (Unit {0}) Refusal)
+      → (rows ≡ stored it ∷ [] → IfErr result (λ e. e ≡ NoMemory))
+      → IfErr result (λ e. (e ≡ NoMemory) ⊎ (e ≡ BadStore)) → IfErr result Fails
   not_confirmed rows shown (Ok done) same why = tt
   not_confirmed rows shown (Err e) same why = record {
     told = no_store why;
@@ -177,17 +193,21 @@ module _ (it : KeyedAppeal) (old new : State) where
       no_store (inr bad) store = let differ : BadStore ≡ Store = sym bad ∙ store in absurd cc
 
   -- where the query failed
-  pub query_failed : (e : Refusal) (error : Error) → e ≡ refusal_of error → FailsToQuery find_appeal (appeal_key it.0) old new error → Fails e
+  pub query_failed : (e : Refusal) (error : Error) → e ≡ refusal_of error
+      → FailsToQuery find_appeal (appeal_key it.0) old new error → Fails e
   query_failed e error told fails = record {
     told = λ _. (error, told, fails);
     same = λ bad. bad_unchanged find_appeal (appeal_key it.0) old new error fails (sym told ∙ bad);
-    none = λ bad appeals has among. not_bad_store e error told (find_fails (appeal_key it.0) old new has.contains.schema_is error fails) bad;
+    none = λ bad appeals has among. not_bad_store e error told
+        (find_fails (appeal_key it.0) old new has.contains.schema_is error fails) bad;
   }
 
   -- where the rows are its row alone
-  pub shown_alone : (rows : List Row) → Shown find_appeal (appeal_key it.0) old new rows → (result : Result (Unit {0}) Refusal) → OnOk result (length rows ≡ 1)
+  pub shown_alone : (rows : List Row) → Shown find_appeal (appeal_key it.0) old new rows
+      → (result : Result (Unit {0}) Refusal) → OnOk result (length rows ≡ 1)
       → ((row : Row) → rows ≡ row ∷ [] → OnOk result (row ≡ stored it)) → OnOk result (ShowsAppeal it old new)
   shown_alone rows shown (Err e) one is = tt
   shown_alone rows shown (Ok done) one is =
       let alone = one_row rows one is in
-      subst (λ (list : List Row). Shown find_appeal (appeal_key it.0) old new list) (alone.1 ∙ ap (λ r. r ∷ []) alone.2) shown
+      subst (λ (list : List Row). Shown find_appeal (appeal_key it.0) old new list)
+      (alone.1 ∙ ap (λ r. r ∷ []) alone.2) shown

@@ -26,7 +26,8 @@ use Rattle.exam_rules.specs.declared.rows.Status.TheVariants as status
 use Rattle.exam_rules.specs.Tables as table
 use Rattle.exam_tables.specs.Held.{HoldsRelations, HoldsSeats}
 use Rattle.exam_tables.specs.Loaded.{HoldsTable}
-use Rattle.exam_tables.specs.Rows.{session_row, paper_row, hall_row, candidate_row, opening_row, entry_row, arrangement_row, appeal_row, standing_row, seat_row}
+use Rattle.exam_tables.specs.Rows.{session_row, paper_row, hall_row, candidate_row, opening_row, entry_row}
+use Rattle.exam_tables.specs.Rows.{arrangement_row, appeal_row, standing_row, seat_row}
 use Rattle.exam_tables.specs.Stored.{kind_number, target_of, needs_of, extra_of, state_number, answer_of, text_or_null}
 
 -- ---- tables with the same rows
@@ -35,33 +36,41 @@ abbrev IsMirrored : {K : Type 0} → (K → K → Ordering) → Type 0
 IsMirrored {K} cmp = (j k : K) → cmp j k ≡ ordering_reverse (cmp k j)
 
 never_both : {K : Type 0} {cmp : K → K → Ordering} → IsMirrored cmp → (j k : K) → cmp j k ≡ Less → cmp k j ≡ Less → ⊥
-never_both mirrored j k below above = let both : Less ≡ Greater = sym below ∙ mirrored j k ∙ ap ordering_reverse above in absurd cc
+never_both mirrored j k below above = let both : Less ≡ Greater =
+    sym below ∙ mirrored j k ∙ ap ordering_reverse above in absurd cc
 
-pairs_mirrored : {A B : Type 0} {P : A → A → Ordering} {Q : B → B → Ordering} → IsMirrored P → IsMirrored Q → IsMirrored (pair_cmp P Q)
+pairs_mirrored : {A B : Type 0} {P : A → A → Ordering} {Q : B → B → Ordering} → IsMirrored P → IsMirrored Q
+    → IsMirrored (pair_cmp P Q)
 pairs_mirrored {A} {B} {P} {Q} first second x y = rw (first x.0 y.0, second x.1 y.1) (both (P y.0 x.0) (Q y.1 x.1))
   where
-    both : (a b : Ordering) → ordering_then (ordering_reverse a) (ordering_reverse b) ≡ ordering_reverse (ordering_then a b)
+    both : (a b : Ordering)
+        → ordering_then (ordering_reverse a) (ordering_reverse b) ≡ ordering_reverse (ordering_then a b)
     both Less b = refl
     both Equal b = refl
     both Greater b = refl
 
 module _ {K X : Type 0} {cmp : K → K → Ordering} (mirrored : IsMirrored cmp) where
   -- keys that rise are those of one list
-  one_list : (xs ys : List (K × X)) → KeysRise cmp xs → KeysRise cmp ys → ((e : K × X) → Has xs e → Has ys e) → ((e : K × X) → Has ys e → Has xs e) → xs ≡ ys
+  one_list : (xs ys : List (K × X)) → KeysRise cmp xs → KeysRise cmp ys → ((e : K × X) → Has xs e → Has ys e)
+      → ((e : K × X) → Has ys e → Has xs e) → xs ≡ ys
   unfolding IsStrictlySortedBy
   one_list [] [] rise_x rise_y to back = refl
   one_list [] (y ∷ ys) rise_x rise_y to back = absurd (back y (inl refl))
   one_list (x ∷ xs) [] rise_x rise_y to back = absurd (to x (inl refl))
   one_list (x ∷ xs) (y ∷ ys) rise_x rise_y to back =
       let same : x ≡ y = first (to x (inl refl)) (back y (inl refl)) in
-      let rest : xs ≡ ys = one_list xs ys rise_x.1 rise_y.1 (λ e has. later_y e has same (to e (inr has))) (λ e has. later_x e has same (back e (inr has))) in
+      let rest : xs ≡ ys =
+      one_list xs ys rise_x.1 rise_y.1 (λ e has. later_y e has same (to e (inr has)))
+      (λ e has. later_x e has same (back e (inr has))) in
       λ i. same i ∷ rest i
     where
       above_x : (e : K × X) → Has xs e → cmp x.0 e.0 ≡ Less
-      above_x e has = all_has (λ k. cmp x.0 k ≡ Less) (keys_of xs) e.0 rise_x.0 (mapped_has (λ (p : K × X). p.0) xs e has)
+      above_x e has = all_has (λ k. cmp x.0 k ≡ Less) (keys_of xs) e.0 rise_x.0
+          (mapped_has (λ (p : K × X). p.0) xs e has)
 
       above_y : (e : K × X) → Has ys e → cmp y.0 e.0 ≡ Less
-      above_y e has = all_has (λ k. cmp y.0 k ≡ Less) (keys_of ys) e.0 rise_y.0 (mapped_has (λ (p : K × X). p.0) ys e has)
+      above_y e has = all_has (λ k. cmp y.0 k ≡ Less) (keys_of ys) e.0 rise_y.0
+          (mapped_has (λ (p : K × X). p.0) ys e has)
 
       first : (x ≡ y) ⊎ Has ys x → (y ≡ x) ⊎ Has xs y → x ≡ y
       first (inl is) h = is
@@ -69,26 +78,38 @@ module _ {K X : Type 0} {cmp : K → K → Ordering} (mirrored : IsMirrored cmp)
       first (inr after) (inr before) = absurd (never_both mirrored x.0 y.0 (above_x y before) (above_y x after))
 
       later_y : (e : K × X) → Has xs e → x ≡ y → (e ≡ y) ⊎ Has ys e → Has ys e
-      later_y e has same (inl is) = let below : cmp x.0 x.0 ≡ Less = ap (λ (p : K × X). cmp x.0 p.0) (same ∙ sym is) ∙ above_x e has in absurd (never_both mirrored x.0 x.0 below below)
+      later_y e has same (inl is) = let below : cmp x.0 x.0 ≡ Less =
+          ap (λ (p : K × X). cmp x.0 p.0) (same ∙ sym is) ∙ above_x e has in
+          absurd (never_both mirrored x.0 x.0 below below)
       later_y e has same (inr there) = there
 
       later_x : (e : K × X) → Has ys e → x ≡ y → (e ≡ x) ⊎ Has xs e → Has xs e
-      later_x e has same (inl is) = let below : cmp y.0 y.0 ≡ Less = ap (λ (p : K × X). cmp y.0 p.0) (sym same ∙ sym is) ∙ above_y e has in absurd (never_both mirrored y.0 y.0 below below)
+      later_x e has same (inl is) = let below : cmp y.0 y.0 ≡ Less =
+          ap (λ (p : K × X). cmp y.0 p.0) (sym same ∙ sym is) ∙ above_y e has in
+          absurd (never_both mirrored y.0 y.0 below below)
       later_x e has same (inr there) = there
 
-  module _ {IsRow : K → X → Type 0} {row : K → X → Row} (one : (a b : K × X) → IsRow a.0 a.1 → IsRow b.0 b.1 → row a.0 a.1 ≡ row b.0 b.1 → a ≡ b) where
+  module _ {IsRow : K → X → Type 0} {row : K → X → Row}
+      (one : (a b : K × X) → IsRow a.0 a.1 → IsRow b.0 b.1 → row a.0 a.1 ≡ row b.0 b.1 → a ≡ b) where
     -- an entry of the one list has its row in the other, so it is there
-    is_there : (meant : List Row) (xs ys : List (K × X)) → HoldsTable cmp IsRow row xs meant → HoldsTable cmp IsRow row ys meant → (e : K × X) → Has xs e → Has ys e
+    is_there : (meant : List Row) (xs ys : List (K × X)) → HoldsTable cmp IsRow row xs meant
+        → HoldsTable cmp IsRow row ys meant → (e : K × X) → Has xs e → Has ys e
     is_there meant xs ys holds_x holds_y e has =
         let f = λ (p : K × X). Null ∷ row p.0 p.1 in
-        let both : IsPermutation (map f xs) (map f ys) = IsPermutation-trans _ meant _ (IsPermutation-sym _ _ holds_x.same) holds_y.same in
-        let stored : Has (map f ys) (f e) = has_contained (map f ys) (f e) (Contains-permutation (map f xs) (map f ys) (f e) both (contains_had (map f xs) (f e) (mapped_has f xs e has))) in
+        let both : IsPermutation (map f xs) (map f ys) =
+        IsPermutation-trans _ meant _ (IsPermutation-sym _ _ holds_x.same) holds_y.same in
+        let stored : Has (map f ys) (f e) =
+        has_contained (map f ys) (f e)
+        (Contains-permutation (map f xs) (map f ys) (f e) both
+        (contains_had (map f xs) (f e) (mapped_has f xs e has))) in
         let it = has_mapped f ys (f e) stored in
         let same : row e.0 e.1 ≡ row it.0.0 it.0.1 = let whole = it.2 in cc in
-        let is : e ≡ it.0 = one e it.0 (all_has (λ (p : K × X). IsRow p.0 p.1) xs e holds_x.forms has) (all_has (λ (p : K × X). IsRow p.0 p.1) ys it.0 holds_y.forms it.1) same in
+        let is : e ≡ it.0 = one e it.0 (all_has (λ (p : K × X). IsRow p.0 p.1) xs e holds_x.forms has)
+        (all_has (λ (p : K × X). IsRow p.0 p.1) ys it.0 holds_y.forms it.1) same in
         subst (Has ys) (sym is) it.1
 
-    one_table : (meant : List Row) (xs ys : List (K × X)) → HoldsTable cmp IsRow row xs meant → HoldsTable cmp IsRow row ys meant → xs ≡ ys
+    one_table : (meant : List Row) (xs ys : List (K × X)) → HoldsTable cmp IsRow row xs meant
+        → HoldsTable cmp IsRow row ys meant → xs ≡ ys
     one_table meant xs ys a b = one_list xs ys a.rises b.rises (is_there meant xs ys a b) (is_there meant ys xs b a)
 
 -- ---- the stored forms of values
@@ -102,7 +123,8 @@ some_same is = cc
 pub same_day : (a b : ℕ) → IsDay a → IsDay b → day_text a ≡ day_text b → a ≡ b
 same_day a b is_a is_b texts =
     let small = parts_small a is_a in
-    let parts = only_parts (day_text a) (year_of a) (month_of a) (month_day_of a) small.0 small.1 small.2 (sym (day_text-is a)) in
+    let parts = only_parts (day_text a) (year_of a) (month_of a) (month_day_of a) small.0 small.1 small.2
+    (sym (day_text-is a)) in
     let both : ◌≡◌ {A = Option (ℕ × ℕ × ℕ)} (Some (year_of a, month_of a, month_day_of a))
     (Some (year_of b, month_of b, month_day_of b)) =
     parts_of_text (day_text a) (Some (year_of a, month_of a, month_day_of a)) b parts is_b (sym texts) in
@@ -121,20 +143,27 @@ same_flag false true is = absurd cc
 
 subject_from : ℕ → List ℕ → ℕ → ℕ → Subject
 subject_from kind target needs extra =
-    if kind == 1 then subject.Hall target else (if kind == 2 then subject.Clash target else subject.Arrangement (record { needs = summed_features needs; extra = extra }))
+    if kind == 1 then subject.Hall target else
+    (if kind == 2 then subject.Clash target else subject.Arrangement
+    (record { needs = summed_features needs; extra = extra }))
 
 subject_is : (s : Subject) → subject_from (kind_number s) (target_of s) (needs_of s) (extra_of s) ≡ s
 unfolding subject_from
 subject_is (subject.Hall hall) = refl
 subject_is (subject.Clash paper) = refl
-subject_is (subject.Arrangement wanted) = λ i. subject.Arrangement (record { needs = set_of_sum wanted.needs (features_sum wanted.needs) refl i; extra = wanted.extra })
+subject_is (subject.Arrangement wanted) =
+    λ i. subject.Arrangement
+    (record { needs = set_of_sum wanted.needs (features_sum wanted.needs) refl i; extra = wanted.extra })
 
-same_subject : (s t : Subject) → kind_number s ≡ kind_number t → target_of s ≡ target_of t → needs_of s ≡ needs_of t → extra_of s ≡ extra_of t → s ≡ t
-same_subject s t kind target needs extra = sym (subject_is s) ∙ (λ i. subject_from (kind i) (target i) (needs i) (extra i)) ∙ subject_is t
+same_subject : (s t : Subject) → kind_number s ≡ kind_number t → target_of s ≡ target_of t → needs_of s ≡ needs_of t
+    → extra_of s ≡ extra_of t → s ≡ t
+same_subject s t kind target needs extra =
+    sym (subject_is s) ∙ (λ i. subject_from (kind i) (target i) (needs i) (extra i)) ∙ subject_is t
 
 status_from : ℕ → Option (List ℕ) → Status
 status_from n None = if n == 1 then status.Pending else status.Retracted
-status_from n (Some answer) = if n == 2 then status.Granted answer else (if n == 3 then status.Refused answer else status.Superseded answer)
+status_from n (Some answer) =
+    if n == 2 then status.Granted answer else (if n == 3 then status.Refused answer else status.Superseded answer)
 
 status_is : (s : Status) → status_from (state_number s) (answer_of s) ≡ s
 unfolding status_from
@@ -150,8 +179,10 @@ same_answer (Some a) (Some b) is = cc
 same_answer None (Some b) is = absurd cc
 same_answer (Some a) None is = absurd cc
 
-same_status : (s t : Status) → state_number s ≡ state_number t → text_or_null (answer_of s) ≡ text_or_null (answer_of t) → s ≡ t
-same_status s t state answer = sym (status_is s) ∙ (λ i. status_from (state i) (same_answer (answer_of s) (answer_of t) answer i)) ∙ status_is t
+same_status : (s t : Status) → state_number s ≡ state_number t
+    → text_or_null (answer_of s) ≡ text_or_null (answer_of t) → s ≡ t
+same_status s t state answer =
+    sym (status_is s) ∙ (λ i. status_from (state i) (same_answer (answer_of s) (answer_of t) answer i)) ∙ status_is t
 
 -- ---- the rows of the ten tables
 
@@ -240,7 +271,10 @@ appeal_tells a b day_a day_b is =
     let asked : a.1.subject ≡ b.1.subject = same_subject _ _ kind target needs extra in
     let stands : a.1.status ≡ b.1.status = same_status _ _ state answer in
     let lodged : a.1.lodged ≡ b.1.lodged = same_day _ _ day_a day_b text in
-    λ i. ((number i, reference i), record { session = session i; subject = asked i; reason = reason i; status = stands i; lodged = lodged i })
+    λ i. (
+      (number i, reference i),
+      record { session = session i; subject = asked i; reason = reason i; status = stands i; lodged = lodged i },
+    )
 
 pub standing_tells : Tells standing_row any
 standing_tells a b day_a day_b is =
@@ -267,15 +301,24 @@ numbers_mirrored = nat_cmp_total.antisymm
 
 pub one_facts : (all : Trees) (r s : Relations) → HoldsRelations all r → HoldsRelations all s → r ≡ s
 one_facts all r s x y =
-    let sessions = one_table codes_mirrored (λ a b x y. session_tells a b (session_day _ x.1) (session_day _ y.1)) (all 1) _ _ (x table.Sessions) (y table.Sessions) in
-    let papers = one_table codes_mirrored (λ a b x y. paper_tells a b tt tt) (all 3) _ _ (x table.Papers) (y table.Papers) in
-    let halls = one_table codes_mirrored (λ a b x y. hall_tells a b tt tt) (all 5) _ _ (x table.Halls) (y table.Halls) in
-    let openings = one_table (pairs_mirrored codes_mirrored codes_mirrored) (λ a b x y. opening_tells a b tt tt) (all 8) _ _ (x table.Openings) (y table.Openings) in
-    let candidates = one_table numbers_mirrored (λ a b x y. candidate_tells a b tt tt) (all 7) _ _ (x table.Candidates) (y table.Candidates) in
-    let entries = one_table (pairs_mirrored numbers_mirrored codes_mirrored) (λ a b x y. entry_tells a b tt tt) (all 10) _ _ (x table.Entries) (y table.Entries) in
-    let arrangements = one_table numbers_mirrored (λ a b x y. arrangement_tells a b tt tt) (all 12) _ _ (x table.Arrangements) (y table.Arrangements) in
-    let appeals = one_table (pairs_mirrored numbers_mirrored codes_mirrored) (λ a b x y. appeal_tells a b x.6 y.6) (all 13) _ _ (x table.Appeals) (y table.Appeals) in
-    let standing = one_table (pairs_mirrored numbers_mirrored codes_mirrored) (λ a b x y. standing_tells a b tt tt) (all 17) _ _ (x table.Standing) (y table.Standing) in
+    let sessions = one_table codes_mirrored (λ a b x y. session_tells a b (session_day _ x.1) (session_day _ y.1))
+    (all 1) _ _ (x table.Sessions) (y table.Sessions) in
+    let papers = one_table codes_mirrored (λ a b x y. paper_tells a b tt tt) (all 3) _ _ (x table.Papers)
+    (y table.Papers) in
+    let halls = one_table codes_mirrored (λ a b x y. hall_tells a b tt tt) (all 5) _ _ (x table.Halls)
+    (y table.Halls) in
+    let openings = one_table (pairs_mirrored codes_mirrored codes_mirrored) (λ a b x y. opening_tells a b tt tt)
+    (all 8) _ _ (x table.Openings) (y table.Openings) in
+    let candidates = one_table numbers_mirrored (λ a b x y. candidate_tells a b tt tt) (all 7) _ _ (x table.Candidates)
+    (y table.Candidates) in
+    let entries = one_table (pairs_mirrored numbers_mirrored codes_mirrored) (λ a b x y. entry_tells a b tt tt)
+    (all 10) _ _ (x table.Entries) (y table.Entries) in
+    let arrangements = one_table numbers_mirrored (λ a b x y. arrangement_tells a b tt tt) (all 12) _ _
+    (x table.Arrangements) (y table.Arrangements) in
+    let appeals = one_table (pairs_mirrored numbers_mirrored codes_mirrored) (λ a b x y. appeal_tells a b x.6 y.6)
+    (all 13) _ _ (x table.Appeals) (y table.Appeals) in
+    let standing = one_table (pairs_mirrored numbers_mirrored codes_mirrored) (λ a b x y. standing_tells a b tt tt)
+    (all 17) _ _ (x table.Standing) (y table.Standing) in
     λ i. record {
       sessions = sessions i;
       papers = papers i;
@@ -290,4 +333,5 @@ one_facts all r s x y =
     }
 
 pub one_seats : (all : Trees) (p q : List ((Code × ℕ) × Code)) → HoldsSeats all p → HoldsSeats all q → p ≡ q
-one_seats all p q = one_table (pairs_mirrored codes_mirrored numbers_mirrored) (λ a b x y. seat_tells a b tt tt) (all 15) p q
+one_seats all p q = one_table (pairs_mirrored codes_mirrored numbers_mirrored) (λ a b x y. seat_tells a b tt tt)
+    (all 15) p q

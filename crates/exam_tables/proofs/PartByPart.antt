@@ -19,10 +19,14 @@ use Rattle.exam_tables.proofs.Refusing.{part_failed}
 
 module _ {S : Type 0} (g : Ghosts S) (old new : Held S) where
   -- a query of one of the texts is all that may fail
-  pub by_queries : {A : Type 0} (text : List ℕ) → Contains load_texts text → (result : Result A Refusal) (part : Part A) → LoadingBy text g old new result part → Loading g old new result part
+  pub by_queries : {A : Type 0} (text : List ℕ) → Contains load_texts text
+      → (result : Result A Refusal) (part : Part A) → LoadingBy text g old new result part
+      → Loading g old new result part
   by_queries text known result part it = record {
     rows = it.rows;
-    bad = λ clean. IfErr-weaker result _ _ (λ e. part_failed e (λ fails. (old, still_itself (state g old), text, known, fails)) (λ none. none)) (it.bad clean);
+    bad = λ clean. IfErr-weaker result _ _
+        (λ e. part_failed e (λ fails. (old, still_itself (state g old), text, known, fails)) (λ none. none))
+        (it.bad clean);
     left = it.left;
     understood = it.understood;
     survives = it.survives;
@@ -31,13 +35,17 @@ module _ {S : Type 0} (g : Ghosts S) (old new : Held S) where
   }
 
   -- from one part to another, where each database that may hold the other may hold the one
-  module _ {A B : Type 0} (one : Part A) (other : Part B) (holds : (all : Trees) → other.Holds (state g old).now all → one.Holds (state g old).now all) where
+  module _ {A B : Type 0} (one : Part A) (other : Part B)
+      (holds : (all : Trees) → other.Holds (state g old).now all → one.Holds (state g old).now all) where
     -- where the one is not loaded, the other is not
-    pub not_loaded : (e : Refusal) → (HasCleanDisk (state g new) → (all : Trees) → other.Holds (state g old).now all → one.HasNone (state g old).now all → other.HasNone (state g old).now all)
+    pub not_loaded : (e : Refusal)
+        → (HasCleanDisk (state g new) → (all : Trees) → other.Holds (state g old).now all
+        → one.HasNone (state g old).now all → other.HasNone (state g old).now all)
         → Loading g old new (Err e) one → Loading g old new (Err e) other
     not_loaded e none it = record {
       rows = λ clean. tt;
-      bad = λ clean. part_failed e fails (λ lacks all was. none clean all was (lacks all (holds all was))) (it.bad clean);
+      bad = λ clean. part_failed e fails (λ lacks all was. none clean all was (lacks all (holds all was)))
+          (it.bad clean);
       left = it.left;
       understood = λ clean. tt;
       survives = it.survives;
@@ -54,16 +62,24 @@ module _ {S : Type 0} (g : Ghosts S) (old new : Held S) where
           (
             told,
             λ there.
-                never (there.0, subst (λ (db : Database). one.Holds db there.0) (sym still.now) (holds there.0 (subst (λ (db : Database). other.Holds db there.0) still.now there.1))),
+                never (
+                  there.0,
+                  subst (λ (db : Database). one.Holds db there.0) (sym still.now)
+                      (holds there.0 (subst (λ (db : Database). other.Holds db there.0) still.now there.1)),
+                ),
           ),
         )
 
     -- the other is made of the one, or is not
     pub loaded_as : (x : A) (result : Result B Refusal) → Loading g old new (Ok x) one
-        → (HasCleanDisk (state g new) → IfOk result (λ y. (all : Trees) → other.Holds (state g old).now all → one.Has x (state g old).now all → other.Has y (state g old).now all))
+        → (HasCleanDisk (state g new)
+        → IfOk result (λ y. (all : Trees) → other.Holds (state g old).now all → one.Has x (state g old).now all
+        → other.Has y (state g old).now all))
         → IfErr result (λ e. (e ≡ NoMemory) ⊎ ((e ≡ BadStore)
-        × (HasCleanDisk (state g new) → (all : Trees) → other.Holds (state g old).now all → one.Has x (state g old).now all → other.HasNone (state g old).now all)))
-        → (HasCleanDisk (state g new) → IfOk result (λ y. one.Understands x (state g old).now → other.Understands y (state g old).now))
+        × (HasCleanDisk (state g new) → (all : Trees) → other.Holds (state g old).now all
+        → one.Has x (state g old).now all → other.HasNone (state g old).now all)))
+        → (HasCleanDisk (state g new)
+        → IfOk result (λ y. one.Understands x (state g old).now → other.Understands y (state g old).now))
         → Loading g old new result other
     loaded_as x (Ok y) it rows why knows = record {
       rows = λ clean all was. rows clean all was (it.rows clean all (holds all was));
@@ -76,7 +92,11 @@ module _ {S : Type 0} (g : Ghosts S) (old new : Held S) where
     }
     loaded_as x (Err e) it rows why knows = record {
       rows = λ clean. tt;
-      bad = λ clean. elim why [ inl lacks ↦ inl lacks | inr none ↦ inr (inr (none.0, λ all was. none.1 clean all was (it.rows clean all (holds all was)))) ];
+      bad = λ clean. elim why [
+        | inl lacks ↦ inl lacks
+        | inr none ↦ inr
+            (inr (none.0, λ all was. none.1 clean all was (it.rows clean all (holds all was))))
+      ];
       left = λ clean. inl (it.left clean);
       understood = λ clean. tt;
       survives = it.survives;
@@ -85,20 +105,31 @@ module _ {S : Type 0} (g : Ghosts S) (old new : Held S) where
     }
 
 -- a call that succeeded leaves the connection open
-pub opened : {S A : Type 0} (g : Ghosts S) (old mid new : Held S) (one : Part A) (x : A) → Loading g old mid (Ok x) one → (HasCleanDisk (state g new) → HasCleanDisk (state g mid))
+pub opened : {S A : Type 0} (g : Ghosts S) (old mid new : Held S) (one : Part A) (x : A) → Loading g old mid (Ok x) one
+    → (HasCleanDisk (state g new) → HasCleanDisk (state g mid))
     → HasCleanDisk (state g new) → IsTrue (state g mid).is_open
 opened g old mid new one x first early clean = (first.left (early clean)).0.is_open
 
-module _ {S A B : Type 0} (g : Ghosts S) (old mid new : Held S) (one : Part A) (more : Part B) (x : A) (first : Loading g old mid (Ok x) one) where
+module _ {S A B : Type 0} (g : Ghosts S) (old mid new : Held S) (one : Part A) (more : Part B) (x : A)
+    (first : Loading g old mid (Ok x) one) where
   -- the next are not loaded
   pub next_fails : (e : Refusal) → Loading g mid new (Err e) more → Loading g old new (Err e) (then_part one more)
   next_fails e next = record {
     rows = λ clean. tt;
     bad = λ clean.
         let same = first.left (next.early clean) in
-        part_failed e (λ fails. (fails.0, still_then (state g old) (state g mid) (state g fails.0) same fails.1, fails.2, fails.3, (fails.4.0, λ there. fails.4.1 (there.0, there.1.1))))
-        (λ none all was. inr (subst (λ (db : Database). more.HasNone db all) same.0.now_is (none all (subst (λ (db : Database). more.Holds db all) (sym same.0.now_is) was.1)))) (next.bad clean);
-    left = λ clean. left_then (state g old) (state g mid) (state g new) (first.left (next.early clean)) (next.left clean);
+        part_failed e (λ fails. (
+          fails.0,
+          still_then (state g old) (state g mid) (state g fails.0) same fails.1,
+          fails.2,
+          fails.3,
+          (fails.4.0, λ there. fails.4.1 (there.0, there.1.1)),
+        ))
+        (λ none all was. inr
+        (subst (λ (db : Database). more.HasNone db all) same.0.now_is
+        (none all (subst (λ (db : Database). more.Holds db all) (sym same.0.now_is) was.1)))) (next.bad clean);
+    left = λ clean. left_then (state g old) (state g mid) (state g new) (first.left (next.early clean))
+        (next.left clean);
     understood = λ clean. tt;
     survives = both_survive (state g old) (state g mid) (state g new) first.survives next.survives;
     early = λ clean. first.early (next.early clean);
@@ -111,11 +142,16 @@ module _ {S A B : Type 0} (g : Ghosts S) (old mid new : Held S) (one : Part A) (
     rows = λ clean all was.
         let same = first.left (next.early clean) in (
           first.rows (next.early clean) all was.0,
-          subst (λ (db : Database). more.Has y db all) same.0.now_is (next.rows clean all (subst (λ (db : Database). more.Holds db all) (sym same.0.now_is) was.1)),
+          subst (λ (db : Database). more.Has y db all) same.0.now_is
+              (next.rows clean all (subst (λ (db : Database). more.Holds db all) (sym same.0.now_is) was.1)),
         );
     bad = λ clean. tt;
-    left = λ clean. unchanged_then (state g old) (state g mid) (state g new) (first.left (next.early clean)) (next.left clean);
-    understood = λ clean. (first.understood (next.early clean), subst (more.Understands y) (first.left (next.early clean)).0.now_is (next.understood clean));
+    left = λ clean. unchanged_then (state g old) (state g mid) (state g new) (first.left (next.early clean))
+        (next.left clean);
+    understood = λ clean. (
+      first.understood (next.early clean),
+      subst (more.Understands y) (first.left (next.early clean)).0.now_is (next.understood clean),
+    );
     survives = both_survive (state g old) (state g mid) (state g new) first.survives next.survives;
     early = λ clean. first.early (next.early clean);
     told = tt;

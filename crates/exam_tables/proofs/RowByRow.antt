@@ -1,6 +1,7 @@
 -- A table that is read a row at a time: what each step finds, and what the scan answers.
 use Rattle.std.proofs.Common.{◌≡◌, ◌⊎◌, ℕ, List, [], ◌∷◌, ◌++◌, Option, Some, None, Result, Ok, Err, inl, inr}
-use Rattle.std.proofs.Common.{refl, sym, ap, subst, ◌∙◌, ◌<◌, length, length-append, get_or, OnErr, OnOk, IsSome, IsTrue, arith}
+use Rattle.std.proofs.Common.{refl, sym, ap, subst, ◌∙◌, ◌<◌, length, length-append, get_or, OnErr, OnOk, IsSome}
+use Rattle.std.proofs.Common.{IsTrue, arith}
 use Rattle.std.specs.Option.{ok_or}
 use Rattle.std.specs.BTreeMap.{is_at}
 use Rattle.std.specs.Map.{lookup}
@@ -20,7 +21,8 @@ use Rattle.sqlite.specs.Effect.{Database, RefusesToRead}
 use Rattle.sqlite.specs.Given.{Advances, GivesOn, HasGiven, IsRefused}
 use Rattle.sqlite.specs.Held.{Held, state}
 use Rattle.sqlite.specs.Listing.{understood, reads_listing, IsSourceOf}
-use Rattle.sqlite.specs.State.{State, Begins, FailsToQuery, FailsToShow, HasCleanDisk, IsNotRun, IsStatement, IsUnchanged, Survives}
+use Rattle.sqlite.specs.State.{State, Begins, FailsToQuery, FailsToShow, HasCleanDisk, IsNotRun, IsStatement}
+use Rattle.sqlite.specs.State.{IsUnchanged, Survives}
 use Rattle.sqlite.specs.declared.error.Error.{Error}
 use Rattle.sqlite.proofs.Callers.{EndsIn, begins_shown, command_of, given_begin, unchanged_then}
 use Rattle.sqlite.proofs.StreamLemmas.{fails_since, given_plain}
@@ -42,14 +44,22 @@ use Rattle.exam_tables.proofs.Refusing.{no_form, no_twice, rows_held, rows_shown
 
 -- a call that does nothing leaves what there was
 pub survives_itself : (s : State) → Survives s s (λ _. ⊥)
-survives_itself s = record { clean = omega arith; shield = λ x. x; counts = omega arith; limit = refl; closes = λ clean going. inl going; crash = λ clean db may. inl may }
+survives_itself s = record {
+  clean = omega arith;
+  shield = λ x. x;
+  counts = omega arith;
+  limit = refl;
+  closes = λ clean going. inl going;
+  crash = λ clean db may. inl may;
+}
 
 -- a query that was refused
 pub refused_fails : {S X : Type 0} (g : Ghosts S) (sql : List ℕ) (params : Row) (old new : Held S)
     (result : Result X Error) (e : Error) → result ≡ Err e → OnErr result (IsRefused g sql params old result new)
     → HasCleanDisk (state g new) → FailsToQuery sql params (state g old) (state g new) e
 refused_fails g sql params old new (Ok rows) e is held clean = absurd cc
-refused_fails g sql params old new (Err f) e is held clean = let same : f ≡ e = cc in subst (FailsToQuery sql params (state g old) (state g new)) same (held.err clean)
+refused_fails g sql params old new (Err f) e is held clean = let same : f ≡ e =
+    cc in subst (FailsToQuery sql params (state g old) (state g new)) same (held.err clean)
 
 -- what is said of a row that is refused as bad
 pub of_bad : {P : Type 0} (e : Refusal) → e ≡ BadStore → (e ≡ NoMemory) ⊎ ((e ≡ BadStore) × P) → P
@@ -57,7 +67,8 @@ of_bad e bad (inl lacks) = absurd (let same : NoMemory ≡ BadStore = sym lacks 
 of_bad e bad (inr (is, says)) = says
 
 -- a connection that gives rows is open, and does nothing by that
-pub still_open : {S : Type 0} (g : Ghosts S) (sql : List ℕ) (params : Row) (h : Held S) (given : List Row) → HasGiven g sql params h given → IsUnchanged (state g h) (state g h)
+pub still_open : {S : Type 0} (g : Ghosts S) (sql : List ℕ) (params : Row) (h : Held S) (given : List Row)
+    → HasGiven g sql params h given → IsUnchanged (state g h) (state g h)
 unfolding HasGiven
 still_open g sql params h given reads = (
   record { was_open = reads.0.is_open; is_open = reads.0.is_open; now_is = refl; committed_is = refl; mode = refl },
@@ -66,7 +77,8 @@ still_open g sql params h given reads = (
 )
 
 -- its text is understood
-given_understood : {S : Type 0} (g : Ghosts S) (text : List ℕ) (h : Held S) (given : List Row) → HasGiven g text [] h given → IsUnderstood (state g h).now text
+given_understood : {S : Type 0} (g : Ghosts S) (text : List ℕ) (h : Held S) (given : List Row)
+    → HasGiven g text [] h given → IsUnderstood (state g h).now text
 unfolding Begins
 given_understood g text h given reads = let begun = given_begin g text [] h given reads in (begun.0, begun.1.is)
 
@@ -74,7 +86,12 @@ given_understood g text h given reads = let begun = given_begin g text [] h give
 module _ (text : List ℕ) (old mid new : State) (same : IsUnchanged old mid) (kept : Survives old mid (λ _. ⊥))
     (plain : (c : Compiled) → understood old.now.schema text ≡ Ok c → c.returning ≡ None) where
   abbrev since : (c : Compiled) → IsStatement mid text [] c → IsStatement old text [] c
-  since c h = record { is = subst (λ (d : Database). understood d.schema text ≡ Ok c) same.0.now_is h.is; whole = h.whole; given = h.given; now = h.now }
+  since c h = record {
+    is = subst (λ (d : Database). understood d.schema text ≡ Ok c) same.0.now_is h.is;
+    whole = h.whole;
+    given = h.given;
+    now = h.now;
+  }
 
   pub fails_to_query_since : (e : Error) → FailsToQuery text [] mid new e → FailsToQuery text [] old new e
   unfolding FailsToQuery IsNotRun
@@ -97,13 +114,15 @@ module _ (text : List ℕ) (old mid new : State) (same : IsUnchanged old mid) (k
 
 -- no table of a text that loads is computed by rounds
 ends : {schema : Schema} {tree : ℕ} {text : List ℕ} → IsLoad schema tree text → (s : State) → s.now.schema ≡ schema
-    → (c : Compiled) (db : Database) (it : IsStatement s text [] c) → IsSourceOf (reads_listing s.now.schema text) s.now db → EndsIn c.command db (timed [] c.formats it.now)
+    → (c : Compiled) (db : Database) (it : IsStatement s text [] c)
+    → IsSourceOf (reads_listing s.now.schema text) s.now db → EndsIn c.command db (timed [] c.formats it.now)
 ends {schema} {tree} {text} load s has c db it source =
     let known : understood schema text ≡ Ok c = ap (λ d. understood d text) (sym has) ∙ it.is in
     subst (λ k. EndsIn k db (timed [] c.formats it.now)) (sym load.is ∙ ap command_of known) tt
 
 -- no rows are those of no entries
-pub nothing_read : {K X : Type 0} (cmp : K → K → Ordering) (IsRow : K → X → Type 0) (row : K → X → Row) → AreRowsOf cmp IsRow row [] []
+pub nothing_read : {K X : Type 0} (cmp : K → K → Ordering) (IsRow : K → X → Type 0) (row : K → X → Row)
+    → AreRowsOf cmp IsRow row [] []
 unfolding IsStrictlySortedBy
 nothing_read cmp IsRow row = record { rises = tt; forms = tt; same = IsPermutation-refl [] }
 
@@ -115,29 +134,37 @@ middle (r ∷ given) tail row = middle given tail row
 before_end : (given tail : List Row) (row : Row) → length given < length ((given ++ row ∷ []) ++ tail)
 before_end given tail row = omega (arith, length-append (given ++ row ∷ []) tail, length-append given (row ∷ []))
 
-module _ {K X : Type 0} {cmp : K → K → Ordering} (form : Form K X) (row : Row) (given : List Row) (before : List (K × X)) (rows : AreRowsOf cmp form.IsRow form.row given before) where
+module _ {K X : Type 0} {cmp : K → K → Ordering} (form : Form K X) (row : Row) (given : List Row)
+    (before : List (K × X)) (rows : AreRowsOf cmp form.IsRow form.row given before) where
   -- one more row is read, with a key of its own
-  pub one_more_row : (k : K) (x : X) (after : List (K × X)) → form.IsRow k x → row ≡ form.row k x → IsPermutation ((k, x) ∷ before) after → KeysRise cmp after
+  pub one_more_row : (k : K) (x : X) (after : List (K × X)) → form.IsRow k x → row ≡ form.row k x
+      → IsPermutation ((k, x) ∷ before) after → KeysRise cmp after
       → AreRowsOf cmp form.IsRow form.row (given ++ row ∷ []) after
   one_more_row k x after one is more rises = record {
     rises = rises;
     forms = all-permutation (λ (e : K × X). form.IsRow e.0 e.1) _ _ more (one, rows.forms);
-    same = one_read (λ (e : K × X). form.row e.0 e.1) given (given ++ row ∷ []) row (k, x) before after refl is rows.same more;
+    same = one_read (λ (e : K × X). form.row e.0 e.1) given (given ++ row ∷ []) row
+        (k, x) before after refl is rows.same more;
   }
 
   -- the row has no form
-  pub no_form_begins : ((e : K × X) → form.IsRow e.0 e.1 → row ≡ form.row e.0 e.1 → ⊥) → BeginNone cmp form (given ++ row ∷ [])
+  pub no_form_begins : ((e : K × X) → form.IsRow e.0 e.1 → row ≡ form.row e.0 e.1 → ⊥)
+      → BeginNone cmp form (given ++ row ∷ [])
   no_form_begins none tail entries table =
-      no_form (λ (e : K × X). form.row e.0 e.1) (λ (e : K × X). form.IsRow e.0 e.1) ((given ++ row ∷ []) ++ tail) entries (length given) row
+      no_form (λ (e : K × X). form.row e.0 e.1) (λ (e : K × X). form.IsRow e.0 e.1)
+      ((given ++ row ∷ []) ++ tail) entries (length given) row
       (before_end given tail row) (middle given tail row) none table.forms table.same
 
   -- its key is there twice
-  pub no_key_begins : IsTotalOrder cmp → KeysMatch cmp form.places form.row → (k : K) (x : X) → row ≡ form.row k x → IsSome (lookup (is_at (cmp k)) before) → BeginNone cmp form (given ++ row ∷ [])
+  pub no_key_begins : IsTotalOrder cmp → KeysMatch cmp form.places form.row → (k : K) (x : X) → row ≡ form.row k x
+      → IsSome (lookup (is_at (cmp k)) before) → BeginNone cmp form (given ++ row ∷ [])
   no_key_begins total match k x is twice tail entries table =
-      no_twice total match k x ((given ++ row ∷ []) ++ tail) given tail before entries (ap (λ r. (given ++ r ∷ []) ++ tail) is) rows.same twice table.rises table.same
+      no_twice total match k x ((given ++ row ∷ []) ++ tail) given tail before entries
+      (ap (λ r. (given ++ r ∷ []) ++ tail) is) rows.same twice table.rises table.same
 
 -- the query gave these rows so far, and the map has their entries
-pub record HasScanned {S K X : Type 0} (g : Ghosts S) (cmp : K → K → Ordering) (form : Form K X) (old now : Held S) (entries : List (K × X)) : Type 0 where
+pub record HasScanned {S K X : Type 0} (g : Ghosts S) (cmp : K → K → Ordering) (form : Form K X) (old now : Held S)
+    (entries : List (K × X)) : Type 0 where
   pub given : List Row
   pub same : IsUnchanged (state g old) (state g now)
   pub reads : HasGiven g form.load [] now given
@@ -145,37 +172,60 @@ pub record HasScanned {S K X : Type 0} (g : Ghosts S) (cmp : K → K → Orderin
 
 module _ {S K X : Type 0} (g : Ghosts S) {cmp : K → K → Ordering} (form : Form K X) (ours : IsOurTable cmp form) where
   -- no table has the rows with the next
-  pub none_goes : (old new : Held S) (row : Row) (shown : Option Row) (before after : List (K × X)) → Some row ≡ shown → Advances g old new shown → IsUnchanged (state g old) (state g new)
+  pub none_goes : (old new : Held S) (row : Row) (shown : Option Row) (before after : List (K × X)) → Some row ≡ shown
+      → Advances g old new shown → IsUnchanged (state g old) (state g new)
       → ((given : List Row) → AreRowsOf cmp form.IsRow form.row given before → BeginNone cmp form (given ++ row ∷ []))
-      → (given : List Row) → HasGiven g form.load [] old given → AreRowsOf cmp form.IsRow form.row given before → Goes g cmp form old new given after (Ok next.NoTable)
-  none_goes old new row shown before after is advances same none given reads rows =
-      (same, row, subst (GivesOn g form.load [] old new given) (sym is) (advances form.load [] given reads), none given rows)
+      → (given : List Row) → HasGiven g form.load [] old given → AreRowsOf cmp form.IsRow form.row given before
+      → Goes g cmp form old new given after (Ok next.NoTable)
+  none_goes old new row shown before after is advances same none given reads rows = (
+    same,
+    row,
+    subst (GivesOn g form.load [] old new given) (sym is) (advances form.load [] given reads),
+    none given rows,
+  )
 
   pub none_scanned : (h : Held S) → HasGiven g form.load [] h [] → HasScanned g cmp form h h []
-  none_scanned h reads = record { given = []; same = still_open g form.load [] h [] reads; reads = reads; rows = nothing_read cmp form.IsRow form.row }
+  none_scanned h reads =
+      record {
+        given = [];
+        same = still_open g form.load [] h [] reads;
+        reads = reads;
+        rows = nothing_read cmp form.IsRow form.row;
+      }
 
   -- A scan has come to this also from an earlier state, if nothing has changed since.
-  pub scans_since : (old mid new : Held S) → IsUnchanged (state g old) (state g mid) → Survives (state g old) (state g mid) (λ _. ⊥)
-      → (given : List Row) → HasGiven g form.load [] mid given → (result : Result (Option (BTreeMap K X)) Refusal) → Scans g cmp form mid new result → Scans g cmp form old new result
+  pub scans_since : (old mid new : Held S) → IsUnchanged (state g old) (state g mid)
+      → Survives (state g old) (state g mid) (λ _. ⊥)
+      → (given : List Row) → HasGiven g form.load [] mid given → (result : Result (Option (BTreeMap K X)) Refusal)
+      → Scans g cmp form mid new result → Scans g cmp form old new result
   scans_since old mid new same kept given reads (Ok found) scans = (
     unchanged_then (state g old) (state g mid) (state g new) same scans.0,
     understood_before form.load (state g old) (state g mid) same scans.1,
     λ all holds. scans.2 all (subst (λ db. form.Holds db all) (sym same.0.now_is) holds),
   )
-  scans_since old mid new same kept given reads (Err e) scans = (left_then (state g old) (state g mid) (state g new) same scans.0, why scans.1)
+  scans_since old mid new same kept given reads (Err e) scans =
+      (left_then (state g old) (state g mid) (state g new) same scans.0, why scans.1)
     where
       plain : (c : Compiled) → understood (state g old).now.schema form.load ≡ Ok c → c.returning ≡ None
-      plain c is = given_plain g form.load [] mid given reads c (subst (λ (d : Database). understood d.schema form.load ≡ Ok c) (sym same.0.now_is) is)
+      plain c is = given_plain g form.load [] mid given reads c
+          (subst (λ (d : Database). understood d.schema form.load ≡ Ok c) (sym same.0.now_is) is)
 
-      why : (e ≡ NoMemory) ⊎ FailsToLoadFrom form.Holds form.load (state g mid) (state g new) e → (e ≡ NoMemory) ⊎ FailsToLoadFrom form.Holds form.load (state g old) (state g new) e
+      why : (e ≡ NoMemory) ⊎ FailsToLoadFrom form.Holds form.load (state g mid) (state g new) e
+          → (e ≡ NoMemory) ⊎ FailsToLoadFrom form.Holds form.load (state g old) (state g new) e
       why (inl short) = inl short
       why (inr fails) = inr (
-        (fails.0.0, fails.0.1, fails_to_query_since form.load (state g old) (state g mid) (state g new) same kept plain fails.0.0 fails.0.2),
+        (
+          fails.0.0,
+          fails.0.1,
+          fails_to_query_since form.load (state g old) (state g mid)
+              (state g new) same kept plain fails.0.0 fails.0.2,
+        ),
         λ there. fails.1 (there.0, subst (λ db. form.Holds db there.0) (sym same.0.now_is) there.1),
       )
 
   -- a query that failed
-  pub failed_scans : (old new : Held S) (e : Refusal) (error : Error) → e ≡ refusal_of error → FailsToQuery form.load [] (state g old) (state g new) error → Scans g cmp form old new (Err e)
+  pub failed_scans : (old new : Held S) (e : Refusal) (error : Error) → e ≡ refusal_of error
+      → FailsToQuery form.load [] (state g old) (state g new) error → Scans g cmp form old new (Err e)
   failed_scans old new e error told failed = (
     failed_unchanged form.load [] (state g old) (state g new) error failed,
     inr (
@@ -187,25 +237,30 @@ module _ {S K X : Type 0} (g : Ghosts S) {cmp : K → K → Ordering} (form : Fo
   )
 
   -- the scan refuses where its step does
-  pub err_scans : (mid new : Held S) (given : List Row) (entries : List (K × X)) (e : Refusal) → Goes g cmp form mid new given entries (Err e) → Scans g cmp form mid new (Err e)
+  pub err_scans : (mid new : Held S) (given : List Row) (entries : List (K × X)) (e : Refusal)
+      → Goes g cmp form mid new given entries (Err e) → Scans g cmp form mid new (Err e)
   err_scans mid new given entries e (inl (same, short)) = (inl same, inl short)
   err_scans mid new given entries e (inr (error, told, failed)) = failed_scans mid new e error told failed
 
   -- the table was read whole
-  pub end_scans : (mid new : Held S) (given : List Row) (table : BTreeMap K X) → Goes g cmp form mid new given table.entries (Ok next.End) → Scans g cmp form mid new (Ok (Some table))
+  pub end_scans : (mid new : Held S) (given : List Row) (table : BTreeMap K X)
+      → Goes g cmp form mid new given table.entries (Ok next.End) → Scans g cmp form mid new (Ok (Some table))
   end_scans mid new given table (same, shown, rows) = (
     same,
     shown_understood form.load (state g mid) (state g new) given shown,
     λ all holds.
         let it = ours.shows (state g mid).now all holds in
-        rows_held given (all form.tree) table.entries (shown_by it.2 (state g mid) (state g new) given all it.1 shown).0 rows,
+        rows_held given (all form.tree) table.entries
+        (shown_by it.2 (state g mid) (state g new) given all it.1 shown).0 rows,
   )
 
   -- no table has the rows that were read
-  pub none_scans : (mid new : Held S) (given : List Row) (entries : List (K × X)) → Goes g cmp form mid new given entries (Ok next.NoTable) → Scans g cmp form mid new (Ok None)
+  pub none_scans : (mid new : Held S) (given : List Row) (entries : List (K × X))
+      → Goes g cmp form mid new given entries (Ok next.NoTable) → Scans g cmp form mid new (Ok None)
   none_scans mid new given entries (same, row, reads, none) = (
     same,
-    understood_before form.load (state g mid) (state g new) same (given_understood g form.load new (given ++ row ∷ []) reads),
+    understood_before form.load (state g mid) (state g new) same
+        (given_understood g form.load new (given ++ row ∷ []) reads),
     λ all holds entries table.
         let it = ours.shows (state g new).now all (subst (λ db. form.Holds db all) (sym same.0.now_is) holds) in
         let whole = begins_shown form.load [] (state g new) (state g new) (given ++ row ∷ [])
@@ -217,8 +272,10 @@ module _ {S K X : Type 0} (g : Ghosts S) {cmp : K → K → Ordering} (form : Fo
   )
 
   -- what a scan answers, with `BadStore` where no table has the rows
-  module _ (old new : Held S) (early : HasCleanDisk (state g new) → HasCleanDisk (state g old)) (survives : Survives (state g old) (state g new) (λ _. ⊥)) where
-    pub scan_loads : (found : Option (BTreeMap K X)) → (HasCleanDisk (state g new) → Scans g cmp form old new (Ok found))
+  module _ (old new : Held S) (early : HasCleanDisk (state g new) → HasCleanDisk (state g old))
+      (survives : Survives (state g old) (state g new) (λ _. ⊥)) where
+    pub scan_loads : (found : Option (BTreeMap K X))
+        → (HasCleanDisk (state g new) → Scans g cmp form old new (Ok found))
         → LoadingBy form.load g old new (ok_or found BadStore) (table_part cmp form)
     scan_loads None scans = record {
       rows = λ clean. tt;
@@ -239,7 +296,8 @@ module _ {S K X : Type 0} (g : Ghosts S) {cmp : K → K → Ordering} (form : Fo
       told = tt;
     }
 
-    pub scan_fails : (e : Refusal) → (HasCleanDisk (state g new) → Scans g cmp form old new (Err e)) → IsTrue (is_store_refusal e)
+    pub scan_fails : (e : Refusal) → (HasCleanDisk (state g new) → Scans g cmp form old new (Err e))
+        → IsTrue (is_store_refusal e)
         → LoadingBy form.load g old new (Err e) (table_part cmp form)
     scan_fails e scans told = record {
       rows = λ clean. tt;

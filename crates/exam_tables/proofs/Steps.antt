@@ -30,7 +30,8 @@ use Rattle.exam_types.specs.declared.refusal.Refusal.TheVariants.{Store}
 use Rattle.std.proofs.lemmas.Bool.{both_ways, cases_Bool}
 
 -- the writes of a list and then those of another
-pub written_append : (first next : List Write) (all : Trees) → written (first ++ next) all ≡ written next (written first all)
+pub written_append : (first next : List Write) (all : Trees)
+    → written (first ++ next) all ≡ written next (written first all)
 written_append [] next all = refl
 written_append (w ∷ first) next all = written_append first next (w.change all)
 
@@ -45,7 +46,8 @@ failure (SqlInputError fault) is = absurd cc
 failure _ is = refl
 
 -- a statement that fails
-pub fails_for : (Against : Type 0) (old new : State) (e : Refusal) (error : Error) → e ≡ refusal_of error → Fails old new Against error → FailsFor Against old new e
+pub fails_for : (Against : Type 0) (old new : State) (e : Refusal) (error : Error) → e ≡ refusal_of error
+    → Fails old new Against error → FailsFor Against old new e
 fails_for Against old new e error told (inl lacks) = inl (told ∙ ap refusal_of lacks)
 fails_for Against old new e error told (inr (named, inl down)) = inr (told ∙ failure error named, inl down)
 fails_for Against old new e error told (inr (named, inr against)) = inr (told ∙ failure error named, inr against)
@@ -75,13 +77,16 @@ fails_one sql params change old new e error told (inr (named, inr refused)) =
 pub makes_by : {change : Trees → Trees} {sql : List ℕ} {params : Row} → Edits change sql params
     → (old new : State) (result : Result (Unit {0}) Refusal)
     → (HasCleanDisk new → IsTrue old.in_transaction → OnOk result (Ran sql params old new × IsTrue new.in_transaction))
-    → (HasCleanDisk new → IsTrue old.in_transaction → IfErr result (λ e. (error : Error) × (e ≡ refusal_of error) × ExecutesInside 0 sql params old new (Err error)))
+    → (HasCleanDisk new → IsTrue old.in_transaction
+    → IfErr result (λ e. (error : Error) × (e ≡ refusal_of error)
+    × ExecutesInside 0 sql params old new (Err error)))
     → (HasCleanDisk new → KeepsCommit old new) → Survives old new (λ _. ⊥)
     → IfErr result (λ e. IsTrue (is_store_refusal e))
     → Makes old new result (record { sql = sql; params = params; change = change } ∷ [])
 makes_by edits old new (Ok u) ran failed kept survives told = record {
   made = λ clean going. let h = ran clean going in (edits.does old new (Ok h.0.0) h.0.1, h.1);
-  ran = λ clean going ours. let h = ran clean going in (new.now, (edits.answers old new ours.1.schema_is).done h.0.0 h.0.1, refl);
+  ran = λ clean going ours. let h =
+      ran clean going in (new.now, (edits.answers old new ours.1.schema_is).done h.0.0 h.0.1, refl);
   failed = λ clean going ours. tt;
   kept = kept;
   survives = survives;
@@ -90,7 +95,9 @@ makes_by edits old new (Ok u) ran failed kept survives told = record {
 makes_by {change} {sql} {params} edits old new (Err e) ran failed kept survives told = record {
   made = λ clean going. tt;
   ran = λ clean going ours. tt;
-  failed = λ clean going ours. let it = failed clean going in fails_one sql params change old new e it.0 it.1 ((edits.answers old new ours.1.schema_is).fails it.0 it.2);
+  failed = λ clean going ours. let it =
+      failed clean going in
+      fails_one sql params change old new e it.0 it.1 ((edits.answers old new ours.1.schema_is).fails it.0 it.2);
   kept = kept;
   survives = survives;
   told = told;
@@ -103,10 +110,15 @@ still_more : (a b c : ℕ) → MoreFaults a b → b ≤ c → MoreFaults a c
 still_more a b c more up = omega (arith, up, more)
 
 -- what went wrong in the second of two calls went wrong in both
-pub down_later : {P : Trees → Type 0} (old mid new : State) → Survives old mid P → HasCleanDisk mid → mid.faults ≤ new.faults → IsDown mid new → IsDown old new
+pub down_later : {P : Trees → Type 0} (old mid new : State) → Survives old mid P → HasCleanDisk mid
+    → mid.faults ≤ new.faults → IsDown mid new → IsDown old new
 down_later old mid new s clean up (inl more) = inl (more_faults old.faults mid.faults new.faults s.counts more)
 down_later old mid new s clean up (inr shut) = elim (cases_Bool old.is_open) [
-  | inl was ↦ elim (s.closes clean was) [ inl still ↦ absurd (both_ways _ shut still) | inr more ↦ inl (still_more old.faults mid.faults new.faults more up) ]
+  | inl was ↦ elim (s.closes clean was) [
+    | inl still ↦ absurd (both_ways _ shut still)
+    | inr more ↦ inl
+        (still_more old.faults mid.faults new.faults more up)
+  ]
   | inr was ↦ inr was
 ]
 
@@ -115,18 +127,23 @@ down_longer old mid new up (inl more) = inl (still_more old.faults mid.faults ne
 down_longer old mid new up (inr shut) = inr shut
 
 -- the writes of a list run, and then those of another
-runs_append : (limit : Option ℕ) (first next : List Write) (old mid new : Database) → AreRun limit first old mid → AreRun limit next mid new → AreRun limit (first ++ next) old new
+runs_append : (limit : Option ℕ) (first next : List Write) (old mid new : Database) → AreRun limit first old mid
+    → AreRun limit next mid new → AreRun limit (first ++ next) old new
 runs_append limit [] next old mid new one two = subst (λ db. AreRun limit next db new) one two
-runs_append limit (w ∷ first) next old mid new (at, ran, one) two = (at, ran, runs_append limit first next at mid new one two)
+runs_append limit (w ∷ first) next old mid new (at, ran, one) two =
+    (at, ran, runs_append limit first next at mid new one two)
 
 fails_later : (first next : List Write) (old mid new : State) (e : Refusal) → Survives old mid (λ _. ⊥)
     → HasCleanDisk mid → mid.faults ≤ new.faults → AreRun old.step_limit first old.now mid.now
     → Becomes first old.now mid.now → FailsToWrite next mid new e
     → FailsToWrite (first ++ next) old new e
 fails_later first next old mid new e s clean up ran made (inl lacks) = inl lacks
-fails_later first next old mid new e s clean up ran made (inr (told, inl down)) = inr (told, inl (down_later old mid new s clean up down))
-fails_later first next old mid new e s clean up ran made (inr (told, inr (done, one, rest, are, at, after, becomes, refused))) =
-    let run = runs_append old.step_limit first done old.now mid.now at ran (subst (λ limit. AreRun limit done mid.now at) s.limit after) in
+fails_later first next old mid new e s clean up ran made (inr (told, inl down)) =
+    inr (told, inl (down_later old mid new s clean up down))
+fails_later first next old mid new e s clean up ran made
+    (inr (told, inr (done, one, rest, are, at, after, becomes, refused))) =
+    let run = runs_append old.step_limit first done old.now mid.now at ran
+    (subst (λ limit. AreRun limit done mid.now at) s.limit after) in
     inr (
       told,
       inr (
@@ -142,7 +159,8 @@ fails_later first next old mid new e s clean up ran made (inr (told, inr (done, 
     )
 
 -- one step after another, where the first succeeded
-pub makes_then : (old mid new : State) (result : Result (Unit {0}) Refusal) (first next : List Write) → Makes old mid (Ok tt) first → Makes mid new result next → Makes old new result (first ++ next)
+pub makes_then : (old mid new : State) (result : Result (Unit {0}) Refusal) (first next : List Write)
+    → Makes old mid (Ok tt) first → Makes mid new result next → Makes old new result (first ++ next)
 makes_then old mid new (Ok u) first next a b = record {
   made = λ clean going.
       let one = a.made (early old mid new b.survives clean) going in
@@ -152,7 +170,8 @@ makes_then old mid new (Ok u) first next a b = record {
       let before = early old mid new b.survives clean in
       let one = a.made before going in
       let two = b.ran clean one.1 (written first ours.0, one.0 ours.0 ours.1) in
-      runs_append old.step_limit first next old.now mid.now new.now (a.ran before going ours) (subst (λ limit. AreRun limit next mid.now new.now) a.survives.limit two);
+      runs_append old.step_limit first next old.now mid.now new.now (a.ran before going ours)
+      (subst (λ limit. AreRun limit next mid.now new.now) a.survives.limit two);
   failed = λ clean going ours. tt;
   kept = λ clean. keeps_then old mid new (a.kept (early old mid new b.survives clean)) (b.kept clean);
   survives = survives_then old mid new _ _ _ (λ _ db none. none) (λ _ db none. none) a.survives b.survives;
@@ -164,14 +183,16 @@ makes_then old mid new (Err e) first next a b = record {
   failed = λ clean going ours.
       let before = early old mid new b.survives clean in
       let one = a.made before going in
-      fails_later first next old mid new e a.survives before b.survives.counts (a.ran before going ours) one.0 (b.failed clean one.1 (written first ours.0, one.0 ours.0 ours.1));
+      fails_later first next old mid new e a.survives before b.survives.counts (a.ran before going ours) one.0
+      (b.failed clean one.1 (written first ours.0, one.0 ours.0 ours.1));
   kept = λ clean. keeps_then old mid new (a.kept (early old mid new b.survives clean)) (b.kept clean);
   survives = survives_then old mid new _ _ _ (λ _ db none. none) (λ _ db none. none) a.survives b.survives;
   told = b.told;
 }
 
 -- a step that was refused, where others were to follow
-pub makes_part : (old new : State) (e : Refusal) (first rest : List Write) → Makes old new (Err e) first → Makes old new (Err e) (first ++ rest)
+pub makes_part : (old new : State) (e : Refusal) (first rest : List Write) → Makes old new (Err e) first
+    → Makes old new (Err e) (first ++ rest)
 makes_part old new e first rest a =
     record {
       made = λ clean going. tt;
@@ -231,12 +252,16 @@ module _ {Y : Type 0} (f : Y → Write) (all : List Y) (at : ℕ) (y : Y)
     (more : take (at + 1) all ≡ take at all ++ y ∷ []) (old mid new : State)
     (so_far : Makes old mid (Ok tt) (map f (take at all))) where
   pub one_more : Makes mid new (Ok tt) (f y ∷ []) → Makes old new (Ok tt) (map f (take (at + 1) all))
-  one_more next = subst (Makes old new (Ok tt)) (sym (ap (map f) more ∙ map-append f (take at all) (y ∷ []))) (makes_then old mid new (Ok tt) (map f (take at all)) (f y ∷ []) so_far next)
+  one_more next = subst (Makes old new (Ok tt)) (sym (ap (map f) more ∙ map-append f (take at all) (y ∷ [])))
+      (makes_then old mid new (Ok tt) (map f (take at all)) (f y ∷ []) so_far next)
 
   pub one_fails : (e : Refusal) → Makes mid new (Err e) (f y ∷ []) → Makes old new (Err e) (map f all)
-  one_fails e next = subst (Makes old new (Err e)) whole (makes_part old new e _ (map f (drop (at + 1) all)) (makes_then old mid new (Err e) (map f (take at all)) (f y ∷ []) so_far next))
+  one_fails e next = subst (Makes old new (Err e)) whole
+      (makes_part old new e _ (map f (drop (at + 1) all))
+      (makes_then old mid new (Err e) (map f (take at all)) (f y ∷ []) so_far next))
     where
       whole : (map f (take at all) ++ f y ∷ []) ++ map f (drop (at + 1) all) ≡ map f all
       whole =
-          ap (λ l. l ++ map f (drop (at + 1) all)) (sym (map-append f (take at all) (y ∷ []))) ∙ sym (map-append f (take at all ++ y ∷ []) (drop (at + 1) all))
+          ap (λ l. l ++ map f (drop (at + 1) all)) (sym (map-append f (take at all) (y ∷ [])))
+          ∙ sym (map-append f (take at all ++ y ∷ []) (drop (at + 1) all))
           ∙ ap (λ l. map f (l ++ drop (at + 1) all)) (sym more) ∙ ap (map f) (take-append-drop (at + 1) all)

@@ -18,12 +18,17 @@ one_from {X} x (y ∷ []) same = ap (λ z. z ∷ []) (All-permutation (λ z. z �
 one_from x (y ∷ z ∷ ys) same = absurd (omega (arith, length_permutation (x ∷ []) (y ∷ z ∷ ys) same))
 
 -- the table holds that row alone where a query shows it alone
-pub version_held : (v : ℕ) (meant rows : List Row) → IsPermutation meant (map (λ row. Null ∷ row) rows) → rows ≡ version_row v ∷ [] → meant ≡ (Null ∷ version_row v) ∷ []
-version_held v meant rows same is = one_from (Null ∷ version_row v) meant (IsPermutation-sym _ _ (subst (λ l. IsPermutation meant (map (λ row. Null ∷ row) l)) is same))
+pub version_held : (v : ℕ) (meant rows : List Row) → IsPermutation meant (map (λ row. Null ∷ row) rows)
+    → rows ≡ version_row v ∷ [] → meant ≡ (Null ∷ version_row v) ∷ []
+version_held v meant rows same is =
+    one_from (Null ∷ version_row v) meant
+    (IsPermutation-sym _ _ (subst (λ l. IsPermutation meant (map (λ row. Null ∷ row) l)) is same))
 
 -- and a query shows it alone where the table holds it alone
-pub version_shown : (v : ℕ) (meant rows : List Row) → IsPermutation meant (map (λ row. Null ∷ row) rows) → meant ≡ (Null ∷ version_row v) ∷ [] → rows ≡ version_row v ∷ []
-version_shown v meant rows same is = only rows (one_from (Null ∷ version_row v) _ (subst (λ l. IsPermutation l (map (λ row. Null ∷ row) rows)) is same))
+pub version_shown : (v : ℕ) (meant rows : List Row) → IsPermutation meant (map (λ row. Null ∷ row) rows)
+    → meant ≡ (Null ∷ version_row v) ∷ [] → rows ≡ version_row v ∷ []
+version_shown v meant rows same is =
+    only rows (one_from (Null ∷ version_row v) _ (subst (λ l. IsPermutation l (map (λ row. Null ∷ row) rows)) is same))
   where
     only : (rows : List Row) → map (λ row. Null ∷ row) rows ≡ (Null ∷ version_row v) ∷ [] → rows ≡ version_row v ∷ []
     only [] e = absurd cc

@@ -3,6 +3,7 @@ ghost use Rattle.std.specs.Prelude.{◌≡◌, ◌⊎◌, [], ◌∷◌, false, 
 ghost use Rattle.sqlite.specs.Held.{state};
 ghost use Rattle.sqlite.specs.State.{HasCleanDisk, Survives};
 ghost use Rattle.exam_types.specs.declared.refusal.Refusal.TheVariants.{BadStore, NoMemory};
+ghost use Rattle.exam_types.specs.Refusals.{OnlyMemory};
 ghost use Rattle.exam_tables.specs.Appeals.{FailsToConfirm, ShowsAppeal, same_appeal};
 ghost use Rattle.exam_tables.specs.Faults.{is_store_refusal};
 ghost use Rattle.exam_tables.specs.Loaded.{OnlyReads};
@@ -59,7 +60,7 @@ fn confirm_row(
     ensures one { OnOk result (length rows.now ≡ 1) }
     ensures ok { (row : _) → rows.now ≡ row ∷ [] → OnOk result (row ≡ appeal_row key.now appeal.now) }
     ensures bad { IsAppeal key.now appeal.now → rows.now ≡ appeal_row key.now appeal.now ∷ []
-        → IfErr result (λ e. e ≡ NoMemory) }
+        → OnlyMemory result }
     ensures refusal { IfErr result (λ e. (e ≡ NoMemory) ⊎ (e ≡ BadStore)) }
 {
     match rows {
@@ -76,7 +77,7 @@ fn confirm_stored(
 ) -> Result<(), Refusal>
     ensures ok { OnOk result (row.now ≡ appeal_row key.now appeal.now) }
     ensures bad { IsAppeal key.now appeal.now → row.now ≡ appeal_row key.now appeal.now
-        → IfErr result (λ e. e ≡ NoMemory) }
+        → OnlyMemory result }
     ensures refusal { IfErr result (λ e. (e ≡ NoMemory) ⊎ (e ≡ BadStore)) }
 {
     let found = AppealTable::read(alloc, row)?;

@@ -24,13 +24,16 @@ use Rattle.exam_store.specs.Stops.{HasDays}
 use Rattle.exam_store.specs.Stores.{OfficeIn}
 use Rattle.exam_store.proofs.Marking.{made_of, still_made}
 use Rattle.exam_theorem.specs.Keeping.{KeepsIt}
-use Rattle.exam_theorem.specs.Resting.{BringsOver, HasOffice, IsAtRest, IsVersioned, LeavesOffice, Rests, RestsOn, StopsWith}
-use Rattle.exam_theorem.proofs.Having.{committed_found, good_has, keeps_found, keeps_has, newest_brings, newest_ours, old_had, older_brings, same_found}
+use Rattle.exam_theorem.specs.Resting.{BringsOver, HasOffice, IsAtRest, IsVersioned, LeavesOffice, Rests, RestsOn}
+use Rattle.exam_theorem.specs.Resting.{StopsWith}
+use Rattle.exam_theorem.proofs.Having.{committed_found, good_has, keeps_found, keeps_has, newest_brings, newest_ours}
+use Rattle.exam_theorem.proofs.Having.{old_had, older_brings, same_found}
 
 -- ---- one transaction or none
 
 -- nothing was done
-pub nothing_commits : (s : State) (e : Refusal) (T : Database → Database → Type 0) → Commits {A = Unit {0}} s s (Err e) T
+pub nothing_commits : (s : State) (e : Refusal) (T : Database → Database → Type 0)
+    → Commits {A = Unit {0}} s s (Err e) T
 nothing_commits s e T = record {
   turned = λ clean. tt;
   same = λ sound. (refl, refl);
@@ -39,13 +42,17 @@ nothing_commits s e T = record {
   survives = survives_weaker s s _ _ (λ clean trees none. absurd none) (survives_itself s);
 }
 
-module _ (old mid new : State) (v : ℕ) (same : HasCleanDisk mid → IsUnchanged old mid) (first : Survives old mid (λ _. ⊥))
+module _ (old mid new : State) (v : ℕ) (same : HasCleanDisk mid → IsUnchanged old mid)
+    (first : Survives old mid (λ _. ⊥))
     (named : HasCleanDisk mid → (all : Trees) → ContainsMade old.now all → HasVersion v all) (older : v ≢ version) where
   -- an office of an older version is migrated
-  pub migrated : {A : Type 0} (result : Result A Refusal) → Commits mid new result Migrates → Commits old new result BringsOver
+  pub migrated : {A : Type 0} (result : Result A Refusal) → Commits mid new result Migrates
+      → Commits old new result BringsOver
   migrated result made =
       let whole = then_commits old mid new result Migrates same first made in
-      commits_at old new result Migrates BringsOver (λ clean db migrates. older_brings old.now v (named (omega (arith, made.survives.clean, clean))) db older migrates) whole
+      commits_at old new result Migrates BringsOver
+      (λ clean db migrates. older_brings old.now v
+      (named (omega (arith, made.survives.clean, clean))) db older migrates) whole
 
   -- the office that was there
   pub migrated_had : (answered : ℕ × ℕ) → IsVersion answered.0 → (HasCleanDisk new → HasCleanDisk mid)
@@ -64,14 +71,27 @@ module _ {A : Type 0} (old new : State) (result : Result A Refusal) (made : Comm
   -- what was there before, or in the newest version
   pub brought_stops : StopsWith old new
   brought_stops office rest clean trees may = elim (made.survives.crash clean trees may) [
-    | inl earlier ↦ (old.now, rest.has, settled trees rest.is_open earlier ∙ ap (λ (db : Database). db.trees) rest.committed)
-    | inr turned ↦ (turned.0, keeps_has turned.0 office (turned.1 office rest.has) rest.has.order rest.has.days, turned.2)
+    | inl earlier ↦ (
+      old.now,
+      rest.has,
+      settled trees rest.is_open earlier ∙ ap (λ (db : Database). db.trees) rest.committed,
+    )
+    | inr turned ↦ (
+      turned.0,
+      keeps_has turned.0 office (turned.1 office rest.has) rest.has.order rest.has.days,
+      turned.2,
+    )
   ]
 
-pub refused_rests : {A : Type 0} (old new : State) (e : Refusal) → Commits {A = A} old new (Err e) BringsOver → RestsOn old new
+pub refused_rests : {A : Type 0} (old new : State) (e : Refusal) → Commits {A = A} old new (Err e) BringsOver
+    → RestsOn old new
 refused_rests old new e made sound office rest =
     let same = made.same sound in
-    record { is_open = sound.1; committed = same.1 ∙ rest.committed ∙ sym same.0; has = subst (λ (db : Database). HasOffice db office) (sym same.0) rest.has }
+    record {
+      is_open = sound.1;
+      committed = same.1 ∙ rest.committed ∙ sym same.0;
+      has = subst (λ (db : Database). HasOffice db office) (sym same.0) rest.has;
+    }
 
 module _ (old mid : State) (made : Commits {A = Unit {0}} {E = Refusal} old mid (Ok tt) BringsOver) where
   brought_has : HasCleanDisk mid → (office : Office) → HasOffice old.now office → HasOffice mid.now office
@@ -82,7 +102,11 @@ module _ (old mid : State) (made : Commits {A = Unit {0}} {E = Refusal} old mid 
   opened_stops new survives office rest clean trees may =
       let early : HasCleanDisk mid = omega (arith, survives.clean, clean) in
       elim (survives.crash clean trees may) [
-        | inl left ↦ (mid.now, brought_has early office rest.has, made.settled early trees left ∙ ap (λ (db : Database). db.trees) (made.turned early).1)
+        | inl left ↦ (
+          mid.now,
+          brought_has early office rest.has,
+          made.settled early trees left ∙ ap (λ (db : Database). db.trees) (made.turned early).1,
+        )
         | inr none ↦ absurd none
       ]
 
@@ -92,14 +116,24 @@ module _ (old mid : State) (made : Commits {A = Unit {0}} {E = Refusal} old mid 
       let has = brought_has early office rest.has in
       let settled = (made.turned early).1 in
       elim (left sound.0) [
-        | inl same ↦ record { is_open = sound.1; committed = same.0.committed_is ∙ settled ∙ sym same.0.now_is; has = subst (λ (db : Database). HasOffice db office) (sym same.0.now_is) has }
+        | inl same ↦ record {
+          is_open = sound.1;
+          committed = same.0.committed_is ∙ settled ∙ sym same.0.now_is;
+          has = subst (λ (db : Database). HasOffice db office) (sym same.0.now_is) has;
+        }
         | inr back ↦
             let undone = back.undone sound.1 in
-            record { is_open = sound.1; committed = undone.1 ∙ sym undone.0; has = subst (λ (db : Database). HasOffice db office) (sym (undone.0 ∙ settled)) has }
+            record {
+              is_open = sound.1;
+              committed = undone.1 ∙ sym undone.0;
+              has = subst (λ (db : Database). HasOffice db office) (sym (undone.0 ∙ settled)) has;
+            }
       ]
 
-module _ {S : Type 0} (g : Ghosts S) (old mid : State) (made : Commits {A = Unit {0}} {E = Refusal} old mid (Ok tt) BringsOver) where
-  early : (new : OfficeIn S) → Finds mid (state g new.database) new.office → HasCleanDisk (state g new.database) → HasCleanDisk mid
+module _ {S : Type 0} (g : Ghosts S) (old mid : State)
+    (made : Commits {A = Unit {0}} {E = Refusal} old mid (Ok tt) BringsOver) where
+  early : (new : OfficeIn S) → Finds mid (state g new.database) new.office → HasCleanDisk (state g new.database)
+      → HasCleanDisk mid
   early new finds clean = omega (arith, finds.survives.clean, clean)
 
   abbrev Opened : Type 0
@@ -128,12 +162,14 @@ module _ {S : Type 0} (g : Ghosts S) (old mid : State) (made : Commits {A = Unit
   same_opened new finds order clean office has =
       let calm = early new finds clean in
       let turned = made.turned calm in
-      let same : new.office ≡ office = same_found mid (state g new.database) new.office finds clean old turned.0 office has in (
+      let same : new.office ≡ office =
+      same_found mid (state g new.database) new.office finds clean old turned.0 office has in (
         same,
         record {
           is_open = (finds.same clean).0.is_open;
           kept = (
-            keeps_found mid (state g new.database) new.office finds clean old turned.0 (subst (HasOffice old.now) (sym same) has),
+            keeps_found mid (state g new.database) new.office finds clean old turned.0
+                (subst (HasOffice old.now) (sym same) has),
             committed_found mid (state g new.database) new.office finds clean old turned.0 turned.1,
           );
           order = order;
@@ -142,7 +178,8 @@ module _ {S : Type 0} (g : Ghosts S) (old mid : State) (made : Commits {A = Unit
       )
 
   pub opened_same : (result : Opened) → Found result → AreGood result
-      → IfOk result (λ new. HasCleanDisk (state g new.database) → (office : Office) → HasOffice old.now office → (new.office ≡ office) × IsAtRest g new)
+      → IfOk result (λ new. HasCleanDisk (state g new.database) → (office : Office) → HasOffice old.now office
+      → (new.office ≡ office) × IsAtRest g new)
   opened_same (Ok new) finds good = λ clean office has. same_opened new finds good.1 clean office has
   opened_same (Err e) finds good = tt
 
@@ -150,7 +187,8 @@ module _ {S : Type 0} (g : Ghosts S) (old mid : State) (made : Commits {A = Unit
   opened_stopped (Ok new) finds = opened_stops old mid made (state g new.database) finds.survives
   opened_stopped (Err e) finds = tt
 
-  pub refused_stopped : (result : Opened) → IfErr result (λ e. Survives mid (state g e.1) (λ _. ⊥)) → IfErr result (λ e. StopsWith old (state g e.1))
+  pub refused_stopped : (result : Opened) → IfErr result (λ e. Survives mid (state g e.1) (λ _. ⊥))
+      → IfErr result (λ e. StopsWith old (state g e.1))
   refused_stopped (Ok new) survives = tt
   refused_stopped (Err e) survives = opened_stops old mid made (state g e.1) survives
 

@@ -38,7 +38,8 @@ in_order all office formed = record { tables = rise; seats = formed.1.rises }
     rise table.Standing = (formed.0 table.Standing).rises
 
 -- tables that hold an office in the forms of their columns have it
-pub formed_has : (v : ℕ) (db : Database) (all : Trees) (office : Office) → IsVersion v → ContainsOf v db all → HasVersion v all → HoldsFormed all office → HasOffice db office
+pub formed_has : (v : ℕ) (db : Database) (all : Trees) (office : Office) → IsVersion v → ContainsOf v db all
+    → HasVersion v all → HoldsFormed all office → HasOffice db office
 formed_has v db all office is contains has formed = record {
   number = v;
   is_version = is;
@@ -48,16 +49,23 @@ formed_has v db all office is contains has formed = record {
 }
 
 -- the good office of a version
-pub good_has : (v : ℕ) (db : Database) (all : Trees) → IsVersion v → HoldsGood v db all → (office : Office) × HasOffice db office
+pub good_has : (v : ℕ) (db : Database) (all : Trees) → IsVersion v → HoldsGood v db all
+    → (office : Office) × HasOffice db office
 good_has v db all is good = (good.2, formed_has v db all good.2 is good.0 good.1 good.3)
 
 -- ---- the newest version
 
-pub keeps_has : (db : Database) (office : Office) → Keeps db office → IsInOrder office → HasDays office.relations → HasOffice db office
+pub keeps_has : (db : Database) (office : Office) → Keeps db office → IsInOrder office → HasDays office.relations
+    → HasOffice db office
 keeps_has db office keeps order days = record {
   number = version;
   is_version = inr refl;
-  kept = record { all = keeps.all; contains = of_newest db keeps.all keeps.contains; version = keeps.version; held = keeps.held };
+  kept = record {
+    all = keeps.all;
+    contains = of_newest db keeps.all keeps.contains;
+    version = keeps.version;
+    held = keeps.held;
+  };
   order = order;
   days = days;
 }
@@ -99,21 +107,28 @@ module _ (db : Database) (v : ℕ) (named : (all : Trees) → ContainsMade db al
 
 module _ (mid new : State) (found : Office) (finds : Finds mid new found) (clean : HasCleanDisk new) where
   -- the office that the newest tables keep is found
-  pub kept_found : (office : Office) → Keeps mid.now office → IsInOrder office → HasDays office.relations → found ≡ office
-  kept_found office keeps order days = same_office keeps.all found office (finds.formed clean keeps.all keeps.contains) keeps.held order days
+  pub kept_found : (office : Office) → Keeps mid.now office → IsInOrder office → HasDays office.relations
+      → found ≡ office
+  kept_found office keeps order days =
+      same_office keeps.all found office (finds.formed clean keeps.all keeps.contains) keeps.held order days
 
   -- the one that is found is that of the tables
   pub found_has : IsOurs mid.now → IsInOrder found → HasOffice mid.now found
-  found_has ours order = keeps_has mid.now found (finds.kept clean ours) order (formed_days ours.0 found (finds.formed clean ours.0 ours.1))
+  found_has ours order =
+      keeps_has mid.now found (finds.kept clean ours) order
+      (formed_days ours.0 found (finds.formed clean ours.0 ours.1))
 
   module _ (old : State) (brings : BringsOver old.now mid.now) where
     -- whichever version it was in
     pub same_found : (office : Office) → HasOffice old.now office → found ≡ office
     same_found office has = kept_found office (brings office has) has.order has.days
 
-    pub old_had : IsInOrder found → ((office : Office) × HasOffice old.now office) ⊎ (IsOurs old.now × (mid.now ≡ old.now)) → HasOffice old.now found
+    pub old_had : IsInOrder found
+        → ((office : Office) × HasOffice old.now office) ⊎ (IsOurs old.now × (mid.now ≡ old.now))
+        → HasOffice old.now found
     old_had order (inl had) = subst (HasOffice old.now) (sym (same_found had.0 had.1)) had.1
-    old_had order (inr ours) = subst (λ (db : Database). HasOffice db found) ours.1 (found_has (subst IsOurs (sym ours.1) ours.0) order)
+    old_had order (inr ours) =
+        subst (λ (db : Database). HasOffice db found) ours.1 (found_has (subst IsOurs (sym ours.1) ours.0) order)
 
     -- the opened database keeps it
     pub keeps_found : HasOffice old.now found → Keeps new.now found

@@ -15,7 +15,9 @@ use Rattle.exam_theorem.specs.Keeping.{KeepsIt, KeepsOn}
 
 module _ {S : Type 0} (g : Ghosts S) where
   pub unchanged : (old new : OfficeIn S) → new ≡ old → KeepsOn g old new
-  unchanged old new same = subst (λ (o : OfficeIn S). KeepsOn g old o) (sym same) (record { was_sound = λ sound. sound; kept = λ sound kept. kept })
+  unchanged old new same =
+      subst (λ (o : OfficeIn S). KeepsOn g old o) (sym same)
+      (record { was_sound = λ sound. sound; kept = λ sound kept. kept })
 
   -- one step after the other
   pub then_on : (old mid new : OfficeIn S) → KeepsOn g old mid → KeepsOn g mid new → KeepsOn g old new
@@ -26,12 +28,15 @@ module _ {S : Type 0} (g : Ghosts S) where
 
   module _ (old new : OfficeIn S) where
     -- no fault is forgotten
-    was_clean : doubt (state g old.database).is_clean ≤ doubt (state g new.database).is_clean → HasCleanDisk (state g new.database) → HasCleanDisk (state g old.database)
+    was_clean : doubt (state g old.database).is_clean ≤ doubt (state g new.database).is_clean
+        → HasCleanDisk (state g new.database) → HasCleanDisk (state g old.database)
     was_clean grows clean = omega (arith, grows, clean)
 
     -- a command was carried out, in one transaction or not at all
-    pub committed : {A E : Type 0} (result : Result A E) {Turns : Database → Database → Type 0} → Commits (state g old.database) (state g new.database) result Turns
-        → (IsSound (state g new.database) → Rekeeps old.office new.office (state g old.database).now (state g new.database).now) → KeepsOn g old new
+    pub committed : {A E : Type 0} (result : Result A E) {Turns : Database → Database → Type 0}
+        → Commits (state g old.database) (state g new.database) result Turns
+        → (IsSound (state g new.database)
+        → Rekeeps old.office new.office (state g old.database).now (state g new.database).now) → KeepsOn g old new
     unfolding KeepsIt
     committed (Ok done) made rekeeps = record {
       was_sound = λ sound. (was_clean made.survives.clean sound.0, made.was_open sound);
@@ -42,21 +47,24 @@ module _ {S : Type 0} (g : Ghosts S) where
       kept = λ sound kept. let same = made.same sound in (rekeeps sound kept.0, same.1 ∙ kept.1 ∙ sym same.0);
     }
 
-    module _ (office : new.office ≡ old.office) (grows : doubt (state g old.database).is_clean ≤ doubt (state g new.database).is_clean) where
+    module _ (office : new.office ≡ old.office)
+        (grows : doubt (state g old.database).is_clean ≤ doubt (state g new.database).is_clean) where
       -- the database is as it was, or back at its last commit
       left_kept : IsLeft (state g old.database) (state g new.database) → KeepsOn g old new
       unfolding KeepsIt
       left_kept (inl same) = record {
         was_sound = λ sound. (was_clean grows sound.0, same.0.was_open);
         kept = λ sound kept. (
-          subst (λ (o : State). Keeps (state g new.database).now o) (sym office) (subst (λ (db : Database). Keeps db old.office) (sym same.0.now_is) kept.0),
+          subst (λ (o : State). Keeps (state g new.database).now o) (sym office)
+              (subst (λ (db : Database). Keeps db old.office) (sym same.0.now_is) kept.0),
           same.0.committed_is ∙ kept.1 ∙ sym same.0.now_is,
         );
       }
       left_kept (inr back) = record {
         was_sound = λ sound. (was_clean grows sound.0, back.was_open sound.1);
         kept = λ sound kept. let undone = back.undone sound.1 in (
-          subst (λ (o : State). Keeps (state g new.database).now o) (sym office) (subst (λ (db : Database). Keeps db old.office) (sym (undone.0 ∙ kept.1)) kept.0),
+          subst (λ (o : State). Keeps (state g new.database).now o) (sym office)
+              (subst (λ (db : Database). Keeps db old.office) (sym (undone.0 ∙ kept.1)) kept.0),
           undone.1 ∙ sym undone.0,
         );
       }

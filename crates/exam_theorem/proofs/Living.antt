@@ -21,14 +21,17 @@ use Rattle.exam_theorem.proofs.Settling.{at_rest}
 
 -- the office that was there rests in what was opened
 pub opened_rests_on : {S : Type 0} (g : Ghosts S) (old : Shown) (start : OfficeIn S)
-    → (HasCleanDisk (state g start.database) → (office : State) → HasOffice old.now office → (start.office ≡ office) × IsAtRest g start) → RestsOn old (state g start.database)
+    → (HasCleanDisk (state g start.database) → (office : State) → HasOffice old.now office
+    → (start.office ≡ office) × IsAtRest g start) → RestsOn old (state g start.database)
 opened_rests_on g old start same sound office rest =
     let it = same sound.0 office rest.has in
     subst (Rests (state g start.database)) it.0 (at_rest g start it.1)
 
-module _ {S : Type 0} (g : Ghosts S) (old : Shown) (start new : OfficeIn S) (orders : List Given) (outcomes : List Outcome)
+module _ {S : Type 0} (g : Ghosts S) (old : Shown) (start new : OfficeIn S) (orders : List Given)
+    (outcomes : List Outcome)
     (passes : (last : OfficeIn S) × ArePassed g orders start outcomes last × Stays g last new)
-    (same : HasCleanDisk (state g start.database) → (office : State) → HasOffice old.now office → (start.office ≡ office) × IsAtRest g start) where
+    (same : HasCleanDisk (state g start.database) → (office : State) → HasOffice old.now office
+    → (start.office ≡ office) × IsAtRest g start) where
   clean_start : HasCleanDisk (state g new.database) → HasCleanDisk (state g start.database)
   clean_start clean = passed_clean g orders outcomes start passes.0 passes.1 (passes.2.1.was_clean clean)
 
@@ -36,7 +39,8 @@ module _ {S : Type 0} (g : Ghosts S) (old : Shown) (start new : OfficeIn S) (ord
   opened : HasCleanDisk (state g new.database) → (first : State) → HasOffice old.now first → start.office ≡ first
   opened clean first has = (same (clean_start clean) first has).0
 
-  pub lived : StopsWith old (state g start.database) → AreFollowed orders start.office outcomes new.office → HasCleanDisk (state g new.database) → (first : State) → HasOffice old.now first
+  pub lived : StopsWith old (state g start.database) → AreFollowed orders start.office outcomes new.office
+      → HasCleanDisk (state g new.database) → (first : State) → HasOffice old.now first
       → Lives g orders old first outcomes new
   lived stops followed clean first has = record {
     start = start;
@@ -50,11 +54,14 @@ module _ {S : Type 0} (g : Ghosts S) (old : Shown) (start new : OfficeIn S) (ord
     printed = passes.2;
   }
 
-  pub ended_in_one : EndsInOne orders start.office outcomes new.office → HasCleanDisk (state g new.database) → (first : State) → HasOffice old.now first → EndsInOne orders first outcomes new.office
-  ended_in_one one clean first has = subst (λ (o : State). EndsInOne orders o outcomes new.office) (opened clean first has) one
+  pub ended_in_one : EndsInOne orders start.office outcomes new.office → HasCleanDisk (state g new.database)
+      → (first : State) → HasOffice old.now first → EndsInOne orders first outcomes new.office
+  ended_in_one one clean first has =
+      subst (λ (o : State). EndsInOne orders o outcomes new.office) (opened clean first has) one
 
   module _ (had : HasCleanDisk (state g start.database) → IsVersioned old.now → HasOffice old.now start.office) where
-    pub had_first : IsGood start.office → HasCleanDisk (state g new.database) → IsVersioned old.now → (first : State) × IsGood first × HasOffice old.now first
+    pub had_first : IsGood start.office → HasCleanDisk (state g new.database) → IsVersioned old.now
+        → (first : State) × IsGood first × HasOffice old.now first
     had_first good clean versioned = (start.office, good, had (clean_start clean) versioned)
 
     -- what is opened is at rest
@@ -65,8 +72,11 @@ module _ {S : Type 0} (g : Ghosts S) (old : Shown) (start new : OfficeIn S) (ord
     ends_at_rest sound versioned =
         let last = passes.0 in
         let settles = passes.2.1 in
-        settles.rests (passed_rests g orders outcomes start last passes.1 (start_rests (clean_start sound.0) versioned) (settles.was_sound sound)) sound
+        settles.rests (passed_rests g orders outcomes start last passes.1 (start_rests (clean_start sound.0) versioned)
+        (settles.was_sound sound)) sound
 
-    pub ends_in_tables : IsSound (state g new.database) → IsVersioned old.now → (there : Database) → Keeps there new.office → HaveSameTables (state g new.database).now there
+    pub ends_in_tables : IsSound (state g new.database) → IsVersioned old.now → (there : Database)
+        → Keeps there new.office → HaveSameTables (state g new.database).now there
     unfolding KeepsIt
-    ends_in_tables sound versioned there keeps = same_tables (state g new.database).now there new.office (ends_at_rest sound versioned).kept.0 keeps
+    ends_in_tables sound versioned there keeps =
+        same_tables (state g new.database).now there new.office (ends_at_rest sound versioned).kept.0 keeps

@@ -21,7 +21,8 @@ unfolding line_of
 line_is words l h = ap (λ faults. said_unless faults (said words)) h.0 ∙ h.1
 
 -- where something is wrong with the words, they say nothing
-nothing_said : (faults : List ErrorKind) (k : ErrorKind) (s : Option Said) → IsAmong k faults → said_unless faults s ≡ None
+nothing_said : (faults : List ErrorKind) (k : ErrorKind) (s : Option Said) → IsAmong k faults
+    → said_unless faults s ≡ None
 nothing_said [] k s among = absurd among
 nothing_said (f ∷ faults) k s among = refl
 
@@ -34,23 +35,30 @@ no_line words NotUnderstood (inl h) = inr (ap (λ faults. said_unless faults (sa
 no_line words NotUnderstood (inr h) = inr (nothing_said (fault_of grammar words) h.0 (said words) h.1)
 
 -- memory runs out before anything is done
-short : (asked : Option (Result Command Refusal)) (today : ℕ) (office : State) → FollowsCommand asked today office (Err (stop.NoLine NoMemory)) office
+short : (asked : Option (Result Command Refusal)) (today : ℕ) (office : State)
+    → FollowsCommand asked today office (Err (stop.NoLine NoMemory)) office
 short None today office = refl
 short (Some (Ok done)) today office = inr (refl, refl)
 short (Some (Err refusal)) today office = inr (refl, refl)
 
-short_line : (line : Option Said) (words : List Text) (file : List ℕ) (office : State) → FollowsLine line words file office (Err (stop.NoLine NoMemory)) office
+short_line : (line : Option Said) (words : List Text) (file : List ℕ) (office : State)
+    → FollowsLine line words file office (Err (stop.NoLine NoMemory)) office
 short_line None words file office = (NoMemory, refl, tt, refl)
 short_line (Some s) words file office = short (command_of s.job file) s.today office
 
-pub unread : (words : List Text) (file : List ℕ) (f : LineFault) (office : State) → Answers (Err f) words → FollowsWords words file office (Err (stop.NoLine f)) office
+pub unread : (words : List Text) (file : List ℕ) (f : LineFault) (office : State) → Answers (Err f) words
+    → FollowsWords words file office (Err (stop.NoLine f)) office
 unread words file f office h = by (no_line words f h)
   where
     by : (f ≡ NoMemory) ⊎ (line_of words ≡ None) → FollowsWords words file office (Err (stop.NoLine f)) office
-    by (inl is) = subst (λ g. FollowsWords words file office (Err (stop.NoLine g)) office) (sym is) (short_line (line_of words) words file office)
+    by (inl is) = subst (λ g. FollowsWords words file office (Err (stop.NoLine g)) office) (sym is)
+        (short_line (line_of words) words file office)
     by (inr is) = subst (λ l. FollowsLine l words file office (Err (stop.NoLine f)) office) (sym is) (f, refl, h, refl)
 
 -- a line that was read is followed
-pub followed : (words : List Text) (file : List ℕ) (l : Line) (before after : State) (end : LineEnd) → Answers (Ok l) words
-    → FollowsCommand (command_of (lines.job_shown l.job) file) l.today before end after → FollowsWords words file before end after
-followed words file l before after end h follows = subst (λ line. FollowsLine line words file before end after) (sym (line_is words l h)) follows
+pub followed : (words : List Text) (file : List ℕ) (l : Line) (before after : State) (end : LineEnd)
+    → Answers (Ok l) words
+    → FollowsCommand (command_of (lines.job_shown l.job) file) l.today before end after
+    → FollowsWords words file before end after
+followed words file l before after end h follows =
+    subst (λ line. FollowsLine line words file before end after) (sym (line_is words l h)) follows

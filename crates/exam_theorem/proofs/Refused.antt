@@ -7,7 +7,6 @@ use Rattle.sqlite.specs.Effect.{Database}
 use Rattle.sqlite.specs.Held.{Held, state}
 use Rattle.sqlite.specs.State.{HasCleanDisk, IsUnchanged, Survives}
 use Rattle.exam_types.specs.declared.refusal.Refusal.{Refusal}
-use Rattle.exam_types.specs.declared.refusal.Refusal.TheVariants.{Store}
 use Rattle.exam_sql.specs.Made.{ContainsMade}
 use Rattle.exam_sql.specs.Texts.{held_texts, load_office}
 use Rattle.exam_tables.specs.Loaded.{AreUnderstood, FailsThen, FailsToLoad, IsLoadRefusal}
@@ -17,7 +16,7 @@ use Rattle.exam_tables.specs.Versions.{HasVersion, IsVersion}
 use Rattle.exam_tables.proofs.Creating.{made_later}
 use Rattle.exam_tables.proofs.Leaving.{still_itself, still_then}
 use Rattle.exam_tables.proofs.Refusing.{part_failed}
-use Rattle.exam_store.specs.Found.{FailsToMigrate, FailsToOpen}
+use Rattle.exam_store.specs.Found.{FailsToFind, FailsToMigrate}
 use Rattle.exam_store.specs.Stores.{OfficeIn}
 use Rattle.exam_store.proofs.Marking.{made_of, still_made, still_of}
 use Rattle.exam_theorem.specs.Resting.{BringsOver, FailsToCarry}
@@ -25,22 +24,27 @@ use Rattle.exam_theorem.specs.Resting.{BringsOver, FailsToCarry}
 module _ {S : Type 0} (g : Ghosts S) where
   -- no version was read
   pub unread : (old new : Held S) (e : Refusal)
-      → IsLoadRefusal (FailsToLoad load_office (state g old) (state g new)) ((all : Trees) → ContainsMade (state g old).now all → (v : ℕ) → IsVersion v → HasVersion v all → ⊥) e
+      → IsLoadRefusal (FailsToLoad load_office (state g old) (state g new))
+      ((all : Trees) → ContainsMade (state g old).now all → (v : ℕ) → IsVersion v → HasVersion v all → ⊥) e
       → FailsToMigrate g old new e
   unread old new e bad =
       inr (inl (part_failed e (λ fails. (old, still_itself (state g old), load_office, office_loads, fails))
       (λ none v known all was. inl (none all (made_of v (state g old).now all was) v known)) bad))
 
-  module _ (old mid new : Held S) (s : Survives (state g old) (state g mid) (λ _. ⊥)) (clean : HasCleanDisk (state g mid))
-      (up : (state g mid).faults ≤ (state g new).faults) (same : IsUnchanged (state g old) (state g mid)) (e : Refusal) where
+  module _ (old mid new : Held S) (s : Survives (state g old) (state g mid) (λ _. ⊥))
+      (clean : HasCleanDisk (state g mid))
+      (up : (state g mid).faults ≤ (state g new).faults) (same : IsUnchanged (state g old) (state g mid))
+      (e : Refusal) where
     failed_later : FailsThen g mid new e → FailsThen g old new e
-    failed_later (at, still, text, loads, fails) = (at, still_then (state g old) (state g mid) (state g at) same still, text, loads, fails)
+    failed_later (at, still, text, loads, fails) =
+        (at, still_then (state g old) (state g mid) (state g at) same still, text, loads, fails)
 
     -- nor where a call before had only read
     pub refused_later : FailsToMigrate g mid new e → FailsToMigrate g old new e
     refused_later (inl busy) = inl (busy.0, subst IsTrue same.0.mode busy.1)
     refused_later (inr (inl fails)) =
-        inr (inl (part_failed e failed_later (λ none v known all was. none v known all (still_of v (state g old) (state g mid) all same was)) fails))
+        inr (inl (part_failed e failed_later
+        (λ none v known all was. none v known all (still_of v (state g old) (state g mid) all same was)) fails))
     refused_later (inr (inr (known, makes))) =
         inr (inr (
           subst (λ (db : Database). AreUnderstood db (load_office ∷ held_texts)) same.0.now_is known,
@@ -49,9 +53,11 @@ module _ {S : Type 0} (g : Ghosts S) where
         ))
 
   -- it was brought there, and was not opened
-  pub not_opened : (old mid : Held S) → Commits {A = Unit {0}} {E = Refusal} (state g old) (state g mid) (Ok tt) BringsOver → (result : Result (OfficeIn S) (Refusal × Held S))
+  pub not_opened : (old mid : Held S)
+      → Commits {A = Unit {0}} {E = Refusal} (state g old) (state g mid) (Ok tt) BringsOver
+      → (result : Result (OfficeIn S) (Refusal × Held S))
       → IfErr result (λ e. Survives (state g mid) (state g e.1) (λ _. ⊥))
-      → IfErr result (λ e. HasCleanDisk (state g e.1) → ((e.0 ≡ Store) × IsTrue e.1.in_transaction) ⊎ FailsToOpen g mid e.1 e.0)
+      → IfErr result (λ e. HasCleanDisk (state g e.1) → FailsToFind g mid e.1 e.0)
       → IfErr result (λ e. HasCleanDisk (state g e.1) → FailsToCarry g old e.1 e.0)
   not_opened old mid made (Ok new) survives fails = tt
   not_opened old mid made (Err e) survives fails = λ clean. inr (mid, made, survives, fails clean)

@@ -1,5 +1,6 @@
 -- The days that a command line and an import file say lie between 2000-01-01 and 2199-12-31.
-use Rattle.std.proofs.Common.{◌≡◌, ◌≤◌, ◌∙◌, ◌+◌, ◌&&◌, ◌++◌, ◌==◌, All, ℕ, Bool, true, false, if◌then◌else◌, List, [], ◌∷◌, Option, None, Some, nat_le, length, arith, refl, sym, ap, subst}
+use Rattle.std.proofs.Common.{◌≡◌, ◌≤◌, ◌∙◌, ◌+◌, ◌&&◌, ◌++◌, ◌==◌, All, ℕ, Bool, true, false, if◌then◌else◌, List, []}
+use Rattle.std.proofs.Common.{◌∷◌, Option, None, Some, nat_le, length, arith, refl, sym, ap, subst}
 use Rattle.std.specs.Prelude.{Result, Ok, Err, bytes_eq, codes, option_and_then}
 use Rattle.std.specs.Option.{option_map}
 use Rattle.std.proofs.lemmas.List.Elements.{All-nil, All-push}
@@ -20,7 +21,8 @@ use Rattle.exam_commands.specs.declared.import_row.Kind.TheVariants as kind
 use Rattle.exam_commands.specs.declared.import_row.Row.{Row}
 use Rattle.exam_commands.specs.declared.import_row.Row.TheVariants as row
 use Rattle.exam_commands.specs.Imports.{ImportRows, conflicts}
-use Rattle.exam_files.specs.ImportFiles.{and_then, field, flag_in, header_of, import_of, is_header, is_too_long, row_of, row_of_kind, rows_from, rows_in, rows_of, text_in, value_at}
+use Rattle.exam_files.specs.ImportFiles.{and_then, field, flag_in, header_of, import_of, is_header, is_too_long, row_of}
+use Rattle.exam_files.specs.ImportFiles.{row_of_kind, rows_from, rows_in, rows_of, text_in, value_at}
 use Rattle.exam_line.specs.Grammar.{grammar}
 use Rattle.exam_line.specs.Lines as line
 use Rattle.exam_line.specs.Lines.{Answers}
@@ -41,7 +43,8 @@ and_true true b h = refl
 and_true false b h = absurd cc
 
 in_range : (n : ℕ) → is_day n ≡ true → IsDay n
-in_range n test = let first : nat_le 10957 n ≡ true = and_true (nat_le 10957 n) (nat_le n 84005) test in (grind arith, grind arith)
+in_range n test = let first : nat_le 10957 n ≡ true =
+    and_true (nat_le 10957 n) (nat_le n 84005) test in (grind arith, grind arith)
 
 day_in : (bytes : List ℕ) (n : ℕ) → day_of bytes ≡ Some n → IsDay n
 unfolding day_of
@@ -53,7 +56,8 @@ day_in bytes n is =
 session_day : (bytes : List ℕ) (n : ℕ) → session_day_in bytes ≡ Some n → IsDay n
 session_day bytes n is = by (day_of bytes) refl is
   where
-    by : (o : Option ℕ) → day_of bytes ≡ o → option_and_then (λ m. if nat_le 10967 m then Some m else None) o ≡ Some n → IsDay n
+    by : (o : Option ℕ) → day_of bytes ≡ o → option_and_then (λ m. if nat_le 10967 m then Some m else None) o ≡ Some n
+        → IsDay n
     by None at e = absurd cc
     by (Some m) at e = subst IsDay (if_some (nat_le 10967 m) m n e).1 (day_in bytes m at)
 
@@ -78,23 +82,28 @@ session_made : (place : ℕ) (code : Option Code) (day start : Option ℕ) → (
 session_made place None day start days = refused_days (BadRow place 1)
 session_made place (Some code) None start days = refused_days (BadRow place 2)
 session_made place (Some code) (Some day) None days = refused_days (BadRow place 3)
-session_made place (Some code) (Some day) (Some start) days = made_days (row.OfSession code (record { day = day; start = start })) (days day refl)
+session_made place (Some code) (Some day) (Some start) days =
+    made_days (row.OfSession code (record { day = day; start = start })) (days day refl)
 
 -- and other rows, which have no day
-two_made : {X Y : Type 0} (place : ℕ) (x : Option X) (y : Option Y) (make : X → Y → Row) → ((x : X) (y : Y) → HasRowDay (make x y))
+two_made : {X Y : Type 0} (place : ℕ) (x : Option X) (y : Option Y) (make : X → Y → Row)
+    → ((x : X) (y : Y) → HasRowDay (make x y))
     → MakesDays (and_then (value_at place 1 x) (λ x. and_then (value_at place 2 y) (λ y. Ok (make x y))))
 two_made place None y make days = refused_days (BadRow place 1)
 two_made place (Some x) None make days = refused_days (BadRow place 2)
 two_made place (Some x) (Some y) make days = made_days (make x y) (days x y)
 
-three_made : {X Y Z : Type 0} (place : ℕ) (x : Option X) (y : Option Y) (z : Option Z) (make : X → Y → Z → Row) → ((x : X) (y : Y) (z : Z) → HasRowDay (make x y z))
-    → MakesDays (and_then (value_at place 1 x) (λ x. and_then (value_at place 2 y) (λ y. and_then (value_at place 3 z) (λ z. Ok (make x y z)))))
+three_made : {X Y Z : Type 0} (place : ℕ) (x : Option X) (y : Option Y) (z : Option Z) (make : X → Y → Z → Row)
+    → ((x : X) (y : Y) (z : Z) → HasRowDay (make x y z))
+    → MakesDays (and_then (value_at place 1 x)
+    (λ x. and_then (value_at place 2 y) (λ y. and_then (value_at place 3 z) (λ z. Ok (make x y z)))))
 three_made place None y z make days = refused_days (BadRow place 1)
 three_made place (Some x) None z make days = refused_days (BadRow place 2)
 three_made place (Some x) (Some y) None make days = refused_days (BadRow place 3)
 three_made place (Some x) (Some y) (Some z) make days = made_days (make x y z) (days x y z)
 
-five_made : {X Y Z V W : Type 0} (place : ℕ) (x : Option X) (y : Option Y) (z : Option Z) (v : Option V) (w : Option W) (make : X → Y → Z → V → W → Row)
+five_made : {X Y Z V W : Type 0} (place : ℕ) (x : Option X) (y : Option Y) (z : Option Z) (v : Option V) (w : Option W)
+    (make : X → Y → Z → V → W → Row)
     → ((x : X) (y : Y) (z : Z) (v : V) (w : W) → HasRowDay (make x y z v w))
     → MakesDays (and_then (value_at place 1 x)
     (λ x. and_then (value_at place 2 y)
@@ -109,24 +118,34 @@ five_made place (Some x) (Some y) (Some z) (Some v) (Some w) make days = made_da
 
 row_days : (k : Kind) (place : ℕ) (fields : List (List ℕ)) → MakesDays (row_of_kind k place fields)
 row_days kind.Sessions place fields =
-    session_made place (text_in is_session_code (field 0 fields)) (session_day_in (field 1 fields)) (start_in (field 2 fields)) (session_day (field 1 fields))
+    session_made place (text_in is_session_code (field 0 fields)) (session_day_in (field 1 fields))
+    (start_in (field 2 fields)) (session_day (field 1 fields))
 row_days kind.Papers place fields =
-    five_made place (text_in is_paper_code (field 0 fields)) (text_in is_name (field 1 fields)) (text_in is_session_code (field 2 fields)) (minutes_in (field 3 fields)) (features_in (field 4 fields))
-    (λ code title session minutes required. row.OfPaper code (record { title = title; session = session; minutes = minutes; required = required })) (λ code title session minutes required. tt)
+    five_made place (text_in is_paper_code (field 0 fields)) (text_in is_name (field 1 fields))
+    (text_in is_session_code (field 2 fields)) (minutes_in (field 3 fields)) (features_in (field 4 fields))
+    (λ code title session minutes required. row.OfPaper code
+    (record { title = title; session = session; minutes = minutes; required = required }))
+    (λ code title session minutes required. tt)
 row_days kind.Halls place fields =
-    three_made place (text_in is_hall_code (field 0 fields)) (text_in is_name (field 1 fields)) (features_in (field 2 fields))
+    three_made place (text_in is_hall_code (field 0 fields)) (text_in is_name (field 1 fields))
+    (features_in (field 2 fields))
     (λ code title features. row.OfHall code (record { title = title; features = features })) (λ code title features. tt)
 row_days kind.Openings place fields =
-    five_made place (text_in is_session_code (field 0 fields)) (text_in is_hall_code (field 1 fields)) (desks_in (field 2 fields)) (until_in (field 3 fields)) (flag_in (field 4 fields))
-    (λ session hall desks until reserved. row.OfOpening session hall (record { desks = desks; until = until; reserved = reserved })) (λ session hall desks until reserved. tt)
+    five_made place (text_in is_session_code (field 0 fields)) (text_in is_hall_code (field 1 fields))
+    (desks_in (field 2 fields)) (until_in (field 3 fields)) (flag_in (field 4 fields))
+    (λ session hall desks until reserved. row.OfOpening session hall
+    (record { desks = desks; until = until; reserved = reserved })) (λ session hall desks until reserved. tt)
 row_days kind.Candidates place fields =
-    three_made place (number_in (field 0 fields)) (text_in is_name (field 1 fields)) (text_in is_access_code (field 2 fields))
+    three_made place (number_in (field 0 fields)) (text_in is_name (field 1 fields))
+    (text_in is_access_code (field 2 fields))
     (λ number name code. row.OfCandidate number (record { name = name; code = code })) (λ number name code. tt)
 row_days kind.Entries place fields =
-    two_made place (number_in (field 0 fields)) (text_in is_paper_code (field 1 fields)) (λ number paper. row.OfEntry number paper) (λ number paper. tt)
+    two_made place (number_in (field 0 fields)) (text_in is_paper_code (field 1 fields))
+    (λ number paper. row.OfEntry number paper) (λ number paper. tt)
 row_days kind.Arrangements place fields =
     three_made place (number_in (field 0 fields)) (features_in (field 1 fields)) (extra_in (field 2 fields))
-    (λ number needs extra. row.OfArrangement number (record { needs = needs; extra = extra })) (λ number needs extra. tt)
+    (λ number needs extra. row.OfArrangement number (record { needs = needs; extra = extra }))
+    (λ number needs extra. tt)
 
 record_days : (k : Kind) (place : ℕ) (fields : List (List ℕ)) → MakesDays (row_of k place fields)
 unfolding row_of
@@ -143,20 +162,25 @@ DenotesDays denoted = (import : ImportRows) → denoted ≡ Ok import → All Ha
 no_rows : (e : Refusal) → DenotesDays (Err e)
 no_rows e import is = absurd cc
 
-unless : (b : Bool) (place : ℕ) (denoted : Result ImportRows Refusal) → DenotesDays denoted → DenotesDays (if b then Err (RowConflict place) else denoted)
+unless : (b : Bool) (place : ℕ) (denoted : Result ImportRows Refusal) → DenotesDays denoted
+    → DenotesDays (if b then Err (RowConflict place) else denoted)
 unless true place denoted days = no_rows (RowConflict place)
 unless false place denoted days = days
 
-with_row : (k : Kind) (place : ℕ) (rows : List Row) (rest : List (List (List ℕ))) (made : Result Row Refusal) → MakesDays made
+with_row : (k : Kind) (place : ℕ) (rows : List Row) (rest : List (List (List ℕ))) (made : Result Row Refusal)
+    → MakesDays made
     → ((x : Row) → HasRowDay x → DenotesDays (rows_from k (place + 1) (rows ++ x ∷ []) rest))
-    → DenotesDays (and_then made (λ x. if conflicts x rows then Err (RowConflict place) else rows_from k (place + 1) (rows ++ x ∷ []) rest))
+    → DenotesDays (and_then made
+    (λ x. if conflicts x rows then Err (RowConflict place) else rows_from k (place + 1) (rows ++ x ∷ []) rest))
 with_row k place rows rest (Err e) each next = no_rows e
 with_row k place rows rest (Ok x) each next = unless (conflicts x rows) place _ (next x (each x refl))
 
 no_more : (k : Kind) (rows : List Row) → All HasRowDay rows → DenotesDays (Ok (record { kind = k; rows = rows }))
-no_more k rows days import is = let same : ◌≡◌ {A = ImportRows} (record { kind = k; rows = rows }) import = cc in subst (λ (i : ImportRows). All HasRowDay i.rows) same days
+no_more k rows days import is = let same : ◌≡◌ {A = ImportRows} (record { kind = k; rows = rows }) import =
+    cc in subst (λ (i : ImportRows). All HasRowDay i.rows) same days
 
-records_days : (k : Kind) (place : ℕ) (rows : List Row) (records : List (List (List ℕ))) → All HasRowDay rows → DenotesDays (rows_from k place rows records)
+records_days : (k : Kind) (place : ℕ) (rows : List Row) (records : List (List (List ℕ))) → All HasRowDay rows
+    → DenotesDays (rows_from k place rows records)
 unfolding rows_from
 records_days k place rows [] days = no_more k rows days
 records_days k place rows (fields ∷ rest) days =
@@ -181,7 +205,8 @@ file_days k bytes = by (is_too_long bytes)
 -- ---- the commands of lines
 
 import_days : (denoted : Result ImportRows Refusal) → DenotesDays denoted → GivesDays (Some (import_command denoted))
-import_days (Ok import) days done is = let same : command.Import import ≡ done = cc in subst HasRowDays same (days import refl)
+import_days (Ok import) days done is = let same : command.Import import ≡ done =
+    cc in subst HasRowDays same (days import refl)
 import_days (Err e) days done is = absurd cc
 
 given_days : (done : Command) → HasRowDays done → GivesDays (Some (Ok done))
@@ -210,11 +235,13 @@ either : (b : Bool) (x y : Option line.Job) → SaysDays x → SaysDays y → Sa
 either true x y here there = here
 either false x y here there = there
 
-of_one : {X : Type 0} (make : X → line.Job) (o : Option X) → ((x : X) → HasJobDays (make x)) → SaysDays (option_map make o)
+of_one : {X : Type 0} (make : X → line.Job) (o : Option X) → ((x : X) → HasJobDays (make x))
+    → SaysDays (option_map make o)
 of_one make None each = nothing_said
 of_one make (Some x) each = job_said (make x) (each x)
 
-of_two : {X Y : Type 0} (make : X → Y → line.Job) (first : Option X) (second : Option Y) → ((x : X) (y : Y) → HasJobDays (make x y)) → SaysDays (line.both make first second)
+of_two : {X Y : Type 0} (make : X → Y → line.Job) (first : Option X) (second : Option Y)
+    → ((x : X) (y : Y) → HasJobDays (make x y)) → SaysDays (line.both make first second)
 of_two make None second each = nothing_said
 of_two make (Some x) second each = of_one (make x) second (each x)
 
@@ -223,35 +250,46 @@ plain_said name words =
     either (bytes_eq name (codes "init")) (Some line.init) _ (job_said line.init tt)
     (either (bytes_eq name (codes "migrate")) (Some line.migrate) _ (job_said line.migrate tt)
     (either (bytes_eq name (codes "check")) (Some line.check) _ (job_said line.check tt)
-    (either (bytes_eq name (codes "import")) (line.import_of words) _ (of_two line.import (line.value_of line.kind_in (codes "kind") words) (first_of (codes "file") words) (λ k path. tt))
+    (either (bytes_eq name (codes "import")) (line.import_of words) _
+    (of_two line.import (line.value_of line.kind_in (codes "kind") words) (first_of (codes "file") words)
+    (λ k path. tt))
     (either (bytes_eq name (codes "withdraw")) (line.entry_job command.Withdraw words) _
-    (of_two (λ number paper. line.apply (command.Withdraw number paper)) (line.number_of words) (line.paper_of words) (λ number paper. tt))
+    (of_two (λ number paper. line.apply (command.Withdraw number paper)) (line.number_of words) (line.paper_of words)
+    (λ number paper. tt))
     (either (bytes_eq name (codes "reinstate")) (line.entry_job command.Reinstate words) _
-    (of_two (λ number paper. line.apply (command.Reinstate number paper)) (line.number_of words) (line.paper_of words) (λ number paper. tt))
+    (of_two (λ number paper. line.apply (command.Reinstate number paper)) (line.number_of words) (line.paper_of words)
+    (λ number paper. tt))
     (either (bytes_eq name (codes "close-hall")) (line.closing_of words) _
-    (of_two (λ session hall. line.apply (command.CloseHall session hall)) (line.session_of words) (line.hall_of words) (λ session hall. tt))
-    (either (bytes_eq name (codes "serve")) (option_map line.serve (line.value_of line.port_in (codes "port") words)) (line.print_of name words)
+    (of_two (λ session hall. line.apply (command.CloseHall session hall)) (line.session_of words) (line.hall_of words)
+    (λ session hall. tt))
+    (either (bytes_eq name (codes "serve")) (option_map line.serve (line.value_of line.port_in (codes "port") words))
+    (line.print_of name words)
     (of_one line.serve (line.value_of line.port_in (codes "port") words) (λ port. tt))
     (of_two line.print (line.session_of words) (line.sheet_of name words) (λ session which. tt)))))))))
 
 any_said : (name : Text) (words : List WordRow) → SaysDays (line.job_of name words)
 any_said name words =
-    either (bytes_eq name (codes "decide")) (option_map (λ d. line.apply (command.Decide d)) (line.decision_of words)) (line.plain_job_of name words)
+    either (bytes_eq name (codes "decide")) (option_map (λ d. line.apply (command.Decide d)) (line.decision_of words))
+    (line.plain_job_of name words)
     (of_one (λ d. line.apply (command.Decide d)) (line.decision_of words) (λ d. tt)) (plain_said name words)
 
 abbrev line_with : Text × ℕ → line.Job → line.Said
 line_with given job = record { db = given.0; today = given.1; job = job }
 
-with_job : (given : Text × ℕ) (o : Option line.Job) (s : line.Said) → SaysDays o → option_map (line_with given) o ≡ Some s → HasJobDays s.job
+with_job : (given : Text × ℕ) (o : Option line.Job) (s : line.Said) → SaysDays o
+    → option_map (line_with given) o ≡ Some s → HasJobDays s.job
 with_job given None s days is = absurd cc
-with_job given (Some job) s days is = let same : line_with given job ≡ s = cc in subst (λ (t : line.Said). HasJobDays t.job) same (days job refl)
+with_job given (Some job) s days is = let same : line_with given job ≡ s =
+    cc in subst (λ (t : line.Said). HasJobDays t.job) same (days job refl)
 
 said_days : (given : Option (Text × ℕ)) (named : Option (Text × List WordRow)) (s : line.Said)
-    → option_and_then (λ g. option_and_then (λ n. option_map (line_with g) (line.job_of n.0 n.1)) named) given ≡ Some s → HasJobDays s.job
+    → option_and_then (λ g. option_and_then (λ n. option_map (line_with g) (line.job_of n.0 n.1)) named) given ≡ Some s
+    → HasJobDays s.job
 said_days None named s is = absurd cc
 said_days (Some g) None s is = absurd cc
 said_days (Some g) (Some n) s is = with_job g (line.job_of n.0 n.1) s (any_said n.0 n.1) is
 
 -- the command of a line, which is no import, has no rows
 pub line_days : (words : List Text) (l : Line) → Answers (Ok l) words → HasJobDays (line.job_shown l.job)
-line_days words l h = said_days (line.options_of (matches_of grammar words)) (subcommand_of grammar words) (line.shown l) h.1
+line_days words l h =
+    said_days (line.options_of (matches_of grammar words)) (subcommand_of grammar words) (line.shown l) h.1

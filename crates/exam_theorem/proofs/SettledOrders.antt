@@ -49,10 +49,12 @@ use Rattle.exam_theorem.proofs.Settling.{DaysStay, IsSettled, applied_settles, r
 abbrev pub GivesDays : Option (Result Command Refusal) → Type 0
 GivesDays asked = (done : Command) → asked ≡ Some (Ok done) → HasRowDays done
 
-module _ {S W : Type 0} (g : Ghosts S) (settled : IsSettled g) (one_result : OneResult) (days_stay : DaysStay) (contents : W → Option (List ℕ)) (today : ℕ) (is_day : IsDay today) where
+module _ {S W : Type 0} (g : Ghosts S) (settled : IsSettled g) (one_result : OneResult) (days_stay : DaysStay)
+    (contents : W → Option (List ℕ)) (today : ℕ) (is_day : IsDay today) where
   -- ---- a command line
 
-  module _ (file : List ℕ) (rest : Option (List ℕ)) (old new : OfficeIn S) (before after : W) (result : Result (Unit {0}) JobFault) (on : KeepsOn g old new) where
+  module _ (file : List ℕ) (rest : Option (List ℕ)) (old new : OfficeIn S) (before after : W)
+      (result : Result (Unit {0}) JobFault) (on : KeepsOn g old new) where
     abbrev Failed : Type 0
     Failed = IsTrue (is_failure (told result))
 
@@ -64,33 +66,45 @@ module _ {S W : Type 0} (g : Ghosts S) (settled : IsSettled g) (one_result : One
     Settled asked = Settles g Failed (Led asked) old new
 
     -- the line ends with a refusal of the store
-    told_failure : (answered : Result Reply Refusal) (e : Refusal) → TellsReply contents answered before result after → answered ≡ Err e → IsTrue (is_store_refusal e) → Failed
+    told_failure : (answered : Result Reply Refusal) (e : Refusal) → TellsReply contents answered before result after
+        → answered ≡ Err e → IsTrue (is_store_refusal e) → Failed
     told_failure answered e tells is bad =
-        let ends : (result ≡ Err (Refused e)) × (after ≡ before) = subst (λ (a : Result Reply Refusal). TellsReply contents a before result after) is tells in
+        let ends : (result ≡ Err (Refused e)) × (after ≡ before) =
+        subst (λ (a : Result Reply Refusal). TellsReply contents a before result after) is tells in
         subst (λ (r : Result (Unit {0}) JobFault). IsTrue (is_failure (told r))) (sym ends.0) bad
 
-    commanded : (done : Command) → HasRowDays done → Commands g contents done today old before result new after → Settled (Some (Ok done))
+    commanded : (done : Command) → HasRowDays done → Commands g contents done today old before result new after
+        → Settled (Some (Ok done))
     commanded done days (inl stops) = unchanged_settles g settled Failed (Led (Some (Ok done))) old new stops.1
     commanded done days (inr (answered, carried, tells)) =
         applied_settles g settled Failed (Led (Some (Ok done))) old new one_result days_stay done today is_day days
-        (λ reply at step. (Ok tt, inl (Ok reply, step, inl refl))) answered (λ e is bad. told_failure answered e tells is bad) carried.applied on
+        (λ reply at step. (Ok tt, inl (Ok reply, step, inl refl))) answered
+        (λ e is bad. told_failure answered e tells is bad) carried.applied on
 
-    imports : (import : Result ImportRows Refusal) → GivesDays (Some (import_command import)) → Imports g contents import today old before result new after → Settled (Some (import_command import))
+    imports : (import : Result ImportRows Refusal) → GivesDays (Some (import_command import))
+        → Imports g contents import today old before result new after → Settled (Some (import_command import))
     imports (Ok rows) days h = commanded (command.Import rows) (days (command.Import rows) refl) h
     imports (Err e) days h = unchanged_settles g settled Failed (Led (Some (Err e))) old new h.1
 
-    imported : (kind : Kind) → GivesDays (Some (import_command (import_of kind file))) → ImportsFile g contents kind today (Some file) rest old before result new after
+    imported : (kind : Kind) → GivesDays (Some (import_command (import_of kind file)))
+        → ImportsFile g contents kind today (Some file) rest old before result new after
         → Settled (Some (import_command (import_of kind file)))
     imported kind days (denoted import gave h) =
-        subst (λ (i : Result ImportRows Refusal). GivesDays (Some (import_command i)) → Settled (Some (import_command i))) (sym gave.known) (λ given. imports import given h) days
-    imported kind days (unread gave stops) = unchanged_settles g settled Failed (Led (Some (import_command (import_of kind file)))) old new stops.1
-    imported kind days (short gave stops) = unchanged_settles g settled Failed (Led (Some (import_command (import_of kind file)))) old new stops.1
+        subst (λ (i : Result ImportRows Refusal). GivesDays (Some (import_command i))
+        → Settled (Some (import_command i))) (sym gave.known) (λ given. imports import given h) days
+    imported kind days (unread gave stops) =
+        unchanged_settles g settled Failed (Led (Some (import_command (import_of kind file)))) old new stops.1
+    imported kind days (short gave stops) =
+        unchanged_settles g settled Failed (Led (Some (import_command (import_of kind file)))) old new stops.1
 
-    printed : (s : Code) (which : Sheet) → Does g contents (line.print s which) today (Some file) rest old before result new after → Settled (command_of (line.print s which) file)
+    printed : (s : Code) (which : Sheet)
+        → Does g contents (line.print s which) today (Some file) rest old before result new after
+        → Settled (command_of (line.print s which) file)
     printed s sheet.Appeals h = reading_settles g settled Failed (Led None) old new h.1.read.office h.1.read.survives on
     printed s which h = unchanged_settles g settled Failed (Led None) old new h.1
 
-    pub line_settles : (job : Job) → GivesDays (command_of job file) → Does g contents job today (Some file) rest old before result new after → Settled (command_of job file)
+    pub line_settles : (job : Job) → GivesDays (command_of job file)
+        → Does g contents job today (Some file) rest old before result new after → Settled (command_of job file)
     line_settles (line.import kind path) days h = imported kind days h
     line_settles (line.apply done) days h = commanded done (days done refl) h.1
     line_settles (line.print s which) days h = printed s which h
@@ -121,7 +135,8 @@ module _ {S W : Type 0} (g : Ghosts S) (settled : IsSettled g) (one_result : One
     answered_failure said fails answered e tells is bad =
         fails (failed e said bad (subst (λ (a : Result Reply Refusal). http.TellsReply a said) is tells))
 
-    does : (said : Told) → (IsFailureTold said → Failed) → (request : Request) → Asks bytes (Ok request) → (c : Choice) → c ≡ choice_in old.office request → http.Does g today old c said new → Answered
+    does : (said : Told) → (IsFailureTold said → Failed) → (request : Request) → Asks bytes (Ok request) → (c : Choice)
+        → c ≡ choice_in old.office request → http.Does g today old c said new → Answered
     does said fails request asks (choice.Fault fault) is h = stays h.1
     does said fails request asks (choice.OtherMethod route) is h = stays h.1
     does said fails request asks (choice.Refused e) is h = stays h.1
@@ -133,37 +148,47 @@ module _ {S W : Type 0} (g : Ghosts S) (settled : IsSettled g) (one_result : One
           record {
             asked = Ok request;
             asks = asks;
-            answers = inr (subst (λ (c : Choice). DoesIn today old.office c (state_told (state_after reply)) at) is (Ok reply, step, refl));
+            answers = inr (subst (λ (c : Choice). DoesIn today old.office c (state_told (state_after reply)) at) is
+                (Ok reply, step, refl));
           },
         ))
         answered (λ e at bad. answered_failure said fails answered e tells at bad) applied on
     does said fails request asks (choice.Retract number reference) is (answered, applied, tells) =
-        applied_settles g settled Failed Told_to old new one_result days_stay (command.Retract number reference) today is_day tt
+        applied_settles g settled Failed Told_to old new one_result days_stay
+        (command.Retract number reference) today is_day tt
         (λ reply at step. (
           state_told (state_after reply),
           record {
             asked = Ok request;
             asks = asks;
-            answers = inr (subst (λ (c : Choice). DoesIn today old.office c (state_told (state_after reply)) at) is (Ok reply, step, refl));
+            answers = inr (subst (λ (c : Choice). DoesIn today old.office c (state_told (state_after reply)) at) is
+                (Ok reply, step, refl));
           },
         ))
         answered (λ e at bad. answered_failure said fails answered e tells at bad) applied on
 
-    answers : (said : Told) → (IsFailureTold said → Failed) → (asked : Result Request Fault) → Asks bytes asked → http.AnswersAsked g today old asked said new → Answered
+    answers : (said : Told) → (IsFailureTold said → Failed) → (asked : Result Request Fault) → Asks bytes asked
+        → http.AnswersAsked g today old asked said new → Answered
     answers said fails (Err fault) asks h = stays h.1
     answers said fails (Ok request) asks (inl busy) = stays busy.1
     answers said fails (Ok request) asks (inr h) = does said fails request asks (choice_in old.office request) refl h
 
-    tells : (rest : Option (List ℕ)) (said : Told) → (IsFailureTold said → Failed) → serving.Tells g today (Some bytes) rest old said new → Answered
+    tells : (rest : Option (List ℕ)) (said : Told) → (IsFailureTold said → Failed)
+        → serving.Tells g today (Some bytes) rest old said new → Answered
     tells rest said fails h = answers said fails h.asked h.gave.known h.answers
 
   module _ (bytes : List ℕ) (rest : Option (List ℕ)) (old new : OfficeIn S) (on : KeepsOn g old new) (empty full : W)
       (answer : List ℕ) (none : contents empty ≡ Some []) (some : contents full ≡ Some answer) where
     appended : (text : List ℕ) → Appends (contents empty) (contents full) text → answer ≡ text
-    appended text h = subst (λ (o : Option (List ℕ)). Appends o (Some answer) text) none (subst (λ (o : Option (List ℕ)). Appends (contents empty) o text) some h)
+    appended text h = subst (λ (o : Option (List ℕ)). Appends o (Some answer) text) none
+        (subst (λ (o : Option (List ℕ)). Appends (contents empty) o text) some h)
 
-    pub request_settles : (result : Result (Unit {0}) HttpFault) → serving.Serves g contents today (Some bytes) rest old empty result new full
+    pub request_settles : (result : Result (Unit {0}) HttpFault)
+        → serving.Serves g contents today (Some bytes) rest old empty result new full
         → Settles g (IsFailureOf result answer) (λ at. (said : Told) × Tells bytes today old.office said at) old new
-    request_settles (Ok done) (said, h, sent) = tells bytes old new on (IsFailureOf (Ok done) answer) rest said (λ fails. (said, fails, appended (answer_text said) sent)) h
+    request_settles (Ok done) (said, h, sent) =
+        tells bytes old new on (IsFailureOf (Ok done) answer) rest said
+        (λ fails. (said, fails, appended (answer_text said) sent)) h
     request_settles (Err Read) (gave, same, unsent) = stays bytes old new on (IsFailureOf (Err Read) answer) same
-    request_settles (Err Write) (said, h, sent) = tells bytes old new on (IsFailureOf (Err Write) answer) rest said (λ fails. tt) h
+    request_settles (Err Write) (said, h, sent) =
+        tells bytes old new on (IsFailureOf (Err Write) answer) rest said (λ fails. tt) h

@@ -19,11 +19,15 @@ use Rattle.exam_theorem.proofs.Sheets.{job_keeps}
 module _ {S W : Type 0} (g : Ghosts S) (settled : IsSettled g) (contents : W → Option (List ℕ)) (today : ℕ)
     (input rest : Option (List ℕ)) (old new : OfficeIn S) (before : W) (result : Result (Unit {0}) JobFault)
     (after : W) where
-  sheet_stays : (s : Code) (which : Sheet) → Does g contents (line.print s which) today input rest old before result new after → new.office ≡ old.office → KeepsOn g old new → Stays g old new
-  sheet_stays s sheet.Appeals h same on = (same, reading_settles g settled ⊥ (λ at. ⊥) old new same h.1.read.survives on)
+  sheet_stays : (s : Code) (which : Sheet)
+      → Does g contents (line.print s which) today input rest old before result new after → new.office ≡ old.office
+      → KeepsOn g old new → Stays g old new
+  sheet_stays s sheet.Appeals h same on =
+      (same, reading_settles g settled ⊥ (λ at. ⊥) old new same h.1.read.survives on)
   sheet_stays s which h same on = (same, unchanged_settles g settled ⊥ (λ at. ⊥) old new h.1)
 
-  pub job_stays : (job : Job) → is_some (sheet_of job) ≡ true → Does g contents job today input rest old before result new after → Stays g old new
+  pub job_stays : (job : Job) → is_some (sheet_of job) ≡ true
+      → Does g contents job today input rest old before result new after → Stays g old new
   job_stays (line.print s which) asks h =
       let kept = job_keeps g contents today input rest old new before result after (line.print s which) asks h in
       sheet_stays s which h kept.0 kept.1

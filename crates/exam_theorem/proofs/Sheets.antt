@@ -25,18 +25,34 @@ module _ {S W : Type 0} (g : Ghosts S) (contents : W → Option (List ℕ)) (tod
   appeals_kept s prints = read_alone g old new prints.read
 
   -- a sheet leaves the office, and what keeps it
-  pub sheet_keeps : (s : Code) (which : Sheet) → Does g contents (line.print s which) today input rest old before result new after → (new.office ≡ old.office) × KeepsOn g old new
+  pub sheet_keeps : (s : Code) (which : Sheet)
+      → Does g contents (line.print s which) today input rest old before result new after
+      → (new.office ≡ old.office) × KeepsOn g old new
   sheet_keeps s sheet.Appeals h = (h.1.read.office, appeals_kept s h.1)
   sheet_keeps s which h = (ap (λ (o : OfficeIn S). o.office) h.1, unchanged g old new h.1)
 
-  pub job_keeps : (job : Job) → is_some (sheet_of job) ≡ true → Does g contents job today input rest old before result new after → (new.office ≡ old.office) × KeepsOn g old new
+  pub job_keeps : (job : Job) → is_some (sheet_of job) ≡ true
+      → Does g contents job today input rest old before result new after → (new.office ≡ old.office) × KeepsOn g old new
   job_keeps (line.print s which) asks h = sheet_keeps s which h
   job_keeps other asks h = absurd cc
 
-  printed : (s : Code) (which : Sheet) → Does g contents (line.print s which) today input rest old before result new after → PrintsAsked g contents new (Some (s, which)) before (told result) after
+  printed : (s : Code) (which : Sheet)
+      → Does g contents (line.print s which) today input rest old before result new after
+      → PrintsAsked g contents new (Some (s, which)) before (told result) after
   printed s sheet.Appeals h =
-      inr (result, refl, subst (λ (o : State). Streams (BreaksOff g new) contents (register_of o s) before result after) (sym h.1.read.office) h.1.sheet)
-  printed s which h = inr (result, refl, subst (λ (it : OfficeIn S). PrintsSheet contents it.office s which before result after) (sym h.1) h.2)
+      inr (
+        result,
+        refl,
+        subst
+            (λ (o : State). Streams (BreaksOff g new) contents (register_of o s) before result after)
+            (sym h.1.read.office) h.1.sheet,
+      )
+  printed s which h = inr (
+    result,
+    refl,
+    subst (λ (it : OfficeIn S). PrintsSheet contents it.office s which before result after)
+        (sym h.1) h.2,
+  )
 
   pub job_printed : (job : Job) → is_some (sheet_of job) ≡ true
       → Does g contents job today input rest old before result new after

@@ -11,7 +11,7 @@ use Rattle.exam_commands.specs.Orders.{IsInOrder}
 use Rattle.exam_commands.specs.State.{State as Office}
 use Rattle.exam_tables.specs.Transactions.{Commits, IsSound}
 use Rattle.exam_tables.specs.Versions.{ContainsOf, HasVersion, IsVersion}
-use Rattle.exam_store.specs.Found.{FailsToMigrate, FailsToOpen, HoldsGood}
+use Rattle.exam_store.specs.Found.{FailsToFind, FailsToMigrate, HoldsGood}
 use Rattle.exam_store.specs.Kept.{Keeps, KeepsIn}
 use Rattle.exam_store.specs.Stops.{HasDays}
 use Rattle.exam_store.specs.Stores.{OfficeIn}
@@ -64,14 +64,14 @@ RestsOn old new = IsSound new → (office : Office) → Rests old office → Res
 abbrev pub IsFailing : Refusal → Type 0
 IsFailing e = (e ≡ NoMemory) ⊎ (e ≡ Store)
 
--- Why no office is opened: it is not brought to the newest version; or it is, in one transaction, and is not opened then,
--- where opening commits nothing and forgets no fault of the disk.
+-- Why no office is opened: it is not brought to the newest version; or it is, in one transaction, and is not opened
+-- then, where opening commits nothing and forgets no fault of the disk.
 abbrev pub FailsToCarry : {S : Type 0} → Ghosts S → Held S → Held S → Refusal → Type 0
 FailsToCarry {S} g old new e =
     FailsToMigrate g old new e
     ⊎ ((mid : Held S) × Commits {A = Unit {0}} {E = Refusal} (state g old) (state g mid) (Ok tt) BringsOver
     × Survives (state g mid) (state g new) (λ _. ⊥)
-    × (((e ≡ Store) × IsTrue new.in_transaction) ⊎ FailsToOpen g mid new e))
+    × FailsToFind g mid new e)
 
 -- ---- an office in a store
 

@@ -1,6 +1,6 @@
 //! What comes in, and what becomes of it.
-ghost use Rattle.std.specs.Prelude.{◌≡◌, map, IfOk, IfErr, IsTrue, OnErr, string_bytes};
-ghost use Rattle.exam_types.specs.declared.refusal.Refusal.TheVariants.{NoMemory};
+ghost use Rattle.std.specs.Prelude.{◌≡◌, map, IfOk, IsTrue, OnErr, string_bytes};
+ghost use Rattle.exam_types.specs.Refusals.{OnlyMemory};
 ghost use Rattle.exam_rules.specs.Relations.{Code};
 ghost use Rattle.exam_commands.specs.Headline.{IsSeated};
 ghost use Rattle.exam_line.specs.Lines as lines;
@@ -72,7 +72,7 @@ pub fn follow_all<S: Alter>(
     ensures passes { IfOk result (λ outcomes.
         ArePassed S.Store (map shown orders.now) store.old outcomes.items store.new) }
     ensures kept { KeepsOn S.Store store.old store.new }
-    ensures memory { IfErr result (λ e. e ≡ NoMemory) }
+    ensures memory { OnlyMemory result }
     ensures same { OnErr result (store.new ≡ store.old) }
 {
     // Make room for all outcomes first, so that nothing fails once an order is followed.

@@ -1,6 +1,6 @@
 //! An office after orders, and a sheet of it.
-ghost use Rattle.std.specs.Prelude.{◌≡◌, map, is_some, IfOk, IfErr, OnErr, string_bytes};
-ghost use Rattle.exam_types.specs.declared.refusal.Refusal.TheVariants.{NoMemory};
+ghost use Rattle.std.specs.Prelude.{◌≡◌, map, is_some, IfOk, OnErr, string_bytes};
+ghost use Rattle.exam_types.specs.Refusals.{OnlyMemory};
 ghost use Rattle.exam_rules.specs.Relations.{Code};
 ghost use Rattle.exam_commands.specs.Headline.{IsSeated};
 ghost use Rattle.exam_line.specs.Lines as lines;
@@ -52,7 +52,7 @@ pub fn print_after<S: Alter, O: Write>(
     ensures kept { KeepsOn S.Store store.old store.new }
     ensures one { IfOk result (λ day. spec.EndsInOne (map shown orders.now) store.old.office day.outcomes.items
         store.new.office) }
-    ensures memory { IfErr result (λ e. e ≡ NoMemory) }
+    ensures memory { OnlyMemory result }
     ensures same { OnErr result ((store.new ≡ store.old) × (out.new ≡ out.old)) }
 {
     // Shows the promise for a refusal here, and again after the orders.

@@ -3,7 +3,8 @@ use Rattle.std.proofs.Common.{◌≡◌, ◌≤◌, ℕ, Bool, true, List, ◌++
 use Rattle.std.proofs.Math.Seq.{take-append_seam}
 use Rattle.exam_types.specs.Codes.{is_code}
 
-pub longest : (allowed : ℕ → Bool) (low high : ℕ) (text : List ℕ) → is_code allowed low high text ≡ true → length text ≤ high
+pub longest : (allowed : ℕ → Bool) (low high : ℕ) (text : List ℕ) → is_code allowed low high text ≡ true
+    → length text ≤ high
 longest allowed low high text is = grind arith
 
 -- a code's bytes, followed by other cells

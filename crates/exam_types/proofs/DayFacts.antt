@@ -1,22 +1,27 @@
 -- The civil date of a day's number, and its number by `jiff`.
-use Rattle.std.proofs.Common.{◌≡◌, ◌∙◌, ◌<◌, ◌≤◌, ◌+◌, ◌-◌, inl, inr, ℕ, zero, suc, pos, Bool, true, false, cond, Option, Some, nat_lt, refl, sym, ap, arith}
+use Rattle.std.proofs.Common.{◌≡◌, ◌∙◌, ◌<◌, ◌≤◌, ◌+◌, ◌-◌, inl, inr, ℕ, zero, suc, pos, Bool, true, false, cond}
+use Rattle.std.proofs.Common.{Option, Some, nat_lt, refl, sym, ap, arith}
 use Rattle.std.specs.Prelude.{find, unwrap_or}
 use Rattle.std.proofs.lemmas.Bool.{cases_order}
 use Rattle.std.specs.List.{range_with_len}
 use Rattle.jiff.specs.Types.{Date}
 use Rattle.jiff.specs.Words.{epoch_day}
-use Rattle.jiff_core.specs.Calendar.{IsCivilDate, IsYear, day_count, days_from_civil, days_of_months as jiff_days_of_months}
+use Rattle.jiff_core.specs.Calendar.{IsCivilDate, IsYear, day_count, days_from_civil}
+use Rattle.jiff_core.specs.Calendar.{days_of_months as jiff_days_of_months}
 use Rattle.jiff_core.proofs.SignedLemmas.{signed_arith}
 use Rattle.jiff_core.proofs.MarchLemmas.{day_count-early}
-use Rattle.jiff_core.proofs.CalendarLemmas.{day_count-day_of_year, day_count-next_year, days_from_civil-day_count, days_of_months_all}
+use Rattle.jiff_core.proofs.CalendarLemmas.{day_count-day_of_year, day_count-next_year, days_from_civil-day_count}
+use Rattle.jiff_core.proofs.CalendarLemmas.{days_of_months_all}
 use Rattle.jiff_core.proofs.DateLemmas.{epoch_day_injective}
-use Rattle.exam_types.specs.Days.{IsDay, days_of_months, days_of_years, month_day_of, month_days, month_of, month_start, year_days, year_of, year_start}
+use Rattle.exam_types.specs.Days.{IsDay, days_of_months, days_of_years, month_day_of, month_days, month_of, month_start}
+use Rattle.exam_types.specs.Days.{year_days, year_of, year_start}
 
 -- v is the first number from a on that passes the test, and e at the latest
 abbrev IsFirst : (ℕ → Bool) → ℕ → ℕ → ℕ → Type 0
 IsFirst p a e v = (p v ≡ true) × (a ≤ v) × (v ≤ e) × (a < v → p (v - 1) ≡ false)
 
-first_by_test : (p : ℕ → Bool) (a e : ℕ) (rest : Option ℕ) (b : Bool) → p a ≡ b → a ≤ e → IsFirst p (a + 1) e (unwrap_or rest e) → IsFirst p a e (unwrap_or (cond b (Some a) rest) e)
+first_by_test : (p : ℕ → Bool) (a e : ℕ) (rest : Option ℕ) (b : Bool) → p a ≡ b → a ≤ e
+    → IsFirst p (a + 1) e (unwrap_or rest e) → IsFirst p a e (unwrap_or (cond b (Some a) rest) e)
 first_by_test p a e rest true at le h = (at, omega arith, le, λ lt. absurd (omega arith))
 first_by_test p a e rest false at le h = (
   h.0,
@@ -29,10 +34,12 @@ first_by_test p a e rest false at le h = (
   ],
 )
 
-first_in_range : (p : ℕ → Bool) (a k e : ℕ) → e ≡ a + k → p e ≡ true → IsFirst p a e (unwrap_or (find p (range_with_len a k)) e)
+first_in_range : (p : ℕ → Bool) (a k e : ℕ) → e ≡ a + k → p e ≡ true
+    → IsFirst p a e (unwrap_or (find p (range_with_len a k)) e)
 first_in_range p a zero e same last = (last, omega arith, omega arith, λ lt. absurd (omega arith))
 first_in_range p a (suc k) e same last =
-    first_by_test p a e (find p (range_with_len (a + 1) k)) (p a) refl (omega arith) (first_in_range p (a + 1) k e (omega arith) last)
+    first_by_test p a e (find p (range_with_len (a + 1) k)) (p a) refl (omega arith)
+    (first_in_range p (a + 1) k e (omega arith) last)
 
 under : (a b : ℕ) → nat_lt a b ≡ true → a < b
 under a b h = grind arith
@@ -75,7 +82,8 @@ next_month : (y m : ℕ) → 1 ≤ m → month_start y (m + 1) ≡ month_start y
 next_month y m from =
     let is : suc (m - 1) ≡ m = omega arith in
     let next : m + 1 - 1 ≡ m = omega arith in
-    let step : days_of_months y m ≡ days_of_months y (m - 1) + month_days y m = rw is at (days_of_months-suc y (m - 1)) in
+    let step : days_of_months y m ≡ days_of_months y (m - 1) + month_days y m =
+    rw is at (days_of_months-suc y (m - 1)) in
     rw next (omega arith)
 
 -- `jiff` counts the same days
@@ -88,7 +96,8 @@ year_months : (y : ℕ) → days_of_months y 12 ≡ year_days y
 year_months y = sym (jiff_months y 12) ∙ days_of_months_all (pos y)
 
 count_after : (k : ℕ) → day_count (pos (2000 + k)) 1 1 ≡ days_of_years k + 4382910
-count_after zero = unfold days_of_years in day_count-early (pos 2000) 11999 1 1 refl (omega arith) (omega arith) (omega arith)
+count_after zero = unfold days_of_years in
+    day_count-early (pos 2000) 11999 1 1 refl (omega arith) (omega arith) (omega arith)
 count_after (suc k) =
     let next : day_count (pos (2000 + suc k)) 1 1 ≡ day_count (pos (2000 + k)) 1 1 + year_days (2000 + k) =
     day_count-next_year (pos (2000 + k)) (pos (2000 + suc k)) (omega (arith, signed_arith))
@@ -111,7 +120,8 @@ civil_number y m d from first =
 
 year_first : (n : ℕ) → IsDay n → IsFirst (λ y. nat_lt n (year_start (y + 1))) 2000 2199 (year_of n)
 unfolding year_of
-year_first n is = first_in_range (λ y. nat_lt n (year_start (y + 1))) 2000 199 2199 refl (under_true n (year_start 2200) (omega (arith, year_after_last)))
+year_first n is = first_in_range (λ y. nat_lt n (year_start (y + 1))) 2000 199 2199 refl
+    (under_true n (year_start 2200) (omega (arith, year_after_last)))
 
 abbrev IsYearOf : ℕ → ℕ → Type 0
 IsYearOf n y = (2000 ≤ y) × (y ≤ 2199) × (year_start y ≤ n) × (n < year_start y + year_days y)
@@ -133,12 +143,14 @@ month_first : (n : ℕ) → IsDay n → IsFirst (λ m. nat_lt n (month_start (ye
 unfolding month_of
 month_first n is =
     let year = year_is n is in
-    first_in_range (λ m. nat_lt n (month_start (year_of n) (m + 1))) 1 11 12 refl (under_true n (month_start (year_of n) 13) (omega (arith, year_months (year_of n))))
+    first_in_range (λ m. nat_lt n (month_start (year_of n) (m + 1))) 1 11 12 refl
+    (under_true n (month_start (year_of n) 13) (omega (arith, year_months (year_of n))))
 
 abbrev IsMonthOf : ℕ → ℕ → ℕ → Type 0
 IsMonthOf n y m = (1 ≤ m) × (m ≤ 12) × (month_start y m ≤ n) × (n < month_start y m + month_days y m)
 
-month_by_first : (n y m : ℕ) → year_start y ≤ n → IsFirst (λ m. nat_lt n (month_start y (m + 1))) 1 12 m → IsMonthOf n y m
+month_by_first : (n y m : ℕ) → year_start y ≤ n → IsFirst (λ m. nat_lt n (month_start y (m + 1))) 1 12 m
+    → IsMonthOf n y m
 month_by_first n y m from h =
     let before : n < month_start y (m + 1) = under n _ h.0 in
     let start : month_start y m ≤ n = elim (cases_order 1 m) [
@@ -177,9 +189,17 @@ number_of_civil n is =
 date_of : (n : ℕ) → IsDay n → Date
 date_of n is =
     let civil = civil_of n is in
-    record { year = pos (year_of n); month = month_of n; day = month_day_of n; year_in = civil.0; month_in = civil.1; day_in = civil.2 }
+    record {
+      year = pos (year_of n);
+      month = month_of n;
+      day = month_day_of n;
+      year_in = civil.0;
+      month_in = civil.1;
+      day_in = civil.2;
+    }
 
 -- a date of `jiff` with this number is the civil date of the day
-pub date_parts : (date : Date) (n : ℕ) → IsDay n → epoch_day date ≡ pos n → (date.year ≡ pos (year_of n)) × (date.month ≡ month_of n) × (date.day ≡ month_day_of n)
+pub date_parts : (date : Date) (n : ℕ) → IsDay n → epoch_day date ≡ pos n
+    → (date.year ≡ pos (year_of n)) × (date.month ≡ month_of n) × (date.day ≡ month_day_of n)
 unfolding date_of
 date_parts date n is number = epoch_day_injective date (date_of n is) (number ∙ sym (number_of_civil n is))

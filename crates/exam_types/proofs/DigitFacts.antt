@@ -38,15 +38,19 @@ first_of b bs all = grind arith
 rest_of : (b : ℕ) (bs : List ℕ) → list_all is_digit (b ∷ bs) ≡ true → list_all is_digit bs ≡ true
 rest_of b bs all = grind arith
 
-digits-after : (k n : ℕ) (bs : List ℕ) → list_all is_digit bs ≡ true → digits (k + length bs) (fold (λ (m b : ℕ). m * 10 + (b - 48)) n bs) ≡ digits k n ++ bs
+digits-after : (k n : ℕ) (bs : List ℕ) → list_all is_digit bs ≡ true
+    → digits (k + length bs) (fold (λ (m b : ℕ). m * 10 + (b - 48)) n bs) ≡ digits k n ++ bs
 digits-after k n [] all = rw (add-zero) (sym (append-nil (digits k n)))
 digits-after k n (b ∷ bs) all =
     let back = digit_back n b (first_of b bs all) in
-    let more : digits (suc k + length bs) (fold (λ (m b : ℕ). m * 10 + (b - 48)) (n * 10 + (b - 48)) bs) ≡ digits (suc k) (n * 10 + (b - 48)) ++ bs
+    let more : digits (suc k + length bs) (fold (λ (m b : ℕ). m * 10 + (b - 48)) (n * 10 + (b - 48)) bs)
+    ≡ digits (suc k) (n * 10 + (b - 48)) ++ bs
     = digits-after (suc k) (n * 10 + (b - 48)) bs (rest_of b bs all) in
     let same : k + length (b ∷ bs) ≡ suc k + length bs = omega arith in
     rw same (more ∙ rw (back.0, back.1) (append_assoc (digits k n) (b ∷ []) bs))
 
 -- what some digits spell has these digits
-pub digits-value : (bytes : List ℕ) → list_all is_digit bytes ≡ true → digits (length bytes) (digits_value bytes) ≡ bytes
-digits-value bytes all = ap (λ k. digits k (digits_value bytes)) (sym (zero-add (length bytes))) ∙ digits-after 0 0 bytes all
+pub digits-value : (bytes : List ℕ) → list_all is_digit bytes ≡ true
+    → digits (length bytes) (digits_value bytes) ≡ bytes
+digits-value bytes all =
+    ap (λ k. digits k (digits_value bytes)) (sym (zero-add (length bytes))) ∙ digits-after 0 0 bytes all

@@ -1,5 +1,6 @@
 -- What reading numerals gives.
-use Rattle.std.proofs.Common.{◌≡◌, ◌∙◌, ◌<◌, ◌≤◌, ◌^◌, ℕ, List, length, Some, None, Option, true, false, Bool, cond, refl, sym, ap, arith, rules, nat_eq, fold, ◌*◌, ◌+◌, ◌-◌, ◌/◌, ◌%◌, [], ◌∷◌, ◌++◌}
+use Rattle.std.proofs.Common.{◌≡◌, ◌∙◌, ◌<◌, ◌≤◌, ◌^◌, ℕ, List, length, Some, None, Option, true, false, Bool, cond}
+use Rattle.std.proofs.Common.{refl, sym, ap, arith, rules, nat_eq, fold, ◌*◌, ◌+◌, ◌-◌, ◌/◌, ◌%◌, [], ◌∷◌, ◌++◌}
 use Rattle.std.specs.List.{list_all}
 use Rattle.std.specs.Option.{IfSome}
 use Rattle.std.specs.Cmp.Lexicographic.{pointwise}
@@ -46,7 +47,8 @@ pub decimal_more : (n : ℕ) → 10 ≤ n → n < 2 ^ 32 → decimal n ≡ decim
 decimal_more n long fits = decimal_step n long (omega arith)
 
 pub decimal_length : (n : ℕ) → 10 ≤ n → n < 2 ^ 32 → length (decimal n) ≡ length (decimal (n / 10)) + 1
-decimal_length n long fits = ap length (decimal_more n long fits) ∙ length-append (decimal (n / 10)) ((48 + n % 10) ∷ [])
+decimal_length n long fits =
+    ap length (decimal_more n long fits) ∙ length-append (decimal (n / 10)) ((48 + n % 10) ∷ [])
 
 pub too_long : (n : ℕ) (bytes : List ℕ) → 4 < length bytes → n < 10000 × (decimal n ≡ bytes) → ⊥
 too_long n bytes long is =
@@ -54,7 +56,8 @@ too_long n bytes long is =
     let same : length (decimal n) ≡ length bytes = ap length is.1 in
     omega arith
 
-pub below_power : (n : ℕ) (bytes : List ℕ) (read : Option ℕ) → IfSome read (λ m. m < 10 ^ length bytes) → read ≡ Some n → length bytes ≡ 7 → n < 10000000
+pub below_power : (n : ℕ) (bytes : List ℕ) (read : Option ℕ) → IfSome read (λ m. m < 10 ^ length bytes) → read ≡ Some n
+    → length bytes ≡ 7 → n < 10000000
 below_power n bytes (Some m) bound is len =
     let same : m ≡ n = cc in
     let power : 10 ^ length bytes ≡ 10 ^ 7 = ap (λ k. 10 ^ k) len in
@@ -62,20 +65,24 @@ below_power n bytes (Some m) bound is len =
 below_power n bytes None bound is len = cc is
 
 abbrev pub Reads : List ℕ → Option ℕ → ℕ → Type 0
-Reads bytes read n = (read ≡ Some n → (n < 10000) × (decimal n ≡ bytes)) × ((n < 10000) × (decimal n ≡ bytes) → read ≡ Some n)
+Reads bytes read n =
+    (read ≡ Some n → (n < 10000) × (decimal n ≡ bytes)) × ((n < 10000) × (decimal n ≡ bytes) → read ≡ Some n)
 
 not_none : {X : Type 0} (read : Option ℕ) (n : ℕ) → read ≡ None → read ≡ Some n → X
 not_none read n none some = cc
 
 -- a reader that finds no number answers none
-nothing_to_read : (bytes : List ℕ) (read : Option ℕ) (n : ℕ) → read ≡ None → ((n < 10000) × (decimal n ≡ bytes) → ⊥) → Reads bytes read n
+nothing_to_read : (bytes : List ℕ) (read : Option ℕ) (n : ℕ) → read ≡ None → ((n < 10000) × (decimal n ≡ bytes) → ⊥)
+    → Reads bytes read n
 nothing_to_read bytes read n none never = (not_none read n none, λ is. absurd (never is))
 
 pub reads_long : (bytes : List ℕ) (n : ℕ) → 4 < length bytes → Reads bytes None n
 reads_long bytes n long = nothing_to_read bytes None n refl (too_long n bytes long)
 
-pub reads_others : (bytes : List ℕ) (read : Option ℕ) (n : ℕ) → read ≡ None → number_of bytes ≡ None → Reads bytes read n
-reads_others bytes read n none others = nothing_to_read bytes read n none (λ is. not_none (number_of bytes) n others (decimal_read n bytes is.0 is.1))
+pub reads_others : (bytes : List ℕ) (read : Option ℕ) (n : ℕ) → read ≡ None → number_of bytes ≡ None
+    → Reads bytes read n
+reads_others bytes read n none others =
+    nothing_to_read bytes read n none (λ is. not_none (number_of bytes) n others (decimal_read n bytes is.0 is.1))
 
 pub reads_padded : (bytes : List ℕ) (m n : ℕ) → number_of bytes ≡ Some m → (decimal m ≡ bytes → ⊥) → Reads bytes None n
 reads_padded bytes m n number padded =
@@ -86,11 +93,13 @@ reads_padded bytes m n number padded =
     same_number : (read : Option ℕ) (n m : ℕ) → read ≡ Some n → read ≡ Some m → n ≡ m
     same_number read n m a b = cc
 
-pub reads_decimal : (bytes : List ℕ) (m n : ℕ) → number_of bytes ≡ Some m → m < 10000 → decimal m ≡ bytes → Reads bytes (Some m) n
+pub reads_decimal : (bytes : List ℕ) (m n : ℕ) → number_of bytes ≡ Some m → m < 10000 → decimal m ≡ bytes
+    → Reads bytes (Some m) n
 reads_decimal bytes m n number small text =
     ((λ some. as_read m n bytes some small text), λ is. sym number ∙ decimal_read n bytes is.0 is.1)
   where
-    as_read : (m n : ℕ) (bytes : List ℕ) → Some m ≡ Some n → m < 10000 → decimal m ≡ bytes → (n < 10000) × (decimal n ≡ bytes)
+    as_read : (m n : ℕ) (bytes : List ℕ) → Some m ≡ Some n → m < 10000 → decimal m ≡ bytes
+        → (n < 10000) × (decimal n ≡ bytes)
     as_read m n bytes some small text = let same : m ≡ n = cc in rw (← same) (small, text)
 
 same_text : (a : List ℕ) → pointwise nat_eq a a ≡ true

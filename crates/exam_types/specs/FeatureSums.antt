@@ -1,7 +1,8 @@
 -- A mask is the sum of the set that it represents.
 use Rattle.std.specs.Prelude.{◌≡◌, ◌<◌, ◌≤◌, ℕ, zero, suc, ◌/◌, ◌%◌, ◌^◌, ◌==◌, List, [], ◌∷◌, length}
 use Rattle.std.proofs.Common.{refl, arith, pow-suc}
-use Rattle.exam_types.specs.Features.{feature_names, features_sum, greatest_sum, part, sum_among, summed_among, summed_features}
+use Rattle.exam_types.specs.Features.{feature_names, features_sum, greatest_sum, part, sum_among, summed_among}
+use Rattle.exam_types.specs.Features.{summed_features}
 
 last_bit : (n : ℕ) → n < 2 → part (n == 1) 1 ≡ n
 last_bit zero l = refl

@@ -12,7 +12,7 @@
 --   character
 -- - Days: the calendar from 2000 to 2199: leap years, lengths of months, the civil date of a day
 --   number, its text
--- - Refusals: the numbers by which refusals are printed
+-- - Refusals: the numbers by which refusals are printed; a call that refuses for memory alone
 -- - Padding: how a code lies in its array (used only by its type)
 pub mod Codes
 pub mod Days

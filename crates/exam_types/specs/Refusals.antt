@@ -1,5 +1,5 @@
--- The numbers by which refusals are printed.
-use Rattle.std.specs.Prelude.{ℕ}
+-- The numbers by which refusals are printed, and the commonest clause about them.
+use Rattle.std.specs.Prelude.{◌≡◌, ℕ, Result, IfErr}
 use Rattle.exam_types.specs.declared.refusal.Refusal.{Refusal}
 use Rattle.exam_types.specs.declared.refusal.Refusal.TheVariants.{BadRow, BadHeader, RowConflict}
 use Rattle.exam_types.specs.declared.refusal.Refusal.TheVariants.{UnknownSession, UnknownPaper}
@@ -39,3 +39,7 @@ refusal_number BadStore = 24
 refusal_number HallNotOpened = 25
 refusal_number NotArrangement = 26
 refusal_number OldSchema = 27
+
+-- the call refuses only where memory runs out
+abbrev pub OnlyMemory : {A : Type 0} → Result A Refusal → Type 0
+OnlyMemory result = IfErr result (λ e. e ≡ NoMemory)

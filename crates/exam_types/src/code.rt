@@ -1,8 +1,8 @@
 //! A short text of bytes in a fixed array, ordered by its bytes.
-ghost use Rattle.std.specs.Prelude.{◌≡◌, ℕ, ◌-◌, ◌<◌, ◌≤◌, ◌++◌, length, nat_eq, Bool, IsTrue, OnOk, OnErr, IfErr};
+ghost use Rattle.std.specs.Prelude.{◌≡◌, ℕ, ◌-◌, ◌<◌, ◌≤◌, ◌++◌, length, nat_eq, Bool, IsTrue, OnOk, OnErr};
 ghost use Rattle.std.specs.Prelude.{Some, None, if◌then◌else◌, refl};
 ghost use Rattle.exam_types.specs.Codes.{is_code, is_dashed, is_capital_or_digit};
-ghost use Rattle.exam_types.specs.declared.refusal.Refusal.TheVariants.{NoMemory};
+ghost use Rattle.exam_types.specs.Refusals.{OnlyMemory};
 ghost use Rattle.std.specs.List.{list_all};
 ghost use Rattle.std.specs.Ordering.{nat_cmp};
 ghost use Rattle.std.specs.Cmp.{partial_equiv_from_equiv};
@@ -111,7 +111,7 @@ impl<K, A: Alphabet, const LEAST: usize, const GREATEST: usize> Code<K, A, LEAST
         ensures ok { OnOk result (out.new.items ≡ out.old.items ++ self.now) }
         ensures form { IsTrue (is_code A.allowed LEAST GREATEST self.now) }
         ensures err { OnErr result (out.new.items ≡ out.old.items) }
-        ensures memory { IfErr result (λ e. e ≡ NoMemory) }
+        ensures memory { OnlyMemory result }
     {
         append(out, self.as_bytes())
     }

@@ -1,12 +1,12 @@
 //! A day from 2000-01-01 to 2199-12-31.
 ghost use Rattle.std.specs.Prelude.{◌≡◌, ◌<◌, ◌↔◌, ◌+◌, ◌-◌, ◌++◌, ℕ, nat_le, length, pos, neg_ℤ, Some, None};
-ghost use Rattle.std.specs.Prelude.{IsSome, IfSome, OnOk, OnErr, IfErr, if◌then◌else◌};
+ghost use Rattle.std.specs.Prelude.{IsSome, IfSome, OnOk, OnErr, if◌then◌else◌};
 ghost use Rattle.jiff.specs.Types.{Day as SpanDay};
 ghost use Rattle.jiff.specs.Words.{IsDate, IsOnly, IsYmd, epoch_day};
 ghost use Rattle.arrayvec.specs.ArrayVec.{array_vec_len};
 ghost use Rattle.exam_types.specs.Days as spec;
 ghost use Rattle.exam_types.specs.Days.{IsDay};
-ghost use Rattle.exam_types.specs.declared.refusal.Refusal.TheVariants.{NoMemory};
+ghost use Rattle.exam_types.specs.Refusals.{OnlyMemory};
 
 use crate::digits::{ShortText, number_of, push_digits};
 use crate::refusal::Refusal;
@@ -59,7 +59,7 @@ impl Day {
         ensures form { IsDay self.now }
         ensures ok { OnOk result (out.new.items ≡ out.old.items ++ spec.day_text self.now) }
         ensures err { OnErr result (out.new.items ≡ out.old.items) }
-        ensures memory { IfErr result (λ e. e ≡ NoMemory) }
+        ensures memory { OnlyMemory result }
     {
         let text = self.text();
         out.extend_from_slice(&text)?;

@@ -1,11 +1,11 @@
 //! Features of halls, and needs of candidates.
 ghost use Rattle.std.specs.Prelude.{◌≡◌, ◌<◌, ◌≤◌, ◌+◌, ◌^◌, ◌↔◌, ◌==◌, ◌++◌, nat_eq, length, map, IsTrue, Some, OnOk};
-ghost use Rattle.std.specs.Prelude.{OnErr, IfErr};
-ghost use Rattle.exam_types.specs.declared.refusal.Refusal.TheVariants.{NoMemory};
+ghost use Rattle.std.specs.Prelude.{OnErr};
 ghost use Rattle.std.specs.List.{list_any, slice_split};
 ghost use Rattle.std.specs.Cmp.Lexicographic.{pointwise};
 ghost use Rattle.arrayvec.specs.ArrayVec.{array_vec_len};
 ghost use Rattle.exam_types.specs.Features as spec;
+ghost use Rattle.exam_types.specs.Refusals.{OnlyMemory};
 
 use crate::refusal::Refusal;
 use crate::text::append;
@@ -103,7 +103,7 @@ impl Features {
     pub fn write_to(&self, out: &mut Vec<u8>) -> Result<(), Refusal>
         ensures ok { OnOk result (out.new.items ≡ out.old.items ++ spec.features_text self.now) }
         ensures err { OnErr result (out.new.items ≡ out.old.items) }
-        ensures memory { IfErr result (λ e. e ≡ NoMemory) }
+        ensures memory { OnlyMemory result }
     {
         append(out, self.text().as_slice())
     }

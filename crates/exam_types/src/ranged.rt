@@ -1,7 +1,7 @@
 //! A number in a range, with a text of its own.
-ghost use Rattle.std.specs.Prelude.{◌≡◌, ◌↔◌, ◌++◌, ◌<◌, ◌≤◌, ℕ, List, IsTrue, OnOk, OnErr, IfErr, Some};
+ghost use Rattle.std.specs.Prelude.{◌≡◌, ◌↔◌, ◌++◌, ◌<◌, ◌≤◌, ℕ, List, IsTrue, OnOk, OnErr, Some};
 ghost use Rattle.exam_types.specs.Numbers.{value_in};
-ghost use Rattle.exam_types.specs.declared.refusal.Refusal.TheVariants.{NoMemory};
+ghost use Rattle.exam_types.specs.Refusals.{OnlyMemory};
 
 use crate::numerals::{ShortSpelling, Spelling};
 use crate::refusal::Refusal;
@@ -61,7 +61,7 @@ impl<W, F: Form> Ranged<W, F> {
         ensures ok { OnOk result (out.new.items ≡ out.old.items ++ F.Spelling.text self.now) }
         ensures form { F.in_range self.now }
         ensures err { OnErr result (out.new.items ≡ out.old.items) }
-        ensures memory { IfErr result (λ e. e ≡ NoMemory) }
+        ensures memory { OnlyMemory result }
     {
         append(out, F::Spelling::write(self.value).as_slice())
     }

@@ -1,8 +1,8 @@
 //! The day of a session, from 2000-01-11 on.
-ghost use Rattle.std.specs.Prelude.{◌≡◌, ◌↔◌, ◌++◌, ℕ, nat_le, Some, None, OnOk, OnErr, IfErr, if◌then◌else◌};
+ghost use Rattle.std.specs.Prelude.{◌≡◌, ◌↔◌, ◌++◌, ℕ, nat_le, Some, None, OnOk, OnErr, if◌then◌else◌};
 ghost use Rattle.exam_types.specs.Days as spec;
 ghost use Rattle.exam_types.specs.Days.{IsDay, IsSessionDay};
-ghost use Rattle.exam_types.specs.declared.refusal.Refusal.TheVariants.{NoMemory};
+ghost use Rattle.exam_types.specs.Refusals.{OnlyMemory};
 
 use crate::day::Day;
 use crate::refusal::Refusal;
@@ -55,7 +55,7 @@ impl SessionDay {
         ensures form { IsSessionDay self.now }
         ensures ok { OnOk result (out.new.items ≡ out.old.items ++ spec.day_text self.now) }
         ensures err { OnErr result (out.new.items ≡ out.old.items) }
-        ensures memory { IfErr result (λ e. e ≡ NoMemory) }
+        ensures memory { OnlyMemory result }
     {
         self.day.write_to(out)
     }

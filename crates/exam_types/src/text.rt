@@ -6,6 +6,7 @@ ghost use Rattle.std.specs.Cmp.Lexicographic.{pointwise, nat_list_eq_equiv};
 ghost use Rattle.std.specs.Str.{is_utf8};
 ghost use Rattle.exam_types.specs.Texts.{has_control as spec_has_control, is_text};
 ghost use Rattle.exam_types.specs.declared.refusal.Refusal.TheVariants.{NoMemory};
+ghost use Rattle.exam_types.specs.Refusals.{OnlyMemory};
 
 use crate::refusal::Refusal;
 use std::alloc::{AllocError, Global};
@@ -68,7 +69,7 @@ impl<const LEAST: usize, const GREATEST: usize> Text<LEAST, GREATEST> {
         ensures ok { OnOk result (out.new.items ≡ out.old.items ++ self.now) }
         ensures form { IsTrue (is_text LEAST GREATEST self.now) }
         ensures err { OnErr result (out.new.items ≡ out.old.items) }
-        ensures memory { IfErr result (λ e. e ≡ NoMemory) }
+        ensures memory { OnlyMemory result }
     {
         append(out, self.text.as_bytes())
     }
@@ -76,7 +77,7 @@ impl<const LEAST: usize, const GREATEST: usize> Text<LEAST, GREATEST> {
     /// An equal text. Refused if there is not enough memory.
     pub fn copy(&self) -> Result<Self, Refusal>
         ensures ok { IfOk result (λ text. text ≡ self.now) }
-        ensures memory { IfErr result (λ e. e ≡ NoMemory) }
+        ensures memory { OnlyMemory result }
     {
         Ok(self.clone()?)
     }
@@ -146,7 +147,7 @@ pub fn text_of(bytes: &[u8]) -> Option<&str>
 pub fn append(out: &mut Vec<u8>, bytes: &[u8]) -> Result<(), Refusal>
     ensures ok { OnOk result (out.new.items ≡ out.old.items ++ bytes.now) }
     ensures err { OnErr result (out.new.items ≡ out.old.items) }
-    ensures memory { IfErr result (λ e. e ≡ NoMemory) }
+    ensures memory { OnlyMemory result }
 {
     Ok(out.extend_from_slice(bytes)?)
 }

@@ -4,6 +4,7 @@ ghost use Rattle.std.specs.Prelude.{length, map, IfOk, IfErr, IsSome, IsTrue};
 ghost use Rattle.std.specs.Option.{option_map};
 ghost use Rattle.std.specs.Ordering.{is_lt, nat_cmp};
 ghost use Rattle.exam_types.specs.declared.refusal.Refusal.TheVariants.{NoMemory};
+ghost use Rattle.exam_types.specs.Refusals.{OnlyMemory};
 ghost use Rattle.exam_plan.specs.Matching.{occupants};
 ghost use Rattle.exam_plan.specs.Problems.{most_members};
 ghost use Rattle.exam_rules.specs.Relations.{Code, relations_of, code_cmp, seat_cmp, row_at, same_code};
@@ -15,6 +16,7 @@ ghost use Rattle.exam_rules.specs.Sessions as sessions;
 ghost use Rattle.exam_commands.specs.Good.{IsGood};
 ghost use Rattle.exam_commands.specs.Headline.{desk_of};
 ghost use Rattle.exam_commands.specs.Own as spec;
+ghost use Rattle.exam_commands.specs.State.{office_of};
 ghost use Rattle.exam_views.specs.Desks.{rows_without_desks, session_without_desk};
 
 use exam_commands::{Own, OwnAppeal, OwnSession};
@@ -46,11 +48,11 @@ pub fn own_of(
     number: Number,
 ) -> Result<Option<Own>, Refusal>
     requires lists { AreListsOf (relations_of facts.now) lists.now }
-    requires good { IsGood (record { relations = relations_of facts.now; seats = seats.now.entries }) }
+    requires good { IsGood (office_of facts.now seats.now) }
     ensures ok { IfOk result (λ own. option_map spec.shown own
-        ≡ spec.own_of (record { relations = relations_of facts.now; seats = seats.now.entries }) number) }
+        ≡ spec.own_of (office_of facts.now seats.now) number) }
     ensures memory { IfErr result (λ e. (e ≡ NoMemory) × IsSome
-        (spec.own_of (record { relations = relations_of facts.now; seats = seats.now.entries }) number)) }
+        (spec.own_of (office_of facts.now seats.now) number)) }
 {
     match facts.candidates.get(&number) {
         Some(row) => Ok(Some(own_rows(alloc, facts, lists, seats, number, row)?)),
@@ -66,11 +68,11 @@ pub fn own_without_desks(
     seats: &Seats,
     number: Number,
 ) -> Result<Option<Own>, Refusal>
-    requires good { IsGood (record { relations = relations_of facts.now; seats = seats.now.entries }) }
+    requires good { IsGood (office_of facts.now seats.now) }
     ensures ok { IfOk result (λ own. option_map spec.shown own ≡ option_map rows_without_desks
-        (spec.own_of (record { relations = relations_of facts.now; seats = seats.now.entries }) number)) }
+        (spec.own_of (office_of facts.now seats.now) number)) }
     ensures memory { IfErr result (λ e. (e ≡ NoMemory) × IsSome
-        (spec.own_of (record { relations = relations_of facts.now; seats = seats.now.entries }) number)) }
+        (spec.own_of (office_of facts.now seats.now) number)) }
 {
     match facts.candidates.get(&number) {
         Some(row) => Ok(Some(deskless_rows(alloc, facts, seats, number, row)?)),
@@ -87,12 +89,11 @@ fn own_rows(
     row: &Candidate,
 ) -> Result<Own, Refusal>
     requires lists { AreListsOf (relations_of facts.now) lists.now }
-    requires good { IsGood (record { relations = relations_of facts.now; seats = seats.now.entries }) }
+    requires good { IsGood (office_of facts.now seats.now) }
     requires candidate { IsTrue (has_row nat_cmp facts.now.candidates.entries number) }
-    ensures ok { IfOk result (λ own. spec.shown own
-        ≡ spec.own_rows (record { relations = relations_of facts.now; seats = seats.now.entries }) number
+    ensures ok { IfOk result (λ own. spec.shown own ≡ spec.own_rows (office_of facts.now seats.now) number
         row.now) }
-    ensures memory { IfErr result (λ e. e ≡ NoMemory) }
+    ensures memory { OnlyMemory result }
 {
     let mut own = deskless_rows(alloc, facts, seats, number, row)?;
     show_desks(facts, lists, seats, number, &mut own.sessions);
@@ -106,12 +107,11 @@ fn deskless_rows(
     number: Number,
     row: &Candidate,
 ) -> Result<Own, Refusal>
-    requires good { IsGood (record { relations = relations_of facts.now; seats = seats.now.entries }) }
+    requires good { IsGood (office_of facts.now seats.now) }
     requires candidate { IsTrue (has_row nat_cmp facts.now.candidates.entries number) }
     ensures ok { IfOk result (λ own. spec.shown own ≡ rows_without_desks
-        (spec.own_rows (record { relations = relations_of facts.now; seats = seats.now.entries }) number
-        row.now)) }
-    ensures memory { IfErr result (λ e. e ≡ NoMemory) }
+        (spec.own_rows (office_of facts.now seats.now) number row.now)) }
+    ensures memory { OnlyMemory result }
 {
     Ok(Own {
         number,
@@ -131,12 +131,11 @@ fn show_desks(
     sessions: &mut [OwnSession],
 )
     requires lists { AreListsOf (relations_of facts.now) lists.now }
-    requires good { IsGood (record { relations = relations_of facts.now; seats = seats.now.entries }) }
+    requires good { IsGood (office_of facts.now seats.now) }
     requires candidate { IsTrue (has_row nat_cmp facts.now.candidates.entries number) }
     requires deskless { map spec.shown_session sessions.old ≡ map session_without_desk
-        (spec.own_sessions (record { relations = relations_of facts.now; seats = seats.now.entries }) number) }
-    ensures { map spec.shown_session sessions.new
-        ≡ spec.own_sessions (record { relations = relations_of facts.now; seats = seats.now.entries }) number }
+        (spec.own_sessions (office_of facts.now seats.now) number) }
+    ensures { map spec.shown_session sessions.new ≡ spec.own_sessions (office_of facts.now seats.now) number }
 {
     for own in sessions.iter_mut() {
         own.desk = desk(facts, lists, seats, &own.session, number, &own.hall);
@@ -150,12 +149,11 @@ fn deskless_sessions(
     seats: &Seats,
     number: Number,
 ) -> Result<Vec<OwnSession>, Refusal>
-    requires good { IsGood (record { relations = relations_of facts.now; seats = seats.now.entries }) }
+    requires good { IsGood (office_of facts.now seats.now) }
     requires candidate { IsTrue (has_row nat_cmp facts.now.candidates.entries number) }
     ensures ok { IfOk result (λ sessions. map spec.shown_session sessions.items ≡ map session_without_desk
-        (spec.own_sessions (record { relations = relations_of facts.now; seats = seats.now.entries })
-        number)) }
-    ensures memory { IfErr result (λ e. e ≡ NoMemory) }
+        (spec.own_sessions (office_of facts.now seats.now) number)) }
+    ensures memory { OnlyMemory result }
 {
     // Only the proof needs that the sessions rise.
     facts.show_order();
@@ -198,15 +196,15 @@ fn deskless_session(
     number: Number,
     held: Membership<'_>,
 ) -> Result<OwnSession, Refusal>
-    requires good { IsGood (record { relations = relations_of facts.now; seats = seats.now.entries }) }
+    requires good { IsGood (office_of facts.now seats.now) }
     requires known { row_at code_cmp facts.now.sessions.entries held.session ≡ Some held.row.now }
     requires candidate { IsTrue (has_row nat_cmp facts.now.candidates.entries number) }
     requires papers { held.papers.items ≡ sessions.live_papers (relations_of facts.now) held.session number }
     requires member { 0 < length held.papers.items }
     ensures ok { IfOk result (λ own. option_map session_without_desk (spec.own_session
-        (record { relations = relations_of facts.now; seats = seats.now.entries }) number
+        (office_of facts.now seats.now) number
         (held.entry.session, held.entry.row.now)) ≡ Some (spec.shown_session own)) }
-    ensures memory { IfErr result (λ e. e ≡ NoMemory) }
+    ensures memory { OnlyMemory result }
 {
     let Membership {
         session,
@@ -242,12 +240,11 @@ fn desk(
     hall: &Option<HallCode>,
 ) -> Option<u32>
     requires lists { AreListsOf (relations_of facts.now) lists.now }
-    requires good { IsGood (record { relations = relations_of facts.now; seats = seats.now.entries }) }
+    requires good { IsGood (office_of facts.now seats.now) }
     requires known { IsTrue (has_row code_cmp facts.now.sessions.entries session.now) }
     requires somebody { 0 < length facts.now.candidates.entries }
     requires hall { hall.now ≡ plan_of seats.now.entries session.now number }
-    ensures { result ≡ desk_of (record { relations = relations_of facts.now; seats = seats.now.entries })
-        session.now number }
+    ensures { result ≡ desk_of (office_of facts.now seats.now) session.now number }
 {
     let hall = hall.as_ref()?;
     Some(seated_before(facts, lists, seats, session, number, hall) + 1)
@@ -263,7 +260,7 @@ fn seated_before(
     hall: &HallCode,
 ) -> u32
     requires lists { AreListsOf (relations_of facts.now) lists.now }
-    requires good { IsGood (record { relations = relations_of facts.now; seats = seats.now.entries }) }
+    requires good { IsGood (office_of facts.now seats.now) }
     requires known { IsTrue (has_row code_cmp facts.now.sessions.entries session.now) }
     requires somebody { 0 < length facts.now.candidates.entries }
     ensures count { result ≡ count_by (λ d. comes_before (relations_of facts.now) session.now d number)
@@ -305,7 +302,7 @@ fn seats_of<'a>(
     seats: &'a Seats,
     session: &SessionCode,
 ) -> Range<'a, (SessionCode, Number), HallCode>
-    requires good { IsGood (record { relations = relations_of facts.now; seats = seats.now.entries }) }
+    requires good { IsGood (office_of facts.now seats.now) }
     requires somebody { 0 < length facts.now.candidates.entries }
     ensures value { result ≡ filter (λ (seat : (Code × ℕ) × Code). same_code seat.0.0 session.now)
         seats.now.entries }
@@ -324,7 +321,7 @@ fn clash_papers(
 ) -> Result<Vec<PaperCode>, Refusal>
     ensures ok { IfOk result (λ clashes. clashes.items
         ≡ filter (sessions.is_clash (Some sat)) papers.now) }
-    ensures memory { IfErr result (λ e. e ≡ NoMemory) }
+    ensures memory { OnlyMemory result }
 {
     let clashes = papers
         .iter()
@@ -342,7 +339,7 @@ fn entered_papers(
 ) -> Result<BySession<PaperCode>, Refusal>
     ensures ok { IfOk result (λ entered. (s : Code)
         → listed entered.entries s ≡ sessions.live_papers (relations_of facts.now) s number) }
-    ensures memory { IfErr result (λ e. e ≡ NoMemory) }
+    ensures memory { OnlyMemory result }
 {
     let mut entered = BTreeMap::new(alloc);
     for (key, entry) in entries_of(facts, number) {
@@ -356,7 +353,7 @@ fn entered_papers(
 /// The candidate's appeals, by reference.
 fn own_appeals(alloc: Global, facts: &Facts, number: Number) -> Result<Vec<OwnAppeal>, Refusal>
     ensures ok { IfOk result (λ appeals. appeals.items ≡ spec.own_appeals (relations_of facts.now) number) }
-    ensures memory { IfErr result (λ e. e ≡ NoMemory) }
+    ensures memory { OnlyMemory result }
 {
     let mut appeals = Vec::new(alloc);
     for (key, appeal) in appeals_of(facts, number) {

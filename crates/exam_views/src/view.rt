@@ -1,7 +1,7 @@
 //! What the office shows of one session.
-ghost use Rattle.std.specs.Prelude.{◌≡◌, ◌<◌, ℕ, List, All, IfOk, IfErr, IfSome, length, map};
+ghost use Rattle.std.specs.Prelude.{◌≡◌, ◌<◌, ℕ, List, All, IfOk, IfSome, length, map};
 ghost use Rattle.std.specs.Option.{option_map};
-ghost use Rattle.exam_types.specs.declared.refusal.Refusal.TheVariants.{NoMemory};
+ghost use Rattle.exam_types.specs.Refusals.{OnlyMemory};
 ghost use Rattle.exam_commands.specs.Words as words;
 ghost use Rattle.exam_views.specs.Views as views;
 
@@ -164,7 +164,7 @@ impl SessionView {
     /// The members by number, each with name, sitting paper, finish, hall and desk.
     pub fn seats(&self, alloc: Global) -> Result<Vec<Seat>, Refusal>
         ensures ok { IfOk result (λ seats. seats.items ≡ views.seats_of self.now) }
-        ensures memory { IfErr result (λ e. e ≡ NoMemory) }
+        ensures memory { OnlyMemory result }
     {
         let desks = desks(alloc, &self.problem, &self.plan)?;
         let mut seats = Vec::with_capacity(alloc, self.members.len())?;
@@ -185,7 +185,7 @@ impl SessionView {
     /// The live papers that members do not sit, by number and code.
     pub fn clashes(&self, alloc: Global) -> Result<Vec<Clash>, Refusal>
         ensures ok { IfOk result (λ clashes. clashes.items ≡ self.now.clashes) }
-        ensures memory { IfErr result (λ e. e ≡ NoMemory) }
+        ensures memory { OnlyMemory result }
     {
         Ok(Vec::from_slice(alloc, &self.clashes)?)
     }
@@ -200,7 +200,7 @@ impl SessionView {
     /// The contested candidates, with all halls that fit any of them.
     pub fn shortage(&self, alloc: Global) -> Result<SessionShortage, Refusal>
         ensures ok { IfOk result (λ shortage. views.ShowsShortage self.now (views.report_of shortage)) }
-        ensures memory { IfErr result (λ e. e ≡ NoMemory) }
+        ensures memory { OnlyMemory result }
     {
         let found = shortage(alloc, &self.problem, &self.plan)?;
         Ok(SessionShortage {
@@ -237,7 +237,7 @@ impl SessionView {
     ) -> Result<Vec<(HallCode, u32)>, Refusal>
         requires { All (λ j. j < length self.now.openings) places.now }
         ensures ok { IfOk result (λ halls. halls.items ≡ map (views.hall_with_desks self.now) places.now) }
-        ensures memory { IfErr result (λ e. e ≡ NoMemory) }
+        ensures memory { OnlyMemory result }
     {
         let mut halls = Vec::with_capacity(alloc, places.len())?;
         for place in places {
@@ -258,7 +258,7 @@ impl SessionView {
     fn numbers_of(&self, alloc: Global, places: &[usize]) -> Result<Vec<Number>, Refusal>
         requires { All (λ i. i < length self.now.members) places.now }
         ensures ok { IfOk result (λ numbers. numbers.items ≡ map (views.number_of self.now) places.now) }
-        ensures memory { IfErr result (λ e. e ≡ NoMemory) }
+        ensures memory { OnlyMemory result }
     {
         let mut numbers = Vec::with_capacity(alloc, places.len())?;
         for place in places {
@@ -272,7 +272,7 @@ impl Member {
     /// The member in a hall, or in none, at a desk.
     fn seat_in(&self, hall: Option<HallCode>, desk: Option<u32>) -> Result<Seat, Refusal>
         ensures ok { IfOk result (λ seat. seat ≡ views.seat_in self.now hall desk) }
-        ensures memory { IfErr result (λ e. e ≡ NoMemory) }
+        ensures memory { OnlyMemory result }
     {
         Ok(Seat {
             number: self.number,

@@ -1,7 +1,7 @@
 //! How a view of a session is made.
-ghost use Rattle.std.specs.Prelude.{◌≡◌, Some, Contains, IsTrue, IfOk, IfErr, OnOk, map};
+ghost use Rattle.std.specs.Prelude.{◌≡◌, Some, Contains, IsTrue, IfOk, OnOk, map};
 ghost use Rattle.std.specs.Map.{keys_of};
-ghost use Rattle.exam_types.specs.declared.refusal.Refusal.TheVariants.{NoMemory};
+ghost use Rattle.exam_types.specs.Refusals.{OnlyMemory};
 ghost use Rattle.exam_rules.specs.Lists as listing;
 ghost use Rattle.exam_rules.specs.Lists.{AreListsOf};
 ghost use Rattle.exam_rules.specs.Names.{ListsRise};
@@ -10,6 +10,7 @@ ghost use Rattle.exam_rules.specs.Seatings as seatings;
 ghost use Rattle.exam_rules.specs.Sessions as sessions;
 ghost use Rattle.exam_commands.specs.Good.{IsGood};
 ghost use Rattle.exam_commands.specs.Limits.{within_limits};
+ghost use Rattle.exam_commands.specs.State.{office_of};
 ghost use Rattle.exam_views.specs.Views as views;
 
 use crate::view::{AppealRow, Clash, Member, SessionView};
@@ -31,11 +32,10 @@ pub fn view_of(
     row: &Session,
 ) -> Result<SessionView, Refusal>
     requires lists { AreListsOf (relations_of facts.now) lists.now }
-    requires good { IsGood (record { relations = relations_of facts.now; seats = seats.now.entries }) }
+    requires good { IsGood (office_of facts.now seats.now) }
     requires known { row_at code_cmp facts.now.sessions.entries session.now ≡ Some row.now }
-    ensures ok { IfOk result (views.IsViewOf
-        (record { relations = relations_of facts.now; seats = seats.now.entries }) session.now) }
-    ensures memory { IfErr result (λ e. e ≡ NoMemory) }
+    ensures ok { IfOk result (views.IsViewOf (office_of facts.now seats.now) session.now) }
+    ensures memory { OnlyMemory result }
 {
     let listed = listed(alloc, facts, lists, session)?;
     let plan = stored_plan(alloc, &listed.numbers, &listed.halls, session, seats)?;
@@ -76,7 +76,7 @@ fn listed(
     ensures ok { IfOk result (λ listed. listed.problem
         ≡ seatings.problem_of (relations_of facts.now) session.now) }
     ensures lists { OnOk result (ListsRise (relations_of facts.now) session.now) }
-    ensures memory { IfErr result (λ e. e ≡ NoMemory) }
+    ensures memory { OnlyMemory result }
 {
     indexed_problem(alloc, facts, lists, session)
 }
@@ -84,7 +84,7 @@ fn listed(
 /// The papers of the session, codes rising.
 fn papers_of(alloc: Global, facts: &Facts, session: &SessionCode) -> Result<Vec<PaperCode>, Refusal>
     ensures ok { IfOk result (λ papers. papers.items ≡ views.papers_of (relations_of facts.now) session.now) }
-    ensures memory { IfErr result (λ e. e ≡ NoMemory) }
+    ensures memory { OnlyMemory result }
 {
     let papers = facts
         .papers
@@ -106,7 +106,7 @@ fn clashes_of(
     ensures ok { IfOk result (λ list. map (λ clash. Some clash) list.items
         ≡ map (views.clash_of (relations_of facts.now) session.now)
         (sessions.clashes (relations_of facts.now) session.now)) }
-    ensures memory { IfErr result (λ e. e ≡ NoMemory) }
+    ensures memory { OnlyMemory result }
 {
     let pairs = clashes_among(alloc, facts, session, numbers)?;
     with_sitting(alloc, facts, session, &pairs)
@@ -122,7 +122,7 @@ fn with_sitting(
     requires { pairs.now ≡ sessions.clashes (relations_of facts.now) session.now }
     ensures ok { IfOk result (λ list. map (λ clash. Some clash) list.items
         ≡ map (views.clash_of (relations_of facts.now) session.now) pairs.now) }
-    ensures memory { IfErr result (λ e. e ≡ NoMemory) }
+    ensures memory { OnlyMemory result }
 {
     let mut list = Vec::with_capacity(alloc, pairs.len())?;
     for pair in pairs {
@@ -150,7 +150,7 @@ fn appeals_of(
 ) -> Result<Vec<AppealRow>, Refusal>
     ensures ok { IfOk result (λ appeals. appeals.items
         ≡ views.appeals_of (relations_of facts.now) session.now) }
-    ensures memory { IfErr result (λ e. e ≡ NoMemory) }
+    ensures memory { OnlyMemory result }
 {
     let appeals = facts
         .appeals
@@ -176,7 +176,7 @@ fn appeal_row(key: (Number, Reference), appeal: &Appeal) -> AppealRow
 /// The codes of all halls, rising.
 fn hall_codes(alloc: Global, facts: &Facts) -> Result<Vec<HallCode>, Refusal>
     ensures ok { IfOk result (λ codes. codes.items ≡ keys_of facts.now.halls.entries) }
-    ensures memory { IfErr result (λ e. e ≡ NoMemory) }
+    ensures memory { OnlyMemory result }
 {
     let codes = facts.halls.keys().copied().collect(alloc)?;
     Ok(codes)
@@ -190,7 +190,7 @@ fn openings_of(
 ) -> Result<Vec<(HallCode, Opening)>, Refusal>
     ensures ok { IfOk result (λ openings. openings.items
         ≡ views.openings_of (relations_of facts.now) session.now) }
-    ensures memory { IfErr result (λ e. e ≡ NoMemory) }
+    ensures memory { OnlyMemory result }
 {
     let openings = facts
         .openings
@@ -214,7 +214,7 @@ fn members_of(
     requires members { numbers.now ≡ sessions.members (relations_of facts.now) session.now }
     ensures ok { IfOk result (λ members. map (λ member. Some member) members.items
         ≡ map (views.member_of (relations_of facts.now) session.now) numbers.now) }
-    ensures memory { IfErr result (λ e. e ≡ NoMemory) }
+    ensures memory { OnlyMemory result }
 {
     let mut members = Vec::with_capacity(alloc, numbers.len())?;
     for number in numbers {
@@ -234,7 +234,7 @@ fn member_of(
     requires member { Contains (sessions.members (relations_of facts.now) session.now) number }
     ensures ok { IfOk result (λ member. views.member_of (relations_of facts.now) session.now number
         ≡ Some member) }
-    ensures memory { IfErr result (λ e. e ≡ NoMemory) }
+    ensures memory { OnlyMemory result }
 {
     let candidate = facts.candidates.get(&number).unwrap();
     Ok(Member {

@@ -1,5 +1,6 @@
 //! Worked examples, and a plain slow program that tries every plan of every tiny problem.
-ghost use Rattle.std.specs.Prelude.{◌≡◌, ◌<◌, ◌≤◌, ◌^◌, ◌↔◌, ℕ, false, length, All, Contains, IfOk, IsTrue, None, filter, nat_eq, slice_index_or};
+ghost use Rattle.std.specs.Prelude.{◌≡◌, ◌<◌, ◌≤◌, ◌^◌, ◌↔◌, ℕ, false, length, All, Contains, IfOk, IsTrue, None};
+ghost use Rattle.std.specs.Prelude.{filter, nat_eq, slice_index_or};
 ghost use Rattle.std.specs.List.{IsDistinct, range_with_len};
 ghost use Rattle.std.specs.List.Sorted.{IsStrictlySortedBy};
 ghost use Rattle.std.specs.Ordering.{nat_cmp};

@@ -1,3 +1,5 @@
+-- A decision that is made already changes nothing. Otherwise the checks in order give the refusal of the definition; a
+-- grant that is superseded is another appeal than the one that is decided, so both rows can be put and taken back.
 use Rattle.std.proofs.Common.{◌≡◌, ℕ, Bool, Some, true, false, cond, OnOk, Option, ap, ap₂, sym, subst, ◌∙◌}
 use Rattle.std.specs.Option.{option_map_or}
 use Rattle.exam_rules.specs.declared.rows.Appeal.{Appeal}
@@ -24,9 +26,12 @@ returns-clause-ok c =
     (ap (λ (o : Option Appeal). option_map_or may_bear o false) at ∙ open_unborne a open_yet) in
     let row : c.in_ok-decided.decided ≡ record a { status = decided d.outcome d.answer } =
     c.in_ok-decided.ensures.ok ∙ ap (λ (status : Status). record a { status = status }) c.in_ok-status_of.ensures.ok in
-    let rows : undoing.with_decided c.in_ok-earlier.earlier key c.in_ok-decided.decided c.bears_mark.result r ≡ with_outcome r d a =
+    let rows : undoing.with_decided c.in_ok-earlier.earlier key c.in_ok-decided.decided c.bears_mark.result r
+    ≡ with_outcome r d a =
     ap₂ (λ (x : Appeal) (b : Bool). undoing.with_decided c.in_ok-earlier.earlier key x b r) row c.bears_mark.ensures
     ∙ rows_of_outcome r d a c.in_ok-earlier.earlier c.in_ok-earlier.ensures.ok unmarked in
     let said : with_decision r d ≡ with_outcome r d a =
-    ap (with_decided r d) at ∙ ap (λ (b : Bool). cond b r (with_outcome r d a)) (sym c.is_made.ensures ∙ c.if-is_made.false) in
-    subst (λ (t : Relations). OnOk c.put_decided.result (relations_of c.put_decided.new.facts ≡ t)) (rows ∙ sym said) c.put_decided.ensures.ok
+    ap (with_decided r d) at
+    ∙ ap (λ (b : Bool). cond b r (with_outcome r d a)) (sym c.is_made.ensures ∙ c.if-is_made.false) in
+    subst (λ (t : Relations). OnOk c.put_decided.result (relations_of c.put_decided.new.facts ≡ t))
+    (rows ∙ sym said) c.put_decided.ensures.ok

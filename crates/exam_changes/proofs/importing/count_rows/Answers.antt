@@ -1,3 +1,5 @@
+-- The counts are those of the rows walked so far, each row once: a repeated one is not its key's first. None passes
+-- the number of rows.
 use Rattle.std.proofs.Common.{◌∙◌, ◌+◌, ◌<◌, ◌≤◌, cond, is_none, not, false, length, sym, ap, arith}
 use Rattle.std.specs.Option.{option_map_or}
 use Rattle.exam_rules.specs.Relations.{relations_of}
@@ -30,9 +32,13 @@ loop-place-preserved c =
           let fresh = sym first ∙ sym c.is_first.ensures ∙ w.if-is_first.true in
           rw w.counts-is
           (counted_fresh r rows place c.loop-place.counts row here is w.counted-counts.result fresh
-          (w.counted-counts.ensures.added ∙ ap (λ o. c.loop-place.counts.added + cond (is_none o) 1 0) w.is_stored.ensures)
-          (w.counted-counts.ensures.changed ∙ ap (λ o. c.loop-place.counts.changed + cond (option_map_or not o false) 1 0) w.is_stored.ensures)
-          (w.counted-counts.ensures.same ∙ ap (λ o. c.loop-place.counts.same + cond (option_map_or (λ same. same) o false) 1 0) w.is_stored.ensures)
+          (w.counted-counts.ensures.added
+          ∙ ap (λ o. c.loop-place.counts.added + cond (is_none o) 1 0) w.is_stored.ensures)
+          (w.counted-counts.ensures.changed
+          ∙ ap (λ o. c.loop-place.counts.changed + cond (option_map_or not o false) 1 0) w.is_stored.ensures)
+          (w.counted-counts.ensures.same
+          ∙ ap (λ o. c.loop-place.counts.same + cond (option_map_or (λ same. same) o false) 1 0)
+          w.is_stored.ensures)
           c.loop-place.invariant)
       | else-is_first w ↦
           let repeated = sym first ∙ sym c.is_first.ensures ∙ w.if-is_first.false in
@@ -41,5 +47,7 @@ loop-place-preserved c =
 
 pub returns : goal.returns
 returns c =
-    let end : length c.args.import.now.rows ≤ c.loop-place.place = rw (← c.rows-row-items.ensures.value) c.loop-place-test.false in
-    counted_all (relations_of c.args.facts.now) c.args.import.now.rows c.loop-place.place c.loop-place.counts end c.loop-place.invariant
+    let end : length c.args.import.now.rows ≤ c.loop-place.place =
+    rw (← c.rows-row-items.ensures.value) c.loop-place-test.false in
+    counted_all (relations_of c.args.facts.now) c.args.import.now.rows c.loop-place.place c.loop-place.counts end
+    c.loop-place.invariant

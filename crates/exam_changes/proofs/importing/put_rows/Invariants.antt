@@ -8,5 +8,6 @@ use Rattle.exam_changes.proofs.importing.put_rows.Given as goal
 abbrev pub invariant-loop-row : goal.invariant-loop-row
 invariant-loop-row l = record {
   rest : with_rows (relations_of l.facts) (drop l.row-index l.rows) ≡ with_rows (relations_of l.fn.facts) l.rows;
-  back : (first : Relations) → RowsGoBack l.fn.kept (relations_of l.fn.facts) first → RowsGoBack l.kept (relations_of l.facts) first;
+  back : (first : Relations) → RowsGoBack l.fn.kept (relations_of l.fn.facts) first
+      → RowsGoBack l.kept (relations_of l.facts) first;
 }

@@ -1,3 +1,4 @@
+-- A key is put in its place, and the places of the keys that are still to come are not touched by it.
 use Rattle.std.proofs.Common.{◌≡◌, ◌∷◌, List, Option, ap, sym, subst, ◌∙◌}
 use Rattle.std.specs.Map.{keys_of}
 use Rattle.std.proofs.lemmas.Map.Keys.{sorted_tail}
@@ -11,7 +12,8 @@ pub set-requires : goal.set-requires
 set-requires g c = λ has.
     let cmp = g.K.Ord.cmp in
     let turn : g.row.K.Denot × Option g.row.V.Denot = (c.in-Some.key, c.in-Some.row) in
-    subst (λ (es : List (g.row.K.Denot × Option g.row.V.Denot)). HasRows cmp es c.loop-key.rows.entries) c.in-Some.ensures.steps c.loop-key.invariant.there c.in-Some.key
+    subst (λ (es : List (g.row.K.Denot × Option g.row.V.Denot)). HasRows cmp es c.loop-key.rows.entries)
+    c.in-Some.ensures.steps c.loop-key.invariant.there c.in-Some.key
     (has_first cmp g.met.K.Ord.total c.requires.exact turn c.next.new.self)
 
 pub loop-key-preserved : goal.loop-key-preserved
@@ -30,7 +32,8 @@ loop-key-preserved g c =
       there =
           subst (HasRows cmp rest) (sym c.set.ensures.set)
           (there_later cmp g.met.K.Ord.total c.requires.exact turn rest rows up c.loop-key.invariant.rises
-          (subst (λ (es : List (g.row.K.Denot × Option g.row.V.Denot)). HasRows cmp es rows) c.in-Some.ensures.steps c.loop-key.invariant.there));
+          (subst (λ (es : List (g.row.K.Denot × Option g.row.V.Denot)). HasRows cmp es rows) c.in-Some.ensures.steps
+          c.loop-key.invariant.there));
       left_rise = sorted_tail cmp c.in-Some.key (keys_of rest) up;
       rises = c.set.ensures.rises;
     }

@@ -12,4 +12,5 @@ returns-in_err-check_subject c =
     let is : c.from_residual.result ≡ Err c.in_err-check_subject.field-0.0 = search rules in
     let was : result_err c.check_subject.result ≡ Some c.in_err-check_subject.field-0.0 = search rules in
     ap result_err is
-    ∙ sym (first_failed (subject_checks r c.args.seats.now.entries l.session l.number l.subject) (appeal_is_open r l ∷ []) c.in_err-check_subject.field-0.0 (sym c.check_subject.ensures ∙ was))
+    ∙ sym (first_failed (subject_checks r c.args.seats.now.entries l.session l.number l.subject)
+    (appeal_is_open r l ∷ []) c.in_err-check_subject.field-0.0 (sym c.check_subject.ensures ∙ was))

@@ -12,5 +12,13 @@ returns-clause-back c =
     let r = relations_of c.args.facts.now in
     let l = c.args.lodging.now in
     let key : ℕ × Code = (l.number, l.reference) in
-    let stored : Appeal = record { session = l.session; subject = l.subject; reason = c.in_ok-copy.field-0; status = status.Pending; lodged = c.args.today } in
-    subst (λ rows. TakesBack (undo.NewAppeal key) (record r { appeals = rows }) r) (sym c.in_ok-put.ensures.ok) (new_appeal_back r key stored c.requires)
+    let stored : Appeal =
+    record {
+      session = l.session;
+      subject = l.subject;
+      reason = c.in_ok-copy.field-0;
+      status = status.Pending;
+      lodged = c.args.today;
+    } in
+    subst (λ rows. TakesBack (undo.NewAppeal key) (record r { appeals = rows }) r) (sym c.in_ok-put.ensures.ok)
+    (new_appeal_back r key stored c.requires)

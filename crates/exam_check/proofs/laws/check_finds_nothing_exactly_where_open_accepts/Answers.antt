@@ -5,10 +5,14 @@ pub returns-clause-good : goal.returns-clause-good
 returns-clause-good g c = λ db all. (holds_good db all, none_found db all)
 
 pub returns-clause-accepted : goal.returns-clause-accepted
-returns-clause-accepted g c = λ old new office all was clean finds good. accepted g.S.Store old new all was office clean finds good
+returns-clause-accepted g c =
+    λ old new office all was clean finds good. accepted g.S.Store old new all was office clean finds good
 
 pub returns-clause-refused : goal.returns-clause-refused
-returns-clause-refused g c = λ old new e all fails some sound none. refused g.S.Store old new all e fails some sound none
+returns-clause-refused g c =
+    λ old new e all fails some sound none. refused g.S.Store old new all e fails some sound none
 
 pub returns-clause-unlisted : goal.returns-clause-unlisted
-returns-clause-unlisted g c = λ old new office all found none. (not_opened g.S.Store old new all none office, office_bad g.S.Store old new all none found)
+returns-clause-unlisted g c =
+    λ old new office all found none.
+    (not_opened g.S.Store old new all none office, office_bad g.S.Store old new all none found)

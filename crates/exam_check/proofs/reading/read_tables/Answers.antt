@@ -1,3 +1,5 @@
+-- The ten tables come in their order, each with its rows or none. The first without rows is noted, and an empty map
+-- stands for it.
 use Rattle.std.proofs.Common.{◌≡◌, None, Err, refl, rules}
 use Rattle.exam_commands.specs.declared.table.Table.TheVariants as office
 use Rattle.exam_tables.specs.Forms as forms
@@ -15,8 +17,28 @@ returns-clause-looks g c = looks_on g.S.Store c.args.conn.now c.read.new.conn _ 
 
 pub returns-clause-understood : goal.returns-clause-understood
 returns-clause-understood g c = λ clean.
-    let is = (c.in_ok-rows.ensures.read clean).0 in
-    (is.0, (is.1.0, (is.1.1.0, (is.1.1.1.0, (is.1.1.1.1.0, (is.1.1.1.1.1.0, (is.1.1.1.1.1.1.0, (is.1.1.1.1.1.1.1.0, (is.1.1.1.1.1.1.1.1.0, (is.1.1.1.1.1.1.1.1.1, tt))))))))))
+    let is = (c.in_ok-rows.ensures.read clean).0 in (
+      is.0,
+      (
+        is.1.0,
+        (
+          is.1.1.0,
+          (
+            is.1.1.1.0,
+            (
+              is.1.1.1.1.0,
+              (
+                is.1.1.1.1.1.0,
+                (
+                  is.1.1.1.1.1.1.0,
+                  (is.1.1.1.1.1.1.1.0, (is.1.1.1.1.1.1.1.1.0, (is.1.1.1.1.1.1.1.1.1, tt))),
+                ),
+              ),
+            ),
+          ),
+        ),
+      ),
+    )
 
 pub returns-clause-read : goal.returns-clause-read
 returns-clause-read g c = λ clean all was.
@@ -38,7 +60,8 @@ returns-clause-read g c = λ clean all was.
                 c.noted-openings.ensures is.1.1.1.0 (λ none o. none o.relations.openings),
             (
               c.noted-candidates.new.unread,
-              noted_as forms.candidates office.Candidates all _ _ c.noted-openings.new.unread c.noted-candidates.new.unread
+              noted_as forms.candidates office.Candidates all _ _ c.noted-openings.new.unread
+                  c.noted-candidates.new.unread
                   c.noted-candidates.ensures is.1.1.1.1.0 (λ none o. none o.relations.candidates),
               (
                 c.noted-entries.new.unread,
@@ -51,11 +74,13 @@ returns-clause-read g c = λ clean all was.
                       (λ none o. none o.relations.arrangements),
                   (
                     c.noted-appeals.new.unread,
-                    noted_as forms.appeals office.Appeals all _ _ c.noted-arrangements.new.unread c.noted-appeals.new.unread
+                    noted_as forms.appeals office.Appeals all _ _ c.noted-arrangements.new.unread
+                        c.noted-appeals.new.unread
                         c.noted-appeals.ensures is.1.1.1.1.1.1.1.0 (λ none o. none o.relations.appeals),
                     (
                       c.noted-standing.new.unread,
-                      noted_as forms.standing office.Standing all _ _ c.noted-appeals.new.unread c.noted-standing.new.unread
+                      noted_as forms.standing office.Standing all _ _ c.noted-appeals.new.unread
+                          c.noted-standing.new.unread
                           c.noted-standing.ensures is.1.1.1.1.1.1.1.1.0 (λ none o. none o.relations.standing),
                       (
                         c.noted-seats.new.unread,

@@ -12,7 +12,8 @@ loop-appeal-init c =
     let number : ℕ = c.args.number in
     let session : Code = c.args.session.now in
     let subject : Subject = c.args.subject.now in
-    let start : c.into_iter-appeal-iterator.result ≡ (number, filter (is_row_of number) c.args.facts.now.appeals.entries) =
+    let start : c.into_iter-appeal-iterator.result
+    ≡ (number, filter (is_row_of number) c.args.facts.now.appeals.entries) =
     c.into_iter-appeal-iterator.ensures.into_iter_gives ∙ c.appeals_of-appeal-items.ensures.rows in (
       tt,
       tt,

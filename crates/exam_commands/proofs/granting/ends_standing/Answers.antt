@@ -13,10 +13,12 @@ loop-key-init c =
     let d : Decision = c.args.decision.now in
     let a : Appeal = c.args.appeal.now in
     let ends : List ((ℕ × Code) × Appeal) → Bool = list_any (is_ended r d a) in
-    let start : c.into_iter-key-iterator.result ≡ (d.number, filter (is_row_of d.number) c.args.facts.now.appeals.entries) =
+    let start : c.into_iter-key-iterator.result
+    ≡ (d.number, filter (is_row_of d.number) c.args.facts.now.appeals.entries) =
     c.into_iter-key-iterator.ensures.into_iter_gives ∙ c.appeals_of-key-items.ensures.rows in (
       tt,
       tt,
       ap (λ (own : ℕ × List ((ℕ × Code) × Appeal)). own.0) start,
-      ap (λ (own : ℕ × List ((ℕ × Code) × Appeal)). ends own.1) start ∙ ended_among r d a c.args.facts.now.appeals.entries,
+      ap (λ (own : ℕ × List ((ℕ × Code) × Appeal)). ends own.1) start
+          ∙ ended_among r d a c.args.facts.now.appeals.entries,
     )

@@ -1,3 +1,4 @@
+-- The seats are those of the view, so the text is the sheet. What fails before it is sent has written nothing.
 use Rattle.std.proofs.Common.{◌≡◌, ◌∙◌, List, ℕ, ap, sym}
 use Rattle.std.specs.Prelude.{Ok}
 use Rattle.exam_rules.specs.declared.rows.Session.{Session}
@@ -14,7 +15,8 @@ returns g c =
     let text : c.as_slice.result.now ≡ attendance_text view.code view.session c.args.paper.now (seats_of view) =
     c.as_slice.ensures.value ∙ c.in_ok-text.ensures.ok
     ∙ ap (λ (code : List ℕ). attendance_text code c.session.result c.args.paper.now c.deref.result.now) c.code.ensures
-    ∙ ap (λ (session : Session). attendance_text view.code session c.args.paper.now c.deref.result.now) c.session.ensures
+    ∙ ap (λ (session : Session). attendance_text view.code session c.args.paper.now c.deref.result.now)
+    c.session.ensures
     ∙ ap (attendance_text view.code view.session c.args.paper.now) seats in
     written g.W.Write.contents c.send.result c.args.writer.now c.send.new.writer c.as_slice.result.now _
     (ap (sheet_if (λ (found : Unit {0}). attendance_text view.code view.session c.args.paper.now (seats_of view)))
@@ -26,7 +28,8 @@ returns-in_err-seats g c =
     unsent g.W.Write.contents c.args.writer.now c.from_residual-in_err-seats.result c.in_err-seats.field-0.0
     (attendance_text view.code view.session c.args.paper.now (seats_of view)) _
     c.from_residual-in_err-seats.ensures.1 c.in_err-seats.ensures.memory
-    (ap (sheet_if (λ (found : Unit {0}). attendance_text view.code view.session c.args.paper.now (seats_of view))) (sym c.in_ok-check_paper.ensures))
+    (ap (sheet_if (λ (found : Unit {0}). attendance_text view.code view.session c.args.paper.now (seats_of view)))
+    (sym c.in_ok-check_paper.ensures))
 
 pub returns-in_err-text : goal.returns-in_err-text
 returns-in_err-text g c =
@@ -34,4 +37,5 @@ returns-in_err-text g c =
     unsent g.W.Write.contents c.args.writer.now c.from_residual-in_err-text.result c.in_err-text.field-0.0
     (attendance_text view.code view.session c.args.paper.now (seats_of view)) _
     c.from_residual-in_err-text.ensures.1 c.in_err-text.ensures.memory
-    (ap (sheet_if (λ (found : Unit {0}). attendance_text view.code view.session c.args.paper.now (seats_of view))) (sym c.in_ok-check_paper.ensures))
+    (ap (sheet_if (λ (found : Unit {0}). attendance_text view.code view.session c.args.paper.now (seats_of view)))
+    (sym c.in_ok-check_paper.ensures))

@@ -15,11 +15,13 @@ returns g c =
     ∙ ap (λ (code : List ℕ). clash_text code c.session.result c.deref.result.now) c.code.ensures
     ∙ ap (λ (session : Session). clash_text view.code session c.deref.result.now) c.session.ensures
     ∙ ap (λ (clashes : List Clash). clash_text view.code view.session clashes) clashes in
-    written g.W.Write.contents c.send.result c.args.writer.now c.send.new.writer c.as_slice.result.now _ (ap Ok (sym text)) c.send.ensures.ok c.send.ensures.err c.send.ensures.fault
+    written g.W.Write.contents c.send.result c.args.writer.now c.send.new.writer c.as_slice.result.now _
+    (ap Ok (sym text)) c.send.ensures.ok c.send.ensures.err c.send.ensures.fault
 
 pub returns-in_err-clashes : goal.returns-in_err-clashes
 returns-in_err-clashes g c =
-    unsent g.W.Write.contents c.args.writer.now c.from_residual.result c.in_err-clashes.field-0.0 (clash_list c.args.view.now) _ c.from_residual.ensures.1 c.in_err-clashes.ensures.memory refl
+    unsent g.W.Write.contents c.args.writer.now c.from_residual.result c.in_err-clashes.field-0.0
+    (clash_list c.args.view.now) _ c.from_residual.ensures.1 c.in_err-clashes.ensures.memory refl
 
 pub returns-in_err-text : goal.returns-in_err-text
 returns-in_err-text g c =

@@ -12,6 +12,8 @@ loop-desk-preserved c =
     let t = c.loop-desk.text.items in
     let below : c.loop-desk.desk < c.args.opening.now.desks = omega arith in
     let next : c.loop-desk.desk + 1 ≡ 1 + c.loop-desk.desk = omega arith in
-    let pushed : c.push_desk.new.text.items ≡ t ++ f (1 + c.loop-desk.desk) = c.in_ok-push_desk.ensures.ok ∙ ap (λ k. t ++ f k) next in
+    let pushed : c.push_desk.new.text.items ≡ t ++ f (1 + c.loop-desk.desk) =
+    c.in_ok-push_desk.ensures.ok ∙ ap (λ k. t ++ f k) next in
     let rest = flat_map f (range_with_len (1 + (i + 1)) (n - (i + 1))) in
-    ap (λ x. x ++ rest) pushed ∙ append_assoc t (f (1 + i)) rest ∙ ap (λ x. t ++ x) (sym (more_numbers f 1 i n below)) ∙ c.loop-desk.invariant
+    ap (λ x. x ++ rest) pushed ∙ append_assoc t (f (1 + i)) rest ∙ ap (λ x. t ++ x) (sym (more_numbers f 1 i n below))
+    ∙ c.loop-desk.invariant

@@ -13,11 +13,13 @@ returns g c =
     c.as_slice.ensures.value ∙ c.in_ok-text.ensures.ok
     ∙ ap (λ (code : List ℕ). export_text code c.deref.result.now) c.code.ensures
     ∙ ap (export_text view.code) seats in
-    written g.W.Write.contents c.send.result c.args.writer.now c.send.new.writer c.as_slice.result.now _ (ap Ok (sym text)) c.send.ensures.ok c.send.ensures.err c.send.ensures.fault
+    written g.W.Write.contents c.send.result c.args.writer.now c.send.new.writer c.as_slice.result.now _
+    (ap Ok (sym text)) c.send.ensures.ok c.send.ensures.err c.send.ensures.fault
 
 pub returns-in_err-seats : goal.returns-in_err-seats
 returns-in_err-seats g c =
-    unsent g.W.Write.contents c.args.writer.now c.from_residual.result c.in_err-seats.field-0.0 (seat_export c.args.view.now) _ c.from_residual.ensures.1 c.in_err-seats.ensures.memory refl
+    unsent g.W.Write.contents c.args.writer.now c.from_residual.result c.in_err-seats.field-0.0
+    (seat_export c.args.view.now) _ c.from_residual.ensures.1 c.in_err-seats.ensures.memory refl
 
 pub returns-in_err-text : goal.returns-in_err-text
 returns-in_err-text g c =

@@ -6,7 +6,8 @@ use Rattle.exam_files.specs.Held.{Holds}
 use Rattle.exam_files.proofs.Fields.{joined}
 use Rattle.exam_files.proofs.exports.export_text.Goals as goal
 
-one_more : {X : Type 0} (f : X → List ℕ) (xs : List X) (i : ℕ) (x : X) → i < length xs → x ≡ get_or xs i x → flat_map f (take (i + 1) xs) ≡ flat_map f (take i xs) ++ f x
+one_more : {X : Type 0} (f : X → List ℕ) (xs : List X) (i : ℕ) (x : X) → i < length xs → x ≡ get_or xs i x
+    → flat_map f (take (i + 1) xs) ≡ flat_map f (take i xs) ++ f x
 one_more f xs i x below at = grind (arith, common_steps)
 
 pub loop-seat-init : goal.loop-seat-init
@@ -21,10 +22,12 @@ loop-seat-init c =
       wrote =
           made.ensures.wrote;
     } in
-    let header = joined (codes "session") (codes "number") (codes "paper") (codes "hall") (codes "desk") refl refl refl refl refl in
+    let header = joined (codes "session") (codes "number") (codes "paper") (codes "hall")
+    (codes "desk") refl refl refl refl refl in
     rw header at (c.in_ok-write_record.ensures.ok [] none)
 
 pub loop-seat-preserved : goal.loop-seat-preserved
 loop-seat-preserved c =
-    let more = one_more (export_line c.args.code) c.args.seats.now c.loop-seat.seat-index c.seat-item.result (omega arith) c.seat-item.is in
+    let more = one_more (export_line c.args.code) c.args.seats.now c.loop-seat.seat-index c.seat-item.result
+    (omega arith) c.seat-item.is in
     rw more (c.in_ok-write_seat.ensures.ok _ c.loop-seat.invariant)

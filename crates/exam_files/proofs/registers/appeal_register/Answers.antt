@@ -12,8 +12,10 @@ returns g c =
     c.as_slice.ensures.value ∙ c.in_ok-text.ensures.ok
     ∙ ap (λ (code : List ℕ). register_text code c.appeals.result.now) c.code.ensures
     ∙ ap (λ (appeals : List AppealRow). register_text view.code appeals) c.appeals.ensures in
-    written g.W.Write.contents c.send.result c.args.writer.now c.send.new.writer c.as_slice.result.now _ (ap Ok (sym text)) c.send.ensures.ok c.send.ensures.err c.send.ensures.fault
+    written g.W.Write.contents c.send.result c.args.writer.now c.send.new.writer c.as_slice.result.now _
+    (ap Ok (sym text)) c.send.ensures.ok c.send.ensures.err c.send.ensures.fault
 
 pub returns-in_err-text : goal.returns-in_err-text
 returns-in_err-text g c =
-    unsent g.W.Write.contents c.args.writer.now c.from_residual.result c.in_err-text.field-0.0 (appeal_register c.args.view.now) _ c.from_residual.ensures.1 c.in_err-text.ensures.memory refl
+    unsent g.W.Write.contents c.args.writer.now c.from_residual.result c.in_err-text.field-0.0
+    (appeal_register c.args.view.now) _ c.from_residual.ensures.1 c.in_err-text.ensures.memory refl

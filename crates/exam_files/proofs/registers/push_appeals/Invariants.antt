@@ -4,4 +4,6 @@ use Rattle.exam_files.specs.Registers.{appeal_line}
 use Rattle.exam_files.proofs.registers.push_appeals.Given as goal
 
 abbrev pub invariant-loop-appeal : goal.invariant-loop-appeal
-invariant-loop-appeal l = l.text.items ++ flat_map appeal_line (drop l.appeal-index l.appeals) ≡ l.fn.text.items ++ flat_map appeal_line l.appeals
+invariant-loop-appeal l =
+    l.text.items ++ flat_map appeal_line (drop l.appeal-index l.appeals) ≡ l.fn.text.items
+    ++ flat_map appeal_line l.appeals

@@ -1,3 +1,5 @@
+-- That the view can show a shortage is known before memory is taken, so there is a sheet also where it cannot be
+-- written.
 use Rattle.std.proofs.Common.{◌≡◌, ◌∙◌, List, ℕ, ap, sym}
 use Rattle.std.specs.Prelude.{Ok, refl}
 use Rattle.exam_views.specs.Views.{Report, report_of}
@@ -8,10 +10,13 @@ use Rattle.exam_files.proofs.shortages.shortage_sheet.Goals as goal
 pub returns : goal.returns
 returns g c =
     let report : Report = report_of c.in_ok-shortage.shortage in
-    let text : c.as_slice.result.now ≡ shortage_text c.args.view.now.code report = c.as_slice.ensures.value ∙ c.in_ok-text.ensures.ok ∙ ap (λ (s : List ℕ). shortage_text s report) c.code.ensures in (
+    let text : c.as_slice.result.now ≡ shortage_text c.args.view.now.code report =
+    c.as_slice.ensures.value ∙ c.in_ok-text.ensures.ok
+    ∙ ap (λ (s : List ℕ). shortage_text s report) c.code.ensures in (
       report,
       c.in_ok-shortage.ensures.ok,
-      written g.W.Write.contents c.send.result c.args.writer.now c.send.new.writer c.as_slice.result.now _ (ap Ok (sym text)) c.send.ensures.ok c.send.ensures.err c.send.ensures.fault,
+      written g.W.Write.contents c.send.result c.args.writer.now c.send.new.writer c.as_slice.result.now _
+          (ap Ok (sym text)) c.send.ensures.ok c.send.ensures.err c.send.ensures.fault,
     )
 
 pub returns-in_err-shortage : goal.returns-in_err-shortage

@@ -8,4 +8,5 @@ invariant-loop-place g l =
     g.A.AppealSource.Stays l.fn.source l.source
     × (g.A.AppealSource.IsHonest l.source → g.A.AppealSource.IsHonest l.fn.source)
     × (g.A.AppealSource.IsHonest l.source
-    → HasStreamed l.session l.count (g.A.AppealSource.coming l.fn.source) (g.W.Write.contents l.fn.writer) l._place (g.A.AppealSource.coming l.source) (g.W.Write.contents l.writer))
+    → HasStreamed l.session l.count (g.A.AppealSource.coming l.fn.source) (g.W.Write.contents l.fn.writer) l._place
+    (g.A.AppealSource.coming l.source) (g.W.Write.contents l.writer))

@@ -5,6 +5,8 @@ use Rattle.exam_files.proofs.streams.send_row.Goals as goal
 
 pub returns-clause-sent : goal.returns-clause-sent
 returns-clause-sent g c =
-    streamed g.W.Write.contents c.send.result c.args.writer.now c.send.new.writer c.as_slice.result.now (appeal_line c.args.row.now)
-    (c.as_slice.ensures.value ∙ c.in_ok-push_line.ensures.ok ∙ ap (λ (t : List ℕ). t ++ appeal_line c.args.row.now) c.new-text.ensures.items)
+    streamed g.W.Write.contents c.send.result c.args.writer.now c.send.new.writer c.as_slice.result.now
+    (appeal_line c.args.row.now)
+    (c.as_slice.ensures.value ∙ c.in_ok-push_line.ensures.ok
+    ∙ ap (λ (t : List ℕ). t ++ appeal_line c.args.row.now) c.new-text.ensures.items)
     c.send.ensures.ok c.send.ensures.err

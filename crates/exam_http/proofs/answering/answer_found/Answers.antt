@@ -7,7 +7,8 @@ done-requires g c =
     let office = c.args.store.now.office in
     let request = request_of c.args.request.now in
     let named = named_is office request _ _ c.named_by-named.ensures c.requires in
-    of_office office request c.in-Ok.choice (chosen_is office request c.in-Ok.choice c.named_by-named.result c.in-Ok.ensures.ok named)
+    of_office office request c.in-Ok.choice
+    (chosen_is office request c.in-Ok.choice c.named_by-named.result c.in-Ok.ensures.ok named)
 
 pub returns-in-Ok : goal.returns-in-Ok
 returns-in-Ok g c =

@@ -11,5 +11,7 @@ returns-in_err-append-clause-read g c =
     let more = take c.in_ok-count.count c.read_piece.new.piece in
     let bound = c.in_ok-count.ensures.bound in
     let kept = c.read_piece.auto.piece in
-    let few : length (had ++ more) ≤ most_read = search (rules, length-append had more, length-take c.in_ok-count.count c.read_piece.new.piece) in
-    on_err c.from_residual-in_err-append.result (reads _ _ (had ++ more) few (Consumes-trans _ _ _ _ _ c.loop-piece.invariant.1 c.in_ok-count.ensures.given))
+    let few : length (had ++ more) ≤ most_read =
+    search (rules, length-append had more, length-take c.in_ok-count.count c.read_piece.new.piece) in
+    on_err c.from_residual-in_err-append.result
+    (reads _ _ (had ++ more) few (Consumes-trans _ _ _ _ _ c.loop-piece.invariant.1 c.in_ok-count.ensures.given))

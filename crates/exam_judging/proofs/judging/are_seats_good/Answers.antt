@@ -16,8 +16,11 @@ repaired_among-requires-clause-few_halls c = few_halls_within (relations_of c.ar
 
 pub returns-clause-ok : goal.returns-clause-ok
 returns-clause-ok c =
-    let all = all_chosen (relations_of c.args.facts.now) None c.args.seats.now.entries c.in_ok-repaired.repaired.entries c.deref.result.now (search rules) c.in_ok-repaired.ensures.ok in (
-      λ e s. subst (IsBest (seating (relations_of c.args.facts.now) s)) (fun_ext (c.same_seats.ensures.0 e s)) (all s).best,
+    let all = all_chosen
+    (relations_of c.args.facts.now) None c.args.seats.now.entries c.in_ok-repaired.repaired.entries
+    c.deref.result.now (search rules) c.in_ok-repaired.ensures.ok in (
+      λ e s. subst (IsBest (seating (relations_of c.args.facts.now) s)) (fun_ext (c.same_seats.ensures.0 e s))
+          (all s).best,
       λ best. c.same_seats.ensures.1
           (λ s. best_stays (relations_of c.args.facts.now) s (c.requires.lists.rising s) None
           (plan_of c.args.seats.now.entries s) (plan_of c.in_ok-repaired.repaired.entries s) (best s)

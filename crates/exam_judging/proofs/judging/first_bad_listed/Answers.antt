@@ -8,7 +8,9 @@ use Rattle.exam_judging.proofs.judging.first_bad_listed.Goals as goal
 pub returns-in-Some-clause-ok : goal.returns-in-Some-clause-ok
 returns-in-Some-clause-ok c =
     let office : State = record { relations = relations_of c.args.facts.now; seats = c.args.seats.now.entries } in
-    stops office of_imports others c.in-Some.table (subst (IsFirstBadOf office of_imports) c.in-Some.is (c.first_bad_of_imports.ensures.first c.args.seats.now.entries))
+    stops office of_imports others c.in-Some.table
+    (subst (IsFirstBadOf office of_imports) c.in-Some.is
+    (c.first_bad_of_imports.ensures.first c.args.seats.now.entries))
 
 pub returns-in-None-clause-ok : goal.returns-in-None-clause-ok
 returns-in-None-clause-ok c =

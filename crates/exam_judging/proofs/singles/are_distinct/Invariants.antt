@@ -6,6 +6,7 @@ use Rattle.exam_judging.proofs.singles.are_distinct.Given as goal
 
 abbrev pub invariant-loop-key : goal.invariant-loop-key
 invariant-loop-key g l = record {
-  seen : (k : g.row.K.Denot) → contains g.K.Ord.cmp l.seen k ≡ list_any (eq_by_cmp g.K.Ord.cmp k) (take l.key-index l.keys);
+  seen : (k : g.row.K.Denot)
+      → contains g.K.Ord.cmp l.seen k ≡ list_any (eq_by_cmp g.K.Ord.cmp k) (take l.key-index l.keys);
   distinct : IsDistinct (eq_by_cmp g.K.Ord.cmp) (take l.key-index l.keys);
 }

@@ -12,6 +12,9 @@ pub returns-clause-ok : goal.returns-clause-ok
 returns-clause-ok c =
     let left : c.loop-key.key-iterator ≡ [] = rest_all deref_pair _ _ _ c.in-None.is c.next.ensures.steps in
     let all : c.deref.result.now ≡ filter_map single_key c.args.facts.now.appeals.entries =
-    c.deref.ensures.value ∙ sym (append-nil c.loop-key.keys.items) ∙ ap (λ es. c.loop-key.keys.items ++ filter_map single_key es) (sym left) ∙ c.loop-key.invariant in
-    subst (λ same. IfOk c.are_distinct.result (λ b. Decides b (IsDistinct same (filter_map single_key c.args.facts.now.appeals.entries)))) compared_same
-    (subst (λ ks. IfOk c.are_distinct.result (λ b. Decides b (IsDistinct (eq_by_cmp single_cmp) ks))) all c.are_distinct.ensures.ok)
+    c.deref.ensures.value ∙ sym (append-nil c.loop-key.keys.items)
+    ∙ ap (λ es. c.loop-key.keys.items ++ filter_map single_key es) (sym left) ∙ c.loop-key.invariant in
+    subst (λ same. IfOk c.are_distinct.result
+    (λ b. Decides b (IsDistinct same (filter_map single_key c.args.facts.now.appeals.entries)))) compared_same
+    (subst (λ ks. IfOk c.are_distinct.result (λ b. Decides b (IsDistinct (eq_by_cmp single_cmp) ks))) all
+    c.are_distinct.ensures.ok)

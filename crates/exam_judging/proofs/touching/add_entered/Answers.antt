@@ -9,12 +9,14 @@ use Rattle.exam_judging.proofs.touching.add_entered.Goals as goal
 
 pub loop-key-init : goal.loop-key-init
 loop-key-init c =
-    let start : c.into_iter-key-iterator.result ≡ (c.args.number, filter (is_row_of c.args.number) c.args.facts.now.entries.entries) =
+    let start : c.into_iter-key-iterator.result
+    ≡ (c.args.number, filter (is_row_of c.args.number) c.args.facts.now.entries.entries) =
     c.into_iter-key-iterator.ensures.into_iter_gives ∙ c.entries_of-key-items.ensures.rows in (
       tt,
       tt,
       ap (λ (a : ℕ × List ((ℕ × Code) × Entry)). a.0) start,
       λ s. ap (λ b. b || contains code_cmp c.args.codes.now s)
-          (ap (λ (a : ℕ × List ((ℕ × Code) × Entry)). list_any (is_live_entry (relations_of c.args.facts.now) s c.args.number) a.1) start
+          (ap (λ (a : ℕ × List ((ℕ × Code) × Entry)). list_any
+          (is_live_entry (relations_of c.args.facts.now) s c.args.number) a.1) start
           ∙ own_any (relations_of c.args.facts.now) s c.args.number c.args.facts.now.entries.entries),
     )

@@ -8,7 +8,8 @@ use Rattle.exam_judging.proofs.touching.add_entered.Given as goal
 -- those held and those left are all
 abbrev pub invariant-loop-key : goal.invariant-loop-key
 invariant-loop-key l =
-    (goal.iterator-loop-key).can_next l.key-iterator × (goal.iterator-loop-key).is_finite l.key-iterator × (l.key-iterator.0 ≡ l.fn.number)
+    (goal.iterator-loop-key).can_next l.key-iterator × (goal.iterator-loop-key).is_finite l.key-iterator
+    × (l.key-iterator.0 ≡ l.fn.number)
     × ((s : Code) → (list_any (is_live_entry (relations_of l.facts) s l.fn.number)
     l.key-iterator.1 || contains code_cmp l.codes s)
     ≡ (has_live_entry (relations_of l.facts) s l.fn.number || contains code_cmp l.fn.codes s))

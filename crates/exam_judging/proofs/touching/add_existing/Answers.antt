@@ -9,6 +9,9 @@ use Rattle.exam_judging.proofs.touching.add_existing.Goals as goal
 pub returns-clause-ok : goal.returns-clause-ok
 returns-clause-ok c =
     let left : c.loop-code.code-iterator ≡ [] = c.in-None.ensures.steps.0 in
-    λ s. ap (λ (ks : List Code). list_any (λ (k : Code). names (relations_of c.args.facts.now) k s) ks || contains code_cmp c.loop-code.codes s) (sym left)
+    λ s. ap (λ (ks : List Code). list_any
+    (λ (k : Code). names (relations_of c.args.facts.now) k s) ks || contains code_cmp c.loop-code.codes s)
+    (sym left)
     ∙ c.loop-code.invariant s
-    ∙ ap (λ b. b || contains code_cmp c.args.codes.now s) (names_any (relations_of c.args.facts.now) s c.args.reached.now.keys)
+    ∙ ap (λ b. b || contains code_cmp c.args.codes.now s)
+    (names_any (relations_of c.args.facts.now) s c.args.reached.now.keys)

@@ -1,27 +1,62 @@
-use Rattle.std.proofs.Common.{◌&&◌, ◌||◌, Bool, List, ap, sym, ◌∙◌}
+-- All rows of an import are of its kind, so what they reach is what rows of this kind reach.
+use Rattle.std.proofs.Common.{◌≡◌, ◌||◌, List, true, ap, subst, sym, ◌∙◌}
 use Rattle.std.specs.BTreeSet.{contains}
 use Rattle.std.specs.List.{list_any}
 use Rattle.exam_rules.specs.Relations.{Relations, code_cmp, relations_of}
+use Rattle.exam_commands.specs.Imports.{AreOfKind, ImportRows}
 use Rattle.exam_commands.specs.declared.import_row.Row.{Row}
-use Rattle.exam_commands.specs.Touched.{has_standing_member, is_of_sessions, names_session, row_reaches}
-use Rattle.exam_judging.proofs.Gathering.{dated_last, is_session_row, opens_found, opens_named, rows_reach, sessions_are_of_kind}
+use Rattle.exam_commands.specs.Touched.{is_of_sessions, names_session}
 use Rattle.exam_commands.proofs.Repairing.{on_ok}
+use Rattle.exam_judging.proofs.Gathering.{candidates_reach, halls_reach, names_all, names_only, opens_named}
+use Rattle.exam_judging.proofs.Gathering.{others_reach, sessions_reach}
 use Rattle.exam_judging.proofs.touching.add_import.Goals as goal
 
-pub returns-clause-ok : goal.returns-clause-ok
-returns-clause-ok c = on_ok c.add_dated.result _ _ c.add_dated.ensures.ok (λ added s.
+pub returns-in-Sessions-clause-ok : goal.returns-in-Sessions-clause-ok
+returns-in-Sessions-clause-ok c =
+    let import : ImportRows = c.args.import.now in
     let r : Relations = relations_of c.args.facts.now in
-    let rows : List Row = c.rows-rows.result.now in
-    let named : Bool = list_any (λ (x : Row). names_session r x s) rows in
-    let opened : Bool = list_any (opens_named rows s) r.openings in
-    let dated : Bool = is_of_sessions c.args.import.now.kind && has_standing_member r s in
-    let was : Bool = contains code_cmp c.args.codes.now s in
+    let of : AreOfKind import.kind import.rows =
+    subst (AreOfKind import.kind) c.rows-rows.ensures.value c.rows-rows.ensures.kind in
+    on_ok c.add_standing.result _ _ c.add_standing.ensures.ok (λ added s.
     added s
-    ∙ ap (λ k. (is_of_sessions k && has_standing_member r s) || contains code_cmp c.add_opened.new.codes s) c.kind.ensures
-    ∙ ap (λ b. dated || b) (c.in_ok-add_opened.ensures.ok s)
-    ∙ ap (λ b. dated || (b || contains code_cmp c.add_rows.new.codes s)) (opens_found s rows (contains code_cmp c.in_ok-halls.halls) c.in_ok-halls.ensures.ok r.openings)
-    ∙ ap (λ b. dated || (opened || b)) (c.in_ok-add_rows.ensures.ok s)
-    ∙ dated_last (list_any is_session_row rows) (is_of_sessions c.args.import.now.kind) (has_standing_member r s)
-    (sessions_are_of_kind c.args.import.now.kind rows c.rows-rows.ensures.kind) opened named was
-    ∙ ap (λ b. (b || dated) || was) (sym (rows_reach r s rows))
-    ∙ ap (λ (xs : List Row). (list_any (λ (x : Row). row_reaches r x s) xs || dated) || was) c.rows-rows.ensures.value)
+    ∙ ap (λ b. b || contains code_cmp c.args.codes.now s)
+    (sym (sessions_reach r s import of (ap is_of_sessions (sym c.kind.ensures ∙ c.in-Sessions.is)))))
+
+pub returns-in-Halls-clause-ok : goal.returns-in-Halls-clause-ok
+returns-in-Halls-clause-ok c =
+    let import : ImportRows = c.args.import.now in
+    let r : Relations = relations_of c.args.facts.now in
+    let of : AreOfKind import.kind import.rows =
+    subst (AreOfKind import.kind) c.rows-rows.ensures.value c.rows-rows.ensures.kind in
+    on_ok c.add_halls.result _ _ c.add_halls.ensures.ok (λ added s.
+    added s
+    ∙ ap (λ (rows : List Row). list_any (opens_named rows s) r.openings || contains code_cmp c.args.codes.now s)
+    c.rows-rows.ensures.value
+    ∙ ap (λ b. b || contains code_cmp c.args.codes.now s)
+    (sym (halls_reach r s import of (sym c.kind.ensures ∙ c.in-Halls.is))))
+
+pub returns-in-Candidates-clause-ok : goal.returns-in-Candidates-clause-ok
+returns-in-Candidates-clause-ok c = λ s.
+    let import : ImportRows = c.args.import.now in
+    let r : Relations = relations_of c.args.facts.now in
+    let of : AreOfKind import.kind import.rows =
+    subst (AreOfKind import.kind) c.rows-rows.ensures.value c.rows-rows.ensures.kind in
+    ap (λ b. b || contains code_cmp c.args.codes.now s)
+    (sym (candidates_reach r s import of (sym c.kind.ensures ∙ c.in-Candidates.is)))
+
+pub returns-in-Papers : goal.returns-in-Papers
+returns-in-Papers c =
+    let import : ImportRows = c.args.import.now in
+    let r : Relations = relations_of c.args.facts.now in
+    let of : AreOfKind import.kind import.rows =
+    subst (AreOfKind import.kind) c.rows-rows.ensures.value c.rows-rows.ensures.kind in
+    let all : names_all import.kind ≡ true =
+    sym (ap names_all c.kind.ensures) ∙ names_only c.kind.result c.in-Papers.is in
+    record {
+      ok = on_ok c.add_rows.result _ _ c.add_rows.ensures.ok (λ added s.
+          added s
+          ∙ ap (λ (rows : List Row). list_any
+          (λ (x : Row). names_session r x s) rows || contains code_cmp c.args.codes.now s) c.rows-rows.ensures.value
+          ∙ ap (λ b. b || contains code_cmp c.args.codes.now s) (sym (others_reach r s import of all)));
+      memory = c.add_rows.ensures.memory;
+    }

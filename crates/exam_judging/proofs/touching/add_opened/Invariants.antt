@@ -8,5 +8,7 @@ use Rattle.exam_judging.proofs.touching.add_opened.Given as goal
 -- those held and those left are all
 abbrev pub invariant-loop-key : goal.invariant-loop-key
 invariant-loop-key l = (s : Code)
-    → (list_any (λ (o : (Code × Code) × Opening). same_code o.0.0 s && contains code_cmp l.halls o.0.1) l.key-iterator || contains code_cmp l.codes s)
-    ≡ (list_any (λ (o : (Code × Code) × Opening). same_code o.0.0 s && contains code_cmp l.halls o.0.1) l.facts.openings.entries || contains code_cmp l.fn.codes s)
+    → (list_any (λ (o : (Code × Code) × Opening). same_code o.0.0 s && contains code_cmp l.halls o.0.1) l.key-iterator
+    || contains code_cmp l.codes s)
+    ≡ (list_any (λ (o : (Code × Code) × Opening). same_code o.0.0 s && contains code_cmp l.halls o.0.1)
+    l.facts.openings.entries || contains code_cmp l.fn.codes s)

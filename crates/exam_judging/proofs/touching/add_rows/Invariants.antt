@@ -9,5 +9,6 @@ use Rattle.exam_judging.proofs.touching.add_rows.Given as goal
 -- those held and those left are all
 abbrev pub invariant-loop-row : goal.invariant-loop-row
 invariant-loop-row l = (s : Code)
-    → (list_any (λ (x : Row). names_session (relations_of l.facts) x s) (drop l.row-index l.rows) || contains code_cmp l.codes s)
+    → (list_any (λ (x : Row). names_session (relations_of l.facts) x s)
+    (drop l.row-index l.rows) || contains code_cmp l.codes s)
     ≡ (list_any (λ (x : Row). names_session (relations_of l.facts) x s) l.rows || contains code_cmp l.fn.codes s)

@@ -11,5 +11,6 @@ use Rattle.exam_judging.proofs.touching.add_standing.Goals as goal
 pub returns-clause-ok : goal.returns-clause-ok
 returns-clause-ok c =
     let left : c.loop-key.key-iterator ≡ [] = rest_all deref_pair _ _ _ c.in-None.is c.next.ensures.steps in
-    λ s. ap (λ (ms : List ((ℕ × Code) × Appeal)). list_any (stands_in (relations_of c.args.facts.now) s) ms || contains code_cmp c.loop-key.codes s) (sym left)
+    λ s. ap (λ (ms : List ((ℕ × Code) × Appeal)). list_any
+    (stands_in (relations_of c.args.facts.now) s) ms || contains code_cmp c.loop-key.codes s) (sym left)
     ∙ c.loop-key.invariant s

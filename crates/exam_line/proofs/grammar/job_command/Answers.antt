@@ -7,5 +7,9 @@ use Rattle.exam_line.proofs.grammar.job_command.Goals as goal
 pub loop-name-preserved : goal.loop-name-preserved
 loop-name-preserved c =
     let inside : c.loop-name.name-index < length c.args.words.now = omega arith in
-    let local : (fields_of c.in_ok-job.job).has_globals ≡ false = c.in_ok-job.ensures.globals ∙ rw (c.loop-name.invariant.1, c.word.ensures.here) refl in
-    (c.in_ok-job.ensures.shape c.word.ensures.here ∙ ap₂ with_rule c.loop-name.invariant.0 c.word.ensures.rule ∙ job_more _ _ _ _ inside, local)
+    let local : (fields_of c.in_ok-job.job).has_globals ≡ false =
+    c.in_ok-job.ensures.globals ∙ rw (c.loop-name.invariant.1, c.word.ensures.here) refl in (
+      c.in_ok-job.ensures.shape c.word.ensures.here ∙ ap₂ with_rule c.loop-name.invariant.0 c.word.ensures.rule
+          ∙ job_more _ _ _ _ inside,
+      local,
+    )

@@ -6,4 +6,6 @@ use Rattle.exam_line.proofs.grammar.job_command.Given as goal
 
 -- the words so far
 abbrev pub invariant-loop-name : goal.invariant-loop-name
-invariant-loop-name l = (app_of l.job ≡ job_app l.fn.name (map (λ w. w.0.now) (take l.name-index l.words))) × ((fields_of l.job).has_globals ≡ false)
+invariant-loop-name l =
+    (app_of l.job ≡ job_app l.fn.name (map (λ w. w.0.now) (take l.name-index l.words)))
+    × ((fields_of l.job).has_globals ≡ false)

@@ -10,5 +10,6 @@ returns c =
     let five = and_job _ _ _ _ (codes "number" ∷ codes "paper" ∷ []) c.in_ok-command-5.ensures four in
     let six = and_job _ _ _ _ (codes "number" ∷ codes "paper" ∷ []) c.in_ok-command-6.ensures five in
     let seven = and_job _ _ _ _ (codes "session" ∷ codes "hall" ∷ []) c.in_ok-command-7.ensures six in
-    let eight = and_job _ _ _ _ (codes "number" ∷ codes "ref" ∷ codes "outcome" ∷ codes "reason" ∷ []) c.in_ok-command-8.ensures seven in
+    let eight = and_job _ _ _ _
+    (codes "number" ∷ codes "ref" ∷ codes "outcome" ∷ codes "reason" ∷ []) c.in_ok-command-8.ensures seven in
     last_job _ _ _ _ (codes "port" ∷ []) eight c.with_job-9.ensures

@@ -3,12 +3,14 @@ use Rattle.std.specs.Result.{result_ok}
 use Rattle.std.specs.Fmt.{decimal}
 use Rattle.exam_line.proofs.Ports.{none_is, ok_is, other_is, some_is}
 use Rattle.exam_line.proofs.values.port_written.Goals as goal
-use Rattle.exam_line.proofs.values.port_written.Goals.{else-port-gt0-via-then-port-gt0+else-eq, else-port-gt0-via-else-port-gt0}
+use Rattle.exam_line.proofs.values.port_written.Goals.{else-port-gt0-via-then-port-gt0+else-eq}
+use Rattle.exam_line.proofs.values.port_written.Goals.{else-port-gt0-via-else-port-gt0}
 
 pub returns-in_err-port : goal.returns-in_err-port
 returns-in_err-port c =
     none_is c.parse.result _ c.from_residual.result c.parse.ensures.value.0 (search rules)
-    (λ n is low same. let e : c.ok.result ≡ Some n = c.ok.ensures.value ∙ ap result_ok is in let none : c.ok.result ≡ None = search rules in cc (e, none))
+    (λ n is low same. let e : c.ok.result ≡ Some n = c.ok.ensures.value ∙ ap result_ok is in
+    let none : c.ok.result ≡ None = search rules in cc (e, none))
 
 pub returns-then-eq : goal.returns-then-eq
 returns-then-eq c =

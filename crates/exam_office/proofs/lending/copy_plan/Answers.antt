@@ -1,3 +1,5 @@
+-- The seats of the members walked so far are there. Who is no member has no seat in a good office, so nothing is left
+-- out.
 use Rattle.std.proofs.Common.{◌≡◌, ◌+◌, ◌++◌, ◌∷◌, [], List, nat_eq, length, take, ap, sym, subst, arith, ◌∙◌}
 use Rattle.std.specs.Prelude.{◌&&◌, ◌≤◌, if◌then◌else◌}
 use Rattle.std.specs.List.{list_any}

@@ -11,5 +11,7 @@ use Rattle.exam_office.proofs.lending.copy_plan.Given as goal
 -- who sits where after the members so far are seated as in the office
 abbrev pub invariant-loop-entrant : goal.invariant-loop-entrant
 invariant-loop-entrant l = (s : Code) (c : ℕ) → plan_of l.plans.entries s c
-    ≡ (if same_code l.session s && list_any (λ (e : Entrant). nat_eq e.number c) (take l.entrant-index (listed l.lists.members.entries l.session))
+    ≡ (if same_code l.session s
+    && list_any (λ (e : Entrant). nat_eq e.number c)
+    (take l.entrant-index (listed l.lists.members.entries l.session))
     then option_or (plan_of l.seats.entries s c) (plan_of l.fn.plans.entries s c) else plan_of l.fn.plans.entries s c)

@@ -8,4 +8,5 @@ use Rattle.exam_office.proofs.lending.read_plans.Given as goal
 -- the plans of the sessions so far
 abbrev pub invariant-loop-session : goal.invariant-loop-session
 invariant-loop-session l = (s : Code) (c : ℕ) → plan_of l.plans.entries s c
-    ≡ (if list_any (λ t. same_code t s) (take l.session-index l.session-items) then plan_of l.office.seats s c else None)
+    ≡ (if list_any (λ t. same_code t s)
+    (take l.session-index l.session-items) then plan_of l.office.seats s c else None)

@@ -23,5 +23,8 @@ returns-then-is_grant-clause-exact c =
     let r : Relations = relations_of c.args.facts.now in
     let d : Decision = c.in-Decide.decision in
     let grants : is_grant d.outcome ≡ true = search rules in
-    let same : (s : Code) → reads r c.args.command.now s ≡ touches r c.args.command.now s = λ s. subst (λ done. reads r done s ≡ touches r done s) (sym c.in-Decide.is) (grant_reads r d s grants) in
-    IfOk-weaker c.touched.result _ _ (λ codes is s. subst (λ (b : Bool). Contains codes.items s ↔ IsTrue b) (sym (same s)) (is s)) c.touched.ensures.exact
+    let same : (s : Code) → reads r c.args.command.now s ≡ touches r c.args.command.now s =
+    λ s. subst (λ done. reads r done s ≡ touches r done s) (sym c.in-Decide.is) (grant_reads r d s grants) in
+    IfOk-weaker c.touched.result _ _
+    (λ codes is s. subst (λ (b : Bool). Contains codes.items s ↔ IsTrue b) (sym (same s)) (is s))
+    c.touched.ensures.exact

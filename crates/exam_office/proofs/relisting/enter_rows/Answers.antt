@@ -20,8 +20,13 @@ loop-row-preserved c =
     let r : Relations = c.loop-row.invariant.so_far.0 in
     let turn : EntersRows r (x ∷ left) t =
     subst (λ (y : Row). EntersRows r (y ∷ left) t) (sym c.row-item.is)
-    (subst (λ (ys : List Row). EntersRows r ys t) (at_drop_more (λ (ys : List Row). ys) rows i x c.loop-row-test.true) c.loop-row.invariant.so_far.2) in
+    (subst (λ (ys : List Row). EntersRows r ys t)
+    (at_drop_more (λ (ys : List Row). ys) rows i x c.loop-row-test.true) c.loop-row.invariant.so_far.2) in
     record {
-      so_far = (with_row r x, c.in_ok-enter_row.ensures.ok r left c.loop-row.invariant.so_far.1 turn, rest_enters r t x left turn);
+      so_far = (
+        with_row r x,
+        c.in_ok-enter_row.ensures.ok r left c.loop-row.invariant.so_far.1 turn,
+        rest_enters r t x left turn,
+      );
       back = c.in_ok-enter_row.ensures.back c.args.lists.now c.loop-row.invariant.back;
     }

@@ -11,5 +11,8 @@ returns-clause-back c = λ was back.
     c.keep_members.new.self was
     (sym c.contains_key.ensures ∙ c.if-contains_key.false) c.in_ok-insert.ensures.updates.0
     (c.in_ok-copy.ensures.items ∙ c.members_of.ensures)
-    (record { members = c.in_ok-keep_members.ensures.same; halls = λ s. ap (λ (rows : List (Code × Vec Code Global)). listed rows s) c.in_ok-keep_members.ensures.halls })
+    (record {
+      members = c.in_ok-keep_members.ensures.same;
+      halls = λ s. ap (λ (rows : List (Code × Vec Code Global)). listed rows s) c.in_ok-keep_members.ensures.halls;
+    })
     c.in_ok-keep_members.ensures.kept c.in_ok-keep_members.ensures.stay back

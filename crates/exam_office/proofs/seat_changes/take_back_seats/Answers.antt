@@ -1,8 +1,8 @@
 use Rattle.std.proofs.Common.{◌≡◌, ℕ, List, ap, subst, ◌∙◌}
 use Rattle.exam_rules.specs.Relations.{Code, has_row, row_at, seat_cmp}
+use Rattle.exam_commands.proofs.KeyedRows.{seats_exact, seats_total}
 use Rattle.exam_commands.specs.Exchanges.{set_row, taken_back}
 use Rattle.exam_changes.proofs.Exchanges.{set_keeps}
-use Rattle.exam_commands.proofs.SameSeats.{seats_exact, seats_total}
 use Rattle.exam_office.proofs.seat_changes.take_back_seats.Goals as goal
 
 pub loop-key-preserved : goal.loop-key-preserved
@@ -11,7 +11,8 @@ loop-key-preserved c =
     let rows = c.loop-key.seats.entries in
     let key : Code × ℕ = c.in-Some.key.now in
     let rest = c.next.new.self in
-    let set : c.set.new.rows.entries ≡ set_row seat_cmp rows key (row_at seat_cmp old key) = c.set.ensures.set ∙ ap (set_row seat_cmp rows key) (c.copied.ensures ∙ c.get.ensures.value) in
+    let set : c.set.new.rows.entries ≡ set_row seat_cmp rows key (row_at seat_cmp old key) =
+    c.set.ensures.set ∙ ap (set_row seat_cmp rows key) (c.copied.ensures ∙ c.get.ensures.value) in
     record {
       so_far =
           ap (λ (held : List ((Code × ℕ) × Code)). taken_back seat_cmp held old rest) set

@@ -1,3 +1,5 @@
+-- The halls that the search marks are those that fit a contested candidate: it marks no other, and it is closed. So
+-- the candidates who can only sit there outnumber their desks by exactly those whom the best plan leaves out.
 use Rattle.std.proofs.Common.{◌≡◌, ℕ, List, Option, length, ap, ◌∙◌, subst, IsTrue}
 use Rattle.std.specs.Prelude.{filter}
 use Rattle.std.specs.List.{range_with_len}
@@ -8,7 +10,8 @@ use Rattle.exam_plan.proofs.ShortOfDesks.{is_certificate, exactly_contested}
 use Rattle.exam_plan.proofs.calls.shortage.Goals as goal
 
 -- the search's facts, for the plan as it was given
-drawn : (c : goal.In_ok-drawn_in) → (h : ℕ) → IsMarked (holds c.contested_halls-contested.result) h → (j : ℕ) × Draws c.args.problem.now (plan_at c.args.plan.now.items) j h
+drawn : (c : goal.In_ok-drawn_in) → (h : ℕ) → IsMarked (holds c.contested_halls-contested.result) h
+    → (j : ℕ) × Draws c.args.problem.now (plan_at c.args.plan.now.items) j h
 drawn c = (let P : List (Option ℕ) → Type 0 = λ m. (h : ℕ) → IsMarked (holds c.contested_halls-contested.result) h
     → (j : ℕ) × Draws c.args.problem.now (plan_at m) j h in
     subst P c.as_slice.ensures.value c.contested_halls-contested.ensures.drawn)
@@ -32,8 +35,11 @@ candidates_are c = (c.in_ok-drawn_in.ensures.candidates
     ∙ ap (λ n. filter (λ d. is_drawn (holds c.contested_halls-contested.result) (plan_at c.args.plan.now.items d))
     (range_with_len 0 n)) c.requires.plan.whole)
 
-halls_are : (c : goal.In_ok-drawn_in) → c.in_ok-listed.field-0.items ≡ halls_below (length c.args.problem.now.desk_counts) c.contested_halls-contested.result
-halls_are c = (c.in_ok-listed.ensures.listed ∙ ap (λ n. halls_below n c.contested_halls-contested.result) c.hall_count.ensures.count)
+halls_are : (c : goal.In_ok-drawn_in)
+    → c.in_ok-listed.field-0.items
+    ≡ halls_below (length c.args.problem.now.desk_counts) c.contested_halls-contested.result
+halls_are c = (c.in_ok-listed.ensures.listed
+    ∙ ap (λ n. halls_below n c.contested_halls-contested.result) c.hall_count.ensures.count)
 
 pub returns-clause-certificate : goal.returns-clause-certificate
 returns-clause-certificate c =

@@ -1,3 +1,5 @@
+-- Before each turn the sweep is under way: the first candidate and all lesser numbers have had their turn. After the
+-- last one nobody is left with a chain to a free desk, so the plan is best and its dead halls are the contested ones.
 use Rattle.std.proofs.Common.{◌≡◌, ◌<◌, ℕ, length, Option, IfSome, sym, ◌∙◌, subst, arith}
 use Rattle.exam_plan.specs.HallSets.{holds}
 use Rattle.exam_plan.specs.Problems.{plan_at}
@@ -8,13 +10,18 @@ use Rattle.exam_plan.proofs.calls.sweep_dead.Goals.{in-Some, in_default, then-ne
 
 pub loop-candidate-init : goal.loop-candidate-init
 loop-candidate-init c = elim c.match-first.branch [
-  | in-Some w ↦ rw w.sweep-is (subst (λ (o : Option ℕ). IsUnderWay c.args.problem.now o c.args.plan.items w.take_turn.new.sweep 0) (sym w.in-Some.is)
+  | in-Some w ↦ rw w.sweep-is
+      (subst (λ (o : Option ℕ). IsUnderWay c.args.problem.now o c.args.plan.items w.take_turn.new.sweep 0)
+      (sym w.in-Some.is)
       (first_turn c.args.problem.now c.in_ok-sweep.sweep w.take_turn.new.sweep c.args.plan.items w.in-Some.candidate
       (let P : Option ℕ → Type 0 =
       λ o. IfSome o (λ k. k < length c.args.problem.now.fit) in subst P w.in-Some.is c.requires.first)
       c.in_ok-sweep.ensures.plan c.in_ok-sweep.ensures.none w.take_turn.ensures))
-  | in_default w ↦ rw w.sweep-is (subst (λ (o : Option ℕ). IsUnderWay c.args.problem.now o c.args.plan.items c.in_ok-sweep.sweep 0) (sym w.in_default.is)
-      (begun c.args.problem.now c.in_ok-sweep.sweep c.args.plan.items c.in_ok-sweep.ensures.kept c.in_ok-sweep.ensures.plan c.in_ok-sweep.ensures.none))
+  | in_default w ↦ rw w.sweep-is
+      (subst (λ (o : Option ℕ). IsUnderWay c.args.problem.now o c.args.plan.items c.in_ok-sweep.sweep 0)
+      (sym w.in_default.is)
+      (begun c.args.problem.now c.in_ok-sweep.sweep c.args.plan.items c.in_ok-sweep.ensures.kept
+      c.in_ok-sweep.ensures.plan c.in_ok-sweep.ensures.none))
 ]
 
 first_is : (c : goal.Joined-ne) → c.match-first.first ≡ c.args.first
@@ -22,10 +29,16 @@ first_is c = elim c.match-first.branch [ in-Some w ↦ w.first-is ∙ sym w.in-S
 
 pub loop-candidate-preserved : goal.loop-candidate-preserved
 loop-candidate-preserved c = elim c.if-ne.branch [
-  | then-ne w ↦ rw w.sweep-is (one_turn c.args.problem.now c.args.first c.args.plan.items c.loop-candidate.sweep w.take_turn-then-ne.new.sweep c.loop-candidate.candidate c.loop-candidate.invariant
-      (λ e. not_first c.match-first.first c.loop-candidate.candidate c.ne.result c.ne.ensures w.if-ne.true (first_is c ∙ e)) w.take_turn-then-ne.ensures)
-  | else-ne w ↦ rw w.sweep-is (no_turn c.args.problem.now c.args.first c.args.plan.items c.loop-candidate.sweep c.loop-candidate.candidate c.loop-candidate.invariant
-      (sym (first_is c) ∙ is_first c.match-first.first c.loop-candidate.candidate c.ne.result c.ne.ensures w.if-ne.false))
+  | then-ne w ↦ rw w.sweep-is
+      (one_turn c.args.problem.now c.args.first c.args.plan.items c.loop-candidate.sweep w.take_turn-then-ne.new.sweep
+      c.loop-candidate.candidate c.loop-candidate.invariant
+      (λ e. not_first c.match-first.first c.loop-candidate.candidate c.ne.result c.ne.ensures w.if-ne.true
+      (first_is c ∙ e)) w.take_turn-then-ne.ensures)
+  | else-ne w ↦ rw w.sweep-is
+      (no_turn c.args.problem.now c.args.first c.args.plan.items c.loop-candidate.sweep c.loop-candidate.candidate
+      c.loop-candidate.invariant
+      (sym (first_is c) ∙ is_first c.match-first.first c.loop-candidate.candidate c.ne.result c.ne.ensures
+      w.if-ne.false))
 ]
 
 pub returns-clause-best : goal.returns-clause-best

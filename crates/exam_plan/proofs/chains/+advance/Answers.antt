@@ -1,10 +1,14 @@
+-- The least chain of so many hops begins at the least hall of that layer and goes on with its first occupant who
+-- reaches the next layer, who has one hop less to go. Those who move behind them sit in other halls, so the table of
+-- the plan stays right.
 use Rattle.std.proofs.Common.{◌≡◌, ℕ, suc, ◌+◌, ◌-◌, ◌<◌, length, refl, sym, ◌∙◌, arith, subst}
 use Rattle.std.proofs.lemmas.Bool.{and_parts}
 use Rattle.std.proofs.lemmas.List.{length-set}
 use Rattle.exam_plan.specs.HallSets.{holds}
 use Rattle.exam_plan.specs.Problems.{IsPlan, plan_at}
 use Rattle.exam_plan.specs.Searches.{IsLeastHall}
-use Rattle.exam_plan.proofs.Steps.{layer_at, hall_found, mover_of, mover_found, mover_far, advanced_last, advanced_more, places_set, touching_reach}
+use Rattle.exam_plan.proofs.Steps.{layer_at, hall_found, mover_of, mover_found, mover_far, advanced_last, advanced_more}
+use Rattle.exam_plan.proofs.Steps.{places_set, touching_reach}
 use Rattle.exam_plan.proofs.chains.+advance.Goals as goal
 use Rattle.exam_plan.proofs.chains.+advance.Goals.{then-hops-gt0+in-Some-first_mover, else-hops-gt0}
 
@@ -21,8 +25,10 @@ unreachable-requires-in_default-first_mover t c =
     (plan_at c.args.plan.now.items) c.args.candidate c.fitting.result c.index-layers-hops.result c.common.result
     c.args.hops c.fitting.ensures.fits marks c.common.ensures c.in-Some.hall c.in-Some.ensures.1
     c.in-Some.ensures.2 in
-    let someone = mover_of c.args.problem.now (plan_at c.args.plan.now.items) (c.args.hops - 1) c.args.candidate c.in-Some.hall (holds c.index-layers-hops-then-hops-gt0.result) near
-    (subst (λ (z : ℕ). IsLeastHall c.args.problem.now (plan_at c.args.plan.now.items) z c.args.candidate c.in-Some.hall) back least)
+    let someone = mover_of c.args.problem.now (plan_at c.args.plan.now.items)
+    (c.args.hops - 1) c.args.candidate c.in-Some.hall (holds c.index-layers-hops-then-hops-gt0.result) near
+    (subst (λ (z : ℕ). IsLeastHall c.args.problem.now
+    (plan_at c.args.plan.now.items) z c.args.candidate c.in-Some.hall) back least)
     (λ i l. c.requires.far i (omega (arith, back, l))) in
     c.in_default-first_mover.ensures.first someone.0 someone.1 someone.2
 
@@ -50,7 +56,9 @@ advance-last-requires t c =
             (
               (λ j l. c.requires.layers j (omega (arith, l, back))),
               (
-                touching_reach c.args.problem.now (plan_at c.args.plan.now.items) (holds c.index-layers-hops-then-hops-gt0.result) (c.args.hops - 1) c.in-Some-first_mover.mover near first.1,
+                touching_reach c.args.problem.now (plan_at c.args.plan.now.items)
+                    (holds c.index-layers-hops-then-hops-gt0.result)
+                    (c.args.hops - 1) c.in-Some-first_mover.mover near first.1,
                 (
                   mover_far c.args.problem.now (plan_at c.args.plan.now.items) c.args.hops
                       (c.args.hops - 1) c.args.candidate c.in-Some.hall c.in-Some-first_mover.mover back least.0 first.0
@@ -66,8 +74,10 @@ advance-last-requires t c =
 
 pub returns-clause-plan : goal.returns-clause-plan
 returns-clause-plan t c =
-    let held = and_parts (holds c.fitting.result c.in-Some.hall) (holds c.index-layers-hops.result c.in-Some.hall) (sym (c.common.ensures c.in-Some.hall) ∙ c.in-Some.ensures.1) in
-    let below : c.in-Some.hall < length c.args.problem.now.desk_counts = c.fitting.ensures.exist c.in-Some.hall held.0 in
+    let held = and_parts (holds c.fitting.result c.in-Some.hall) (holds c.index-layers-hops.result c.in-Some.hall)
+    (sym (c.common.ensures c.in-Some.hall) ∙ c.in-Some.ensures.1) in
+    let below : c.in-Some.hall < length c.args.problem.now.desk_counts =
+    c.fitting.ensures.exist c.in-Some.hall held.0 in
     let was : IsPlan c.args.problem.now c.if-hops-gt0.plan.items =
     elim c.if-hops-gt0.branch [
       | then-hops-gt0+in-Some-first_mover w ↦ rw w.plan-is w.advance-last.ensures.plan
@@ -76,7 +86,8 @@ returns-clause-plan t c =
     ] in
     rw c.seat.ensures.seated (record {
       whole = simp length-set was.whole;
-      exist = places_set c.if-hops-gt0.plan.items (length c.args.problem.now.desk_counts) c.args.candidate c.in-Some.hall was.exist below;
+      exist = places_set c.if-hops-gt0.plan.items
+          (length c.args.problem.now.desk_counts) c.args.candidate c.in-Some.hall was.exist below;
     })
 
 pub returns-clause-moved : goal.returns-clause-moved

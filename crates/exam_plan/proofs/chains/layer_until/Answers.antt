@@ -1,3 +1,5 @@
+-- Each layer holds all halls from which a free desk is so many hops away. A round that adds a hall makes the set
+-- larger, so there are no more rounds than halls; a round that adds none shows that no chain begins at the candidate.
 use Rattle.std.proofs.Common.{◌≡◌, ◌+◌, ◌<◌, ◌≤◌, ℕ, true, false, length, sym, ◌∙◌, arith, rules}
 use Rattle.std.specs.Prelude.{IsTrue}
 use Rattle.std.proofs.lemmas.List.{length-set}
@@ -19,7 +21,8 @@ widened-next-requires c k t =
 
 pub returns-then-is_none-clause-found : goal.returns-then-is_none-clause-found
 returns-then-is_none-clause-found c =
-    leads_nowhere c.args.problem.now (plan_at c.args.plan.now.items) (holds c.widening.reached) (holds c.widened-next.result) c.widening.hops c.args.candidate c.widening.invariant.reached
+    leads_nowhere c.args.problem.now (plan_at c.args.plan.now.items) (holds c.widening.reached)
+    (holds c.widened-next.result) c.widening.hops c.args.candidate c.widening.invariant.reached
     (next_of c.args.problem.now (plan_at c.args.plan.now.items)
     (sits_below c.args.problem.now c.args.plan.now.items c.requires.plan) c.args.inward.now c.widening.reached
     c.widening.fresh c.widened-next.result c.widening.hops c.requires.inward c.widening.invariant.reached
@@ -33,7 +36,8 @@ returns-then-is_none-clause-found c =
 pub index_mut-requires : goal.index_mut-requires
 index_mut-requires c =
     let le = count_below-le-bound (holds c.widening.reached) (length c.args.problem.now.desk_counts) in
-    let l : c.widening.hops < length c.widening.layers.items = omega (arith, le, c.widening.invariant.many, c.widening.invariant.room) in
+    let l : c.widening.hops < length c.widening.layers.items =
+    omega (arith, le, c.widening.invariant.many, c.widening.invariant.room) in
     search rules
 
 pub overflow_add-hops : goal.overflow_add-hops
@@ -75,11 +79,16 @@ widening-preserved c =
       reached = next_layer c.args.problem.now (plan_at c.args.plan.now.items) (holds c.widening.reached)
           (holds c.widened-next.result) c.widening.hops (c.widening.hops + 1) c.widening.invariant.reached next
           (omega arith);
-      fresh = next_fresh c.args.inward.now c.widening.reached c.widening.fresh c.widened-next.result c.minus-fresh.result c.widening.invariant.fresh c.widened-next.ensures c.minus-fresh.ensures;
+      fresh = next_fresh c.args.inward.now c.widening.reached c.widening.fresh c.widened-next.result
+          c.minus-fresh.result c.widening.invariant.fresh c.widened-next.ensures c.minus-fresh.ensures;
       many = omega (arith, more, c.widening.invariant.many);
-      layers = layers_set c.args.problem.now (plan_at c.args.plan.now.items) c.widening.layers.items c.widening.hops c.widening.reached (c.widening.hops + 1) c.widening.invariant.layers
-          (omega (arith, le, c.widening.invariant.many, c.widening.invariant.room)) c.widening.invariant.reached (omega arith);
-      far = far_push c.args.problem.now (plan_at c.args.plan.now.items) c.widening.hops (c.widening.hops + 1) c.args.candidate (omega arith) c.widening.invariant.far
+      layers = layers_set c.args.problem.now
+          (plan_at c.args.plan.now.items) c.widening.layers.items c.widening.hops c.widening.reached
+          (c.widening.hops + 1) c.widening.invariant.layers
+          (omega (arith, le, c.widening.invariant.many, c.widening.invariant.room)) c.widening.invariant.reached
+          (omega arith);
+      far = far_push c.args.problem.now (plan_at c.args.plan.now.items) c.widening.hops
+          (c.widening.hops + 1) c.args.candidate (omega arith) c.widening.invariant.far
           (λ r. let z : false ≡ true =
           sym c.widening-test.true
           ∙ c.is_touching.ensures.touching.1
@@ -90,13 +99,15 @@ widening-preserved c =
 pub index_mut-requires-2 : goal.index_mut-requires-2
 index_mut-requires-2 c =
     let le = count_below-le-bound (holds c.widening.reached) (length c.args.problem.now.desk_counts) in
-    let l : c.widening.hops < length c.widening.layers.items = omega (arith, le, c.widening.invariant.many, c.widening.invariant.room) in
+    let l : c.widening.hops < length c.widening.layers.items =
+    omega (arith, le, c.widening.invariant.many, c.widening.invariant.room) in
     search rules
 
 pub returns-clause-found : goal.returns-clause-found
 returns-clause-found c =
     let le = count_below-le-bound (holds c.widening.reached) (length c.args.problem.now.desk_counts) in
-    let inside : c.widening.hops < length c.widening.layers.items = omega (arith, le, c.widening.invariant.many, c.widening.invariant.room) in (
+    let inside : c.widening.hops < length c.widening.layers.items =
+    omega (arith, le, c.widening.invariant.many, c.widening.invariant.room) in (
       simp length-set inside,
       layers_set c.args.problem.now
           (plan_at c.args.plan.now.items) c.widening.layers.items c.widening.hops c.widening.reached

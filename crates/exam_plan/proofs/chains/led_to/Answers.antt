@@ -1,15 +1,19 @@
+-- All halls that were found lead back to the candidate, and those not yet followed are among them. Each round finds
+-- one more or is the last, after which what sits in a found hall fits only found or dead ones.
 use Rattle.std.proofs.Common.{◌≡◌, ◌<◌, ◌≤◌, ℕ, false, length, arith}
 use Rattle.std.specs.Prelude.{IsTrue}
 use Rattle.exam_plan.specs.HallSets.{most_halls, holds}
 use Rattle.exam_plan.specs.Problems.{plan_at}
 use Rattle.exam_plan.proofs.Counting.{count_below-le-bound}
-use Rattle.exam_plan.proofs.Steps.{sits_below, first_none, first_some, leads_below, more_apart, more_leads, more_fits, more_grows, more_within, more_followed, led_closed}
+use Rattle.exam_plan.proofs.Steps.{sits_below, first_none, first_some, leads_below, more_apart, more_leads, more_fits}
+use Rattle.exam_plan.proofs.Steps.{more_grows, more_within, more_followed, led_closed}
 use Rattle.exam_plan.proofs.chains.led_to.Goals as goal
 
 pub widened-requires : goal.widened-requires
 widened-requires c k t =
     let r = c.following.invariant.led k (c.following.invariant.within k t) in
-    let below = leads_below c.args.problem.now (plan_at c.args.plan.now.items) c.args.candidate c.fitting.ensures.problem r.0 k r.1 in
+    let below = leads_below c.args.problem.now
+    (plan_at c.args.plan.now.items) c.args.candidate c.fitting.ensures.problem r.0 k r.1 in
     omega (arith, below, c.requires.halls)
 
 pub returns-then-is_none-clause-closed : goal.returns-then-is_none-clause-closed

@@ -11,8 +11,10 @@ use Rattle.exam_plan.proofs.chains.led_to.Given as goal
 abbrev pub invariant-following : goal.invariant-following
 invariant-following l = record {
   apart : (h : ℕ) → IsMarked (holds l.led) h → IsMarked (holds l.dead) h → ⊥;
-  led : (h : ℕ) → IsMarked (holds l.led) h → (j : ℕ) × LeadsTo (seating_of l.problem) (plan_at l.plan.items) l.candidate j h;
-  fitting : (h : ℕ) → IsTrue ((seating_of l.problem).fits l.candidate h) → IsMarked (holds l.led) h ⊎ IsMarked (holds l.dead) h;
+  led : (h : ℕ) → IsMarked (holds l.led) h
+      → (j : ℕ) × LeadsTo (seating_of l.problem) (plan_at l.plan.items) l.candidate j h;
+  fitting : (h : ℕ) → IsTrue ((seating_of l.problem).fits l.candidate h)
+      → IsMarked (holds l.led) h ⊎ IsMarked (holds l.dead) h;
   within : (h : ℕ) → IsMarked (holds l.fresh) h → IsMarked (holds l.led) h;
   followed : IsFollowed l.problem (plan_at l.plan.items) l.candidate l.led l.fresh l.dead;
 }

@@ -1,3 +1,5 @@
+-- Whatever is marked draws somebody whom some best plan leaves out. A round that marks no more shows that the set is
+-- closed; every other round marks one hall more, so there are no more rounds than halls.
 use Rattle.std.proofs.Common.{◌≡◌, ◌<◌, ◌≤◌, ℕ, false, length, inl, arith}
 use Rattle.std.specs.Prelude.{IsTrue}
 use Rattle.exam_plan.specs.HallSets.{most_halls, holds}
@@ -21,7 +23,8 @@ spreading-smaller c =
     (λ h. (h < most_halls) × IsTrue (holds c.minus.result h) × ((k : ℕ) → IsTrue (holds c.minus.result k) → h ≤ k))
     c.first.ensures c.if-is_none.ensures) in
     let new = beyond c.spread-next.result c.spreading.marked c.minus.result some.0 (c.minus.ensures some.0) some.1.1 in
-    let drawn = draws_more c.args.problem.now (plan_at c.args.plan.now) (holds c.spreading.marked) (holds c.spread-next.result) c.spreading.invariant c.spread-next.ensures.spread some.0 new.0 in
+    let drawn = draws_more c.args.problem.now (plan_at c.args.plan.now) (holds c.spreading.marked)
+    (holds c.spread-next.result) c.spreading.invariant c.spread-next.ensures.spread some.0 new.0 in
     let more = holds_more c.spreading.marked c.spread-next.result (length c.args.problem.now.desk_counts) some.0
     (λ h t. (c.spread-next.ensures.spread h).1 (inl t))
     (draws_below c.args.problem.now (plan_at c.args.plan.now) c.spread-next.ensures.problem drawn.0 some.0 drawn.1)
@@ -30,4 +33,6 @@ spreading-smaller c =
     omega (arith, more, le)
 
 pub spreading-preserved : goal.spreading-preserved
-spreading-preserved c = draws_more c.args.problem.now (plan_at c.args.plan.now) (holds c.spreading.marked) (holds c.spread-next.result) c.spreading.invariant c.spread-next.ensures.spread
+spreading-preserved c =
+    draws_more c.args.problem.now (plan_at c.args.plan.now) (holds c.spreading.marked)
+    (holds c.spread-next.result) c.spreading.invariant c.spread-next.ensures.spread

@@ -9,7 +9,8 @@ use Rattle.exam_plan.proofs.contest.drawn_in.Goals.{then-is_drawn_in+in_ok-push,
 
 pub loop-candidate-preserved : goal.loop-candidate-preserved
 loop-candidate-preserved c =
-    let read = ap (is_drawn (holds c.args.marked)) (plan_at-get_or c.args.plan.now c.loop-candidate.candidate) ∙ sym c.is_drawn_in.ensures in
+    let read = ap (is_drawn (holds c.args.marked)) (plan_at-get_or c.args.plan.now c.loop-candidate.candidate)
+    ∙ sym c.is_drawn_in.ensures in
     elim c.if-is_drawn_in.branch [
       | then-is_drawn_in+in_ok-push w ↦ rw w.candidates-is
           (w.in_ok-push.ensures.items

@@ -10,5 +10,7 @@ loop-hall-preserved c = elim c.if-contains.branch [
       (w.in_ok-push.ensures.items
       ∙ filter_takes (holds c.args.set) c.loop-hall.hall c.loop-hall.listed.items c.loop-hall.invariant
       (sym c.contains.ensures ∙ w.if-contains.true))
-  | else-contains w ↦ rw w.listed-is (filter_leaves (holds c.args.set) c.loop-hall.hall c.loop-hall.listed.items c.loop-hall.invariant (sym c.contains.ensures ∙ w.if-contains.false))
+  | else-contains w ↦ rw w.listed-is
+      (filter_leaves (holds c.args.set) c.loop-hall.hall c.loop-hall.listed.items c.loop-hall.invariant
+      (sym c.contains.ensures ∙ w.if-contains.false))
 ]

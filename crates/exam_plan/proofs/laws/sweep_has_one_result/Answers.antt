@@ -6,4 +6,6 @@ use Rattle.exam_plan.proofs.OneRepair.{one_sweep}
 use Rattle.exam_plan.proofs.laws.sweep_has_one_result.Goals as goal
 
 pub returns : goal.returns
-returns c = λ p first. one_sweep (seating_of p) nat_cmp_total nat_cmp_total nat_cmp-IsAntisymmetric nat_cmp-IsAntisymmetric (sweep_order (seating_of p) first)
+returns c = λ p first. one_sweep
+    (seating_of p) nat_cmp_total nat_cmp_total nat_cmp-IsAntisymmetric nat_cmp-IsAntisymmetric
+    (sweep_order (seating_of p) first)

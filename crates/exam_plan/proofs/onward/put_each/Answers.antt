@@ -1,3 +1,4 @@
+-- The sets of those halls that are no longer in the rest are changed, the others are not.
 use Rattle.std.proofs.Common.{rules, ◌<◌, ◌∙◌, length, cond, nat_eq, ap, arith}
 use Rattle.std.proofs.lemmas.List.{length-set, get_or_default}
 use Rattle.exam_plan.specs.HallSets.{holds}
@@ -31,10 +32,12 @@ index_mut-requires c =
 pub putting-preserved : goal.putting-preserved
 putting-preserved c =
     let among = c.putting.invariant.within c.in-Some.split.0 c.in-Some.ensures.0.1 in
-    let below : c.in-Some.split.0 < length c.putting.sets.items = (let b = c.requires.exist c.in-Some.split.0 among in omega (arith, b, c.putting.invariant.long)) in
+    let below : c.in-Some.split.0 < length c.putting.sets.items =
+    (let b = c.requires.exist c.in-Some.split.0 among in omega (arith, b, c.putting.invariant.long)) in
     record {
       long = simp length-set c.putting.invariant.long;
-      within = λ k t. c.putting.invariant.within k (less_within c.putting.rest c.in-Some.split.0 c.in-Some.split.1 c.in-Some.ensures.1 k t);
+      within = λ k t. c.putting.invariant.within k
+          (less_within c.putting.rest c.in-Some.split.0 c.in-Some.split.1 c.in-Some.ensures.1 k t);
       put = put_more c.args.sets.now.items c.args.halls c.args.hall c.args.inside c.putting.rest c.putting.sets.items
           c.in-Some.split.0 c.put.result c.in-Some.split.1 c.putting.invariant.put below among c.in-Some.ensures.0.1
           (λ h. c.put.ensures h
@@ -49,7 +52,10 @@ putting-smaller c =
     (let b = c.requires.exist c.in-Some.split.0
     (c.putting.invariant.within c.in-Some.split.0 c.in-Some.ensures.0.1) in
     omega (arith, b, c.putting.invariant.long)) in
-    simp length-set (one_fewer c.putting.rest c.in-Some.split.0 c.in-Some.split.1 c.in-Some.ensures.1 (length c.putting.sets.items) below c.in-Some.ensures.0.1)
+    simp length-set (one_fewer c.putting.rest c.in-Some.split.0 c.in-Some.split.1 c.in-Some.ensures.1
+    (length c.putting.sets.items) below c.in-Some.ensures.0.1)
 
 pub returns-clause-put : goal.returns-clause-put
-returns-clause-put c = put_all c.args.sets.now.items c.args.halls c.args.hall c.args.inside c.putting.rest c.putting.sets.items c.in_default.ensures c.putting.invariant.put
+returns-clause-put c =
+    put_all c.args.sets.now.items c.args.halls c.args.hall c.args.inside c.putting.rest c.putting.sets.items
+    c.in_default.ensures c.putting.invariant.put

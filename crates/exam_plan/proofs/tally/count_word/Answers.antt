@@ -14,7 +14,8 @@ loop-place-preserved c =
           c.loop-place.carry (bit_xor digit c.loop-place.carry)
           (omega (arith, c.loop-place-test.true, c.loop-place.invariant.whole))
           refl
-          (holds_xor digit c.loop-place.carry) (bit_and c.loop-place.carry digit) (holds_and c.loop-place.carry digit) (c.loop-place.place + 1) (omega arith) c.loop-place.invariant.counting;
+          (holds_xor digit c.loop-place.carry) (bit_and c.loop-place.carry digit) (holds_and c.loop-place.carry digit)
+          (c.loop-place.place + 1) (omega arith) c.loop-place.invariant.counting;
     }
 
 pub returns-clause-more : goal.returns-clause-more
@@ -26,4 +27,5 @@ returns-clause-more c h few =
 
 pub returns-then-carry-eq0-clause-more : goal.returns-then-carry-eq0-clause-more
 returns-then-carry-eq0-clause-more c h few =
-    counting_done c.args.digits.now c.loop-place.digits c.args.word c.loop-place.place c.loop-place.carry h (ap (λ s. holds s h) c.if-carry-eq0.true ∙ holds_empty h) c.loop-place.invariant.counting
+    counting_done c.args.digits.now c.loop-place.digits c.args.word c.loop-place.place c.loop-place.carry h
+    (ap (λ s. holds s h) c.if-carry-eq0.true ∙ holds_empty h) c.loop-place.invariant.counting

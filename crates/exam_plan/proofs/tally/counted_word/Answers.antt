@@ -11,4 +11,5 @@ loop-digit-preserved c =
     refl (holds_or c.loop-digit.counted (get_or c.args.digits.now c.loop-digit.digit-index 0))
 
 pub returns : goal.returns
-returns c = counted_all c.args.digits.now c.loop-digit.digit-index c.loop-digit.counted (omega (arith, c.requires, c.loop-digit-test.false, c.loop-digit.auto.digit-index-end)) c.loop-digit.invariant
+returns c = counted_all c.args.digits.now c.loop-digit.digit-index c.loop-digit.counted
+    (omega (arith, c.requires, c.loop-digit-test.false, c.loop-digit.auto.digit-index-end)) c.loop-digit.invariant

@@ -1,3 +1,5 @@
+-- The borrow goes on to the next place only where a digit was none, as in a subtraction by hand. A hall that was
+-- counted has some digit, so its borrow ends.
 use Rattle.std.proofs.Common.{◌+◌, ◌&&◌, get_or, bit_and, bit_xor, refl, ap, ◌∙◌, arith}
 use Rattle.std.proofs.lemmas.List.{length-set}
 use Rattle.exam_plan.specs.HallSets.{holds}

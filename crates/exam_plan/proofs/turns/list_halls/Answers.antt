@@ -1,3 +1,5 @@
+-- What was appended is the halls of the set below the hall at hand. The room that is asked for is enough, since each
+-- of them is appended once.
 use Rattle.std.proofs.Common.{◌≡◌, ◌+◌, length, ap, sym, ◌∙◌, rules}
 use Rattle.std.proofs.lemmas.List.{length-append}
 use Rattle.exam_plan.specs.HallSets.{holds, halls_below}
@@ -7,7 +9,8 @@ use Rattle.exam_plan.proofs.turns.list_halls.Goals.{then-contains, else-contains
 
 pub push_reserved-requires : goal.push_reserved-requires
 push_reserved-requires c =
-    let fewer = still_fewer (holds c.args.set) c.args.halls c.loop-hall.hall c.loop-hall-test.true (sym c.contains.ensures ∙ c.if-contains.true) in
+    let fewer = still_fewer (holds c.args.set) c.args.halls c.loop-hall.hall c.loop-hall-test.true
+    (sym c.contains.ensures ∙ c.if-contains.true) in
     let long : length c.loop-hall.listed.items
     ≡ length c.args.listed.now.items + length (halls_below c.loop-hall.hall c.args.set) =
     ap length c.loop-hall.invariant.listed

@@ -1,4 +1,8 @@
-use Rattle.std.proofs.Common.{◌≡◌, ◌+◌, ◌<◌, ◌≤◌, ◌++◌, ℕ, List, None, is_some, length, get_or, set, refl, sym, ap, ◌∙◌, inl, inr, subst, arith, rules}
+-- Whoever sits, or can only sit in dead halls, has no chain. Where a search finds one, it moves everybody along it and
+-- its last hall has one occupant more; where it finds none, all halls that the candidate leads to are dead from now
+-- on.
+use Rattle.std.proofs.Common.{◌≡◌, ◌+◌, ◌<◌, ◌≤◌, ◌++◌, ℕ, List, None, is_some, length, get_or, set, refl, sym, ap, ◌∙◌}
+use Rattle.std.proofs.Common.{inl, inr, subst, arith, rules}
 use Rattle.std.proofs.lemmas.List.{length-set, get_or_default}
 use Rattle.exam_plan.specs.HallSets.{holds, halls_below}
 use Rattle.exam_plan.specs.Problems.{plan_at}
@@ -10,9 +14,11 @@ use Rattle.exam_plan.proofs.TurnLemmas.{IsTurned, turned, stays_put, settled_dea
 use Rattle.exam_plan.proofs.TurnLemmas.{counts_after, free_after, both_closed, both_within, both_traced, both_settled}
 use Rattle.exam_plan.proofs.TurnLemmas.{seated_at, none_of}
 use Rattle.exam_plan.proofs.turns.take_turn.Goals as goal
-use Rattle.exam_plan.proofs.turns.take_turn.Goals.{then-is_some-via-then-is_some, then-is_some-via-else-is_some+then-is_empty}
+use Rattle.exam_plan.proofs.turns.take_turn.Goals.{then-is_some-via-then-is_some}
+use Rattle.exam_plan.proofs.turns.take_turn.Goals.{then-is_some-via-else-is_some+then-is_empty}
 
-settled : (c : goal.Joined-then-is_some) → IsSettled c.args.problem.now (plan_at c.args.sweep.now.plan.items) (holds c.args.sweep.now.dead) c.args.candidate
+settled : (c : goal.Joined-then-is_some)
+    → IsSettled c.args.problem.now (plan_at c.args.sweep.now.plan.items) (holds c.args.sweep.now.dead) c.args.candidate
 settled c = elim c.then-is_some.branch [
   | then-is_some-via-then-is_some w ↦ inl
       (ap is_some (seated_at c.args.sweep.now.plan.items c.args.candidate c.index.result.now
@@ -27,7 +33,8 @@ pub returns-then-is_some : goal.returns-then-is_some
 returns-then-is_some c = record {
   kept = c.requires.kept;
   seated = λ d s. s;
-  turn = stays_put c.args.problem.now (plan_at c.args.sweep.now.plan.items) (holds c.args.sweep.now.dead) c.requires.kept.closed c.args.candidate (settled c);
+  turn = stays_put c.args.problem.now (plan_at c.args.sweep.now.plan.items)
+      (holds c.args.sweep.now.dead) c.requires.kept.closed c.args.candidate (settled c);
   deaths = settled_deaths c.args.problem.now (plan_at c.args.sweep.now.plan.items)
       (holds c.args.sweep.now.dead) c.requires.kept.closed c.args.candidate
       (settled c) c.args.sweep.now.listed.items c.requires.kept.listed;
@@ -48,15 +55,19 @@ overflow_add-index_mut c =
     search rules
 
 pub led_to-led-requires-clause-onward : goal.led_to-led-requires-clause-onward
-led_to-led-requires-clause-onward c = subst (λ (s : List ℕ). AreOnward c.args.problem.now (plan_at c.args.sweep.now.plan.items) s) (sym c.as_slice-onward.ensures.value)
-    (onward_of c.args.problem.now c.args.sweep.now.plan.items c.search_chain.new.onward c.requires.kept.plan.whole c.in-None.ensures.onward (c.in-None.ensures.none refl))
+led_to-led-requires-clause-onward c =
+    subst (λ (s : List ℕ). AreOnward c.args.problem.now (plan_at c.args.sweep.now.plan.items) s)
+    (sym c.as_slice-onward.ensures.value)
+    (onward_of c.args.problem.now c.args.sweep.now.plan.items c.search_chain.new.onward c.requires.kept.plan.whole
+    c.in-None.ensures.onward (c.in-None.ensures.none refl))
 
 pub list_halls-requires : goal.list_halls-requires
 list_halls-requires c =
     let many : length c.args.sweep.now.listed.items ≡ length (halls_below c.hall_count.result c.args.sweep.now.dead) =
     c.requires.kept.many
     ∙ ap (λ n. length (halls_below n c.args.sweep.now.dead)) (sym c.hall_count.ensures.count) in
-    let room = room_left c.hall_count.result c.args.sweep.now.dead c.led_to-led.result (length c.args.sweep.now.listed.items) c.led_to-led.ensures.apart many in
+    let room = room_left c.hall_count.result c.args.sweep.now.dead c.led_to-led.result
+    (length c.args.sweep.now.listed.items) c.led_to-led.ensures.apart many in
     omega (arith, room, c.requires.kept.room, c.hall_count.ensures.count)
 
 pub returns-in-Some : goal.returns-in-Some
@@ -65,7 +76,8 @@ returns-in-Some c =
     (seated_at c.args.sweep.now.plan.items c.args.candidate c.index.result.now
     (omega (arith, c.requires.kept.plan.whole, c.requires.candidate)) c.index.ensures
     ∙ none_of c.index.result.now c.is_some.result c.is_some.ensures c.if-is_some.false) in
-    let t : IsTurned c.args.problem.now (plan_at c.args.sweep.now.plan.items) (holds c.args.sweep.now.dead) c.args.candidate c.advance-last.result (plan_at c.advance-last.new.plan.items) =
+    let t : IsTurned c.args.problem.now (plan_at c.args.sweep.now.plan.items)
+    (holds c.args.sweep.now.dead) c.args.candidate c.advance-last.result (plan_at c.advance-last.new.plan.items) =
     turned c.args.problem.now (plan_at c.args.sweep.now.plan.items)
     (holds c.args.sweep.now.dead) c.requires.kept.closed c.requires.kept.lawful c.args.candidate unseated
     c.in-Some.hops c.advance-last.result
@@ -74,8 +86,10 @@ returns-in-Some c =
     (plan_at c.advance-last.new.plan.items) c.advance-last.result t.occupied c.args.sweep.now.counts.items
     c.index_mut.result.now c.requires.kept.halls c.advance-last.ensures.last c.requires.kept.counts
     c.index_mut.ensures.value in
-    let long : length (set c.args.sweep.now.counts.items c.advance-last.result (c.index_mut.result.now + 1)) ≡ length c.args.problem.now.desk_counts = simp length-set c.requires.kept.halls in
-    let now : c.index-in-Some.result.now ≡ count_at (plan_at c.advance-last.new.plan.items) c.advance-last.result (length c.args.problem.now.fit) =
+    let long : length (set c.args.sweep.now.counts.items c.advance-last.result (c.index_mut.result.now + 1))
+    ≡ length c.args.problem.now.desk_counts = simp length-set c.requires.kept.halls in
+    let now : c.index-in-Some.result.now
+    ≡ count_at (plan_at c.advance-last.new.plan.items) c.advance-last.result (length c.args.problem.now.fit) =
     c.index-in-Some.ensures
     ∙ get_or_default (set c.args.sweep.now.counts.items c.advance-last.result (c.index_mut.result.now + 1))
     c.advance-last.result c.index-in-Some.result.now 0 (omega (arith, long, c.advance-last.ensures.last))
@@ -119,8 +133,10 @@ returns-in-None c =
     λ h m. (let l = c.led_to-led.ensures.led h m in
     leads_below c.args.problem.now
     (plan_at c.args.sweep.now.plan.items) c.args.candidate c.fitting.ensures.problem l.0 h l.1) in
-    let grown : c.list_halls.new.listed.items ≡ c.args.sweep.now.listed.items ++ halls_below (length c.args.problem.now.desk_counts) c.led_to-led.result =
-    c.list_halls.ensures.listed ∙ ap (λ n. c.args.sweep.now.listed.items ++ halls_below n c.led_to-led.result) c.hall_count.ensures.count in
+    let grown : c.list_halls.new.listed.items ≡ c.args.sweep.now.listed.items
+    ++ halls_below (length c.args.problem.now.desk_counts) c.led_to-led.result =
+    c.list_halls.ensures.listed
+    ∙ ap (λ n. c.args.sweep.now.listed.items ++ halls_below n c.led_to-led.result) c.hall_count.ensures.count in
     record {
       kept = record {
         plan = c.requires.kept.plan;
@@ -164,7 +180,8 @@ returns-in-None c =
           (plan_at c.args.sweep.now.plan.items) c.args.candidate unseated c.args.sweep.now.dead c.led_to-led.result
           c.union-sweep.result c.union-sweep.ensures c.in-None.ensures.found c.led_to-led.ensures.led
           c.led_to-led.ensures.fitting c.led_to-led.ensures.closed c.requires.kept.closed
-          (length c.args.problem.now.desk_counts) within c.led_to-led.ensures.apart c.args.sweep.now.listed.items c.list_halls.new.listed.items c.requires.kept.listed grown;
+          (length c.args.problem.now.desk_counts) within c.led_to-led.ensures.apart c.args.sweep.now.listed.items
+          c.list_halls.new.listed.items c.requires.kept.listed grown;
       settled = inr (both_within c.args.problem.now
           (plan_at c.args.sweep.now.plan.items) c.args.candidate unseated c.args.sweep.now.dead c.led_to-led.result
           c.union-sweep.result c.union-sweep.ensures c.in-None.ensures.found c.led_to-led.ensures.led

@@ -14,8 +14,10 @@ returns-in-Ok g c =
         ends = (refl, sym c.close.ensures);
         done = c.carry_over-done.ensures;
         seated = c.show_seated.ensures;
-        kept = line_kept g.S.Store c.one_step_has_one_result.ensures g.O.Write.contents g.E.Write.contents (shown c.args.line.now) c.args.conn c.in-Ok.store last c.close.result c.args.out.now c.args.err.now
-            c.carry_over-done.result c.carry_over-done.new.out c.carry_over-done.new.err (sym c.close.ensures) c.in-Ok.ensures.found c.carry_over-done.ensures;
+        kept = line_kept g.S.Store c.one_step_has_one_result.ensures g.O.Write.contents g.E.Write.contents
+            (shown c.args.line.now) c.args.conn c.in-Ok.store last c.close.result c.args.out.now c.args.err.now
+            c.carry_over-done.result c.carry_over-done.new.out c.carry_over-done.new.err
+            (sym c.close.ensures) c.in-Ok.ensures.found c.carry_over-done.ensures;
       },
     )
 

@@ -5,4 +5,6 @@ use Rattle.exam_commands.specs.Own.{shown_session}
 use Rattle.exam_request.proofs.own_bodies.collect_missed.Given as goal
 
 abbrev pub invariant-loop-session : goal.invariant-loop-session
-invariant-loop-session l = l.rows.items ++ flat_map missed_in (map shown_session (drop l.session-index l.sessions)) ≡ l.fn.rows.items ++ flat_map missed_in (map shown_session l.sessions)
+invariant-loop-session l =
+    l.rows.items ++ flat_map missed_in (map shown_session (drop l.session-index l.sessions)) ≡ l.fn.rows.items
+    ++ flat_map missed_in (map shown_session l.sessions)

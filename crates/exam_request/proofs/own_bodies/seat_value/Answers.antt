@@ -11,7 +11,9 @@ pub ascii_text-requires-2 : goal.ascii_text-requires-2
 ascii_text-requires-2 c = subst IsAscii (sym (c.deref-2.ensures.value ∙ c.requires.1)) (ascii_minute _)
 
 pub ascii_text-requires-3 : goal.ascii_text-requires-3
-ascii_text-requires-3 c = subst IsAscii (sym (c.deref-3.ensures.value ∙ c.requires.2)) (ascii_features (shown_session c.args.own.now).arrangement.needs)
+ascii_text-requires-3 c =
+    subst IsAscii (sym (c.deref-3.ensures.value ∙ c.requires.2))
+    (ascii_features (shown_session c.args.own.now).arrangement.needs)
 
 pub ascii_text-requires-6 : goal.ascii_text-requires-6
 ascii_text-requires-6 c = subst IsAscii (sym (c.deref-4.ensures.value ∙ c.requires.3)) (ascii_minute _)

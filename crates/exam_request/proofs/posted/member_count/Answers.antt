@@ -10,5 +10,6 @@ use Rattle.exam_request.proofs.posted.member_count.Goals as goal
 pub returns-in-Object : goal.returns-in-Object
 returns-in-Object c =
     let count = c.len.ensures ∙ c.in-Object.members.ok.0 ∙ sym (count_members c.in-Object.members.items) in
-    let seen = ap (λ j. option_map count_of (as_object j)) (ap value_view c.in-Object.is ∙ view-Object c.in-Object.members) in
+    let seen = ap (λ j. option_map count_of (as_object j))
+    (ap value_view c.in-Object.is ∙ view-Object c.in-Object.members) in
     ap (λ n. Some n) count ∙ sym seen

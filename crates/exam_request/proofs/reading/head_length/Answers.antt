@@ -1,3 +1,5 @@
+-- No empty line begins in what was passed. The three bytes before the new ones are looked at again, since a line can
+-- begin there and end in the new ones.
 use Rattle.std.proofs.Common.{◌≡◌, ◌≤◌, ◌∙◌, ◌+◌, ◌-◌, ap, sym, subst, arith, rules, drop, length, true, false}
 use Rattle.std.specs.Prelude.{option_map}
 use Rattle.std.proofs.lemmas.List.{length-drop}
@@ -12,7 +14,10 @@ loop-rest-init c =
     let start : c.saturating_sub-passed.result ≡ c.args.seen - 3 = c.saturating_sub-passed.ensures in
     let within = c.requires.within in
     let found = from_seen c.args.seen bytes within c.requires.none in
-    rw open_range (subst (λ p. head_len bytes ≡ option_map (λ n. p + n) (head_len (drop p bytes))) (sym start) found, omega (arith, length-drop passed bytes))
+    rw open_range (
+      subst (λ p. head_len bytes ≡ option_map (λ n. p + n) (head_len (drop p bytes))) (sym start) found,
+      omega (arith, length-drop passed bytes),
+    )
 
 pub returns-then-starts_with : goal.returns-then-starts_with
 returns-then-starts_with c =
@@ -23,7 +28,11 @@ pub loop-rest-preserved : goal.loop-rest-preserved
 loop-rest-preserved c =
     let no : begins c.loop-rest.rest.now ≡ false = search rules in
     let some : 1 ≤ length c.loop-rest.rest.now = search rules in
-    rw open_range (c.loop-rest.invariant.0 ∙ ap (option_map (λ n. c.loop-rest.passed + n)) (not_here _ no) ∙ shifted _ _, omega (arith, length-drop 1 c.loop-rest.rest.now))
+    rw open_range (
+      c.loop-rest.invariant.0 ∙ ap (option_map (λ n. c.loop-rest.passed + n)) (not_here _ no)
+          ∙ shifted _ _,
+      omega (arith, length-drop 1 c.loop-rest.rest.now),
+    )
 
 pub returns : goal.returns
 returns c =

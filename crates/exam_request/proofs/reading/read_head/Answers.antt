@@ -1,3 +1,5 @@
+-- What is in hand has no whole empty line, and is what the reader has given. If nothing more comes the head is broken
+-- off; if the buffer is full the head is too long.
 use Rattle.std.proofs.Common.{◌≡◌, ◌∙◌, arith, take, rules, refl, Some}
 use Rattle.std.proofs.KnownBytes.{Consumes-nil}
 use Rattle.std.proofs.lemmas.List.{length-take-le}

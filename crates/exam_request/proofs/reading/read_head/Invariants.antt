@@ -6,7 +6,8 @@ use Rattle.exam_request.specs.Sizes.{most_head}
 
 -- what is in hand was consumed, and holds no end of a head
 abbrev pub invariant-loop-filled : goal.invariant-loop-filled
-invariant-loop-filled g l = (l.filled ≤ most_head) × (most_head ≤ length l.buffer) × (head_len (take l.filled l.buffer) ≡ None)
+invariant-loop-filled g l =
+    (l.filled ≤ most_head) × (most_head ≤ length l.buffer) × (head_len (take l.filled l.buffer) ≡ None)
     × Consumes (g.R.Read.remaining l.fn.reader) (g.R.Read.remaining l.reader) (take l.filled l.buffer)
 
 abbrev pub decreases-loop-filled : goal.decreases-loop-filled

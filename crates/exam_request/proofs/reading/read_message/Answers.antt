@@ -1,3 +1,5 @@
+-- What is in hand begins with the head and the spans are judged by it alone, so the bytes that follow do not matter
+-- until the body is whole.
 use Rattle.std.proofs.Common.{◌≡◌, arith, rules}
 use Rattle.std.specs.Prelude.{Err}
 use Rattle.std.proofs.lemmas.List.{length-take-le}
@@ -27,8 +29,15 @@ pub loop-filled-preserved : goal.loop-filled-preserved
 loop-filled-preserved g c =
     let inv = c.loop-filled.invariant in
     let r = c.in_ok-total.ensures in
-    let kept = c.read_more.auto.buffer in
-    (omega (arith, r.1), omega (arith, r.1), omega arith, omega arith, omega arith, head_more _ _ _ _ _ _ inv.5 r.2, fronts_stay _ _ _ _ _ _ _ inv.5 r.2 inv.6)
+    let kept = c.read_more.auto.buffer in (
+      omega (arith, r.1),
+      omega (arith, r.1),
+      omega arith,
+      omega arith,
+      omega arith,
+      head_more _ _ _ _ _ _ inv.5 r.2,
+      fronts_stay _ _ _ _ _ _ _ inv.5 r.2 inv.6,
+    )
 
 pub returns : goal.returns
 returns g c =

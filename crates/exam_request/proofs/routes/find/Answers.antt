@@ -3,7 +3,9 @@ use Rattle.exam_request.proofs.FoundRoutes.{found_reads, is_text, missing_reads}
 use Rattle.exam_request.proofs.routes.find.Goals as goal
 
 pub returns-in_default : goal.returns-in_default
-returns-in_default c = missing_reads c.args.target.now (is_text c.args.target.now c.type_inv.target) (rw c.requires at c.in_default.ensures.missing)
+returns-in_default c =
+    missing_reads c.args.target.now (is_text c.args.target.now c.type_inv.target)
+    (rw c.requires at c.in_default.ensures.missing)
 
 pub returns : goal.returns
 returns c =

@@ -7,4 +7,6 @@ pub returns-clause-decides : goal.returns-clause-decides
 returns-clause-decides c = decided c.args.given.now c.args.secret.now _ c.differences-same_bytes.ensures
 
 pub returns-clause-value : goal.returns-clause-value
-returns-clause-value c = same_from_decides _ _ (decided c.args.given.now c.args.secret.now _ c.differences-same_bytes.ensures) (bytes_eq-Decides c.args.given.now c.args.secret.now)
+returns-clause-value c =
+    same_from_decides _ _ (decided c.args.given.now c.args.secret.now _ c.differences-same_bytes.ensures)
+    (bytes_eq-Decides c.args.given.now c.args.secret.now)

@@ -10,7 +10,8 @@ returns c =
     let n : ℕ = c.args.number in
     let own : leading (is_row_of n) c.range.result ≡ filter (is_row_of n) c.args.facts.now.appeals.entries =
     ap (leading (is_row_of n)) (c.range.ensures.between tt)
-    ∙ rows_from code_cmp n c.least_reference-least.result c.args.facts.now.appeals.entries c.range.ensures.ordered c.no_appeal_before.ensures in
+    ∙ rows_from code_cmp n c.least_reference-least.result c.args.facts.now.appeals.entries c.range.ensures.ordered
+    c.no_appeal_before.ensures in
     let rows : c.new.result ≡ (n, filter (is_row_of n) c.args.facts.now.appeals.entries) =
     c.new.ensures ∙ ap (λ (l : List ((ℕ × Code) × Appeal)). (n, l)) own in
     record {

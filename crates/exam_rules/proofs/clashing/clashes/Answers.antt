@@ -13,4 +13,5 @@ returns-clause-ok c =
     let numbers : c.deref.result.now ≡ members r s =
     c.deref.ensures.value ∙ c.in_ok-numbers.ensures.ok
     ∙ ap (map (λ (e : Entrant). e.number)) (c.members_of.ensures ∙ lists.members s) ∙ lists.numbers s in
-    subst (λ (ns : List ℕ). IfOk c.clashes_among.result (λ list. list.items ≡ flat_map (clashes_of r s) ns)) numbers c.clashes_among.ensures.ok
+    subst (λ (ns : List ℕ). IfOk c.clashes_among.result (λ list. list.items ≡ flat_map (clashes_of r s) ns)) numbers
+    c.clashes_among.ensures.ok

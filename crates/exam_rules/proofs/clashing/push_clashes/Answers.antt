@@ -8,8 +8,10 @@ use Rattle.exam_rules.proofs.clashing.push_clashes.Goals as goal
 pub loop-key-preserved-then-is_clash : goal.loop-key-preserved-then-is_clash
 loop-key-preserved-then-is_clash c =
     let of_number : c.next.new.self.0 ≡ c.args.number = c.in-Some.ensures.steps.1 ∙ c.loop-key.invariant.2 in
-    let own : nat_eq c.in-Some.key.now.0 c.args.number ≡ true = rw (c.in-Some.ensures.steps.2, c.loop-key.invariant.2) (grind (arith, nat_tests)) in
-    let of_session : is_paper_of (relations_of c.args.facts.now) c.args.session.now c.in-Some.key.now.1 ≡ true = search rules in
+    let own : nat_eq c.in-Some.key.now.0 c.args.number ≡ true =
+    rw (c.in-Some.ensures.steps.2, c.loop-key.invariant.2) (grind (arith, nat_tests)) in
+    let of_session : is_paper_of (relations_of c.args.facts.now) c.args.session.now c.in-Some.key.now.1 ≡ true =
+    search rules in
     let clash : is_clash c.sitting_by_entries-sat.result c.in-Some.key.now.1 ≡ true = search rules in (
       tt,
       tt,
@@ -22,6 +24,8 @@ loop-key-preserved-then-is_clash c =
           (sym (clash_turn (relations_of c.args.facts.now) c.args.session.now c.args.number
           c.sitting_by_entries-sat.result c.in-Some.key.now c.in-Some.entry.now c.next.new.self.1 own c.if-entry.true
           of_session clash))
-          ∙ ap (λ rows. c.loop-key.list.items ++ clashes_left (relations_of c.args.facts.now) c.args.session.now c.args.number c.sitting_by_entries-sat.result rows) (sym c.in-Some.ensures.steps.0)
+          ∙ ap (λ rows. c.loop-key.list.items
+          ++ clashes_left (relations_of c.args.facts.now) c.args.session.now c.args.number
+          c.sitting_by_entries-sat.result rows) (sym c.in-Some.ensures.steps.0)
           ∙ c.loop-key.invariant.3),
     )

@@ -5,7 +5,8 @@ use Rattle.exam_rules.proofs.fit.suiting_places.Goals as goal
 use Rattle.exam_rules.proofs.fit.suiting_places.Goals.{then-is_suiting, else-is_suiting}
 
 pub loop-place-init : goal.loop-place-init
-loop-place-init c = places_begin (is_suiting c.args.terms.now c.args.barred.now) c.args.halls.now c.empty-places.result c.empty-places.ensures
+loop-place-init c = places_begin
+    (is_suiting c.args.terms.now c.args.barred.now) c.args.halls.now c.empty-places.result c.empty-places.ensures
 
 pub loop-place-preserved : goal.loop-place-preserved
 loop-place-preserved c = let P = is_suiting c.args.terms.now c.args.barred.now in
@@ -21,7 +22,11 @@ loop-place-preserved c = let P = is_suiting c.args.terms.now c.args.barred.now i
     ])
 
 pub returns-clause-places : goal.returns-clause-places
-returns-clause-places c = (places_end (is_suiting c.args.terms.now c.args.barred.now) c.args.halls.now c.loop-place.place c.loop-place.places c.loop-place-test.false c.loop-place.invariant).0
+returns-clause-places c =
+    (places_end (is_suiting c.args.terms.now c.args.barred.now) c.args.halls.now c.loop-place.place c.loop-place.places
+    c.loop-place-test.false c.loop-place.invariant).0
 
 pub returns-clause-exist : goal.returns-clause-exist
-returns-clause-exist c = (places_end (is_suiting c.args.terms.now c.args.barred.now) c.args.halls.now c.loop-place.place c.loop-place.places c.loop-place-test.false c.loop-place.invariant).1
+returns-clause-exist c =
+    (places_end (is_suiting c.args.terms.now c.args.barred.now) c.args.halls.now c.loop-place.place c.loop-place.places
+    c.loop-place-test.false c.loop-place.invariant).1

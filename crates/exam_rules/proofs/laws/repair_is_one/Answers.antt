@@ -6,4 +6,6 @@ use Rattle.exam_plan.proofs.OneRepair.{one_repair}
 use Rattle.exam_rules.proofs.laws.repair_is_one.Goals as goal
 
 pub returns : goal.returns
-returns c = λ r s first before one other. one_repair (seating r s) nat_cmp_total nat_list_cmp_total nat_cmp-IsAntisymmetric (slice_cmp-IsAntisymmetric nat_cmp-IsAntisymmetric) first before one other
+returns c = λ r s first before one other. one_repair
+    (seating r s) nat_cmp_total nat_list_cmp_total nat_cmp-IsAntisymmetric
+    (slice_cmp-IsAntisymmetric nat_cmp-IsAntisymmetric) first before one other

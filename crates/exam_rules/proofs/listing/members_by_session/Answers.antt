@@ -1,3 +1,4 @@
+-- The lists are those of the candidates walked so far. Numbers rise in the table, so each list is in order.
 use Rattle.std.proofs.Common.{◌≡◌, ◌++◌, ◌∷◌, [], List, ℕ, ap, sym, subst, ◌∙◌, append_assoc}
 use Rattle.std.specs.Ordering.{nat_cmp}
 use Rattle.std.specs.List.Sorted.{IsStrictlySortedBy}
@@ -16,9 +17,12 @@ loop-number-preserved c =
     let done : List ℕ = c.loop-number.invariant.0 in
     let n : ℕ = c.in-Some.number.now in
     let rest = c.next.new.self in
-    let turn : c.loop-number.number-iterator ≡ (n, c.in-Some.field-0-1.now) ∷ rest = rest_more deref_pair _ _ _ _ c.in-Some.is c.next.ensures.steps in
-    let split : done ++ n ∷ keys_of rest ≡ keys_of c.args.facts.now.candidates.entries = ap (λ es. done ++ keys_of es) (sym turn) ∙ c.loop-number.invariant.1 in
-    let up : IsStrictlySortedBy nat_cmp (done ++ n ∷ keys_of rest) = subst (IsStrictlySortedBy nat_cmp) (sym split) c.into_iter-number-iterator.ensures.into_iter_gives.5 in (
+    let turn : c.loop-number.number-iterator ≡ (n, c.in-Some.field-0-1.now) ∷ rest =
+    rest_more deref_pair _ _ _ _ c.in-Some.is c.next.ensures.steps in
+    let split : done ++ n ∷ keys_of rest ≡ keys_of c.args.facts.now.candidates.entries =
+    ap (λ es. done ++ keys_of es) (sym turn) ∙ c.loop-number.invariant.1 in
+    let up : IsStrictlySortedBy nat_cmp (done ++ n ∷ keys_of rest) =
+    subst (IsStrictlySortedBy nat_cmp) (sym split) c.into_iter-number-iterator.ensures.into_iter_gives.5 in (
       done ++ n ∷ [],
       append_assoc done (n ∷ []) (keys_of rest) ∙ split,
       λ s. members_more (least_live_paper (relations_of c.args.facts.now) s) done (keys_of rest)

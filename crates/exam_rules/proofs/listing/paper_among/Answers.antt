@@ -1,3 +1,5 @@
+-- The place is that of the first number that is not less. If the candidate is not there, all before are less and all
+-- behind are greater, so the candidate is nowhere.
 use Rattle.std.proofs.Common.{◌≡◌, ◌≢◌, ◌<◌, ℕ, List, Bool, true, false, nat_lt, length, get_or, eq-eqb, refl, arith}
 use Rattle.std.specs.List.{All}
 use Rattle.std.specs.List.Sorted.{IsNonDecreasingBy, IsPartitionPoint}

@@ -5,5 +5,6 @@ use Rattle.exam_rules.proofs.listing.place_of.Goals as goal
 
 pub returns-clause-place : goal.returns-clause-place
 returns-clause-place c = λ up.
-    IsPartitionPoint-from_clause (λ (e : Entrant). nat_lt e.number c.args.number) _ _ c.partition_point.ensures.partitioned
+    IsPartitionPoint-from_clause
+    (λ (e : Entrant). nat_lt e.number c.args.number) _ _ c.partition_point.ensures.partitioned
     (IsPartitionedBy-ltb (λ (e : Entrant). e.number) _ c.args.number up) (λ a r q k. search rules)

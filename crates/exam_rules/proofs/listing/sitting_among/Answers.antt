@@ -12,5 +12,6 @@ returns-in-Some c =
     let r = relations_of c.args.facts.now in
     let s = c.args.session.now in
     c.sitting_beside.ensures
-    (All-contains (λ (e : Entrant). least_live_paper r s e.number ≡ Some e.paper) (entrants r s) (entrant c.args.number c.in-Some.least) (entrants_sit r s)
+    (All-contains (λ (e : Entrant). least_live_paper r s e.number ≡ Some e.paper) (entrants r s)
+    (entrant c.args.number c.in-Some.least) (entrants_sit r s)
     (subst (λ es. Contains es (entrant c.args.number c.in-Some.least)) c.requires c.in-Some.ensures.found))

@@ -7,4 +7,6 @@ use Rattle.exam_rules.proofs.seating.fit_rows.Given as goal
 -- a row for each candidate so far
 abbrev pub invariant-loop-key : goal.invariant-loop-key
 invariant-loop-key l =
-    AreMasksOf (length l.halls) (λ key. fitting_places (relations_of l.facts) l.session key.1 (map (λ hall. hall.0) l.halls)) l.keys l.key-index l.rows.items
+    AreMasksOf (length l.halls)
+    (λ key. fitting_places (relations_of l.facts) l.session key.1 (map (λ hall. hall.0) l.halls)) l.keys
+    l.key-index l.rows.items

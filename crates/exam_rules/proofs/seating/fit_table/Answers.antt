@@ -1,3 +1,4 @@
+-- The rooms are those of the halls that were given, so the rows are those of the rules.
 use Rattle.std.proofs.Common.{◌≡◌, ◌≤◌, ◌<◌, ℕ, true, List, Option, length, map, IfOk, refl, ap, sym, subst, ◌∙◌}
 use Rattle.std.specs.Prelude.{All}
 use Rattle.std.proofs.lemmas.List.{length-map}
@@ -12,11 +13,13 @@ use Rattle.exam_rules.proofs.seating.fit_table.Goals as goal
 
 pub fit_rows-requires : goal.fit_rows-requires
 fit_rows-requires c =
-    let rooms : c.deref.result.now ≡ with_rooms (relations_of c.args.facts.now) c.args.session.now c.args.halls.now = c.deref.ensures.value ∙ c.in_ok-rooms.ensures.ok in
+    let rooms : c.deref.result.now ≡ with_rooms (relations_of c.args.facts.now) c.args.session.now c.args.halls.now =
+    c.deref.ensures.value ∙ c.in_ok-rooms.ensures.ok in
     let long : length c.deref.result.now ≡ length c.args.halls.now =
     ap length rooms ∙ length-map c.args.halls.now
     (λ h. (h, opened_room (relations_of c.args.facts.now) c.args.session.now h)) in record {
-      keys = subst (All (λ (key : Option Code × ℕ). key.0 ≡ sitting (relations_of c.args.facts.now) c.args.session.now key.1)) (sym c.requires.keys)
+      keys = subst (All (λ (key : Option Code × ℕ). key.0
+          ≡ sitting (relations_of c.args.facts.now) c.args.session.now key.1)) (sym c.requires.keys)
           (All-map (λ (key : Option Code × ℕ). key.0
           ≡ sitting (relations_of c.args.facts.now) c.args.session.now key.1)
           (desk_key (relations_of c.args.facts.now) c.args.session.now)
@@ -29,14 +32,19 @@ fit_rows-requires c =
 
 pub returns-clause-ok : goal.returns-clause-ok
 returns-clause-ok c =
-    let rooms : c.deref.result.now ≡ with_rooms (relations_of c.args.facts.now) c.args.session.now c.args.halls.now = c.deref.ensures.value ∙ c.in_ok-rooms.ensures.ok in
-    let long : length c.deref.result.now ≡ length c.args.halls.now = ap length rooms ∙ length-map c.args.halls.now (λ h. (h, opened_room (relations_of c.args.facts.now) c.args.session.now h)) in
+    let rooms : c.deref.result.now ≡ with_rooms (relations_of c.args.facts.now) c.args.session.now c.args.halls.now =
+    c.deref.ensures.value ∙ c.in_ok-rooms.ensures.ok in
+    let long : length c.deref.result.now ≡ length c.args.halls.now =
+    ap length rooms ∙ length-map c.args.halls.now
+    (λ h. (h, opened_room (relations_of c.args.facts.now) c.args.session.now h)) in
     subst (λ n. IfOk c.fit_rows.result
     (λ rows. map (halls_below n) (sets_of rows.items)
     ≡ map (λ m. fitting_places (relations_of c.args.facts.now) c.args.session.now m c.args.halls.now)
     (members (relations_of c.args.facts.now) c.args.session.now))) long
-    (subst (λ (places : List (List ℕ)). IfOk c.fit_rows.result (λ rows. map (halls_below (length c.deref.result.now)) (sets_of rows.items) ≡ places))
-    (ap (map (λ (key : Option Code × ℕ). fitting_places (relations_of c.args.facts.now) c.args.session.now key.1 (map (λ hall. hall.0) c.deref.result.now))) c.requires.keys
+    (subst (λ (places : List (List ℕ)). IfOk c.fit_rows.result
+    (λ rows. map (halls_below (length c.deref.result.now)) (sets_of rows.items) ≡ places))
+    (ap (map (λ (key : Option Code × ℕ). fitting_places (relations_of c.args.facts.now) c.args.session.now key.1
+    (map (λ hall. hall.0) c.deref.result.now))) c.requires.keys
     ∙ map-map (λ (key : Option Code × ℕ). fitting_places (relations_of c.args.facts.now) c.args.session.now key.1
     (map (λ hall. hall.0) c.deref.result.now)) (desk_key (relations_of c.args.facts.now) c.args.session.now)
     (members (relations_of c.args.facts.now) c.args.session.now)
@@ -47,6 +55,10 @@ returns-clause-ok c =
 
 pub returns-clause-exist : goal.returns-clause-exist
 returns-clause-exist c =
-    let rooms : c.deref.result.now ≡ with_rooms (relations_of c.args.facts.now) c.args.session.now c.args.halls.now = c.deref.ensures.value ∙ c.in_ok-rooms.ensures.ok in
-    let long : length c.deref.result.now ≡ length c.args.halls.now = ap length rooms ∙ length-map c.args.halls.now (λ h. (h, opened_room (relations_of c.args.facts.now) c.args.session.now h)) in
-    subst (λ n. IfOk c.fit_rows.result (λ rows. All (λ set. (h : ℕ) → holds set h ≡ true → h < n) (sets_of rows.items))) long c.fit_rows.ensures.exist
+    let rooms : c.deref.result.now ≡ with_rooms (relations_of c.args.facts.now) c.args.session.now c.args.halls.now =
+    c.deref.ensures.value ∙ c.in_ok-rooms.ensures.ok in
+    let long : length c.deref.result.now ≡ length c.args.halls.now =
+    ap length rooms ∙ length-map c.args.halls.now
+    (λ h. (h, opened_room (relations_of c.args.facts.now) c.args.session.now h)) in
+    subst (λ n. IfOk c.fit_rows.result
+    (λ rows. All (λ set. (h : ℕ) → holds set h ≡ true → h < n) (sets_of rows.items))) long c.fit_rows.ensures.exist

@@ -7,6 +7,9 @@ use Rattle.exam_rules.proofs.standing.last_until.Given as goal
 -- the last so far and those left answer as the whole
 abbrev pub invariant-loop-key : goal.invariant-loop-key
 invariant-loop-key l =
-    (goal.iterator-loop-key).can_next l.key-iterator × (goal.iterator-loop-key).is_finite l.key-iterator × (l.key-iterator.0 ≡ l.fn.number)
-    × (fold later_of l.last (filter (λ grant. nat_le grant.day l.day) (standing_grants_in (relations_of l.facts) l.key-iterator.1 l.fn.number))
+    (goal.iterator-loop-key).can_next l.key-iterator × (goal.iterator-loop-key).is_finite l.key-iterator
+    × (l.key-iterator.0 ≡ l.fn.number)
+    × (fold later_of l.last
+    (filter (λ grant. nat_le grant.day l.day)
+    (standing_grants_in (relations_of l.facts) l.key-iterator.1 l.fn.number))
     ≡ last_until l.day (standing_grants (relations_of l.facts) l.fn.number))

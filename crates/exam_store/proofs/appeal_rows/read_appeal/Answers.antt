@@ -1,3 +1,5 @@
+-- The first appeal of the session from there on heads the rows that are left. The database confirms it, or the reason
+-- is one of reading.
 use Rattle.std.proofs.Common.{◌≡◌, [], ◌∷◌, refl, ap, map, subst, ◌∙◌}
 use Rattle.std.specs.declared.ops.Bound.TheVariants.{Excluded}
 use Rattle.sqlite.specs.Held.{state}
@@ -14,16 +16,19 @@ pub returns-in-Some-clause-row : goal.returns-in-Some-clause-row
 returns-in-Some-clause-row g c =
     let it : KeyedAppeal = (c.in-Some.key.now, c.in-Some.appeal.now) in
     let s = c.args.session.now in
-    let first = subst (λ (r : Relations). appeals_from r.appeals s c.args.from ≡ it ∷ appeals_from r.appeals s (Excluded it.0)) c.facts.ensures c.in-Some.ensures in
+    let first = subst (λ (r : Relations). appeals_from r.appeals s c.args.from ≡ it
+    ∷ appeals_from r.appeals s (Excluded it.0)) c.facts.ensures c.in-Some.ensures in
     gives_ok c.args.office.now s c.args.from it first c.confirmed_row.result c.confirmed_row.ensures.row
 
 pub returns-in-Some-clause-refusal : goal.returns-in-Some-clause-refusal
 returns-in-Some-clause-refusal g c =
     let it : KeyedAppeal = (c.in-Some.key.now, c.in-Some.appeal.now) in
     let s = c.args.session.now in
-    let first = subst (λ (r : Relations). appeals_from r.appeals s c.args.from ≡ it ∷ appeals_from r.appeals s (Excluded it.0)) c.facts.ensures c.in-Some.ensures in
+    let first = subst (λ (r : Relations). appeals_from r.appeals s c.args.from ≡ it
+    ∷ appeals_from r.appeals s (Excluded it.0)) c.facts.ensures c.in-Some.ensures in
     let has = among c.args.office.now.relations.appeals s c.args.from it _ first in
-    refused_all g.S.Store c.args.office.now c.args.conn.now c.confirmed_row.new.conn it (c.show_order.ensures.tables table.Appeals) has c.confirmed_row.result c.confirmed_row.ensures.told
+    refused_all g.S.Store c.args.office.now c.args.conn.now c.confirmed_row.new.conn it
+    (c.show_order.ensures.tables table.Appeals) has c.confirmed_row.result c.confirmed_row.ensures.told
     c.confirmed_row.ensures.failed
 
 pub returns-in-Some-clause-read : goal.returns-in-Some-clause-read
@@ -32,15 +37,18 @@ returns-in-Some-clause-read g c =
     record {
       office = refl;
       clean = clean_before (state g.S.Store c.args.conn.now) (state g.S.Store c.confirmed_row.new.conn) survives;
-      left = λ clean. left_any g.S.Store c.args.conn.now c.confirmed_row.new.conn c.confirmed_row.result (c.confirmed_row.ensures.left clean);
+      left = λ clean. left_any g.S.Store c.args.conn.now c.confirmed_row.new.conn c.confirmed_row.result
+          (c.confirmed_row.ensures.left clean);
       survives = survives;
     }
 
 pub returns-in-None-clause-row : goal.returns-in-None-clause-row
 returns-in-None-clause-row g c =
-    let none = subst (λ (r : Relations). appeals_from r.appeals c.args.session.now c.args.from ≡ []) c.facts.ensures c.in-None.ensures in
+    let none = subst (λ (r : Relations). appeals_from r.appeals c.args.session.now c.args.from ≡ []) c.facts.ensures
+    c.in-None.ensures in
     let nothing : rows_from c.args.office.now c.args.session.now c.args.from ≡ [] = ap (map appeal_row) none in
     (nothing, nothing)
 
 pub returns-in-None-clause-read : goal.returns-in-None-clause-read
-returns-in-None-clause-read g c = read_itself g.S.Store (record { office = c.args.office.now; database = c.args.conn.now })
+returns-in-None-clause-read g c =
+    read_itself g.S.Store (record { office = c.args.office.now; database = c.args.conn.now })

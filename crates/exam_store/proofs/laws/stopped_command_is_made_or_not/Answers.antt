@@ -14,4 +14,6 @@ returns-clause-answered g c = λ done today old new answer was now found order k
     (state g.S.Store old.database) old.office order kept clean answer new.office applied.made applied.step
 
 pub returns-clause-shut : goal.returns-clause-shut
-returns-clause-shut g c = λ done today old new answer shut applied clean. writes_nothing g.S.Store done today old new shut clean answer applied
+returns-clause-shut g c =
+    λ done today old new answer shut applied clean. writes_nothing g.S.Store done today old new shut clean answer
+    applied

@@ -1,3 +1,5 @@
+-- For each table the difference is taken between what it was before the command and what it is after. The command
+-- takes no row away but openings and seats, so for all other tables the puts are enough.
 use Rattle.std.proofs.Common.{◌≡◌, List, Ordering, ap, map, refl, subst, sym}
 use Rattle.std.specs.Cmp.{IsTotalOrder, nat_cmp_total}
 use Rattle.std.specs.Cmp.Lexicographic.{nat_list_cmp_total}
@@ -5,12 +7,13 @@ use Rattle.std.specs.Map.Iter.{deref_pair}
 use Rattle.std.proofs.lemmas.Map.Lookups.{CmpEqualImpliesEq}
 use Rattle.exam_rules.specs.Relations.{Relations}
 use Rattle.exam_rules.specs.Tables as table
+use Rattle.exam_commands.proofs.KeyedRows.{appeals_total}
 use Rattle.exam_commands.specs.KeptRows.{KeepsKeys}
-use Rattle.exam_commands.proofs.AppealKeys.{appeals_total}
 use Rattle.exam_changes.specs.declared.before.Before.{Before}
 use Rattle.exam_changes.specs.TablesBefore.{WasTable}
 use Rattle.exam_tables.specs.declared.differences.Difference.{Difference}
-use Rattle.exam_tables.proofs.Exact.{sessions_exact, papers_exact, halls_exact, openings_exact, candidates_exact, entries_exact, arrangements_exact, appeals_exact, standing_exact}
+use Rattle.exam_tables.proofs.Exact.{sessions_exact, papers_exact, halls_exact, openings_exact, candidates_exact}
+use Rattle.exam_tables.proofs.Exact.{entries_exact, arrangements_exact, appeals_exact, standing_exact}
 use Rattle.exam_store.specs.Saves.{TurnsRows, TurnsTable}
 use Rattle.exam_store.proofs.PutsAlone.{puts_alone}
 use Rattle.exam_store.proofs.saving.changes_of.Goals as goal
@@ -19,7 +22,8 @@ use Rattle.exam_store.proofs.saving.changes_of.Goals as goal
 shown : {K X : Type 0} {cmp : K → K → Ordering} (told : Before K X) (old now after : List (K × X)) (d : Difference K X)
     → now ≡ after → WasTable cmp told old after → (WasTable cmp told old now → TurnsTable cmp old now d)
     → TurnsTable cmp old after d
-shown {cmp} told old now after d is was turns = subst (λ rows. TurnsTable cmp old rows d) is (turns (subst (λ rows. WasTable cmp told old rows) (sym is) was))
+shown {cmp} told old now after d is was turns =
+    subst (λ rows. TurnsTable cmp old rows d) is (turns (subst (λ rows. WasTable cmp told old rows) (sym is) was))
 
 -- and where no key is gone, what is put makes them
 put_alone : {K X : Type 0} {cmp : K → K → Ordering} (total : IsTotalOrder cmp) (exact : CmpEqualImpliesEq cmp)
@@ -46,10 +50,12 @@ returns-clause-turns c =
           (ap (λ (r : Relations). r.sessions) is) (kept table.Sessions refl) (told table.Sessions)
           (c.in_ok-difference_since.ensures before.sessions sessions_exact (rise.tables table.Sessions));
       papers = put_alone nat_list_cmp_total papers_exact.keys was.papers before.papers facts.papers.entries
-          after.papers c.in_ok-difference_since-2.field-0 (ap (λ (r : Relations). r.papers) is) (kept table.Papers refl) (told table.Papers)
+          after.papers c.in_ok-difference_since-2.field-0 (ap (λ (r : Relations). r.papers) is)
+          (kept table.Papers refl) (told table.Papers)
           (c.in_ok-difference_since-2.ensures before.papers papers_exact (rise.tables table.Papers));
       halls = put_alone nat_list_cmp_total halls_exact.keys was.halls before.halls facts.halls.entries after.halls
-          c.in_ok-difference_since-3.field-0 (ap (λ (r : Relations). r.halls) is) (kept table.Halls refl) (told table.Halls)
+          c.in_ok-difference_since-3.field-0 (ap (λ (r : Relations). r.halls) is) (kept table.Halls refl)
+          (told table.Halls)
           (c.in_ok-difference_since-3.ensures before.halls halls_exact (rise.tables table.Halls));
       openings = shown was.openings before.openings facts.openings.entries after.openings
           c.in_ok-difference_since-4.field-0 (ap (λ (r : Relations). r.openings) is) (told table.Openings)
@@ -74,5 +80,6 @@ returns-clause-turns c =
           after.standing c.in_ok-difference_since-9.field-0
           (ap (λ (r : Relations). r.standing) is) (kept table.Standing refl) (told table.Standing)
           (c.in_ok-difference_since-9.ensures before.standing standing_exact (rise.tables table.Standing));
-      seats = c.in_ok-seats_since.ensures c.args.draft.now.before.seats c.args.draft.now.after.seats rise.seats c.show_good.ensures.after_rises.seats c.plans_before.ensures;
+      seats = c.in_ok-seats_since.ensures c.args.draft.now.before.seats c.args.draft.now.after.seats rise.seats
+          c.show_good.ensures.after_rises.seats c.plans_before.ensures;
     }

@@ -14,8 +14,10 @@ returns g c old exact up has same =
       | in-Some+in_ok-push w ↦
           let row = w.in-Some.row in
           let put : c.match-get.put.items ≡ (c.args.key, row) ∷ [] =
-          ap (λ v. v.items) w.put-is ∙ w.in_ok-push.ensures.items ∙ ap (λ l. l ++ (c.args.key, row) ∷ []) c.new-put.ensures.items in
-          let at : row_at g.K.Ord.cmp new key ≡ Some row.now = sym c.get.ensures.value ∙ ap option_copied w.in-Some.is in
+          ap (λ v. v.items) w.put-is ∙ w.in_ok-push.ensures.items
+          ∙ ap (λ l. l ++ (c.args.key, row) ∷ []) c.new-put.ensures.items in
+          let at : row_at g.K.Ord.cmp new key ≡ Some row.now =
+          sym c.get.ensures.value ∙ ap option_copied w.in-Some.is in
           rw (put, c.new.ensures.items) (row_turns g.met.K.Ord.total key row.now exact.keys old new up same at)
       | in_default w ↦
           let none : row_at g.K.Ord.cmp new key ≡ None = sym c.get.ensures.value ∙ ap option_copied w.in_default.is in

@@ -6,4 +6,5 @@ use Rattle.exam_store.proofs.saving.rows_put.Given as goal
 -- the rows so far, and those at the keys that are left, are those at all keys
 abbrev pub invariant-loop-key : goal.invariant-loop-key
 invariant-loop-key g l =
-    map deref_pair l.put.items ++ rows_at g.K.Ord.cmp l.after.entries l.key-iterator ≡ rows_at g.K.Ord.cmp l.after.entries l.was.entries
+    map deref_pair l.put.items
+    ++ rows_at g.K.Ord.cmp l.after.entries l.key-iterator ≡ rows_at g.K.Ord.cmp l.after.entries l.was.entries

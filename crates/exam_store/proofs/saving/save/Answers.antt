@@ -16,5 +16,7 @@ pub returns-clause-failed : goal.returns-clause-failed
 returns-clause-failed g c = λ ended clean ours.
     let draft = c.args.draft.now in
     let good = c.show_good.ensures in
-    fails_to_save draft.before draft.after c.in_ok-changes.changes (state g.S.Store c.args.conn.now) (state g.S.Store c.save_changes.new.conn) c.in_ok-changes.ensures.turns
-    good.before good.after good.before_rises.seats good.after_rises.seats c.save_changes.result (c.save_changes.ensures.failed ended clean ours)
+    fails_to_save draft.before draft.after c.in_ok-changes.changes (state g.S.Store c.args.conn.now)
+    (state g.S.Store c.save_changes.new.conn) c.in_ok-changes.ensures.turns
+    good.before good.after good.before_rises.seats good.after_rises.seats c.save_changes.result
+    (c.save_changes.ensures.failed ended clean ours)

@@ -16,5 +16,6 @@ returns-in-Same c old new old_up new_up were =
 pub returns-in-Plans : goal.returns-in-Plans
 returns-in-Plans c old new old_up new_up were =
     let are = subst (λ b. WerePlans b old new) c.in-Plans.is were in
-    seats_turn (pointwise nat_eq) c.in-Plans.old.now.entries c.in-Plans.new.now.entries old new old_up new_up are c.difference_of.result
+    seats_turn (pointwise nat_eq) c.in-Plans.old.now.entries c.in-Plans.new.now.entries old new old_up new_up are
+    c.difference_of.result
     c.difference_of.ensures.differs (c.difference_of.ensures.turns seats_exact) c.difference_of.ensures.rise

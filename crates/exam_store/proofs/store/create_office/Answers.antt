@@ -1,3 +1,5 @@
+-- A blank database gets the tables of the empty office in one transaction. Any other one is opened as it is, and only
+-- read.
 use Rattle.std.proofs.Common.{◌≡◌, Err, rules}
 use Rattle.sqlite.specs.Held.{state}
 use Rattle.exam_tables.specs.Versions.{IsBlank}

@@ -1,3 +1,5 @@
+-- The version and the office are read of the same rows. A version that is not the newest is refused before any other
+-- row is read.
 use Rattle.std.proofs.Common.{◌≡◌, Ok, Err, inl, inr, refl, subst, rules}
 use Rattle.std.proofs.lemmas.Bool.{both_ways}
 use Rattle.std.proofs.lemmas.Result.{IfErr-weaker}
@@ -18,17 +20,22 @@ pub returns-clause-found : goal.returns-clause-found
 returns-clause-found g c =
     let v = c.in_ok-version.version in
     let newest : v.number ≡ version = search rules in
-    loaded g.S.Store c.args.conn.now c.version_of.new.conn c.load_version.new.conn v c.load_version.result c.in_ok-version.ensures.known newest c.in_ok-version.ensures.listed
-    (by_queries g.S.Store c.args.conn.now c.version_of.new.conn load_office office_loads (Ok v) version_part c.in_ok-version.ensures.reads) c.load_version.ensures.loads
+    loaded g.S.Store c.args.conn.now c.version_of.new.conn c.load_version.new.conn v c.load_version.result
+    c.in_ok-version.ensures.known newest c.in_ok-version.ensures.listed
+    (by_queries g.S.Store c.args.conn.now c.version_of.new.conn load_office office_loads
+    (Ok v) version_part c.in_ok-version.ensures.reads) c.load_version.ensures.loads
 
 pub returns-clause-kept : goal.returns-clause-kept
-returns-clause-kept g c = finds_kept (state g.S.Store c.args.conn.now) (state g.S.Store c.load_version.new.conn) c.load_version.result (returns-clause-found g c)
+returns-clause-kept g c =
+    finds_kept (state g.S.Store c.args.conn.now) (state g.S.Store c.load_version.new.conn) c.load_version.result
+    (returns-clause-found g c)
 
 pub returns-clause-left : goal.returns-clause-left
 returns-clause-left g c = λ clean.
     then_reads (state g.S.Store c.args.conn.now) (state g.S.Store c.version_of.new.conn)
     (state g.S.Store c.load_version.new.conn) c.load_version.result
-    (c.in_ok-version.ensures.reads.left (c.load_version.ensures.loads.early clean)) (c.load_version.ensures.loads.left clean)
+    (c.in_ok-version.ensures.reads.left (c.load_version.ensures.loads.early clean))
+    (c.load_version.ensures.loads.left clean)
 
 pub returns-clause-survives : goal.returns-clause-survives
 returns-clause-survives g c =
@@ -45,7 +52,8 @@ returns-clause-refusal g c = λ clean.
     inl (part_failed e (λ told.
     (told.0, still_then old mid (state g.S.Store told.0) same told.1, told.2, told.3, told.4))
     (λ none. (
-      λ all was. let there = still_of version old mid all same was in none all (made_of version mid.now all there) there,
+      λ all was. let there =
+          still_of version old mid all same was in none all (made_of version mid.now all there) there,
       λ v known all was has. one_version v version all has
           (subst (λ v. HasVersion v all) newest
           (c.in_ok-version.ensures.reads.rows (c.load_version.ensures.loads.early clean) all was)),
@@ -65,7 +73,11 @@ returns-in_err-version-clause-refusal g c = λ clean.
 pub returns-then-version-clause-refusal : goal.returns-then-version-clause-refusal
 returns-then-version-clause-refusal g c = λ clean.
     let v = c.in_ok-version.version.number in
-    inr (refl, λ all was. (v, older v c.in_ok-version.ensures.known.0 (search rules), c.in_ok-version.ensures.reads.rows clean all was))
+    inr (
+      refl,
+      λ all was.
+          (v, older v c.in_ok-version.ensures.known.0 (search rules), c.in_ok-version.ensures.reads.rows clean all was),
+    )
 
 pub returns-clause-told : goal.returns-clause-told
 returns-clause-told g c = IfErr-weaker c.load_version.result _ _ opens_as c.load_version.ensures.loads.told

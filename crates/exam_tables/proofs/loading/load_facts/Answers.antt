@@ -1,3 +1,5 @@
+-- Each table is read of the rows that the one before found, since reading changes none. Once the first is read, the
+-- connection is open.
 use Rattle.std.proofs.Common.{◌≡◌, Ok, Err, inl, inr, rules}
 use Rattle.exam_rules.specs.Tables as table
 use Rattle.exam_tables.specs.Forms.{sessions}
@@ -14,7 +16,8 @@ pub returns-in_err-sessions : goal.returns-in_err-sessions
 returns-in_err-sessions g c =
     let is : c.from_residual.result ≡ Err c.in_err-sessions.field-0.0 = search rules in
     let part = table_part sessions.cmp sessions in
-    let first = by_queries g.S.Store c.args.conn.now c.load_rows.new.conn sessions.load sessions_ours.loads (Err c.in_err-sessions.field-0.0) part c.in_err-sessions.ensures in
+    let first = by_queries g.S.Store c.args.conn.now c.load_rows.new.conn sessions.load sessions_ours.loads
+    (Err c.in_err-sessions.field-0.0) part c.in_err-sessions.ensures in
     rw is (not_loaded g.S.Store c.args.conn.now c.load_rows.new.conn part facts_part
     (λ all was. was) c.in_err-sessions.field-0.0
     (λ clean all was none r held. none r.sessions (held table.Sessions)) first)
@@ -23,10 +26,15 @@ pub returns-in_err-tables : goal.returns-in_err-tables
 returns-in_err-tables g c =
     let is : c.from_residual-in_err-tables.result ≡ Err c.in_err-tables.field-0.0 = search rules in
     let part = table_part sessions.cmp sessions in
-    let first = by_queries g.S.Store c.args.conn.now c.load_rows.new.conn sessions.load sessions_ours.loads (Ok c.in_ok-sessions.sessions) part c.in_ok-sessions.ensures in
-    let next = c.in_err-tables.ensures.loads (opened g.S.Store c.args.conn.now c.load_rows.new.conn c.load.new.conn part c.in_ok-sessions.sessions first c.load.ensures.early) in
-    let both = next_fails g.S.Store c.args.conn.now c.load_rows.new.conn c.load.new.conn part _ c.in_ok-sessions.sessions first c.in_err-tables.field-0.0 next in
-    rw is (not_loaded g.S.Store c.args.conn.now c.load.new.conn _ facts_part (λ all was. nine was) c.in_err-tables.field-0.0 (λ clean all was none r held. elim none [
+    let first = by_queries g.S.Store c.args.conn.now c.load_rows.new.conn sessions.load sessions_ours.loads
+    (Ok c.in_ok-sessions.sessions) part c.in_ok-sessions.ensures in
+    let next = c.in_err-tables.ensures.loads
+    (opened g.S.Store c.args.conn.now c.load_rows.new.conn c.load.new.conn part c.in_ok-sessions.sessions first
+    c.load.ensures.early) in
+    let both = next_fails g.S.Store c.args.conn.now c.load_rows.new.conn c.load.new.conn part _
+    c.in_ok-sessions.sessions first c.in_err-tables.field-0.0 next in
+    rw is (not_loaded g.S.Store c.args.conn.now c.load.new.conn _ facts_part
+    (λ all was. nine was) c.in_err-tables.field-0.0 (λ clean all was none r held. elim none [
       | inl of ↦ of r.sessions (held table.Sessions)
       | inr (inl of) ↦ of r.papers (held table.Papers)
       | inr (inr (inl of)) ↦ of r.halls (held table.Halls)
@@ -41,9 +49,13 @@ returns-in_err-tables g c =
 pub returns : goal.returns
 returns g c =
     let part = table_part sessions.cmp sessions in
-    let first = by_queries g.S.Store c.args.conn.now c.load_rows.new.conn sessions.load sessions_ours.loads (Ok c.in_ok-sessions.sessions) part c.in_ok-sessions.ensures in
-    let next = c.in_ok-tables.ensures.loads (opened g.S.Store c.args.conn.now c.load_rows.new.conn c.load.new.conn part c.in_ok-sessions.sessions first c.load.ensures.early) in
-    let both = all_load g.S.Store c.args.conn.now c.load_rows.new.conn c.load.new.conn part _ c.in_ok-sessions.sessions first c.in_ok-tables.tables next in
+    let first = by_queries g.S.Store c.args.conn.now c.load_rows.new.conn sessions.load sessions_ours.loads
+    (Ok c.in_ok-sessions.sessions) part c.in_ok-sessions.ensures in
+    let next = c.in_ok-tables.ensures.loads
+    (opened g.S.Store c.args.conn.now c.load_rows.new.conn c.load.new.conn part c.in_ok-sessions.sessions first
+    c.load.ensures.early) in
+    let both = all_load g.S.Store c.args.conn.now c.load_rows.new.conn c.load.new.conn part _ c.in_ok-sessions.sessions
+    first c.in_ok-tables.tables next in
     loaded_as g.S.Store c.args.conn.now c.load.new.conn _ facts_part (λ all was. nine was) _ _ both
     (λ clean all was is. elim [
       | table.Sessions ↦ is.0
@@ -56,6 +68,15 @@ returns g c =
       | table.Appeals ↦ is.1.1.1.1.1.1.1.0
       | table.Standing ↦ is.1.1.1.1.1.1.1.1
     ]) tt (λ clean is. (
-      (is.0, (is.1.0, (is.1.1.0, (is.1.1.1.1.0, (is.1.1.1.0, (is.1.1.1.1.1.0, (is.1.1.1.1.1.1.0, (is.1.1.1.1.1.1.1.0, tt)))))))),
+      (
+        is.0,
+        (
+          is.1.0,
+          (
+            is.1.1.0,
+            (is.1.1.1.1.0, (is.1.1.1.0, (is.1.1.1.1.1.0, (is.1.1.1.1.1.1.0, (is.1.1.1.1.1.1.1.0, tt))))),
+          ),
+        ),
+      ),
       is.1.1.1.1.1.1.1.1,
     ))

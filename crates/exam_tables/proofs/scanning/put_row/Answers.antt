@@ -1,3 +1,4 @@
+-- A row that cannot be read belongs to no table; one that can is added, unless its key is there.
 use Rattle.std.proofs.Common.{◌≡◌, Err, inl, inr, rules}
 use Rattle.std.proofs.lemmas.Result.{IfErr-weaker}
 use Rattle.exam_tables.proofs.Reading.{found}
@@ -19,7 +20,8 @@ pub returns-clause-put : goal.returns-clause-put
 returns-clause-put g c =
     let read = found (c.in_ok-key.key, c.in_ok-key.value) c.in_ok-key.ensures.read in
     on_ok c.add_row.result (λ more given rows.
-    one_more_row g.T.StoredRows.form c.args.row.now given c.args.table.now.entries rows c.in_ok-key.key c.in_ok-key.value
+    one_more_row g.T.StoredRows.form c.args.row.now given c.args.table.now.entries rows c.in_ok-key.key
+    c.in_ok-key.value
     c.add_row.new.table.entries read.0 read.1 more c.add_row.ensures.rises) c.add_row.ensures.ok
 
 pub returns-clause-bad : goal.returns-clause-bad

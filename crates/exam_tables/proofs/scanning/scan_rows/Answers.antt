@@ -1,3 +1,5 @@
+-- The map holds the rows that were stepped over so far, and the query has the rest to come. It ends with all of them,
+-- or at the first row that no table has.
 use Rattle.std.proofs.Common.{◌≡◌, Ok, Err, Some, None, refl, arith, rules}
 use Rattle.sqlite.specs.Held.{state}
 use Rattle.sqlite.specs.State.{HasCleanDisk}
@@ -8,7 +10,8 @@ pub steps-init : goal.steps-init
 steps-init g c = (
   refl,
   survives_itself (state g.S.Store c.args.rows.now.conn.now),
-  λ clean reads. rw c.new-table.ensures.empty (none_scanned g.S.Store g.T.StoredRows.form g.met.T.StoredRows.ours c.args.rows.now.conn.now reads),
+  λ clean reads. rw c.new-table.ensures.empty
+      (none_scanned g.S.Store g.T.StoredRows.form g.met.T.StoredRows.ours c.args.rows.now.conn.now reads),
 )
 
 pub returns-in_err-read_next-clause-scans : goal.returns-in_err-read_next-clause-scans
@@ -36,7 +39,8 @@ returns-in-End-clause-scans g c = λ clean reads.
     let before : HasCleanDisk (state g.S.Store mid) = omega (arith, c.in_ok-read_next.ensures.survives.clean) in
     let done = c.steps.invariant.2 before reads in
     let goes = rw c.in-End.is at (c.in_ok-read_next.ensures.goes clean done.given done.reads done.rows) in
-    scans_since g.S.Store form ours old mid new done.same c.steps.invariant.1 done.given done.reads (Ok (Some c.read_next.new.table))
+    scans_since g.S.Store form ours old mid new done.same c.steps.invariant.1 done.given done.reads
+    (Ok (Some c.read_next.new.table))
     (end_scans g.S.Store form ours mid new done.given c.read_next.new.table goes)
 
 pub returns-in-NoTable-clause-scans : goal.returns-in-NoTable-clause-scans

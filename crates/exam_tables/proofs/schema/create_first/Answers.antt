@@ -1,3 +1,4 @@
+-- The tables of the statements run so far are made, and have no rows. Each statement makes the next one.
 use Rattle.std.proofs.Common.{◌≡◌, ◌<◌, ◌+◌, Ok, Err, arith, get_or, refl, subst, ◌∙◌, rules}
 use Rattle.sqlite.specs.Held.{state}
 use Rattle.exam_sql.specs.Tables as tables
@@ -8,7 +9,11 @@ use Rattle.exam_tables.proofs.Creating.{are_ten, each_text, leads_itself, leads_
 use Rattle.exam_tables.proofs.schema.create_first.Goals as goal
 
 pub texts-init : goal.texts-init
-texts-init g c = record { same = refl; made = leads_itself (HasNoRows (made 0)) (HasNoRows (made 0)) (state g.S.Store c.args.tx.now.conn.now) (λ has. has) }
+texts-init g c = record {
+  same = refl;
+  made =
+      leads_itself (HasNoRows (made 0)) (HasNoRows (made 0)) (state g.S.Store c.args.tx.now.conn.now) (λ has. has);
+}
 
 pub texts-preserved : goal.texts-preserved
 texts-preserved g c =
@@ -22,7 +27,8 @@ texts-preserved g c =
     (Ok tt) run.failed run.ran run.kept run.survives run.told in
     record {
       same = run.same_reference ∙ c.texts.invariant.same;
-      made = leads_then (HasNoRows (made 0)) (HasNoRows (made at)) (HasNoRows (made (at + 1))) (state g.S.Store c.args.tx.now.conn.now) mid new (Ok tt) c.texts.invariant.made step;
+      made = leads_then (HasNoRows (made 0)) (HasNoRows (made at)) (HasNoRows (made (at + 1)))
+          (state g.S.Store c.args.tx.now.conn.now) mid new (Ok tt) c.texts.invariant.made step;
     }
 
 pub returns-in_err-run-clause-made : goal.returns-in_err-run-clause-made
@@ -43,5 +49,7 @@ returns-in_err-run-clause-made g c =
 
 pub returns-clause-made : goal.returns-clause-made
 returns-clause-made g c =
-    let all : c.texts.text-index ≡ 10 = omega (arith, c.texts-test.false, c.texts.auto.text-index-end, are_ten c.args.statements.now c.requires) in
-    subst (λ n. Leads (HasNoRows (made 0)) (HasNoRows (made n)) (state g.S.Store c.args.tx.now.conn.now) (state g.S.Store c.texts.tx.conn.now) (Ok tt)) all c.texts.invariant.made
+    let all : c.texts.text-index ≡ 10 =
+    omega (arith, c.texts-test.false, c.texts.auto.text-index-end, are_ten c.args.statements.now c.requires) in
+    subst (λ n. Leads (HasNoRows (made 0)) (HasNoRows (made n)) (state g.S.Store c.args.tx.now.conn.now)
+    (state g.S.Store c.texts.tx.conn.now) (Ok tt)) all c.texts.invariant.made

@@ -14,7 +14,10 @@ returns-clause-made g c = λ is_open all.
     let new = state g.S.Store c.run.new.tx.conn.now in
     leads_by (HasFirst all) (HasRuled is_open all) old new tables.standing.create [] c.run.result
     (λ count run was.
-    let held = no_marks new.now all was.1 (adds_table standing_added old new (Ok count) run all was.0) in
-    (held, λ open_now. sound_rules new.now held.schema_is (adds_soundly standing_added old new count was.0.schema_is run)))
+    let held = no_marks new.now all was.1 (adds_table standing_added old new (Ok count) run all was.0) in (
+      held,
+      λ open_now. sound_rules new.now held.schema_is
+          (adds_soundly standing_added old new count was.0.schema_is run),
+    ))
     (λ was error run. limited old new error (adding_fails standing_added old new was.0.schema_is error run))
     c.run.ensures.failed c.run.ensures.ran c.run.ensures.kept c.run.ensures.survives c.run.ensures.told

@@ -9,6 +9,8 @@ pub returns-in-Err-clause-kept : goal.returns-in-Err-clause-kept
 returns-in-Err-clause-kept g c clean =
     let old = c.args.tx.now.conn.now in
     elim (cases_Bool (state g.S.Store old).in_transaction) [
-      | inl going ↦ inside_keeps (state g.S.Store old) (state g.S.Store c.execute.new.self.conn.now) 0 false _ _ _ (c.execute.ensures.runs clean going)
-      | inr ended ↦ subst (λ h. KeepsCommit (state g.S.Store old) (state g.S.Store h)) (sym (c.execute.ensures.ended ended).1) (record { was_open = λ is. is; committed = λ is. refl })
+      | inl going ↦ inside_keeps (state g.S.Store old) (state g.S.Store c.execute.new.self.conn.now) 0 false _ _ _
+          (c.execute.ensures.runs clean going)
+      | inr ended ↦ subst (λ h. KeepsCommit (state g.S.Store old) (state g.S.Store h))
+          (sym (c.execute.ensures.ended ended).1) (record { was_open = λ is. is; committed = λ is. refl })
     ]

@@ -1,3 +1,4 @@
+-- The rows of the keys walked so far are deleted. Where one fails, the transaction says so, and it is what failed.
 use Rattle.std.proofs.Common.{◌≡◌, ◌∷◌, [], ◌++◌, ◌+◌, Ok, Err, map, take, subst, ◌∙◌, rules}
 use Rattle.std.proofs.lemmas.List.{take_more, take_all}
 use Rattle.sqlite.specs.Held.{state}
@@ -7,7 +8,8 @@ use Rattle.exam_tables.proofs.table.delete_rows.Goals as goal
 
 pub keys-preserved : goal.keys-preserved
 keys-preserved g c =
-    let more : take (c.keys.key-index + 1) c.args.keys.now ≡ take c.keys.key-index c.args.keys.now ++ c.key-item.result ∷ [] = search (rules, take_more) in
+    let more : take (c.keys.key-index + 1) c.args.keys.now ≡ take c.keys.key-index c.args.keys.now ++ c.key-item.result
+    ∷ [] = search (rules, take_more) in
     record {
       same = c.in_ok-delete.ensures.same_reference ∙ c.keys.invariant.same;
       made = one_more (λ k. delete_of g.T.Shrinks.delete_text g.T.StoredRows.form.tree g.T.StoredRows.form.places
@@ -21,7 +23,8 @@ returns-in_err-delete-clause-same_reference g c = c.in_err-delete.ensures.same_r
 
 pub returns-in_err-delete-clause-made : goal.returns-in_err-delete-clause-made
 returns-in_err-delete-clause-made g c =
-    let more : take (c.keys.key-index + 1) c.args.keys.now ≡ take c.keys.key-index c.args.keys.now ++ c.key-item.result ∷ [] = search (rules, take_more) in
+    let more : take (c.keys.key-index + 1) c.args.keys.now ≡ take c.keys.key-index c.args.keys.now ++ c.key-item.result
+    ∷ [] = search (rules, take_more) in
     let is : c.from_residual.result ≡ Err c.in_err-delete.field-0.0 = search rules in
     rw is (one_fails (λ k. delete_of g.T.Shrinks.delete_text g.T.StoredRows.form.tree g.T.StoredRows.form.places
     (g.T.Shrinks.key_of k.now)) c.args.keys.now c.keys.key-index c.key-item.result more

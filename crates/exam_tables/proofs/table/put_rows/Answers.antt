@@ -1,3 +1,4 @@
+-- The rows walked so far are put. Where one fails, the transaction says so, and it is what failed.
 use Rattle.std.proofs.Common.{◌≡◌, ◌∷◌, [], ◌++◌, ◌+◌, Ok, Err, map, take, subst, ◌∙◌, rules}
 use Rattle.std.proofs.lemmas.List.{take_more, take_all}
 use Rattle.sqlite.specs.Held.{state}
@@ -8,7 +9,8 @@ use Rattle.exam_tables.proofs.table.put_rows.Goals as goal
 
 pub rows-preserved : goal.rows-preserved
 rows-preserved g c =
-    let more : take (c.rows.row-index + 1) c.args.rows.now ≡ take c.rows.row-index c.args.rows.now ++ c.row-item.result ∷ [] = search (rules, take_more) in
+    let more : take (c.rows.row-index + 1) c.args.rows.now ≡ take c.rows.row-index c.args.rows.now ++ c.row-item.result
+    ∷ [] = search (rules, take_more) in
     record {
       same = c.in_ok-put.ensures.same_reference ∙ c.rows.invariant.same;
       made = one_more (λ r. row_put g.T.StoredRows.form r.0.now r.1.now) c.args.rows.now c.rows.row-index
@@ -21,7 +23,8 @@ returns-in_err-put-clause-same_reference g c = c.in_err-put.ensures.same_referen
 
 pub returns-in_err-put-clause-made : goal.returns-in_err-put-clause-made
 returns-in_err-put-clause-made g c =
-    let more : take (c.rows.row-index + 1) c.args.rows.now ≡ take c.rows.row-index c.args.rows.now ++ c.row-item.result ∷ [] = search (rules, take_more) in
+    let more : take (c.rows.row-index + 1) c.args.rows.now ≡ take c.rows.row-index c.args.rows.now ++ c.row-item.result
+    ∷ [] = search (rules, take_more) in
     let is : c.from_residual.result ≡ Err c.in_err-put.field-0.0 = search rules in
     rw is (one_fails (λ r. row_put g.T.StoredRows.form r.0.now r.1.now) c.args.rows.now c.rows.row-index
     c.row-item.result more (state g.S.Store c.args.tx.now.conn.now) (state g.S.Store c.rows.tx.conn.now)
@@ -30,4 +33,5 @@ returns-in_err-put-clause-made g c =
 pub returns-clause-made : goal.returns-clause-made
 returns-clause-made g c =
     let whole : take c.rows.row-index c.args.rows.now ≡ c.args.rows.now = take_all _ _ c.rows-test.false in
-    subst (λ l. Makes (state g.S.Store c.args.tx.now.conn.now) (state g.S.Store c.rows.tx.conn.now) (Ok tt) (map (λ r. row_put g.T.StoredRows.form r.0.now r.1.now) l)) whole c.rows.invariant.made
+    subst (λ l. Makes (state g.S.Store c.args.tx.now.conn.now) (state g.S.Store c.rows.tx.conn.now) (Ok tt)
+    (map (λ r. row_put g.T.StoredRows.form r.0.now r.1.now) l)) whole c.rows.invariant.made

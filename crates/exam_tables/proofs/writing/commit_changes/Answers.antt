@@ -1,3 +1,5 @@
+-- What was written in the transaction becomes what is committed, all of it or none. A write that fails ends the
+-- transaction without a commit.
 use Rattle.std.proofs.Common.{◌≡◌, IsTrue, Err, IfErr, arith, refl, sym, subst, rules}
 use Rattle.sqlite.specs.Held.{state}
 use Rattle.sqlite.specs.State.{HasCleanDisk}
@@ -35,7 +37,8 @@ returns-clause-failed g c = λ clean ours.
     let writes = all_saved c.args.changes.now in
     let made = rw c.transaction-tx.ensures.begun at c.in_ok-write_changes.ensures.made in
     let same : end ≡ c.conn-2-1.given.0 = search rules in
-    let clean_end : HasCleanDisk (state g.S.Store end) = subst (λ h. HasCleanDisk (state g.S.Store h)) (sym same) clean in
+    let clean_end : HasCleanDisk (state g.S.Store end) =
+    subst (λ h. HasCleanDisk (state g.S.Store h)) (sym same) clean in
     let clean_last : HasCleanDisk last = omega (arith, c.commit.ensures.survives.clean, clean_end) in
     let going = (made.made clean_last refl).1 in
     subst (λ h. IfErr c.commit.result (FailsToWrite writes old (state g.S.Store h))) same
@@ -53,7 +56,8 @@ returns-in_err-write_changes-clause-failed g c = λ clean ours.
     let e = c.in_err-write_changes.field-0.0 in
     let is : c.from_residual.result ≡ Err e = search rules in
     let same : end ≡ c.conn-1.given.0 = search rules in
-    let clean_end : HasCleanDisk (state g.S.Store end) = subst (λ h. HasCleanDisk (state g.S.Store h)) (sym same) clean in
+    let clean_end : HasCleanDisk (state g.S.Store end) =
+    subst (λ h. HasCleanDisk (state g.S.Store h)) (sym same) clean in
     let clean_last : HasCleanDisk last = omega (arith, c.drop-tx.ensures.survives.clean, clean_end) in
     rw is (subst (λ h. FailsToWrite writes old (state g.S.Store h) e) same
     (undone (RefusesOne writes old.step_limit old.now) old last

@@ -9,7 +9,8 @@ returns-in_err-delete_rows-clause-made g c =
     let at_0 = state g.S.Store c.args.tx.now.conn.now in
     let at_1 = state g.S.Store c.delete_rows.new.tx.conn.now in
     let is : c.from_residual.result ≡ Err c.in_err-delete_rows.field-0.0 = search rules in
-    rw is (makes_part at_0 at_1 _ (seats_deleted c.args.changes.now) (openings_deleted c.args.changes.now) (rw c.as_slice.ensures.value at c.in_err-delete_rows.ensures.made))
+    rw is (makes_part at_0 at_1 _ (seats_deleted c.args.changes.now) (openings_deleted c.args.changes.now)
+    (rw c.as_slice.ensures.value at c.in_err-delete_rows.ensures.made))
 
 pub returns-clause-made : goal.returns-clause-made
 returns-clause-made g c =

@@ -1,3 +1,4 @@
+-- The four parts follow each other in one transaction; the writes of all are those of each, in this order.
 use Rattle.std.proofs.Common.{◌≡◌, ◌++◌, Err, rules}
 use Rattle.sqlite.specs.Held.{state}
 use Rattle.exam_tables.specs.Writes.{timetable_put, halls_put, candidates_put, plans_put}

@@ -1,3 +1,4 @@
+-- The three tables follow each other in one transaction; the writes of all are those of each, in this order.
 use Rattle.std.proofs.Common.{◌≡◌, ◌++◌, Err, rules}
 use Rattle.sqlite.specs.Held.{state}
 use Rattle.exam_tables.specs.Forms.{with_put, candidates, entries, arrangements}

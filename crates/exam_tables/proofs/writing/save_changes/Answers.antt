@@ -1,3 +1,4 @@
+-- The connection is asked first, which changes nothing, so what is committed is committed from the state at the start.
 use Rattle.std.proofs.Common.{◌≡◌, IsTrue, Err, arith, rules}
 use Rattle.std.proofs.lemmas.Bool.{both_ways}
 use Rattle.sqlite.specs.Held.{state}
@@ -33,7 +34,8 @@ returns-clause-shut g c = λ shut.
     let new = state g.S.Store c.commit_changes.new.conn in
     let after = c.commit_changes.ensures.made.survives in
     survives_then old mid new _ _ _ (λ _ trees none. none)
-    (λ clean trees may. absurd (both_ways _ shut (c.in_ok-ask_nothing.ensures.ok (omega (arith, after.clean))).0.was_open))
+    (λ clean trees may. absurd
+    (both_ways _ shut (c.in_ok-ask_nothing.ensures.ok (omega (arith, after.clean))).0.was_open))
     c.ask_nothing.ensures.survives after
 
 -- where no statement can be run

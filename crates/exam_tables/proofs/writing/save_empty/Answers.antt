@@ -1,3 +1,4 @@
+-- The tables are made in one transaction over a blank database: they are there without rows, or it is blank as before.
 use Rattle.std.proofs.Common.{◌≡◌, IsTrue, IsSome, Err, IfErr, arith, inl, refl, sym, subst, rules}
 use Rattle.sqlite.specs.Effect.{Database}
 use Rattle.sqlite.specs.State.{HasCleanDisk}
@@ -34,7 +35,8 @@ returns-clause-failed g c = λ clean blank.
     let end = c.commit.new.tx.0 in
     let made = rw c.transaction-tx.ensures.begun at c.in_ok-create_tables.ensures.made in
     let same : end ≡ c.conn-2-1.given.0 = search rules in
-    let clean_end : HasCleanDisk (state g.S.Store end) = subst (λ h. HasCleanDisk (state g.S.Store h)) (sym same) clean in
+    let clean_end : HasCleanDisk (state g.S.Store end) =
+    subst (λ h. HasCleanDisk (state g.S.Store h)) (sym same) clean in
     let clean_last : HasCleanDisk last = omega (arith, c.commit.ensures.survives.clean, clean_end) in
     let going = (made.made clean_last refl).1 in
     not_created old (state g.S.Store c.conn-2-1.given.0) c.commit.result
@@ -52,7 +54,8 @@ returns-in_err-create_tables-clause-failed g c = λ clean blank.
     let e = c.in_err-create_tables.field-0.0 in
     let is : c.from_residual.result ≡ Err e = search rules in
     let same : end ≡ c.conn-1.given.0 = search rules in
-    let clean_end : HasCleanDisk (state g.S.Store end) = subst (λ h. HasCleanDisk (state g.S.Store h)) (sym same) clean in
+    let clean_end : HasCleanDisk (state g.S.Store end) =
+    subst (λ h. HasCleanDisk (state g.S.Store h)) (sym same) clean in
     let clean_last : HasCleanDisk last = omega (arith, c.drop-tx.ensures.survives.clean, clean_end) in
     rw is (inl (subst (λ h. FailsToMake old (state g.S.Store h) e) same
     (undone (IsSome old.step_limit) old last (state g.S.Store end) e c.drop-tx.ensures.survives.counts

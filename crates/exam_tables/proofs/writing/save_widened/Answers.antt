@@ -1,3 +1,5 @@
+-- What the version lacks is made and its number is set in one transaction. The rows of all other tables are not named
+-- in it.
 use Rattle.std.proofs.Common.{◌≡◌, [], IsTrue, IsSome, Err, IfErr, arith, inl, refl, sym, subst, rules}
 use Rattle.std.proofs.lemmas.Result.{IfErr-weaker}
 use Rattle.sqlite.specs.State.{HasCleanDisk, Survives}
@@ -40,7 +42,8 @@ returns-clause-failed g c = λ clean first.
     let end = c.commit.new.tx.0 in
     let made = rw c.transaction-tx.ensures.begun at c.in_ok-widen_tables.ensures.made in
     let same : end ≡ c.conn-2-1.given.0 = search rules in
-    let clean_end : HasCleanDisk (state g.S.Store end) = subst (λ h. HasCleanDisk (state g.S.Store h)) (sym same) clean in
+    let clean_end : HasCleanDisk (state g.S.Store end) =
+    subst (λ h. HasCleanDisk (state g.S.Store h)) (sym same) clean in
     let clean_last : HasCleanDisk last = omega (arith, c.commit.ensures.survives.clean, clean_end) in
     let going = ((made (λ tree. [])).made clean_last refl).1 in
     not_created old (state g.S.Store c.conn-2-1.given.0) c.commit.result
@@ -58,7 +61,8 @@ returns-in_err-widen_tables-clause-failed g c = λ clean first.
     let e = c.in_err-widen_tables.field-0.0 in
     let is : c.from_residual.result ≡ Err e = search rules in
     let same : end ≡ c.conn-1.given.0 = search rules in
-    let clean_end : HasCleanDisk (state g.S.Store end) = subst (λ h. HasCleanDisk (state g.S.Store h)) (sym same) clean in
+    let clean_end : HasCleanDisk (state g.S.Store end) =
+    subst (λ h. HasCleanDisk (state g.S.Store h)) (sym same) clean in
     let clean_last : HasCleanDisk last = omega (arith, c.drop-tx.ensures.survives.clean, clean_end) in
     rw is (inl (subst (λ h. FailsToMake old (state g.S.Store h) e) same
     (undone (IsSome old.step_limit) old last (state g.S.Store end) e c.drop-tx.ensures.survives.counts
@@ -97,10 +101,12 @@ returns-clause-still g c = λ clean.
     let end = c.commit.new.tx.0 in
     let made = rw c.transaction-tx.ensures.begun at c.in_ok-widen_tables.ensures.made in
     let same : end ≡ c.conn-2-1.given.0 = search rules in
-    let clean_end : HasCleanDisk (state g.S.Store end) = subst (λ h. HasCleanDisk (state g.S.Store h)) (sym same) clean in
+    let clean_end : HasCleanDisk (state g.S.Store end) =
+    subst (λ h. HasCleanDisk (state g.S.Store h)) (sym same) clean in
     let clean_last : HasCleanDisk last = omega (arith, c.commit.ensures.survives.clean, clean_end) in
     let going = ((made (λ tree. [])).made clean_last refl).1 in
-    IfErr-weaker c.commit.result _ _ (λ e fails bad. absurd (not_bad (IsSome old.step_limit) old (state g.S.Store end) e fails bad))
+    IfErr-weaker c.commit.result _ _
+    (λ e fails bad. absurd (not_bad (IsSome old.step_limit) old (state g.S.Store end) e fails bad))
     (uncommitted (IsSome old.step_limit) old last (state g.S.Store end)
     (survives_begin g.S.Store c.args.conn.now last _ (made (λ tree. [])).survives) c.commit.ensures.survives
     clean_last going c.commit.result (c.commit.ensures.failed clean_end))

@@ -1,3 +1,5 @@
+-- Where the version is the newest nothing is written; where it is an older one the migration commits, or leaves
+-- everything as it was.
 use Rattle.std.proofs.Common.{◌≡◌, ◌≢◌, IsTrue, Ok, Err, inl, inr, arith, sym, subst, rules}
 use Rattle.sqlite.specs.Effect.{Database}
 use Rattle.sqlite.specs.Held.{state}
@@ -26,14 +28,18 @@ returns-in_err-version-clause-made g c =
     let e = c.in_err-version.field-0.0 in
     let is : c.from_residual.result ≡ Err e = search rules in
     let settled : IsTrue old.is_open → old.now ≡ old.committed = search rules in
-    rw is (reads_commit old (state g.S.Store c.version_of.new.conn) e BringsOver settled c.in_err-version.ensures.reads.left c.version_of.ensures.reads.survives)
+    rw is (reads_commit old
+    (state g.S.Store c.version_of.new.conn) e BringsOver settled c.in_err-version.ensures.reads.left
+    c.version_of.ensures.reads.survives)
 
 pub returns-in_err-version-clause-only : goal.returns-in_err-version-clause-only
 returns-in_err-version-clause-only g c = λ clean.
     let e = c.in_err-version.field-0.0 in
     let is : c.from_residual.result ≡ Err e = search rules in
-    rw is (λ accepted. version_failed (state g.S.Store c.args.conn.now) (state g.S.Store c.version_of.new.conn) _ e accepted
-    (λ v all known good none. none all (made_of v _ all good.0) v known good.1) (c.in_err-version.ensures.reads.bad clean))
+    rw is (λ accepted. version_failed (state g.S.Store c.args.conn.now)
+    (state g.S.Store c.version_of.new.conn) _ e accepted
+    (λ v all known good none. none all (made_of v _ all good.0) v known good.1)
+    (c.in_err-version.ensures.reads.bad clean))
 
 -- it is the newest
 
@@ -46,7 +52,8 @@ returns-then-version-clause-made g c =
     let settled : IsTrue old.is_open → old.now ≡ old.committed = search rules in
     let left = c.in_ok-version.ensures.reads.left in
     unchanged_commits old (state g.S.Store new) tt BringsOver settled left
-    (λ clean. subst (λ (db : Database). BringsOver old.now db) (sym (left clean).0.now_is) (newest_brings old.now v (c.in_ok-version.ensures.reads.rows clean) newest))
+    (λ clean. subst (λ (db : Database). BringsOver old.now db) (sym (left clean).0.now_is)
+    (newest_brings old.now v (c.in_ok-version.ensures.reads.rows clean) newest))
     (λ trees is may. g.met.S.Store.settled new.store trees is may) c.version_of.ensures.reads.survives
 
 pub returns-then-version-clause-had : goal.returns-then-version-clause-had
@@ -54,7 +61,10 @@ returns-then-version-clause-had g c = λ clean versioned.
     let old = state g.S.Store c.args.conn.now in
     let v = c.in_ok-version.version.number in
     let newest : v ≡ version = search rules in
-    inr (newest_ours old.now v (c.in_ok-version.ensures.reads.rows clean) newest versioned, (c.in_ok-version.ensures.reads.left clean).0.now_is)
+    inr (
+      newest_ours old.now v (c.in_ok-version.ensures.reads.rows clean) newest versioned,
+      (c.in_ok-version.ensures.reads.left clean).0.now_is,
+    )
 
 -- it is an older one
 
@@ -77,10 +87,11 @@ returns-in_err-migrate-clause-only g c = λ clean.
     let mid = c.version_of.new.conn in
     let e = c.in_err-migrate.field-0.0 in
     let is : c.from_residual-in_err-migrate.result ≡ Err e = search rules in
-    let early : HasCleanDisk (state g.S.Store mid) = omega (arith, c.in_err-migrate.ensures.made.survives.clean, clean) in
+    let early : HasCleanDisk (state g.S.Store mid) =
+    omega (arith, c.in_err-migrate.ensures.made.survives.clean, clean) in
     rw is (λ accepted. migration_failed g.S.Store mid c.migrate.new.conn e
     (subst IsAccepted (sym (c.in_ok-version.ensures.reads.left early).0.now_is) accepted)
-    (c.in_err-migrate.ensures.refusal clean))
+    (c.in_err-migrate.ensures.refused clean).refusal)
 
 pub returns-clause-made : goal.returns-clause-made
 returns-clause-made g c =
@@ -101,8 +112,11 @@ returns-clause-had g c = λ clean versioned.
     let new = state g.S.Store c.migrate.new.conn in
     let v = c.in_ok-version.version.number in
     let older : v ≢ version = search rules in
-    inl (migrated_had old mid new v c.in_ok-version.ensures.reads.left c.version_of.ensures.reads.survives c.in_ok-version.ensures.reads.rows older
-    c.in_ok-migrate.field-0 c.in_ok-migrate.ensures.versions.0 (λ after. omega (arith, c.in_ok-migrate.ensures.made.survives.clean, after)) c.in_ok-migrate.ensures.found clean versioned)
+    inl (migrated_had old mid new v c.in_ok-version.ensures.reads.left c.version_of.ensures.reads.survives
+    c.in_ok-version.ensures.reads.rows older
+    c.in_ok-migrate.field-0 c.in_ok-migrate.ensures.versions.0
+    (λ after. omega (arith, c.in_ok-migrate.ensures.made.survives.clean, after))
+    (λ after. (c.in_ok-migrate.ensures.found after).good) clean versioned)
 
 -- why not
 
@@ -117,6 +131,8 @@ returns-in_err-migrate-clause-why g c = λ clean.
     let mid = c.version_of.new.conn in
     let e = c.in_err-migrate.field-0.0 in
     let is : c.from_residual-in_err-migrate.result ≡ Err e = search rules in
-    let early : HasCleanDisk (state g.S.Store mid) = omega (arith, c.in_err-migrate.ensures.made.survives.clean, clean) in
+    let early : HasCleanDisk (state g.S.Store mid) =
+    omega (arith, c.in_err-migrate.ensures.made.survives.clean, clean) in
     rw is (refused_later g.S.Store c.args.conn.now mid c.migrate.new.conn c.version_of.ensures.reads.survives early
-    c.in_err-migrate.ensures.made.survives.counts (c.in_ok-version.ensures.reads.left early) e (c.in_err-migrate.ensures.refusal clean))
+    c.in_err-migrate.ensures.made.survives.counts (c.in_ok-version.ensures.reads.left early) e
+    (c.in_err-migrate.ensures.refused clean).refusal)

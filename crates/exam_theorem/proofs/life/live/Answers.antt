@@ -1,3 +1,5 @@
+-- The orders go on from the store that was opened, and the sheet is of the office that they leave. A refusal comes
+-- before the first order.
 use Rattle.std.proofs.Common.{inl, inr}
 use Rattle.std.specs.Prelude.{map}
 use Rattle.sqlite.specs.Held.{state}
@@ -42,7 +44,8 @@ returns-in-Ok-print_after-clause-tables g c =
 
 pub returns-in-Err-print_after-clause-still : goal.returns-in-Err-print_after-clause-still
 returns-in-Err-print_after-clause-still g c =
-    rw (c.close.ensures, c.in-Err-print_after.ensures.same.0) (opened_rests_on g.S.Store (state g.S.Store c.args.conn) c.in-Ok.store c.in-Ok.ensures.same)
+    rw (c.close.ensures, c.in-Err-print_after.ensures.same.0)
+    (opened_rests_on g.S.Store (state g.S.Store c.args.conn) c.in-Ok.store c.in-Ok.ensures.same)
 
 pub returns-in-Err-print_after-clause-why : goal.returns-in-Err-print_after-clause-why
 returns-in-Err-print_after-clause-why g c = λ clean. inl (inr (inl (inl c.in-Err-print_after.ensures.memory)))

@@ -1,3 +1,4 @@
+-- The orders followed so far have their outcomes, and the store is the one that they led to.
 use Rattle.std.proofs.Common.{◌≡◌, ◌+◌, ◌∷◌, ◌++◌, [], take, ap, sym, ◌∙◌, arith}
 use Rattle.std.proofs.lemmas.List.{take_more}
 use Rattle.exam_theorem.specs.Following.{Follows, SparesOthers}
@@ -16,16 +17,33 @@ orders-preserved g c =
     let after = c.follow.new.store.office in
     let outcomes = c.orders.outcomes.items in
     let all = c.push_reserved.new.self.items in
-    let more : take (i + 1) orders ≡ take i orders ++ x ∷ [] = take_more orders i x c.orders-test.true ∙ ap (λ z. take i orders ++ z ∷ []) (sym c.order-item.is) in
+    let more : take (i + 1) orders ≡ take i orders ++ x ∷ [] =
+    take_more orders i x c.orders-test.true ∙ ap (λ z. take i orders ++ z ∷ []) (sym c.order-item.is) in
     record {
-      so_far = next_of_each Follows (take i orders) (take (i + 1) orders) x more outcomes all c.follow.result c.push_reserved.ensures.items before mid after
+      so_far = next_of_each Follows (take i orders)
+          (take (i + 1) orders) x more outcomes all c.follow.result c.push_reserved.ensures.items before mid after
           c.orders.invariant.so_far c.follow.ensures.follows;
-      spares = next_of_each SparesOthers (take i orders) (take (i + 1) orders) x more outcomes all c.follow.result c.push_reserved.ensures.items before mid after
-          c.orders.invariant.spares (record { follows = c.follow.ensures.follows; spares = c.follow.ensures.spares; seated = c.follow.ensures.headline });
-      passes = next_passed g.S.Store (take i orders) (take (i + 1) orders) x more outcomes all c.follow.result c.push_reserved.ensures.items c.args.store.now c.orders.store c.follow.new.store
+      spares = next_of_each SparesOthers (take i orders)
+          (take (i + 1) orders) x more outcomes all c.follow.result c.push_reserved.ensures.items before mid after
+          c.orders.invariant.spares
+          (record {
+            follows = c.follow.ensures.follows;
+            spares = c.follow.ensures.spares;
+            seated = c.follow.ensures.headline;
+          });
+      passes = next_passed g.S.Store (take i orders)
+          (take (i + 1) orders) x more outcomes all c.follow.result c.push_reserved.ensures.items c.args.store.now
+          c.orders.store c.follow.new.store
           c.orders.invariant.passes
-          (record { follows = c.follow.ensures.follows; spares = c.follow.ensures.spares; seated = c.follow.ensures.headline; own = c.follow.ensures.own; settles = c.follow.ensures.settles });
-      kept = then_on g.S.Store c.args.store.now c.orders.store c.follow.new.store c.orders.invariant.kept c.follow.ensures.kept;
+          (record {
+            follows = c.follow.ensures.follows;
+            spares = c.follow.ensures.spares;
+            seated = c.follow.ensures.headline;
+            own = c.follow.ensures.own;
+            settles = c.follow.ensures.settles;
+          });
+      kept = then_on g.S.Store c.args.store.now c.orders.store c.follow.new.store c.orders.invariant.kept
+          c.follow.ensures.kept;
       answered = omega (arith, c.push_reserved.ensures.len, c.orders.invariant.answered);
       room = omega (arith, c.push_reserved.ensures.capacity, c.orders.invariant.room);
     }

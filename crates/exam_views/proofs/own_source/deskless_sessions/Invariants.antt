@@ -13,5 +13,7 @@ invariant-loop-session l =
     (goal.iterator-loop-session).can_next l.session-iterator × (goal.iterator-loop-session).is_finite l.session-iterator
     × AreEntered (relations_of l.facts) l.number l.session-iterator
     × (map shown_session l.list.items
-    ++ sessions_left (record { relations = relations_of l.facts; seats = l.seats.entries }) l.number (rows_of (relations_of l.facts) (keys_of l.session-iterator))
-    ≡ map session_without_desk (own_sessions (record { relations = relations_of l.facts; seats = l.seats.entries }) l.number))
+    ++ sessions_left (record { relations = relations_of l.facts; seats = l.seats.entries }) l.number
+    (rows_of (relations_of l.facts) (keys_of l.session-iterator))
+    ≡ map session_without_desk
+    (own_sessions (record { relations = relations_of l.facts; seats = l.seats.entries }) l.number))

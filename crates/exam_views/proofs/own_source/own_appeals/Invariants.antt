@@ -7,4 +7,5 @@ use Rattle.exam_views.proofs.own_source.own_appeals.Given as goal
 abbrev pub invariant-loop-key : goal.invariant-loop-key
 invariant-loop-key l =
     (goal.iterator-loop-key).can_next l.key-iterator × (goal.iterator-loop-key).is_finite l.key-iterator
-    × (l.appeals.items ++ map (own_appeal (relations_of l.facts)) l.key-iterator.1 ≡ own_appeals (relations_of l.facts) l.fn.number)
+    × (l.appeals.items ++ map (own_appeal (relations_of l.facts)) l.key-iterator.1
+    ≡ own_appeals (relations_of l.facts) l.fn.number)

@@ -1,3 +1,5 @@
+-- The count is of those walked so far who sit in that hall and come before the candidate. All of them are members, so
+-- it fits.
 use Rattle.std.proofs.Common.{ℕ, filter, ap, zero-add, ◌∙◌, arith}
 use Rattle.exam_rules.specs.Relations.{Code, relations_of, same_code}
 use Rattle.exam_rules.proofs.InOrder.{lists_rise}
@@ -15,7 +17,8 @@ loop-key-init c = (
       ∙ ap (λ key. before_among (relations_of c.args.facts.now) c.args.session.now c.args.hall.now key
       (filter (λ (e : (Code × ℕ) × Code). same_code e.0.0 c.args.session.now) c.args.seats.now.entries))
       c.desk_key_among-own.ensures
-      ∙ counted_before (relations_of c.args.facts.now) c.args.seats.now.entries c.args.session.now c.seats_of-key-items.ensures.rising (c.requires.good.best c.args.session.now).lawful c.args.hall.now
+      ∙ counted_before (relations_of c.args.facts.now) c.args.seats.now.entries c.args.session.now
+      c.seats_of-key-items.ensures.rising (c.requires.good.best c.args.session.now).lawful c.args.hall.now
       (lists_rise (relations_of c.args.facts.now) c.args.session.now c.show_order.ensures).numbers c.args.number,
 )
 

@@ -19,8 +19,10 @@ desk-own-requires-clause-hall c =
 pub loop-own-preserved : goal.loop-own-preserved
 loop-own-preserved c =
     let office : State = record { relations = relations_of c.args.facts.now; seats = c.args.seats.now.entries } in
-    desk_turn office c.args.number c.loop-own.own-index c.loop-own.sessions _ c.own-item.result c.desk-own.result (own_are office c.args.number) c.loop-own.invariant
+    desk_turn office c.args.number c.loop-own.own-index c.loop-own.sessions _ c.own-item.result c.desk-own.result
+    (own_are office c.args.number) c.loop-own.invariant
     (omega (arith, c.loop-own.auto, c.loop-own-test.true)) c.desk-own.ensures
 
 pub returns : goal.returns
-returns c = all_desks c.loop-own.own-index c.loop-own.sessions _ c.loop-own.invariant (omega (arith, c.loop-own.auto, c.loop-own-test.false))
+returns c = all_desks c.loop-own.own-index c.loop-own.sessions _ c.loop-own.invariant
+    (omega (arith, c.loop-own.auto, c.loop-own-test.false))

@@ -8,4 +8,5 @@ use Rattle.exam_views.proofs.own_source.show_desks.Given as goal
 abbrev pub invariant-loop-own : goal.invariant-loop-own
 invariant-loop-own l =
     map shown_session l.sessions
-    ≡ shown_to l.own-index (own_sessions (record { relations = relations_of l.facts; seats = l.seats.entries }) l.number)
+    ≡ shown_to l.own-index
+    (own_sessions (record { relations = relations_of l.facts; seats = l.seats.entries }) l.number)

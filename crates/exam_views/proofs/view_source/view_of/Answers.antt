@@ -1,3 +1,5 @@
+-- Each part of the view is read from the same facts, and the stored plan is the plan by indices. So it is the view of
+-- that session.
 use Rattle.std.proofs.Common.{refl, ap, is_some, map, ◌∙◌}
 use Rattle.exam_rules.specs.Relations.{relations_of}
 use Rattle.exam_views.specs.Views.{member_of}
@@ -22,7 +24,9 @@ returns-clause-ok c =
       papers = c.in_ok-papers_of.ensures.ok;
       clashes = c.in_ok-clashes_of.ensures.ok;
       appeals = c.in_ok-appeals_of.ensures.ok;
-      members = c.in_ok-members_of.ensures.ok ∙ ap (map (member_of (relations_of c.args.facts.now) c.args.session.now)) (c.deref-3.ensures.value ∙ c.in_ok-listed.ensures.numbers);
+      members = c.in_ok-members_of.ensures.ok
+          ∙ ap (map (member_of (relations_of c.args.facts.now) c.args.session.now))
+          (c.deref-3.ensures.value ∙ c.in_ok-listed.ensures.numbers);
     })
 
 pub invariant_of-result : goal.invariant_of-result
@@ -42,5 +46,7 @@ invariant_of-result c =
       papers = c.in_ok-papers_of.ensures.ok;
       clashes = c.in_ok-clashes_of.ensures.ok;
       appeals = c.in_ok-appeals_of.ensures.ok;
-      members = c.in_ok-members_of.ensures.ok ∙ ap (map (member_of (relations_of c.args.facts.now) c.args.session.now)) (c.deref-3.ensures.value ∙ c.in_ok-listed.ensures.numbers);
+      members = c.in_ok-members_of.ensures.ok
+          ∙ ap (map (member_of (relations_of c.args.facts.now) c.args.session.now))
+          (c.deref-3.ensures.value ∙ c.in_ok-listed.ensures.numbers);
     })

@@ -1,6 +1,7 @@
+-- Each table tells its keys apart and has the keys that were kept, so each goes back by itself.
 use Rattle.std.proofs.lemmas.Map.Lookups.{exact_bytes}
 use Rattle.exam_rules.specs.Tables as table
-use Rattle.exam_commands.proofs.AppealKeys.{appeals_exact, openings_exact}
+use Rattle.exam_commands.proofs.KeyedRows.{appeals_exact, openings_exact}
 use Rattle.exam_changes.proofs.kept.KeptRows.take_back.Goals as goal
 
 pub put_back-requires-clause-exact : goal.put_back-requires-clause-exact

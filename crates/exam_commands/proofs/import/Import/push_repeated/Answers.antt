@@ -11,9 +11,11 @@ invariant_of-self-2 c =
     let more : c.push.new.self.items ≡ c.self.inside.rows.items ++ c.args.row ∷ [] = search rules in
     let found : find (has_key (key_of c.args.row)) c.self.inside.rows.items ≡ Some c.args.row = search rules in
     let kind : kind_of c.args.row ≡ c.self.inside.kind = search rules in
-    let none : conflicts c.args.row c.self.inside.rows.items ≡ false = conflicts-same c.args.row c.args.row c.self.inside.rows.items c.self.invariant.0 found (row_refl c.args.row) in
+    let none : conflicts c.args.row c.self.inside.rows.items ≡ false =
+    conflicts-same c.args.row c.args.row c.self.inside.rows.items c.self.invariant.0 found (row_refl c.args.row) in
     let room : length c.self.inside.rows.items < most_rows = search rules in
-    let one : length (c.self.inside.rows.items ++ c.args.row ∷ []) ≡ length c.self.inside.rows.items + 1 = length-append c.self.inside.rows.items (c.args.row ∷ []) in
+    let one : length (c.self.inside.rows.items ++ c.args.row ∷ []) ≡ length c.self.inside.rows.items + 1 =
+    length-append c.self.inside.rows.items (c.args.row ∷ []) in
     let long : length (c.self.inside.rows.items ++ c.args.row ∷ []) ≤ most_rows = omega arith in
     rw more (
       consistent-more c.args.row c.self.inside.rows.items c.self.invariant.0 none,

@@ -4,5 +4,6 @@ use Rattle.exam_office.proofs.draft.Draft.of.Goals as goal
 
 pub returns-in-Err-clause-refusal : goal.returns-in-Err-clause-refusal
 returns-in-Err-clause-refusal c =
-    refused_office c.args.command.now c.args.today c.args.office (part_state c.in_ok-part.part) c.in-Err.refusal c.in_ok-part.ensures.agrees
+    refused_office c.args.command.now c.args.today c.args.office
+    (part_state c.in_ok-part.part) c.in-Err.refusal c.in_ok-part.ensures.agrees
     c.in-Err.ensures.refusal

@@ -6,5 +6,6 @@ use Rattle.exam_office.proofs.draft.Draft.take_back.Goals as goal
 
 pub holding-requires-clause-lists : goal.holding-requires-clause-lists
 holding-requires-clause-lists c =
-    subst (λ (r : Relations). AreListsOf r c.take_back.new.part.lists) (sym (ap (λ (s : State). s.relations) c.take_back.ensures.part.state))
+    subst (λ (r : Relations). AreListsOf r c.take_back.new.part.lists)
+    (sym (ap (λ (s : State). s.relations) c.take_back.ensures.part.state))
     (c.self.invariant.were_lists c.take_back.new.part.lists c.take_back.ensures.part.lists)

@@ -6,7 +6,8 @@ use Rattle.exam_office.proofs.part.Part.copy_of.Goals as goal
 pub returns-clause-agrees : goal.returns-clause-agrees
 returns-clause-agrees c =
     subst (Agrees c.args.command.now c.args.office.now) (sym c.new.ensures.state)
-    (subst (λ (r : Relations). Agrees c.args.command.now c.args.office.now (record { relations = r; seats = c.in_ok-plans.plans.entries }))
+    (subst (λ (r : Relations). Agrees c.args.command.now c.args.office.now
+    (record { relations = r; seats = c.in_ok-plans.plans.entries }))
     (sym (c.in_ok-facts.ensures.ok ∙ c.facts.ensures)) c.in_ok-plans.ensures.plans)
 
 pub returns-clause-ready : goal.returns-clause-ready

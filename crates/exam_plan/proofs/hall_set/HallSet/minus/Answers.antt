@@ -3,12 +3,15 @@ use Rattle.exam_plan.proofs.HallBits.{holds_minus, and_within, in_both}
 use Rattle.exam_plan.proofs.hall_set.HallSet.minus.Goals as goal
 
 pub invariant_of-result : goal.invariant_of-result
-invariant_of-result c = (and_within c.self.inside.low _ c.self.invariant.0, and_within c.self.inside.high _ c.self.invariant.1)
+invariant_of-result c =
+    (and_within c.self.inside.low _ c.self.invariant.0, and_within c.self.inside.high _ c.self.invariant.1)
 
 pub returns : goal.returns
 returns c h =
     let a = c.self.inside in
     let b = c.other.inside in
     rw (sym c.self.view_is, sym c.other.view_is)
-    (in_both (λ x y. x && not y) a.low a.high b.low b.high _ _ h c.self.invariant.0 c.other.invariant.0 (and_within a.low _ c.self.invariant.0)
-    (λ k. holds_minus a.low b.low k c.self.invariant.0 c.other.invariant.0) (λ k. holds_minus a.high b.high k c.self.invariant.1 c.other.invariant.1))
+    (in_both (λ x y. x && not y) a.low a.high b.low b.high _ _ h c.self.invariant.0 c.other.invariant.0
+    (and_within a.low _ c.self.invariant.0)
+    (λ k. holds_minus a.low b.low k c.self.invariant.0 c.other.invariant.0)
+    (λ k. holds_minus a.high b.high k c.self.invariant.1 c.other.invariant.1))

@@ -3,12 +3,16 @@ use Rattle.exam_plan.proofs.HallBits.{holds_or, or_within, in_both}
 use Rattle.exam_plan.proofs.hall_set.HallSet.union.Goals as goal
 
 pub invariant_of-result : goal.invariant_of-result
-invariant_of-result c = (or_within c.self.inside.low c.other.inside.low c.self.invariant.0 c.other.invariant.0, or_within c.self.inside.high c.other.inside.high c.self.invariant.1 c.other.invariant.1)
+invariant_of-result c = (
+  or_within c.self.inside.low c.other.inside.low c.self.invariant.0 c.other.invariant.0,
+  or_within c.self.inside.high c.other.inside.high c.self.invariant.1 c.other.invariant.1,
+)
 
 pub returns : goal.returns
 returns c h =
     let a = c.self.inside in
     let b = c.other.inside in
     rw (sym c.self.view_is, sym c.other.view_is)
-    (in_both (λ x y. x || y) a.low a.high b.low b.high _ _ h c.self.invariant.0 c.other.invariant.0 (or_within a.low b.low c.self.invariant.0 c.other.invariant.0)
+    (in_both (λ x y. x || y) a.low a.high b.low b.high _ _ h c.self.invariant.0 c.other.invariant.0
+    (or_within a.low b.low c.self.invariant.0 c.other.invariant.0)
     (holds_or a.low b.low) (holds_or a.high b.high))

@@ -1,3 +1,4 @@
+-- Below the candidate at hand all who sit are in the table. A tally never passes the number of candidates.
 use Rattle.std.proofs.Common.{◌∙◌, arith}
 use Rattle.exam_plan.specs.Problems.{plan_at}
 use Rattle.exam_plan.proofs.Steps.{sits_below}
@@ -15,9 +16,11 @@ enter-requires-clause-room c k =
       c.candidate_count-candidate-end.ensures.count,
       c.requires.plan.whole,
     )) c.index.ensures ∙ c.in-Some.is in
-    let below = sits_below c.args.problem.now c.args.plan.now.items c.requires.plan c.loop-candidate.candidate c.in-Some.hall sits in
+    let below = sits_below c.args.problem.now c.args.plan.now.items c.requires.plan c.loop-candidate.candidate
+    c.in-Some.hall sits in
     let are = c.loop-candidate.invariant.tallies c.in-Some.hall k below in
-    let few = fitting_count-le c.args.problem.now (plan_at c.args.plan.now.items) c.in-Some.hall k c.loop-candidate.candidate in
+    let few = fitting_count-le c.args.problem.now
+    (plan_at c.args.plan.now.items) c.in-Some.hall k c.loop-candidate.candidate in
     omega (arith, are, few, c.loop-candidate-test.true, c.candidate_count-candidate-end.ensures.count)
 
 pub loop-candidate-preserved : goal.loop-candidate-preserved
@@ -34,5 +37,8 @@ loop-candidate-preserved c =
           (one_in c.args.problem.now
           (plan_at c.args.plan.now.items) c.loop-candidate.self w.enter.new.self c.loop-candidate.candidate
           w.in-Some.hall c.loop-candidate.invariant (sits ∙ w.in-Some.is) w.enter.ensures)
-      | in_default w ↦ rw w.self-is (none_in c.args.problem.now (plan_at c.args.plan.now.items) c.loop-candidate.self c.loop-candidate.candidate c.loop-candidate.invariant (sits ∙ w.in_default.is))
+      | in_default w ↦ rw w.self-is
+          (none_in c.args.problem.now
+          (plan_at c.args.plan.now.items) c.loop-candidate.self c.loop-candidate.candidate c.loop-candidate.invariant
+          (sits ∙ w.in_default.is))
     ]

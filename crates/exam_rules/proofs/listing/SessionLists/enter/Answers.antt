@@ -1,3 +1,4 @@
+-- Only the list of that session is changed, or made if there is none; the lists of all others are as they were.
 use Rattle.std.proofs.Common.{◌≡◌, Bool, true, false, List, Some, IsSome, Vec, cond, refl, ap, sym, subst, ◌∙◌}
 use Rattle.std.specs.Global.{Global}
 use Rattle.std.specs.List.Sorted.{IsNonDecreasingBy}
@@ -18,30 +19,39 @@ either_same false x = refl
 pub returns-in-Some-clause-ok : goal.returns-in-Some-clause-ok
 returns-in-Some-clause-ok c =
     let old = c.args.self.now in
-    let at : row_at code_cmp old.members.entries c.args.session.now ≡ Some c.in-Some.list.now = sym c.get_mut.ensures.value ∙ ap option_copied_mut c.in-Some.is in
-    let here : c.in-Some.list.now.items ≡ listed old.members.entries c.args.session.now = items_at old.members.entries c.args.session.now (Some c.in-Some.list.now) at in
+    let at : row_at code_cmp old.members.entries c.args.session.now ≡ Some c.in-Some.list.now =
+    sym c.get_mut.ensures.value ∙ ap option_copied_mut c.in-Some.is in
+    let here : c.in-Some.list.now.items ≡ listed old.members.entries c.args.session.now =
+    items_at old.members.entries c.args.session.now (Some c.in-Some.list.now) at in
     let new : Vec Entrant Global = c.enter_among.new.list in
     on_ok_weaker c.enter_among.result
     (λ is before after up are made.
-    entered_all before after c.args.session.now c.args.number c.args.paper made old (record { members = c.get_mut.follows.lender new; halls = old.halls }) new.items up are
-    (is (subst (IsNonDecreasingBy (λ (e : Entrant). e.number)) (sym here) (numbers_rise before old c.args.session.now are)) ∙ ap (entered c.args.number c.args.paper) here)
-    (λ t. exchanged old.members.entries (c.get_mut.follows.lender new).entries new c.args.session.now t ((((c.get_mut.follows.holds new).3 (subst (λ o. IsSome o) (sym at) refl)).0) t)) refl)
+    entered_all before after c.args.session.now c.args.number c.args.paper made old
+    (record { members = c.get_mut.follows.lender new; halls = old.halls }) new.items up are
+    (is (subst (IsNonDecreasingBy (λ (e : Entrant). e.number)) (sym here)
+    (numbers_rise before old c.args.session.now are)) ∙ ap (entered c.args.number c.args.paper) here)
+    (λ t. exchanged old.members.entries (c.get_mut.follows.lender new).entries new c.args.session.now t
+    ((((c.get_mut.follows.holds new).3 (subst (λ o. IsSome o) (sym at) refl)).0) t)) refl)
     c.enter_among.ensures.ok
 
 pub returns-in-Some-clause-others : goal.returns-in-Some-clause-others
 returns-in-Some-clause-others c =
     let old = c.args.self.now in
-    let at : row_at code_cmp old.members.entries c.args.session.now ≡ Some c.in-Some.list.now = sym c.get_mut.ensures.value ∙ ap option_copied_mut c.in-Some.is in
+    let at : row_at code_cmp old.members.entries c.args.session.now ≡ Some c.in-Some.list.now =
+    sym c.get_mut.ensures.value ∙ ap option_copied_mut c.in-Some.is in
     let new : Vec Entrant Global = c.enter_among.new.list in
     λ s other.
-    exchanged old.members.entries (c.get_mut.follows.lender new).entries new c.args.session.now s ((((c.get_mut.follows.holds new).3 (subst (λ o. IsSome o) (sym at) refl)).0) s)
+    exchanged old.members.entries (c.get_mut.follows.lender new).entries new c.args.session.now s
+    ((((c.get_mut.follows.holds new).3 (subst (λ o. IsSome o) (sym at) refl)).0) s)
     ∙ ap (λ b. cond b new.items (listed old.members.entries s)) other
 
 pub returns-in-Some-clause-err : goal.returns-in-Some-clause-err
 returns-in-Some-clause-err c =
     let old = c.args.self.now in
-    let at : row_at code_cmp old.members.entries c.args.session.now ≡ Some c.in-Some.list.now = sym c.get_mut.ensures.value ∙ ap option_copied_mut c.in-Some.is in
-    let here : c.in-Some.list.now.items ≡ listed old.members.entries c.args.session.now = items_at old.members.entries c.args.session.now (Some c.in-Some.list.now) at in
+    let at : row_at code_cmp old.members.entries c.args.session.now ≡ Some c.in-Some.list.now =
+    sym c.get_mut.ensures.value ∙ ap option_copied_mut c.in-Some.is in
+    let here : c.in-Some.list.now.items ≡ listed old.members.entries c.args.session.now =
+    items_at old.members.entries c.args.session.now (Some c.in-Some.list.now) at in
     let new : Vec Entrant Global = c.enter_among.new.list in
     on_err_weaker c.enter_among.result
     (λ same s.

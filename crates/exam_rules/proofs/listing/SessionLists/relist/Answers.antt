@@ -13,5 +13,7 @@ returns-clause-ok c = λ before are sets.
     c.show_order.ensures are
     (c.in_ok-list.ensures.ok ∙ ap (λ o. placed c.args.number o c.members_of.result.now) c.listed_paper-paper.ensures
     ∙ ap (placed c.args.number (listed_paper after c.args.session c.args.number)) c.members_of.ensures)
-    (λ t. c.exchange.ensures.lists t ∙ ap (λ (es : List Entrant). cond (same_code c.args.session t) c.in_ok-list.list.items es) (c.in_ok-keep_list.ensures.same t))
+    (λ t. c.exchange.ensures.lists t
+    ∙ ap (λ (es : List Entrant). cond (same_code c.args.session t) c.in_ok-list.list.items es)
+    (c.in_ok-keep_list.ensures.same t))
     refl

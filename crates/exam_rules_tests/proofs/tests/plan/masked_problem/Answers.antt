@@ -1,3 +1,4 @@
+-- Desks, rows and ranks have the lengths that a problem wants.
 use Rattle.std.proofs.Common.{rules, ◌≡◌, ◌<◌, ◌^◌, ℕ, length, ap, sym, ◌∙◌, subst, arith}
 use Rattle.std.specs.Prelude.{All}
 use Rattle.std.proofs.lemmas.List.{length-map}
@@ -14,9 +15,11 @@ from_masks-requires c =
     record {
       few_halls = omega (arith, opened, c.requires.few_halls);
       few = omega (arith, ap length rows, c.requires.few);
-      ranked = ap length c.in_ok-ranks.ensures ∙ length-range_with_len 0 (length c.args.masks.now) ∙ sym (ap length rows);
+      ranked = ap length c.in_ok-ranks.ensures ∙ length-range_with_len 0 (length c.args.masks.now)
+          ∙ sym (ap length rows);
       distinct = ranks_distinct c.in_ok-ranks.ranks.items (length c.args.masks.now) c.in_ok-ranks.ensures;
-      exist = within_masks (length c.in_ok-desks.desks.items) (sets_of c.in_ok-rows.rows.items) (subst (λ (n : ℕ). All (λ set. set < 2 ^ n) (sets_of c.in_ok-rows.rows.items)) (sym opened)
+      exist = within_masks (length c.in_ok-desks.desks.items) (sets_of c.in_ok-rows.rows.items)
+          (subst (λ (n : ℕ). All (λ set. set < 2 ^ n) (sets_of c.in_ok-rows.rows.items)) (sym opened)
           (subst (All (λ set. set < 2 ^ c.args.halls)) (ap sets_of (sym rows)) c.requires.exist));
     }
 

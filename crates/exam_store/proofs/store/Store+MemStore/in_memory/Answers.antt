@@ -14,4 +14,5 @@ returns-in_err-save_empty-clause-memory c =
     let e = c.in_err-save_empty.field-0.0 in
     let is : c.from_residual-in_err-save_empty.result ≡ Err e = search rules in
     let empty = c.in_ok-conn.ensures.empty in
-    rw is (only_memory c.in_ok-conn.conn c.save_empty.new.conn e empty c.in_ok-conn.ensures.fresh (c.in_err-save_empty.ensures.failed (memory_is_clean c.save_empty.new.conn) empty.2))
+    rw is (only_memory c.in_ok-conn.conn c.save_empty.new.conn e empty c.in_ok-conn.ensures.fresh
+    (c.in_err-save_empty.ensures.failed (memory_is_clean c.save_empty.new.conn) empty.2))

@@ -1,3 +1,4 @@
+-- The commands walked so far have their replies. There is room for all of them before the first one.
 use Rattle.std.proofs.Common.{◌≡◌, ◌+◌, ◌∷◌, ◌++◌, [], take, ap, sym, subst, ◌∙◌, arith}
 use Rattle.std.proofs.lemmas.List.{take_more}
 use Rattle.sqlite.specs.Held.{state}
@@ -18,17 +19,26 @@ commands-preserved g c =
     let now = state g.S.Store c.commands.self.database in
     let back = λ (sound : IsSound (state g.S.Store c.apply.new.self.database)). let clean : HasCleanDisk now =
     omega (arith, made.survives.clean, sound.0) in let was : IsSound now = (clean, made.was_open sound) in was in
-    let more : take (i + 1) done ≡ take i done ++ x ∷ [] = take_more done i x c.commands-test.true ∙ ap (λ z. take i done ++ z ∷ []) (sym c.commands-item.is) in
+    let more : take (i + 1) done ≡ take i done ++ x ∷ [] =
+    take_more done i x c.commands-test.true ∙ ap (λ z. take i done ++ z ∷ []) (sym c.commands-item.is) in
     record {
       so_far = subst (λ xs. Applies xs before c.push_reserved.new.self.items after) (sym more)
           (subst (λ rs. Applies (take i done ++ x ∷ []) before rs after) (sym c.push_reserved.ensures.items)
-          (applies_more (take i done) x c.commands.replies.items c.apply.result before c.commands.self.office after c.commands.invariant.so_far c.apply.ensures.step));
-      each = subst (λ xs. AreApplied g.S.Store xs c.args.self.now c.push_reserved.new.self.items c.apply.new.self) (sym more)
-          (subst (λ rs. AreApplied g.S.Store (take i done ++ x ∷ []) c.args.self.now rs c.apply.new.self) (sym c.push_reserved.ensures.items)
+          (applies_more (take i done) x c.commands.replies.items c.apply.result before c.commands.self.office after
+          c.commands.invariant.so_far c.apply.ensures.step));
+      each = subst (λ xs. AreApplied g.S.Store xs c.args.self.now c.push_reserved.new.self.items c.apply.new.self)
+          (sym more)
+          (subst (λ rs. AreApplied g.S.Store (take i done ++ x ∷ []) c.args.self.now rs c.apply.new.self)
+          (sym c.push_reserved.ensures.items)
           (applied_more g.S.Store
           (take i done) x c.commands.replies.items c.apply.result c.args.self.now c.commands.self c.apply.new.self
           c.commands.invariant.each
-          (record { step = c.apply.ensures.step; made = made; refusal = c.apply.ensures.refusal; shut = c.apply.ensures.shut })));
+          (record {
+            step = c.apply.ensures.step;
+            made = made;
+            refusal = c.apply.ensures.refusal;
+            shut = c.apply.ensures.shut;
+          })));
       kept = λ sound was. c.apply.ensures.kept sound (c.commands.invariant.kept (back sound) was);
       was_open = λ sound. c.commands.invariant.was_open (back sound);
       answered = omega (arith, c.push_reserved.ensures.len, c.commands.invariant.answered);

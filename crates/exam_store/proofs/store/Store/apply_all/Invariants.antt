@@ -12,7 +12,9 @@ abbrev pub invariant-commands : goal.invariant-commands
 invariant-commands g l = record {
   so_far : Applies (take l.command-index l.commands) l.fn.self.office l.replies.items l.self.office;
   each : AreApplied g.S.Store (take l.command-index l.commands) l.fn.self l.replies.items l.self;
-  kept : IsSound (state g.S.Store l.self.database) → Rekeeps l.fn.self.office l.self.office (state g.S.Store l.fn.self.database).now (state g.S.Store l.self.database).now;
+  kept : IsSound (state g.S.Store l.self.database)
+      → Rekeeps l.fn.self.office l.self.office (state g.S.Store l.fn.self.database).now
+      (state g.S.Store l.self.database).now;
   was_open : IsSound (state g.S.Store l.self.database) → IsSound (state g.S.Store l.fn.self.database);
   answered : vec_len l.replies ≡ l.command-index;
   room : length l.commands ≤ vec_capacity l.replies;

@@ -27,4 +27,5 @@ pub returns-clause-loads : goal.returns-clause-loads
 returns-clause-loads g c = λ ready.
     let lists : lists_marks (state g.S.Store c.args.conn.now).now.schema ≡ true = search rules in
     marks_load g.S.Store c.args.conn.now c.load_rows.new.conn lists c.load_rows.result
-    (by_queries g.S.Store c.args.conn.now c.load_rows.new.conn standing.load standing_ours.loads c.load_rows.result (table_part standing.cmp standing) c.load_rows.ensures)
+    (by_queries g.S.Store c.args.conn.now c.load_rows.new.conn standing.load standing_ours.loads c.load_rows.result
+    (table_part standing.cmp standing) c.load_rows.ensures)

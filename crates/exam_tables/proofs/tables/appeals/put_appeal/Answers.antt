@@ -1,3 +1,4 @@
+-- The parameters are the columns of the row, in the order of the text, so the text puts just that row.
 use Rattle.std.proofs.Common.{arith}
 use Rattle.sqlite.specs.Held.{state}
 use Rattle.exam_tables.specs.Stored.{kind_number, needs_of, extra_of, state_number, answer_of}

@@ -13,6 +13,8 @@ invariant_of-result g c =
     let fits : n ≤ g.row.GREATEST = longest g.A.Alphabet.allowed g.row.LEAST g.row.GREATEST c.args.bytes.now is in (
       fits,
       simp (length-append, length-drop, length-replicate) (omega arith),
-      drop-append-drop n _ _ n (omega arith) (ap length c.copy_from_slice.ensures.after) ∙ drop-replicate n g.row.GREATEST 0,
-      front_is_code g.A.Alphabet.allowed g.row.LEAST g.row.GREATEST c.args.bytes.now _ _ c.copy_from_slice.ensures.after is,
+      drop-append-drop n _ _ n (omega arith) (ap length c.copy_from_slice.ensures.after)
+          ∙ drop-replicate n g.row.GREATEST 0,
+      front_is_code g.A.Alphabet.allowed g.row.LEAST g.row.GREATEST c.args.bytes.now _ _
+          c.copy_from_slice.ensures.after is,
     )

@@ -16,4 +16,5 @@ returns c =
     let some : Some c.in_ok-ok.field-0 ≡ result_ok c.checked_add.result = search rules in
     let number = number_before c.checked_add.result c.date.result c.in_ok-ok.field-0 c.args.self c.args.days
     c.days_back.result c.date.ensures.number c.days_back.ensures some c.checked_add.ensures.value in
-    minus_is c.from_date.result (epoch_day c.in_ok-ok.field-0) c.args.self c.args.days c.date.ensures.range number c.from_date.ensures
+    minus_is c.from_date.result
+    (epoch_day c.in_ok-ok.field-0) c.args.self c.args.days c.date.ensures.range number c.from_date.ensures

@@ -1,3 +1,5 @@
+-- A text that has no parts, or parts that are no date, is the text of no day. Otherwise the parts are those of that
+-- date, which has this text and no other.
 use Rattle.std.proofs.Common.{◌≡◌, Some, None, true, false}
 use Rattle.exam_types.specs.Days as spec
 use Rattle.exam_types.proofs.DayTexts.{day_of_is, is_date, no_text, parts_of_text, read_text}
@@ -7,7 +9,8 @@ pub returns-in_err-year : goal.returns-in_err-year
 returns-in_err-year c =
     let bytes = c.args.bytes.now in
     let exact = no_text bytes c.from_residual.result c.from_residual.ensures (λ n is text.
-    let read : None ≡ Some (spec.year_of n, spec.month_of n, spec.month_day_of n) = parts_of_text bytes None n c.in_err-year.ensures is text in cc) in
+    let read : None ≡ Some (spec.year_of n, spec.month_of n, spec.month_day_of n) =
+    parts_of_text bytes None n c.in_err-year.ensures is text in cc) in
     record { exact = exact; value = day_of_is bytes c.from_residual.result exact }
 
 pub date_of-requires-clause-year : goal.date_of-requires-clause-year

@@ -2,7 +2,8 @@ use Rattle.std.proofs.Common.{◌≡◌, ◌<◌, rules, None, Some, nat_eq, fal
 use Rattle.std.specs.Cmp.Lexicographic.{pointwise}
 use Rattle.std.specs.Fmt.{decimal}
 use Rattle.exam_types.specs.Digits.{number_of}
-use Rattle.exam_types.proofs.NumeralFacts.{reads_long, reads_others, reads_padded, reads_decimal, short_power, other_text}
+use Rattle.exam_types.proofs.NumeralFacts.{reads_long, reads_others, reads_padded, reads_decimal, short_power}
+use Rattle.exam_types.proofs.NumeralFacts.{other_text}
 use Rattle.exam_types.proofs.numerals.DecimalSpelling.read.Goals as goal
 
 pub returns-then-bytes-gt4 : goal.returns-then-bytes-gt4

@@ -8,7 +8,8 @@ returns-in_err-read-clause-value g c =
     let laws = g.met.F.Form in
     let bytes = c.args.bytes.now in
     value_found form.in_range spelling.text form.least form.greatest bytes c.from_residual.result laws.is_between
-    (none_read form.in_range spelling.text spelling.limit bytes c.from_residual.result laws.is_spelled c.in_err-read.ensures c.from_residual.ensures)
+    (none_read form.in_range spelling.text spelling.limit bytes c.from_residual.result laws.is_spelled
+    c.in_err-read.ensures c.from_residual.ensures)
 
 pub returns-clause-value : goal.returns-clause-value
 returns-clause-value g c =
@@ -17,4 +18,5 @@ returns-clause-value g c =
     let laws = g.met.F.Form in
     let bytes = c.args.bytes.now in
     value_found form.in_range spelling.text form.least form.greatest bytes c.of.result laws.is_between
-    (read_in_range form.in_range spelling.text spelling.limit bytes c.read.result c.in_ok-read.field-0 c.of.result laws.is_spelled c.read.ensures c.in_ok-read.was c.of.ensures)
+    (read_in_range form.in_range spelling.text spelling.limit bytes c.read.result c.in_ok-read.field-0 c.of.result
+    laws.is_spelled c.read.ensures c.in_ok-read.was c.of.ensures)

@@ -1,3 +1,5 @@
+-- Each column is read in its own form, and eleven of them are a row. A column that has not this form is none of an
+-- appeal's; where memory ran out, the form was right.
 use Rattle.std.proofs.Common.{◌≡◌, length, inr, Err, ap, rules}
 use Rattle.sqlite_value.specs.Order.{column}
 use Rattle.exam_tables.proofs.Reading.{found, eleven}
@@ -29,5 +31,6 @@ returns-clause-read c =
     let lodged = c.in_ok-lodged.ensures in
     inr (
       (number.0, reference.0, session.0, subject.0, reason.0, status.0, lodged.0),
-      eleven c.args.row.now _ _ _ _ _ _ _ _ _ _ _ len number.1 reference.1 session.1 subject.1 reason.1 status.1 lodged.1,
+      eleven c.args.row.now _ _ _ _ _ _ _ _ _ _ _ len number.1 reference.1 session.1 subject.1 reason.1 status.1
+          lodged.1,
     )

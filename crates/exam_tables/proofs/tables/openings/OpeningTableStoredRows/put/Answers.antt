@@ -1,3 +1,4 @@
+-- The parameters are the columns of the row, in the order of the text, so the text puts just that row.
 use Rattle.std.proofs.Common.{arith, if◌then◌else◌}
 use Rattle.sqlite.specs.Held.{state}
 use Rattle.exam_tables.specs.OurTables.{openings_ours}

@@ -10,4 +10,7 @@ returns-clause-read c =
     let session = c.in_ok-session.ensures in
     let minutes = c.in_ok-minutes.ensures in
     let required = c.in_ok-required.ensures in
-    inr ((code.0, title.0, session.0, minutes.0), five c.args.row.now _ _ _ _ _ len code.1 title.1 session.1 minutes.1 required.1)
+    inr (
+      (code.0, title.0, session.0, minutes.0),
+      five c.args.row.now _ _ _ _ _ len code.1 title.1 session.1 minutes.1 required.1,
+    )

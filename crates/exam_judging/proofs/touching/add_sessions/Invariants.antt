@@ -3,7 +3,7 @@ use Rattle.std.specs.BTreeSet.{contains}
 use Rattle.std.specs.List.{list_any}
 use Rattle.exam_rules.specs.Relations.{Code, code_cmp}
 use Rattle.exam_commands.specs.Touched.{sets_session}
-use Rattle.exam_judging.proofs.touching.add_imported.Given as goal
+use Rattle.exam_judging.proofs.touching.add_sessions.Given as goal
 
 -- those held and those left are all
 abbrev pub invariant-loop-row : goal.invariant-loop-row
