@@ -81,8 +81,8 @@ returns-in_ok-copy-in-OfPaper-clause-ok c =
     let copied : c.in_ok-copy-in-OfPaper.copy ≡ c.in-OfPaper.paper = search rules in
     on_ok_weaker c.put_kept-in-OfPaper.result
     (λ put. ap (λ rows. record r { papers = rows }) put
-        ∙ ap (λ x. with_row r (row.OfPaper c.in-OfPaper.code x)) copied
-        ∙ sym (ap (with_row r) c.in-OfPaper.is))
+    ∙ ap (λ x. with_row r (row.OfPaper c.in-OfPaper.code x)) copied
+    ∙ sym (ap (with_row r) c.in-OfPaper.is))
     c.put_kept-in-OfPaper.ensures.ok
 
 pub returns-in_ok-copy-in-OfHall-clause-ok : goal.returns-in_ok-copy-in-OfHall-clause-ok
@@ -91,8 +91,8 @@ returns-in_ok-copy-in-OfHall-clause-ok c =
     let copied : c.in_ok-copy-in-OfHall.copy ≡ c.in-OfHall.hall = search rules in
     on_ok_weaker c.put_kept-in-OfHall.result
     (λ put. ap (λ rows. record r { halls = rows }) put
-        ∙ ap (λ x. with_row r (row.OfHall c.in-OfHall.code x)) copied
-        ∙ sym (ap (with_row r) c.in-OfHall.is))
+    ∙ ap (λ x. with_row r (row.OfHall c.in-OfHall.code x)) copied
+    ∙ sym (ap (with_row r) c.in-OfHall.is))
     c.put_kept-in-OfHall.ensures.ok
 
 pub returns-in-OfOpening-clause-ok : goal.returns-in-OfOpening-clause-ok
@@ -108,8 +108,8 @@ returns-in_ok-copy-in-OfCandidate-clause-ok c =
     let copied : c.in_ok-copy-in-OfCandidate.copy ≡ c.in-OfCandidate.candidate = search rules in
     on_ok_weaker c.put_kept-in-OfCandidate.result
     (λ put. ap (λ rows. record r { candidates = rows }) put
-        ∙ ap (λ x. with_row r (row.OfCandidate c.in-OfCandidate.number x)) copied
-        ∙ sym (ap (with_row r) c.in-OfCandidate.is))
+    ∙ ap (λ x. with_row r (row.OfCandidate c.in-OfCandidate.number x)) copied
+    ∙ sym (ap (with_row r) c.in-OfCandidate.is))
     c.put_kept-in-OfCandidate.ensures.ok
 
 pub returns-in-OfArrangement-clause-ok : goal.returns-in-OfArrangement-clause-ok
@@ -130,9 +130,9 @@ returns-in-OfEntry-clause-ok c =
     let key : ℕ × Code = (c.in-OfEntry.number, c.in-OfEntry.paper) in
     let live : Entry = record { live = true } in
     let new = absent (row_at entry_cmp r.entries key)
-        (subst (λ x. is_same r x ≡ false) c.in-OfEntry.is c.requires) in
+    (subst (λ x. is_same r x ≡ false) c.in-OfEntry.is c.requires) in
     on_ok_weaker c.put_kept-in-OfEntry.result
     (λ put. ap (λ rows. record r { entries = rows })
-        (put ∙ sym (ap (λ there. cond there r.entries (put_row entry_cmp r.entries key live)) new))
-        ∙ sym (ap (with_row r) c.in-OfEntry.is))
+    (put ∙ sym (ap (λ there. cond there r.entries (put_row entry_cmp r.entries key live)) new))
+    ∙ sym (ap (with_row r) c.in-OfEntry.is))
     c.put_kept-in-OfEntry.ensures.ok
