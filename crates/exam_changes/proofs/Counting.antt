@@ -7,12 +7,13 @@ use Rattle.std.proofs.Math.Seq.{take-suc}
 use Rattle.std.proofs.lemmas.List.{length-take-le, take-append-drop}
 use Rattle.std.proofs.lemmas.List.Folds.{list_any-append}
 use Rattle.std.specs.List.{list_any, position_from}
-use Rattle.std.specs.Option.{option_map_or}
+use Rattle.std.specs.Option.{option_map_or, option_or}
 use Rattle.exam_rules.specs.Relations.{Relations}
 use Rattle.exam_changes.specs.declared.importing.Counts.{Counts}
 use Rattle.exam_commands.specs.declared.command.Reply.TheVariants as reply
 use Rattle.exam_commands.specs.declared.import_row.Row.{Row}
 use Rattle.exam_commands.specs.Imports.{distinct_rows, has_key, key_of, place_of}
+use Rattle.exam_commands.specs.Changes.{first_refusal, row_checks, rows_refusal}
 use Rattle.exam_commands.specs.Replies.{import_reply, is_changed, is_new, is_same, is_stored}
 use Rattle.exam_commands.proofs.ImportKeys.{key_flips, key_itself}
 use Rattle.std.proofs.lemmas.Bool.{ne_eqb}
@@ -127,6 +128,11 @@ module _ (i : ℕ) (rows : List Row) (row : Row) (here : i < length rows) (is : 
       ap (λ j. option_map_or (λ first. nat_eq first j) (place_of row rows) false) (sym long)
       ∙ ap (λ all. option_map_or (λ first. nat_eq first (0 + length (take i rows))) (place_of row all) false) split
       ∙ at_own_place (has_key (key_of row)) 0 (take i rows) (drop (i + 1) rows) row (key_itself (key_of row))
+
+  -- of the rows from this place on this one decides first
+  pub refusal_here : (r : Relations)
+      → rows_refusal r (drop i rows) ≡ option_or (first_refusal (row_checks r row)) (rows_refusal r (drop (i + 1) rows))
+  refusal_here r = ap (rows_refusal r) drop_here
 
 -- the keys of the rows before a place are counted
 pub record AreCounted (r : Relations) (rows : List Row) (place : ℕ) (counts : Counts) : Type 0 where

@@ -38,8 +38,7 @@ pub fn import_rows(
         ⊎ (changes.rows_refusal (relations_of facts.old) import.now.rows ≡ Some e)) }
     ensures same { OnErr result (relations_of facts.new ≡ relations_of facts.old) }
 {
-    check_rows(facts, import.rows())?;
-    let reply = count_rows(facts, import);
+    let reply = count_rows(facts, import)?;
     Ok((set_rows(alloc, facts, import.rows())?, reply))
 }
 
@@ -59,16 +58,6 @@ fn set_rows(alloc: Global, facts: &mut Facts, rows: &[Row]) -> Result<Undo, Refu
             Err(refusal)
         }
     }
-}
-
-/// Refuses the first row, in the order of the file, that refers to what does not exist.
-fn check_rows(facts: &Facts, rows: &[Row]) -> Result<(), Refusal>
-    ensures { result_err result ≡ changes.rows_refusal (relations_of facts.now) rows.now }
-{
-    for row in rows {
-        check_row(facts, row)?;
-    }
-    Ok(())
 }
 
 /// Checks the references of a row in the order of its columns.
@@ -158,9 +147,12 @@ fn set_row(facts: &mut Facts, kept: &mut KeptRows, row: &Row) -> Result<(), Refu
     }
 }
 
-/// How many distinct rows are new, replace another row, and are the same.
-fn count_rows(facts: &Facts, import: &Import) -> Reply
-    ensures { result ≡ replies.import_reply (relations_of facts.now) import.now.rows }
+/// How many distinct rows are new, replace another row, and are the same. Refuses the first row, in the order of the
+/// file, that refers to what does not exist.
+fn count_rows(facts: &Facts, import: &Import) -> Result<Reply, Refusal>
+    ensures checked { result_err result ≡ changes.rows_refusal (relations_of facts.now) import.now.rows }
+    ensures counts { IfOk result (λ reply. reply
+        ≡ replies.import_reply (relations_of facts.now) import.now.rows) }
 {
     let mut counts = Counts {
         added: 0,
@@ -168,15 +160,16 @@ fn count_rows(facts: &Facts, import: &Import) -> Reply
         same: 0,
     };
     for (place, row) in import.rows().iter().enumerate() {
+        check_row(facts, row)?;
         if import.is_first(place, row) {
             counts = counted(counts, is_stored(facts, row));
         }
     }
-    Reply::Imported {
+    Ok(Reply::Imported {
         added: counts.added,
         changed: counts.changed,
         same: counts.same,
-    }
+    })
 }
 
 /// How many distinct keys were new, had another row, and had the same row.

@@ -34,12 +34,14 @@ use Rattle.exam_check.specs.Refused.{FailsToCheck}
 -- a call that reads, after one that succeeded
 
 fails_later : {S : Type 0} (g : Ghosts S) (old mid new : Held S) → IsUnchanged (state g old) (state g mid)
-    → (e : Refusal) → (e ≡ BadStore) ⊎ FailsToCheck g mid new e → (e ≡ BadStore) ⊎ FailsToCheck g old new e
-fails_later g old mid new same e (inl bad) = inl bad
-fails_later g old mid new same e (inr (inl lacks)) = inr (inl lacks)
-fails_later g old mid new same e (inr (inr (inl ((at, still, text, loads, fails), store)))) =
-    inr (inr (inl ((at, still_then (state g old) (state g mid) (state g at) same still, text, loads, fails), store)))
-fails_later g old mid new same e (inr (inr (inr (is, old_one)))) =
+    → Survives (state g old) (state g mid) (λ _. ⊥) → (e : Refusal) → (e ≡ BadStore) ⊎ FailsToCheck g mid new e
+    → (e ≡ BadStore) ⊎ FailsToCheck g old new e
+fails_later g old mid new same survives e (inl bad) = inl bad
+fails_later g old mid new same survives e (inr (inl lacks)) = inr (inl lacks)
+fails_later g old mid new same survives e (inr (inr (inl ((at, still, text, loads, fails), store)))) =
+    let since = still_then (state g old) (state g mid) (state g at) same survives still in
+    inr (inr (inl ((at, since, text, loads, fails), store)))
+fails_later g old mid new same survives e (inr (inr (inr (is, old_one)))) =
     inr (inr (inr (
       is,
       λ all was. old_one all
@@ -75,8 +77,8 @@ module _ {S : Type 0} (g : Ghosts S) (old mid new : Held S) where
           λ all good. it.1 all (subst (λ (db : Database). HasGoodVersion db all) (sym same.0.now_is) good),
         ))
         (next.bad clean);
-    refused = λ clean. IfErr-weaker result _ _ (fails_later g old mid new (first.left (next.early clean)))
-        (next.refused clean);
+    refused = λ clean. IfErr-weaker result _ _
+        (fails_later g old mid new (first.left (next.early clean)) first.survives) (next.refused clean);
     told = next.told;
   }
 

@@ -1,6 +1,6 @@
 -- A register that goes out line by line.
-use Rattle.std.proofs.Common.{◌≡◌, ◌⊎◌, ℕ, ◌+◌, ◌≤◌, Result, Ok, Err, OnOk, OnErr, IfErr, List, [], ◌∷◌, ◌++◌, length}
-use Rattle.std.proofs.Common.{drop, Option, Some}
+use Rattle.std.proofs.Common.{◌≡◌, ◌⊎◌, ℕ, ◌+◌, ◌≤◌, ◌<◌, Result, Ok, Err, OnOk, OnErr, IfErr, List, [], ◌∷◌, ◌++◌}
+use Rattle.std.proofs.Common.{length, drop, Option, Some}
 use Rattle.std.proofs.Common.{refl, ap, sym, subst, ◌∙◌, inl, inr, arith, append_assoc, append-nil, drop-drop}
 use Rattle.std.specs.List.{flat_map}
 use Rattle.std.proofs.Math.Seq.{drop-append_seam}
@@ -13,7 +13,8 @@ use Rattle.exam_views.specs.declared.view.AppealRow.{AppealRow}
 use Rattle.exam_types.specs.declared.refusal.Refusal.{Refusal}
 use Rattle.exam_files.specs.declared.sheet_fault.SheetFault.{SheetFault}
 use Rattle.exam_files.specs.declared.sheet_fault.SheetFault.TheVariants as faults
-use Rattle.exam_files.specs.Registers.{AsksFor, Streams, TakesFew, appeal_line, register_heading, register_text}
+use Rattle.exam_files.specs.Registers.{AsksFor, BreaksOff, Streams, TakesFew, appeal_line, register_heading}
+use Rattle.exam_files.specs.Registers.{register_text}
 
 pub begins_part : (a b : Option (List ℕ)) (text : List ℕ) → AppendsPart a b text → AppendsBeginning a b text
 begins_part a b text part = (part.0, part.1, part.2, part.4)
@@ -67,14 +68,24 @@ given_asked refuses row found old new (Err fault) is gives =
     one_given refuses row old new fault (subst (λ f. Gives f old new) is gives)
 
 -- one more was asked for after so many
-pub asked_on : (most i : ℕ) (refuses : Refusal → Type 0) (old left new : List AppealRow) (fault : SheetFault)
-    → i + 1 ≤ most → left ≡ drop i old → AsksFor 1 refuses left new fault
-    → AsksFor most refuses old new fault
-asked_on most i refuses old left new faults.Write room so_far (n, one, is) =
+pub asked_on : (most i : ℕ) (refused refuses : Refusal → Type 0) → ((e : Refusal) → refused e → refuses e)
+    → (old left new : List AppealRow) (fault : SheetFault) → i + 1 ≤ most → left ≡ drop i old
+    → AsksFor 1 refused left new fault → AsksFor most refuses old new fault
+asked_on most i refused refuses later old left new faults.Write room so_far (n, one, is) =
     (i + n, omega (arith, room, one), is ∙ ap (drop n) so_far ∙ drop-drop n i old)
-asked_on most i refuses old left new (faults.Refused e) room so_far (inl (n, one, is)) =
+asked_on most i refused refuses later old left new (faults.Refused e) room so_far (inl (n, one, is)) =
     inl (i + n, omega (arith, room, one), is ∙ ap (drop n) so_far ∙ drop-drop n i old)
-asked_on most i refuses old left new (faults.Refused e) room so_far (inr refused) = inr refused
+asked_on most i refused refuses later old left new (faults.Refused e) room so_far (inr (told, why)) =
+    inr (told, later e why)
+
+-- why it breaks off, from an earlier source
+pub breaks_on : (refused refuses : Refusal → Type 0) → ((e : Refusal) → refused e → refuses e)
+    → (ended ends : Type 0) → (ended → ends) → (fault : SheetFault) → BreaksOff refused ended fault
+    → BreaksOff refuses ends fault
+breaks_on refused refuses later ended ends so faults.Write why = tt
+breaks_on refused refuses later ended ends so (faults.Refused e) (inl short) = inl short
+breaks_on refused refuses later ended ends so (faults.Refused e) (inr (inl why)) = inr (inl (why.0, later e why.1))
+breaks_on refused refuses later ended ends so (faults.Refused e) (inr (inr none)) = inr (inr (none.0, so none.1))
 
 pub fault_asked : (most : ℕ) (refuses : Refusal → Type 0) (old new : List AppealRow)
     (result : Result (Unit {0}) SheetFault) (fault : SheetFault) → result ≡ Err fault
@@ -160,6 +171,16 @@ module _ (code : List ℕ) (count : ℕ) (all : List AppealRow) (old : Option (L
       let parted = length-append so_far.given left in
       let rows : length all ≡ length (so_far.given ++ left) = ap (λ (xs : List AppealRow). length xs) so_far.rows in
       omega (arith, few, parted, rows, end)
+
+  -- the source ended sooner
+  pub few_came : (i : ℕ) (left : List AppealRow) (now : Option (List ℕ)) → i + 1 ≤ count → HasStreamed i left now
+      → left ≡ [] → length all < count
+  few_came i left now room so_far none =
+      let few = so_far.many in
+      let parted = length-append so_far.given left in
+      let rows : length all ≡ length (so_far.given ++ left) = ap (λ (xs : List AppealRow). length xs) so_far.rows in
+      let end : length left ≡ 0 = ap (λ (xs : List AppealRow). length xs) none in
+      omega (arith, few, parted, rows, end, room)
 
   -- the next did not come, or its line went out in part
   pub cut_off : (i : ℕ) (left after : List AppealRow) (now then : Option (List ℕ)) → length all ≡ count

@@ -27,8 +27,8 @@ pub fn register_stream<A: AppealSource, W: Write>(
         → OnOk result ((A.coming source.new ≡ drop count (A.coming source.old))
         × (count ≤ length (A.coming source.old))) }
     ensures asked { A.IsHonest source.new → IfErr result (
-        spec.AsksFor count (A.Refuses source.new) (A.coming source.old) (A.coming source.new)) }
-    ensures fault { IfErr result (spec.BreaksOff (A.Refuses source.new)
+        spec.AsksFor count (A.Refuses source.old source.new) (A.coming source.old) (A.coming source.new)) }
+    ensures fault { IfErr result (spec.BreaksOff (A.Refuses source.old source.new)
         (A.IsHonest source.new → length (A.coming source.old) < count)) }
     ensures stays { A.Stays source.old source.new }
 {
@@ -67,8 +67,8 @@ fn send_next<A: AppealSource, W: Write>(
         (A.coming source.new) (W.contents writer.old) (W.contents writer.new)) }
     ensures honest { A.IsHonest source.new → A.IsHonest source.old }
     ensures asked { A.IsHonest source.new → IfErr result (
-        spec.AsksFor 1 (A.Refuses source.new) (A.coming source.old) (A.coming source.new)) }
-    ensures fault { IfErr result (spec.BreaksOff (A.Refuses source.new)
+        spec.AsksFor 1 (A.Refuses source.old source.new) (A.coming source.old) (A.coming source.new)) }
+    ensures fault { IfErr result (spec.BreaksOff (A.Refuses source.old source.new)
         (A.IsHonest source.new → A.coming source.old ≡ [])) }
     ensures stays { A.Stays source.old source.new }
 {

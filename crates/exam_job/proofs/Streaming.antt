@@ -24,10 +24,11 @@ use Rattle.exam_job.specs.Sheets.{BreaksOff, Streams}
 use Rattle.exam_job.specs.declared.report.JobFault.{JobFault}
 use Rattle.exam_job.specs.declared.report.JobFault.TheVariants.{Refused}
 
-module _ {S : Type 0} (g : Ghosts S) (new : OfficeIn S) where
-  breaks : (fault : SheetFault) → registers.BreaksOff (FailsToRead g new) ⊥ fault → BreaksOff g new (fault_of fault)
+module _ {S : Type 0} (g : Ghosts S) (old new : OfficeIn S) where
+  breaks : (fault : SheetFault) → registers.BreaksOff (FailsToRead g old new) ⊥ fault
+      → BreaksOff g old new (fault_of fault)
   breaks faults.Write why = tt
-  breaks (faults.Refused e) (inl short) = subst (FailsToRead g new) (sym short) tt
+  breaks (faults.Refused e) (inl short) = subst (FailsToRead g old new) (sym short) tt
   breaks (faults.Refused e) (inr (inl why)) = why.1
   breaks (faults.Refused e) (inr (inr none)) = absurd none.1
 
@@ -36,7 +37,7 @@ module _ {S : Type 0} (g : Ghosts S) (new : OfficeIn S) where
     register = register_text s (appeals_of office.relations s)
 
     abbrev Sent : Result (List ℕ) Refusal → Result (Unit {0}) JobFault → W → Type 0
-    Sent text result after = Streams (BreaksOff g new) contents text before result after
+    Sent text result after = Streams (BreaksOff g old new) contents text before result after
 
     -- of a session that there is, and of one that there is not
     of_row : (row : Option Session) (result : Result (Unit {0}) JobFault) (after : W)
@@ -53,7 +54,7 @@ module _ {S : Type 0} (g : Ghosts S) (new : OfficeIn S) where
     flushed mid (Ok done) after whole held =
         Appends-kept (contents before) (contents mid) (contents after) register whole held
     flushed mid (Err e) after whole (is, held) = (
-      subst (BreaksOff g new) (sym is) tt,
+      subst (BreaksOff g old new) (sym is) tt,
       (
         register,
         [],
@@ -74,7 +75,7 @@ module _ {S : Type 0} (g : Ghosts S) (new : OfficeIn S) where
     -- a beginning of it, or nothing where the session is unknown
     pub part : (fault : SheetFault) (result : Result (Unit {0}) JobFault) (after : W) → result ≡ Err (fault_of fault)
         → (has_row code_cmp office.relations.sessions s ≡ true
-        → registers.BreaksOff (FailsToRead g new) ⊥ fault
+        → registers.BreaksOff (FailsToRead g old new) ⊥ fault
         × AppendsBeginning (contents before) (contents after) register)
         → (has_row code_cmp office.relations.sessions s ≡ false
         → (fault ≡ faults.Refused UnknownSession) × (after ≡ before)) → Sent (register_of office s) result after

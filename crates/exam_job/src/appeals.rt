@@ -41,7 +41,7 @@ fn send_appeals<S: Alter, O: Write>(
         → registers.Streams O.contents result out.old out.new
         (registers.register_text session.now (appeals_of store.old.office.relations session.now)) }
     ensures fault { has_row code_cmp store.old.office.relations.sessions session.now ≡ true
-        → IfErr result (registers.BreaksOff (FailsToRead S.Store store.new) ⊥) }
+        → IfErr result (registers.BreaksOff (FailsToRead S.Store store.old store.new) ⊥) }
     ensures unknown { has_row code_cmp store.old.office.relations.sessions session.now ≡ false
         → (result ≡ Err (Refused UnknownSession)) × (store.new ≡ store.old) × (out.new ≡ out.old) }
     ensures read { OnlyIsRead S.Store store.old store.new }

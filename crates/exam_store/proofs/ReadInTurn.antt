@@ -26,6 +26,8 @@ use Rattle.exam_tables.specs.Faults.{is_store_refusal}
 use Rattle.exam_tables.specs.Loaded.{IsLeft, OnlyReads}
 use Rattle.exam_store.specs.Kept.{Keeps}
 use Rattle.exam_store.specs.InTurn.{FailsToRead, bound_after, rows_from}
+use Rattle.exam_store.specs.OnlyRead.{read_itself}
+use Rattle.exam_store.specs.Stores.{OfficeIn}
 
 -- ---- what is left
 
@@ -52,10 +54,12 @@ pub fails_to_read : {S : Type 0} (g : Ghosts S) (office : Office) (old new : Hel
     → KeysRise appeal_cmp office.relations.appeals → IsAmong office.relations.appeals it
     → (e : Refusal) → IsTrue (is_store_refusal e)
     → (HasCleanDisk (state g new) → FailsToConfirm it (state g old) (state g new) e)
-    → IsTrue (is_source_refusal e) × FailsToRead g (record { office = office; database = new }) e
+    → IsTrue (is_source_refusal e)
+    × FailsToRead g (record { office = office; database = old }) (record { office = office; database = new }) e
 fails_to_read g office old new it rises has refusal.NoMemory told fails = (refl, tt)
-fails_to_read g office old new it rises has refusal.Store told fails =
-    (refl, λ clean. let why = (fails clean).told refl in (it.0, old, why.0, why.1, why.2))
+fails_to_read {S} g office old new it rises has refusal.Store told fails =
+    let here : OfficeIn S = record { office = office; database = old } in
+    (refl, λ clean. let why = (fails clean).told refl in (here, read_itself g here, it.0, why.0, why.1, why.2))
 fails_to_read g office old new it rises has refusal.BadStore told fails = (
   refl,
   λ clean keeps. let why = fails clean in let was =
@@ -89,7 +93,8 @@ pub refused_all : {A S : Type 0} (g : Ghosts S) (office : Office) (old new : Hel
     → KeysRise appeal_cmp office.relations.appeals → IsAmong office.relations.appeals it
     → (result : Result A Refusal) → IfErr result (λ e. IsTrue (is_store_refusal e))
     → (HasCleanDisk (state g new) → IfErr result (FailsToConfirm it (state g old) (state g new)))
-    → IfErr result (λ e. IsTrue (is_source_refusal e) × FailsToRead g (record { office = office; database = new }) e)
+    → IfErr result (λ e. IsTrue (is_source_refusal e)
+    × FailsToRead g (record { office = office; database = old }) (record { office = office; database = new }) e)
 refused_all g office old new it rises has (Ok value) told fails = tt
 refused_all g office old new it rises has (Err e) told fails = fails_to_read g office old new it rises has e told fails
 

@@ -71,7 +71,7 @@ impl<S: Alter> AppealSource for AppealRows<'_, S> {
 
     ghost IsHonest = { λ r. ⊤ };
 
-    ghost Refuses = { λ r e. spec.FailsToRead S.Store r.store.now e };
+    ghost Refuses = { λ a b e. spec.FailsToRead S.Store a.store.now b.store.now e };
 
     ghost Stays = { λ a b. (b.store.ghost_name ≡ a.store.ghost_name)
         × OnlyIsRead S.Store a.store.now b.store.now };
@@ -90,6 +90,9 @@ impl<S: Alter> AppealSource for AppealRows<'_, S> {
       second.0 ∙ first.0,
       read_then _ a.store.now b.store.now c.store.now first.1 second.1,
     ) };
+
+    ghost refuses_then = { λ a b c e stays why.
+        spec.fails_then _ a.store.now b.store.now c.store.now e stays.1 why };
 }
 
 /// From where the next appeal is looked for, after this one.
@@ -116,7 +119,8 @@ pub fn read_appeal<S: Alter>(
     ensures row { IfOk result (λ row. Gives row (spec.rows_from office.now session.now from)
         (spec.rows_from office.now session.now (spec.bound_after from row))) }
     ensures refusal { IfErr result (λ e. IsTrue (is_source_refusal e)
-        × spec.FailsToRead S.Store (record { office = office.now; database = conn.new }) e) }
+        × spec.FailsToRead S.Store (record { office = office.now; database = conn.old })
+        (record { office = office.now; database = conn.new }) e) }
     ensures read { OnlyIsRead S.Store (record { office = office.now; database = conn.old })
         (record { office = office.now; database = conn.new }) }
     ensures mode { conn.old.in_transaction ≡ false → conn.new.in_transaction ≡ false }

@@ -290,7 +290,7 @@ impl<S: Alter> Store<S> {
     ) -> Result<Option<AppealRow>, Refusal>
         ensures row { IfOk result (λ row. Gives row (rows_from self.old.office session.now from)
             (rows_from self.old.office session.now (bound_after from row))) }
-        ensures refusal { IfErr result (λ e. IsTrue (is_source_refusal e) × FailsToRead S.Store self.new e) }
+        ensures refusal { IfErr result (λ e. IsTrue (is_source_refusal e) × FailsToRead S.Store self.old self.new e) }
         ensures read { OnlyIsRead S.Store self.old self.new }
     {
         read_appeal(alloc, &mut self.conn, &self.office, session, from)

@@ -31,7 +31,7 @@ use Rattle.exam_sql.proofs.Making.{AddsTable, adding_fails, adds_table}
 use Rattle.exam_sql.proofs.OfOffice as office
 use Rattle.exam_sql.proofs.VersionFails.{version_fails}
 use Rattle.exam_tables.specs.Faults.{refusal_of, is_store_refusal}
-use Rattle.exam_tables.specs.Inside.{Ran}
+use Rattle.exam_tables.specs.Inside.{Runs}
 use Rattle.exam_tables.specs.Versions.{HasFirst, HasNoRows, HasRuled, IsBlank, Leads, FailsToMake, FailsToCreate}
 use Rattle.exam_tables.specs.Versions.{version}
 use Rattle.exam_tables.proofs.RowByRow.{survives_itself}
@@ -41,39 +41,28 @@ use Rattle.exam_tables.proofs.Steps.{down_later, fails_for}
 early : (mid new : State) → Survives mid new (λ _. ⊥) → HasCleanDisk new → HasCleanDisk mid
 early mid new s clean = omega (arith, s.clean)
 
--- a statement that is refused reports the error that the database gave
-abbrev pub Refused : List ℕ → Row → State → State → Result (Unit {0}) Refusal → Type 0
-Refused sql params old new result = HasCleanDisk new → IsTrue old.in_transaction
-    → IfErr result (λ e. (error : Error) × (e ≡ refusal_of error) × ExecutesInside 0 sql params old new (Err error))
-
 -- what a statement that was run makes
 pub leads_by : (before after : Database → Type 0) (old new : State) (sql : List ℕ) (params : Row)
     (result : Result (Unit {0}) Refusal)
     → ((count : ℕ) → Executes sql params old new (Ok count) → before old.now → after new.now)
     → (before old.now → (error : Error) → ExecutesInside 0 sql params old new (Err error)
-    → Fails old new (IsSome old.step_limit) error) → Refused sql params old new result
-    → (HasCleanDisk new → IsTrue old.in_transaction → OnOk result (Ran sql params old new × IsTrue new.in_transaction))
-    → (HasCleanDisk new → KeepsCommit old new) → Survives old new (λ _. ⊥)
-    → IfErr result (λ e. IsTrue (is_store_refusal e)) → Leads before after old new result
-leads_by before after old new sql params (Ok u) does fails failed ran kept survives told =
-    record {
-      made = λ clean going. let h = ran clean going in (does h.0.0 h.0.1, h.1);
-      failed =
-          λ clean going was. tt;
-      kept = kept;
-      survives = survives;
-      told = tt;
-    }
-leads_by before after old new sql params (Err e) does fails failed ran kept survives told =
-    record {
-      made = λ clean going. tt;
-      failed = λ clean going was. let it =
-          failed clean going in fails_for (IsSome old.step_limit) old new e it.0 it.1 (fails was it.0 it.2);
-      kept =
-          kept;
-      survives = survives;
-      told = told;
-    }
+    → Fails old new (IsSome old.step_limit) error) → Runs sql params old new result → Leads before after old new result
+leads_by before after old new sql params (Ok u) does fails runs = record {
+  made = λ clean going. let h = runs.ran clean going in (does h.0 h.1, h.2);
+  failed = λ clean going was. tt;
+  kept = runs.kept;
+  survives = runs.survives;
+  told = tt;
+}
+leads_by before after old new sql params (Err e) does fails runs = record {
+  made = λ clean going. tt;
+  failed = λ clean going was.
+      let it = runs.failed clean going in
+      fails_for (IsSome old.step_limit) old new e it.0 it.1 (fails was it.0 it.2);
+  kept = runs.kept;
+  survives = runs.survives;
+  told = runs.told;
+}
 
 -- what stood against the second of two steps stood against both
 pub made_later : (old mid new : State) (e : Refusal) → Survives old mid (λ _. ⊥) → HasCleanDisk mid
@@ -143,16 +132,13 @@ each_text texts are k d below =
 
 -- the text of a table
 pub table_leads : (before after : Schema) (d : Described) (text : List ℕ) → text ≡ d.create → AddsTable before after d
-    → (old new : State) (result : Result (Unit {0}) Refusal) → Refused text [] old new result
-    → (HasCleanDisk new → IsTrue old.in_transaction → OnOk result (Ran text [] old new × IsTrue new.in_transaction))
-    → (HasCleanDisk new → KeepsCommit old new) → Survives old new (λ _. ⊥)
-    → IfErr result (λ e. IsTrue (is_store_refusal e)) → Leads (HasNoRows before) (HasNoRows after) old new result
-table_leads before after d text is adds old new result failed ran kept survives told =
+    → (old new : State) (result : Result (Unit {0}) Refusal) → Runs text [] old new result
+    → Leads (HasNoRows before) (HasNoRows after) old new result
+table_leads before after d text is adds old new result runs =
     leads_by (HasNoRows before) (HasNoRows after) old new text [] result
     (λ count run was. still_empty after new.now d.table.tree
     (adds_table adds old new (Ok count) (rw is at run) (λ tree. []) was))
-    (λ was error run. limited old new error (adding_fails adds old new was.schema_is error (rw is at run))) failed
-    ran kept survives told
+    (λ was error run. limited old new error (adding_fails adds old new was.schema_is error (rw is at run))) runs
 
 -- if the connection is shut, that alone explains a failed statement
 shut_fails : {A B : Type 0} (old new : State) (error : Error) → old.is_open ≡ false → Fails old new A error

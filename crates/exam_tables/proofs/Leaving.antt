@@ -1,6 +1,6 @@
 -- What calls that only read leave.
-use Rattle.std.proofs.Common.{◌≡◌, ◌⊎◌, Bool, ℕ, List, [], Option, None, Some, inl, inr, Result, Ok, Err, OnOk, IsTrue}
-use Rattle.std.proofs.Common.{refl, sym, ap, subst, ◌∙◌}
+use Rattle.std.proofs.Common.{◌≡◌, ◌⊎◌, arith, Bool, ℕ, List, [], Option, None, Some, inl, inr, Result, Ok, Err, OnOk}
+use Rattle.std.proofs.Common.{IsTrue, refl, sym, ap, subst, ◌∙◌}
 use Rattle.sqlite_value.specs.Order.{Row}
 use Rattle.sqlite_schema.specs.declared.command.Returning.{Returning}
 use Rattle.sqlite_trees.specs.declared.error.StoreError.{StoreError}
@@ -47,17 +47,25 @@ reads_only old new (Ok value) same = same
 reads_only old new (Err e) same = inl same
 
 pub still_itself : (s : State) → IsStill s s
-still_itself s = record { now = refl; committed = refl; in_transaction = refl; is_open = refl }
+still_itself s = record {
+  now = refl;
+  committed = refl;
+  in_transaction = refl;
+  is_open = refl;
+  limit = refl;
+  counts = omega arith;
+}
 
-pub still_then : (old mid new : State) → IsUnchanged old mid → IsStill mid new → IsStill old new
-still_then old mid new first next =
-    record {
-      now = next.now ∙ first.0.now_is;
-      committed = next.committed ∙ first.0.committed_is;
-      in_transaction =
-          next.in_transaction ∙ first.0.mode;
-      is_open = next.is_open ∙ (first.0.is_open ∙ sym first.0.was_open);
-    }
+pub still_then : (old mid new : State) → IsUnchanged old mid → Survives old mid (λ _. ⊥) → IsStill mid new
+    → IsStill old new
+still_then old mid new first survives next = record {
+  now = next.now ∙ first.0.now_is;
+  committed = next.committed ∙ first.0.committed_is;
+  in_transaction = next.in_transaction ∙ first.0.mode;
+  is_open = next.is_open ∙ (first.0.is_open ∙ sym first.0.was_open);
+  limit = next.limit ∙ survives.limit;
+  counts = let up = survives.counts in let more = next.counts in omega (arith, up, more);
+}
 
 -- a query commits nothing
 pub query_survives : (text : List ℕ) → IsQuery text → (old new : State) → Survives old new (CommitsShowing text [] old)

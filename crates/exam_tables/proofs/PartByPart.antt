@@ -120,7 +120,7 @@ module _ {S A B : Type 0} (g : Ghosts S) (old mid new : Held S) (one : Part A) (
         let same = first.left (next.early clean) in
         part_failed e (λ fails. (
           fails.0,
-          still_then (state g old) (state g mid) (state g fails.0) same fails.1,
+          still_then (state g old) (state g mid) (state g fails.0) same first.survives fails.1,
           fails.2,
           fails.3,
           (fails.4.0, λ there. fails.4.1 (there.0, there.1.1)),

@@ -18,7 +18,7 @@ use Rattle.exam_rules.specs.declared.rows.Status.{Status}
 use Rattle.exam_rules.specs.declared.rows.Status.TheVariants.{Pending, Granted, Refused, Retracted, Superseded}
 use Rattle.exam_tables.specs.Stored.{kind_number, state_number}
 use Rattle.exam_tables.specs.Faults.{refusal_of, is_store_refusal}
-use Rattle.exam_tables.specs.Inside.{AreRun, Contains, Ran, Becomes, Makes, Write, written, FailsFor, FailsToWrite}
+use Rattle.exam_tables.specs.Inside.{AreRun, Contains, Becomes, Makes, Runs, Write, written, FailsFor, FailsToWrite}
 use Rattle.exam_sql.specs.Refusals.{Fails, Refuses, IsDown, is_failure}
 use Rattle.exam_sql.proofs.Edits.{Edits}
 use Rattle.sqlite.specs.Effect.{Database}
@@ -75,32 +75,26 @@ fails_one sql params change old new e error told (inr (named, inr refused)) =
 
 -- what a statement that was run makes of the rows
 pub makes_by : {change : Trees → Trees} {sql : List ℕ} {params : Row} → Edits change sql params
-    → (old new : State) (result : Result (Unit {0}) Refusal)
-    → (HasCleanDisk new → IsTrue old.in_transaction → OnOk result (Ran sql params old new × IsTrue new.in_transaction))
-    → (HasCleanDisk new → IsTrue old.in_transaction
-    → IfErr result (λ e. (error : Error) × (e ≡ refusal_of error)
-    × ExecutesInside 0 sql params old new (Err error)))
-    → (HasCleanDisk new → KeepsCommit old new) → Survives old new (λ _. ⊥)
-    → IfErr result (λ e. IsTrue (is_store_refusal e))
+    → (old new : State) (result : Result (Unit {0}) Refusal) → Runs sql params old new result
     → Makes old new result (record { sql = sql; params = params; change = change } ∷ [])
-makes_by edits old new (Ok u) ran failed kept survives told = record {
-  made = λ clean going. let h = ran clean going in (edits.does old new (Ok h.0.0) h.0.1, h.1);
-  ran = λ clean going ours. let h =
-      ran clean going in (new.now, (edits.answers old new ours.1.schema_is).done h.0.0 h.0.1, refl);
+makes_by edits old new (Ok u) runs = record {
+  made = λ clean going. let h = runs.ran clean going in (edits.does old new (Ok h.0) h.1, h.2);
+  ran = λ clean going ours.
+      let h = runs.ran clean going in (new.now, (edits.answers old new ours.1.schema_is).done h.0 h.1, refl);
   failed = λ clean going ours. tt;
-  kept = kept;
-  survives = survives;
+  kept = runs.kept;
+  survives = runs.survives;
   told = tt;
 }
-makes_by {change} {sql} {params} edits old new (Err e) ran failed kept survives told = record {
+makes_by {change} {sql} {params} edits old new (Err e) runs = record {
   made = λ clean going. tt;
   ran = λ clean going ours. tt;
-  failed = λ clean going ours. let it =
-      failed clean going in
+  failed = λ clean going ours.
+      let it = runs.failed clean going in
       fails_one sql params change old new e it.0 it.1 ((edits.answers old new ours.1.schema_is).fails it.0 it.2);
-  kept = kept;
-  survives = survives;
-  told = told;
+  kept = runs.kept;
+  survives = runs.survives;
+  told = runs.told;
 }
 
 more_faults : (a b c : ℕ) → a ≤ b → MoreFaults b c → MoreFaults a c

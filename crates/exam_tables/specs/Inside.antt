@@ -1,16 +1,17 @@
 -- What a call does inside a transaction.
-use Rattle.std.specs.Prelude.{◌≡◌, ◌⊎◌, ℕ, List, [], ◌∷◌, ◌++◌, IsTrue, Option, Result, Ok, OnOk, IfErr}
+use Rattle.std.specs.Prelude.{◌≡◌, ◌⊎◌, ℕ, List, [], ◌∷◌, ◌++◌, IsTrue, Option, Result, Ok, Err, OnOk, IfErr}
 use Rattle.sqlite_value.specs.Order.{Row}
 use Rattle.sqlite_trees.specs.Tree.{Trees}
 use Rattle.sqlite.specs.Effect.{Database}
-use Rattle.sqlite.specs.State.{State, HasCleanDisk, KeepsCommit, Survives, Executes}
+use Rattle.sqlite.specs.declared.error.Error.{Error}
+use Rattle.sqlite.specs.State.{State, HasCleanDisk, KeepsCommit, Survives, Executes, ExecutesInside}
 use Rattle.exam_types.specs.declared.refusal.Refusal.{Refusal}
 use Rattle.exam_types.specs.declared.refusal.Refusal.TheVariants.{NoMemory, Store}
 use Rattle.exam_sql.specs.Refusals.{IsDown, Refuses, RefusesRows, RunsTo}
 use Rattle.exam_sql.specs.Tables.{store_schema}
 use Rattle.exam_sql.specs.Changes.{with_row, without_row}
 use Rattle.exam_sql.specs.Content.{ContainsIn}
-use Rattle.exam_tables.specs.Faults.{is_store_refusal}
+use Rattle.exam_tables.specs.Faults.{is_store_refusal, refusal_of}
 
 -- the eleven tables have these rows
 abbrev pub Contains : Database → Trees → Type 0
@@ -36,10 +37,6 @@ delete_of sql tree key row = record { sql = sql; params = row; change = without_
 abbrev pub written : List Write → Trees → Trees
 written [] all = all
 written (w ∷ more) all = written more (w.change all)
-
--- the statement was run and succeeded
-abbrev pub Ran : List ℕ → Row → State → State → Type 0
-Ran sql params old new = (count : ℕ) × Executes sql params old new (Ok count)
 
 -- the new database has the rows of the old one, with the writes made
 abbrev pub Becomes : List Write → Database → Database → Type 0
@@ -70,6 +67,18 @@ FailsFor Against old new e = (e ≡ NoMemory) ⊎ ((e ≡ Store) × (IsDown old 
 -- why the writes are not made: the database may refuse one of them
 abbrev pub FailsToWrite : List Write → State → State → Refusal → Type 0
 FailsToWrite writes old new = FailsFor (RefusesOne writes old.step_limit old.now) old new
+
+-- what running a statement does
+pub record Runs (sql : List ℕ) (params : Row) (old new : State) (result : Result (Unit {0}) Refusal) : Type 0 where
+  pub ran : HasCleanDisk new → IsTrue old.in_transaction
+      → OnOk result ((count : ℕ) × Executes sql params old new (Ok count) × IsTrue new.in_transaction)
+  -- a refusal reports the error that the database gave
+  pub failed : HasCleanDisk new → IsTrue old.in_transaction → IfErr result (λ e. (error : Error)
+      × (e ≡ refusal_of error) × ExecutesInside 0 sql params old new (Err error))
+  -- it commits nothing, whether or not it succeeds
+  pub kept : HasCleanDisk new → KeepsCommit old new
+  pub survives : Survives old new (λ _. ⊥)
+  pub told : IfErr result (λ e. IsTrue (is_store_refusal e))
 
 pub record Makes (old new : State) (result : Result (Unit {0}) Refusal) (writes : List Write) : Type 0 where
   -- if it succeeds, the writes are made and the transaction goes on

@@ -1,5 +1,5 @@
 -- The rows from which a table is loaded, and why none is.
-use Rattle.std.specs.Prelude.{◌≡◌, ◌≢◌, ◌⊎◌, ℕ, Result, Ok, Err, List, [], ◌∷◌, map, IsPermutation}
+use Rattle.std.specs.Prelude.{◌≡◌, ◌≢◌, ◌⊎◌, ◌≤◌, ℕ, Result, Ok, Err, List, [], ◌∷◌, map, IsPermutation}
 use Rattle.std.specs.declared.cmp.Ordering.{Ordering}
 use Rattle.std.specs.List.{AllByRecursion, Contains}
 use Rattle.std.specs.Ordering.{is_eq}
@@ -69,12 +69,14 @@ abbrev pub OnlyReads : {A E : Type 0} → State → State → Result A E → Typ
 OnlyReads old new (Ok value) = IsUnchanged old new
 OnlyReads old new (Err e) = IsLeft old new
 
--- both show the same database, in the same mode
+-- Both show the same database, in the same mode and with the same limit of steps. No fault of the disk is forgotten.
 pub record IsStill (old new : State) : Type 0 where
   pub now : new.now ≡ old.now
   pub committed : new.committed ≡ old.committed
   pub in_transaction : new.in_transaction ≡ old.in_transaction
   pub is_open : new.is_open ≡ old.is_open
+  pub limit : new.step_limit ≡ old.step_limit
+  pub counts : old.faults ≤ new.faults
 
 -- while the database was still as it was, the query that loads one of the tables failed
 abbrev pub FailsThenFrom : {S : Type 0} → (Database → Trees → Type 0) → Ghosts S → Held S → Held S → Refusal → Type 0

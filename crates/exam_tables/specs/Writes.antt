@@ -13,23 +13,13 @@ abbrev pub with_deleted : {K V : Type 0} → Form K V → List ℕ → (K → Ro
 with_deleted form delete key keys = map (λ k. delete_of delete form.tree form.places (key k.now)) keys
 
 -- all rows that are put, parents first
-abbrev pub timetable_put : Changes → List Write
-timetable_put c = with_put sessions c.sessions.items ++ with_put papers c.papers.items
-
-abbrev pub halls_put : Changes → List Write
-halls_put c = with_put halls c.halls.items ++ with_put openings c.openings.put.items
-
-abbrev pub candidates_put : Changes → List Write
-candidates_put c =
-    with_put candidates c.candidates.items
-    ++ (with_put entries c.entries.items ++ with_put arrangements c.arrangements.items)
-
-abbrev pub plans_put : Changes → List Write
-plans_put c =
-    with_put appeals c.appeals.items ++ (with_put standing c.standing.items ++ with_put seats c.seats.put.items)
-
 abbrev pub all_put : Changes → List Write
-all_put c = timetable_put c ++ (halls_put c ++ (candidates_put c ++ plans_put c))
+all_put c =
+    (with_put sessions c.sessions.items ++ with_put papers c.papers.items)
+    ++ ((with_put halls c.halls.items ++ with_put openings c.openings.put.items)
+    ++ ((with_put candidates c.candidates.items
+    ++ (with_put entries c.entries.items ++ with_put arrangements c.arrangements.items))
+    ++ (with_put appeals c.appeals.items ++ (with_put standing c.standing.items ++ with_put seats c.seats.put.items))))
 
 -- then all rows that are deleted, children first
 abbrev pub seats_deleted : Changes → List Write

@@ -15,6 +15,7 @@ mod subjects;
 mod table;
 mod tables;
 mod version;
+mod writes;
 mod writing;
 
 pub use counting::{count_appeals, first_appeal};

@@ -1,14 +1,13 @@
 //! Statements, with their errors reported as refusals.
-ghost use Rattle.std.specs.Prelude.{◌≡◌, ◌⊎◌, [], ◌∷◌, IsTrue, OnOk, IfOk, IfErr, Err, IsPermutation};
+ghost use Rattle.std.specs.Prelude.{◌≡◌, ◌⊎◌, [], ◌∷◌, IsTrue, OnOk, IfOk, IfErr, IsPermutation};
 ghost use Rattle.sqlite.specs.Held.{state};
-ghost use Rattle.sqlite.specs.State.{CommitsShowing, ExecutesInside, FailsToQuery, HasCleanDisk, KeepsCommit, Shown};
-ghost use Rattle.sqlite.specs.State.{Survives};
+ghost use Rattle.sqlite.specs.State.{CommitsShowing, FailsToQuery, HasCleanDisk, Shown, Survives};
 ghost use Rattle.sqlite.specs.Values.{bound};
 ghost use Rattle.std.specs.BTreeMap.{ContainsKey};
 ghost use Rattle.exam_types.specs.declared.refusal.Refusal.TheVariants.{NoMemory, BadStore};
 ghost use Rattle.exam_rules.specs.Orders.{KeysRise};
 ghost use Rattle.exam_tables.specs.Faults.{refusal_of, is_store_refusal};
-ghost use Rattle.exam_tables.specs.Inside.{Ran};
+ghost use Rattle.exam_tables.specs.Inside.{Runs};
 
 use crate::faults::refusal_of;
 use exam_types::Refusal;
@@ -23,19 +22,8 @@ pub fn run<S: Alter>(
     params: &[ValueRef<'_>],
 ) -> Result<(), Refusal>
     ensures same_reference { tx.new.conn.ghost_name ≡ tx.old.conn.ghost_name }
-    ensures ran { HasCleanDisk (state S.Store tx.new.conn.now)
-        → IsTrue (state S.Store tx.old.conn.now).in_transaction
-        → OnOk result (Ran sql.now (bound params.now)
-        (state S.Store tx.old.conn.now) (state S.Store tx.new.conn.now)
-        × IsTrue (state S.Store tx.new.conn.now).in_transaction) }
-    ensures failed { HasCleanDisk (state S.Store tx.new.conn.now)
-        → IsTrue (state S.Store tx.old.conn.now).in_transaction
-        → IfErr result (λ e. (error : _) × (e ≡ refusal_of error) × ExecutesInside 0 sql.now (bound params.now)
-        (state S.Store tx.old.conn.now) (state S.Store tx.new.conn.now) (Err error)) }
-    ensures kept { HasCleanDisk (state S.Store tx.new.conn.now)
-        → KeepsCommit (state S.Store tx.old.conn.now) (state S.Store tx.new.conn.now) }
-    ensures survives { Survives (state S.Store tx.old.conn.now) (state S.Store tx.new.conn.now) (λ _. ⊥) }
-    ensures told { IfErr result (λ e. IsTrue (is_store_refusal e)) }
+    ensures runs { Runs sql.now (bound params.now) (state S.Store tx.old.conn.now) (state S.Store tx.new.conn.now)
+        result }
 {
     match tx.execute(sql, params) {
         Ok(_) => Ok(()),

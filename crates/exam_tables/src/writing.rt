@@ -9,13 +9,11 @@ ghost use Rattle.exam_tables.specs.Inside.{Becomes, FailsToWrite, IsOurs, Makes}
 ghost use Rattle.exam_tables.specs.Transactions.{Commits};
 ghost use Rattle.exam_tables.specs.Loaded.{IsMadeHere};
 ghost use Rattle.exam_tables.specs.Versions.{FailsToCreate, IsBlank, IsMade, Widens};
-ghost use Rattle.exam_tables.specs.Writes.{timetable_put, halls_put, candidates_put, plans_put, all_put};
-ghost use Rattle.exam_tables.specs.Writes.{all_deleted, all_saved};
+ghost use Rattle.exam_tables.specs.Writes.{all_saved};
 
 use crate::differences::{Difference, Keyed};
 use crate::faults::refusal_of;
 use crate::schema::{ask_nothing, create_tables, has_marks, show_rules, widen_tables};
-use crate::table::{delete_rows, put_rows};
 use crate::tables::appeals::AppealTable;
 use crate::tables::arrangements::ArrangementTable;
 use crate::tables::candidates::CandidateTable;
@@ -26,6 +24,7 @@ use crate::tables::papers::PaperTable;
 use crate::tables::seats::SeatTable;
 use crate::tables::sessions::SessionTable;
 use crate::tables::standing::StandingTable;
+use crate::writes::{Writes, delete, put};
 use exam_rules::{Appeal, Arrangement, Candidate, Entry, Hall, Opening, Paper, Session};
 use exam_types::{HallCode, Number, PaperCode, Reference, Refusal, SessionCode};
 use sqlite::{Alter, Connection, Transaction};
@@ -44,72 +43,6 @@ pub struct Changes<'a> {
     pub appeals: Vec<Keyed<'a, (Number, Reference), Appeal>>,
     pub standing: Vec<Keyed<'a, (Number, Reference), ()>>,
     pub seats: Difference<'a, (SessionCode, Number), HallCode>,
-}
-
-/// Puts the rows that are new or have changed, parents first, so that what a row refers to exists.
-fn put_all<S: Alter>(tx: &mut Transaction<'_, S>, changes: &Changes<'_>) -> Result<(), Refusal>
-    ensures same_reference { tx.new.conn.ghost_name ≡ tx.old.conn.ghost_name }
-    ensures made { Makes (state S.Store tx.old.conn.now) (state S.Store tx.new.conn.now) result
-        (all_put changes.now) }
-{
-    put_timetable(tx, changes)?;
-    put_halls(tx, changes)?;
-    put_candidates(tx, changes)?;
-    put_plans(tx, changes)
-}
-
-fn put_timetable<S: Alter>(
-    tx: &mut Transaction<'_, S>,
-    changes: &Changes<'_>,
-) -> Result<(), Refusal>
-    ensures same_reference { tx.new.conn.ghost_name ≡ tx.old.conn.ghost_name }
-    ensures made { Makes (state S.Store tx.old.conn.now) (state S.Store tx.new.conn.now) result
-        (timetable_put changes.now) }
-{
-    put_rows::<SessionTable, S>(tx, changes.sessions.as_slice())?;
-    put_rows::<PaperTable, S>(tx, changes.papers.as_slice())
-}
-
-fn put_halls<S: Alter>(tx: &mut Transaction<'_, S>, changes: &Changes<'_>) -> Result<(), Refusal>
-    ensures same_reference { tx.new.conn.ghost_name ≡ tx.old.conn.ghost_name }
-    ensures made { Makes (state S.Store tx.old.conn.now) (state S.Store tx.new.conn.now) result
-        (halls_put changes.now) }
-{
-    put_rows::<HallTable, S>(tx, changes.halls.as_slice())?;
-    put_rows::<OpeningTable, S>(tx, changes.openings.put.as_slice())
-}
-
-fn put_candidates<S: Alter>(
-    tx: &mut Transaction<'_, S>,
-    changes: &Changes<'_>,
-) -> Result<(), Refusal>
-    ensures same_reference { tx.new.conn.ghost_name ≡ tx.old.conn.ghost_name }
-    ensures made { Makes (state S.Store tx.old.conn.now) (state S.Store tx.new.conn.now) result
-        (candidates_put changes.now) }
-{
-    put_rows::<CandidateTable, S>(tx, changes.candidates.as_slice())?;
-    put_rows::<EntryTable, S>(tx, changes.entries.as_slice())?;
-    put_rows::<ArrangementTable, S>(tx, changes.arrangements.as_slice())
-}
-
-fn put_plans<S: Alter>(tx: &mut Transaction<'_, S>, changes: &Changes<'_>) -> Result<(), Refusal>
-    ensures same_reference { tx.new.conn.ghost_name ≡ tx.old.conn.ghost_name }
-    ensures made { Makes (state S.Store tx.old.conn.now) (state S.Store tx.new.conn.now) result
-        (plans_put changes.now) }
-{
-    put_rows::<AppealTable, S>(tx, changes.appeals.as_slice())?;
-    put_rows::<StandingTable, S>(tx, changes.standing.as_slice())?;
-    put_rows::<SeatTable, S>(tx, changes.seats.put.as_slice())
-}
-
-/// Deletes the rows that are gone. Seats that have moved out of a hall have been put before.
-fn delete_all<S: Alter>(tx: &mut Transaction<'_, S>, changes: &Changes<'_>) -> Result<(), Refusal>
-    ensures same_reference { tx.new.conn.ghost_name ≡ tx.old.conn.ghost_name }
-    ensures made { Makes (state S.Store tx.old.conn.now) (state S.Store tx.new.conn.now) result
-        (all_deleted changes.now) }
-{
-    delete_rows::<SeatTable, S>(tx, changes.seats.delete.as_slice())?;
-    delete_rows::<OpeningTable, S>(tx, changes.openings.delete.as_slice())
 }
 
 /// Makes the changes in one transaction or not at all. Takes no memory of its own, so only the database can run out of
@@ -154,6 +87,8 @@ fn commit_changes<S: Alter>(conn: &mut Connection<S>, changes: &Changes<'_>) -> 
     commit(tx)
 }
 
+/// Puts the rows that are new or have changed, parents first, so that what a row refers to exists. Then deletes those
+/// that are gone. Seats that have moved out of a hall have been put before.
 fn write_changes<S: Alter>(
     tx: &mut Transaction<'_, S>,
     changes: &Changes<'_>,
@@ -162,8 +97,33 @@ fn write_changes<S: Alter>(
     ensures made { Makes (state S.Store tx.old.conn.now) (state S.Store tx.new.conn.now) result
         (all_saved changes.now) }
 {
-    put_all(tx, changes)?;
-    delete_all(tx, changes)
+    let timetable = (
+        put::<SessionTable>(&changes.sessions),
+        put::<PaperTable>(&changes.papers),
+    );
+    let halls = (
+        put::<HallTable>(&changes.halls),
+        put::<OpeningTable>(&changes.openings.put),
+    );
+    let candidates = (
+        put::<CandidateTable>(&changes.candidates),
+        (
+            put::<EntryTable>(&changes.entries),
+            put::<ArrangementTable>(&changes.arrangements),
+        ),
+    );
+    let plans = (
+        put::<AppealTable>(&changes.appeals),
+        (
+            put::<StandingTable>(&changes.standing),
+            put::<SeatTable>(&changes.seats.put),
+        ),
+    );
+    let deletes = (
+        delete::<SeatTable>(&changes.seats.delete),
+        delete::<OpeningTable>(&changes.openings.delete),
+    );
+    ((timetable, (halls, (candidates, plans))), deletes).write(tx)
 }
 
 /// Makes the tables of an office without facts in an empty database, in one transaction or not at all.

@@ -1,21 +1,23 @@
 -- From the office that was opened to what it became.
-use Rattle.std.proofs.Common.{◌≡◌, List, subst}
+use Rattle.std.proofs.Common.{◌≡◌, ℕ, List, Option, subst}
 use Rattle.sqlite_trees.specs.declared.store.Store.{Ghosts}
 use Rattle.sqlite.specs.Effect.{Database}
 use Rattle.sqlite.specs.Held.{state}
 use Rattle.sqlite.specs.State.{State as Shown, HasCleanDisk}
+use Rattle.exam_rules.specs.Relations.{Code}
 use Rattle.exam_commands.specs.Good.{IsGood}
 use Rattle.exam_commands.specs.State.{State}
 use Rattle.exam_tables.specs.Transactions.{IsSound}
+use Rattle.exam_line.specs.declared.line.Sheet.{Sheet}
 use Rattle.exam_store.specs.Kept.{HaveSameTables, Keeps}
 use Rattle.exam_store.specs.Stores.{OfficeIn}
 use Rattle.exam_store.proofs.SameTables.{same_tables}
 use Rattle.exam_theorem.specs.Following.{AreFollowed, EndsInOne}
 use Rattle.exam_theorem.specs.Keeping.{KeepsIt}
-use Rattle.exam_theorem.specs.Life.{ArePassed, Lives, Stays}
+use Rattle.exam_theorem.specs.Life.{Lives, PassesDay}
 use Rattle.exam_theorem.specs.Orders.{Given}
 use Rattle.exam_theorem.specs.Resting.{HasOffice, IsAtRest, IsVersioned, Rests, RestsOn, StopsWith}
-use Rattle.exam_theorem.specs.declared.orders.Outcome.{Outcome}
+use Rattle.exam_theorem.specs.declared.printing.EndOfDay.{EndOfDay}
 use Rattle.exam_theorem.proofs.Passing.{passed_clean, passed_rests}
 use Rattle.exam_theorem.proofs.Settling.{at_rest}
 
@@ -27,37 +29,35 @@ opened_rests_on g old start same sound office rest =
     let it = same sound.0 office rest.has in
     subst (Rests (state g start.database)) it.0 (at_rest g start it.1)
 
-module _ {S : Type 0} (g : Ghosts S) (old : Shown) (start new : OfficeIn S) (orders : List Given)
-    (outcomes : List Outcome)
-    (passes : (last : OfficeIn S) × ArePassed g orders start outcomes last × Stays g last new)
+module _ {S W : Type 0} (g : Ghosts S) (old : Shown) (start new : OfficeIn S) (orders : List Given)
+    {contents : W → Option (List ℕ)} {asked : Option (Code × Sheet)} {before : W} {day : EndOfDay} {after : W}
+    (passes : PassesDay g contents orders asked start before day new after)
     (same : HasCleanDisk (state g start.database) → (office : State) → HasOffice old.now office
     → (start.office ≡ office) × IsAtRest g start) where
   clean_start : HasCleanDisk (state g new.database) → HasCleanDisk (state g start.database)
-  clean_start clean = passed_clean g orders outcomes start passes.0 passes.1 (passes.2.1.was_clean clean)
+  clean_start clean = passed_clean g orders day.outcomes.items start passes.last passes.passed
+      (passes.stays.1.was_clean clean)
 
   -- the office that was there is the one that was opened
   opened : HasCleanDisk (state g new.database) → (first : State) → HasOffice old.now first → start.office ≡ first
   opened clean first has = (same (clean_start clean) first has).0
 
-  pub lived : StopsWith old (state g start.database) → AreFollowed orders start.office outcomes new.office
-      → HasCleanDisk (state g new.database) → (first : State) → HasOffice old.now first
-      → Lives g orders old first outcomes new
+  pub lived : StopsWith old (state g start.database) → AreFollowed orders start.office day.outcomes.items new.office
+      → HasCleanDisk (state g new.database)
+      → (first : State) → HasOffice old.now first → Lives g orders old first start day.outcomes.items new
   lived stops followed clean first has = record {
-    start = start;
     opened = opened clean first has;
     rests = λ calm. (same calm first has).1;
     stop = stops first;
     was_clean = clean_start;
-    last = passes.0;
-    passed = passes.1;
-    followed = subst (λ (o : State). AreFollowed orders o outcomes new.office) (opened clean first has) followed;
-    printed = passes.2;
+    followed = subst (λ (o : State). AreFollowed orders o day.outcomes.items new.office) (opened clean first has)
+        followed;
   }
 
-  pub ended_in_one : EndsInOne orders start.office outcomes new.office → HasCleanDisk (state g new.database)
-      → (first : State) → HasOffice old.now first → EndsInOne orders first outcomes new.office
+  pub ended_in_one : EndsInOne orders start.office day.outcomes.items new.office → HasCleanDisk (state g new.database)
+      → (first : State) → HasOffice old.now first → EndsInOne orders first day.outcomes.items new.office
   ended_in_one one clean first has =
-      subst (λ (o : State). EndsInOne orders o outcomes new.office) (opened clean first has) one
+      subst (λ (o : State). EndsInOne orders o day.outcomes.items new.office) (opened clean first has) one
 
   module _ (had : HasCleanDisk (state g start.database) → IsVersioned old.now → HasOffice old.now start.office) where
     pub had_first : IsGood start.office → HasCleanDisk (state g new.database) → IsVersioned old.now
@@ -70,10 +70,9 @@ module _ {S : Type 0} (g : Ghosts S) (old : Shown) (start new : OfficeIn S) (ord
 
     pub ends_at_rest : IsSound (state g new.database) → IsVersioned old.now → IsAtRest g new
     ends_at_rest sound versioned =
-        let last = passes.0 in
-        let settles = passes.2.1 in
-        settles.rests (passed_rests g orders outcomes start last passes.1 (start_rests (clean_start sound.0) versioned)
-        (settles.was_sound sound)) sound
+        let settles = passes.stays.1 in
+        settles.rests (passed_rests g orders day.outcomes.items start passes.last passes.passed
+        (start_rests (clean_start sound.0) versioned) (settles.was_sound sound)) sound
 
     pub ends_in_tables : IsSound (state g new.database) → IsVersioned old.now → (there : Database)
         → Keeps there new.office → HaveSameTables (state g new.database).now there

@@ -37,7 +37,7 @@ module _ {S : Type 0} (g : Ghosts S) where
       (e : Refusal) where
     failed_later : FailsThen g mid new e → FailsThen g old new e
     failed_later (at, still, text, loads, fails) =
-        (at, still_then (state g old) (state g mid) (state g at) same still, text, loads, fails)
+        (at, still_then (state g old) (state g mid) (state g at) same s still, text, loads, fails)
 
     -- nor where a call before had only read
     pub refused_later : FailsToMigrate g mid new e → FailsToMigrate g old new e

@@ -38,13 +38,13 @@ module _ {S W : Type 0} (g : Ghosts S) (contents : W → Option (List ℕ)) (tod
 
   printed : (s : Code) (which : Sheet)
       → Does g contents (line.print s which) today input rest old before result new after
-      → PrintsAsked g contents new (Some (s, which)) before (told result) after
+      → PrintsAsked g contents old new (Some (s, which)) before (told result) after
   printed s sheet.Appeals h =
       inr (
         result,
         refl,
         subst
-            (λ (o : State). Streams (BreaksOff g new) contents (register_of o s) before result after)
+            (λ (o : State). Streams (BreaksOff g old new) contents (register_of o s) before result after)
             (sym h.1.read.office) h.1.sheet,
       )
   printed s which h = inr (
@@ -56,6 +56,6 @@ module _ {S W : Type 0} (g : Ghosts S) (contents : W → Option (List ℕ)) (tod
 
   pub job_printed : (job : Job) → is_some (sheet_of job) ≡ true
       → Does g contents job today input rest old before result new after
-      → PrintsAsked g contents new (sheet_of job) before (told result) after
+      → PrintsAsked g contents old new (sheet_of job) before (told result) after
   job_printed (line.print s which) asks h = printed s which h
   job_printed other asks h = absurd cc

@@ -1,5 +1,5 @@
 -- The whole life of an office: a database of any version is brought to the newest and opened, and orders are followed.
-use Rattle.std.specs.Prelude.{◌≡◌, ⊤, ℕ, List, [], ◌∷◌, Ok}
+use Rattle.std.specs.Prelude.{◌≡◌, ⊤, ℕ, List, [], ◌∷◌, Option, Ok}
 use Rattle.sqlite_trees.specs.declared.store.Store.{Ghosts}
 use Rattle.sqlite_trees.specs.Tree.{Trees}
 use Rattle.sqlite.specs.Held.{state}
@@ -11,6 +11,7 @@ use Rattle.exam_commands.specs.Orders.{IsInOrder}
 use Rattle.exam_commands.specs.State.{State}
 use Rattle.exam_line.specs.Lines.{Job}
 use Rattle.exam_line.specs.Lines as line
+use Rattle.exam_line.specs.declared.line.Sheet.{Sheet}
 use Rattle.exam_request.specs.Answer.{Told}
 use Rattle.exam_request.specs.Asked.{Asks, Request}
 use Rattle.exam_http.specs.Answering.{own_named}
@@ -18,10 +19,12 @@ use Rattle.exam_store.specs.Stops.{HasRowDays}
 use Rattle.exam_store.specs.Stores.{OfficeIn}
 use Rattle.exam_theorem.specs.Following.{AreFollowed, Follows, FollowsWords, IsFailure, LineEnd, Spares}
 use Rattle.exam_theorem.specs.Orders.{Given, of_line, of_request}
+use Rattle.exam_theorem.specs.Printing.{PrintsAsked}
 use Rattle.exam_theorem.specs.Requests.{Tells}
 use Rattle.exam_theorem.specs.Resting.{IsAtRest, LeavesOffice, Rests, Settles}
 use Rattle.exam_theorem.specs.declared.orders.Outcome.{Outcome}
 use Rattle.exam_theorem.specs.declared.orders.Outcome.TheVariants as outcome
+use Rattle.exam_theorem.specs.declared.printing.EndOfDay.{EndOfDay}
 
 -- ---- one order
 
@@ -80,11 +83,19 @@ ArePassed g (order ∷ orders) old [] new = ⊥
 abbrev pub Stays : {S : Type 0} → Ghosts S → OfficeIn S → OfficeIn S → Type 0
 Stays g old new = (new.office ≡ old.office) × Settles g ⊥ (λ at. ⊥) old new
 
--- The office that the database had is brought over and opened, the orders pass, and a sheet is printed.
-pub record Lives {S : Type 0} (g : Ghosts S) (orders : List Given) (old : Shown) (first : State)
+-- Each order passes, and then the sheet is printed that is asked for, which changes nothing.
+pub record PassesDay {S W : Type 0} (g : Ghosts S) (contents : W → Option (List ℕ)) (orders : List Given)
+    (asked : Option (Code × Sheet)) (start : OfficeIn S) (before : W) (day : EndOfDay) (new : OfficeIn S) (after : W)
+    : Type 0 where
+  pub last : OfficeIn S
+  pub passed : ArePassed g orders start day.outcomes.items last
+  pub stays : Stays g last new
+  pub sheet : PrintsAsked g contents last new asked before day.printed after
+
+-- The office that the database had is brought over and opened, and the orders pass.
+pub record Lives {S : Type 0} (g : Ghosts S) (orders : List Given) (old : Shown) (first : State) (start : OfficeIn S)
     (outcomes : List Outcome) (new : OfficeIn S) : Type 0 where
   -- the opened store has the office that the database had
-  pub start : OfficeIn S
   pub opened : start.office ≡ first
   pub rests : HasCleanDisk (state g start.database) → IsAtRest g start
   -- and so has whatever a stop leaves before that
@@ -92,9 +103,4 @@ pub record Lives {S : Type 0} (g : Ghosts S) (orders : List Given) (old : Shown)
       → (state g start.database).may_leave trees → LeavesOffice first trees
   -- no fault of the disk is forgotten
   pub was_clean : HasCleanDisk (state g new.database) → HasCleanDisk (state g start.database)
-  -- each order passes
-  pub last : OfficeIn S
-  pub passed : ArePassed g orders start outcomes last
   pub followed : AreFollowed orders first outcomes new.office
-  -- the sheet changes nothing
-  pub printed : Stays g last new

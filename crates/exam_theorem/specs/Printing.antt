@@ -13,21 +13,21 @@ use Rattle.exam_job.specs.declared.report.JobFault.{JobFault}
 use Rattle.exam_theorem.specs.Following.{LineEnd, told}
 use Rattle.exam_theorem.specs.declared.orders.LineStop.TheVariants.{NoLine}
 
--- The sheet of an office in a store. The appeals are read from its database, and break off where one is not read; each
--- other sheet is of the office alone.
-abbrev pub PrintsOne : {S W : Type 0} → Ghosts S → (W → Option (List ℕ)) → OfficeIn S → Code → Sheet
+-- The sheet of an office in a store, from the store before it is printed to the store after that. The appeals are read
+-- from its database, and break off where one is not read; each other sheet is of the office alone.
+abbrev pub PrintsOne : {S W : Type 0} → Ghosts S → (W → Option (List ℕ)) → OfficeIn S → OfficeIn S → Code → Sheet
     → W → Result (Unit {0}) JobFault → W → Type 0
-PrintsOne g contents it s sheet.Appeals before result after =
-    Streams (BreaksOff g it) contents (register_of it.office s) before result after
-PrintsOne g contents it s which before result after = PrintsSheet contents it.office s which before result after
+PrintsOne g contents old it s sheet.Appeals before result after =
+    Streams (BreaksOff g old it) contents (register_of it.office s) before result after
+PrintsOne g contents old it s which before result after = PrintsSheet contents it.office s which before result after
 
 -- Words that ask for no sheet print nothing, and neither do words for which memory runs out. A sheet that the words ask
 -- for is that of the office in the store.
-abbrev pub PrintsAsked : {S W : Type 0} → Ghosts S → (W → Option (List ℕ)) → OfficeIn S → Option (Code × Sheet)
-    → W → LineEnd → W → Type 0
-PrintsAsked g contents it None before end after =
+abbrev pub PrintsAsked : {S W : Type 0} → Ghosts S → (W → Option (List ℕ)) → OfficeIn S → OfficeIn S
+    → Option (Code × Sheet) → W → LineEnd → W → Type 0
+PrintsAsked g contents old it None before end after =
     (fault : LineFault) × (end ≡ Err (NoLine fault)) × (after ≡ before)
-PrintsAsked g contents it (Some asked) before end after =
+PrintsAsked g contents old it (Some asked) before end after =
     ((end ≡ Err (NoLine NoMemory)) × (after ≡ before))
     ⊎ ((job : Result (Unit {0}) JobFault) × (end ≡ told job)
-    × PrintsOne g contents it asked.0 asked.1 before job after)
+    × PrintsOne g contents old it asked.0 asked.1 before job after)

@@ -11,10 +11,10 @@ ghost use Rattle.exam_tables.specs.Inside.{IsOurs};
 ghost use Rattle.exam_tables.specs.Transactions.{Commits, IsSound};
 ghost use Rattle.exam_store.specs.Found.{FailsToMigrate, is_open_refusal};
 ghost use Rattle.exam_store.specs.Kept.{HaveSameTables, Keeps};
+ghost use Rattle.exam_store.specs.Stores.{OfficeIn};
 ghost use Rattle.exam_theorem.specs.Following as spec;
-ghost use Rattle.exam_theorem.specs.Life.{Lives};
+ghost use Rattle.exam_theorem.specs.Life.{Lives, PassesDay};
 ghost use Rattle.exam_theorem.specs.Orders.{sheet_asked, shown};
-ghost use Rattle.exam_theorem.specs.Printing.{PrintsAsked};
 ghost use Rattle.exam_theorem.specs.Resting.{BringsOver, FailsToCarry, HasOffice, IsAccepted, IsAtRest, IsFailing};
 ghost use Rattle.exam_theorem.specs.Resting.{IsVersioned, RestsOn, StopsWith};
 
@@ -92,12 +92,12 @@ pub fn live<S: Alter, O: Write>(
     ensures had { IfOk result (λ life. HasCleanDisk (state S.Store life.0.database)
         → IsVersioned (state S.Store conn).now
         → (first : State) × IsGood first × HasOffice (state S.Store conn).now first) }
-    ensures lives { IfOk result (λ life. HasCleanDisk (state S.Store life.0.database)
+    ensures lives { IfOk result (λ life. (start : OfficeIn S) × PassesDay S.Store O.contents (map shown orders.now)
+        (sheet_asked (map string_bytes words.now)) start out.old life.1 life.0 out.new
+        × (HasCleanDisk (state S.Store life.0.database)
         → (first : State) → HasOffice (state S.Store conn).now first
-        → Lives S.Store (map shown orders.now) (state S.Store conn) first life.1.outcomes.items life.0) }
+        → Lives S.Store (map shown orders.now) (state S.Store conn) first start life.1.outcomes.items life.0)) }
     ensures headline { IfOk result (λ life. (s : Code) → IsSeated life.0.office s) }
-    ensures sheet { IfOk result (λ life. PrintsAsked S.Store O.contents life.0
-        (sheet_asked (map string_bytes words.now)) out.old life.1.printed out.new) }
     // The life can go on from the database that it leaves.
     ensures rests { IfOk result (λ life. IsSound (state S.Store life.0.database)
         → IsVersioned (state S.Store conn).now → IsAtRest S.Store life.0) }

@@ -5,9 +5,8 @@ ghost use Rattle.exam_rules.specs.Relations.{Code};
 ghost use Rattle.exam_commands.specs.Headline.{IsSeated};
 ghost use Rattle.exam_line.specs.Lines as lines;
 ghost use Rattle.exam_theorem.specs.Following as spec;
-ghost use Rattle.exam_store.specs.Stores.{OfficeIn};
 ghost use Rattle.exam_theorem.specs.Keeping.{KeepsOn};
-ghost use Rattle.exam_theorem.specs.Life.{ArePassed, Stays};
+ghost use Rattle.exam_theorem.specs.Life.{PassesDay, Stays};
 ghost use Rattle.exam_theorem.specs.Orders.{sheet_asked, sheet_of, shown};
 ghost use Rattle.exam_theorem.specs.Printing.{PrintsAsked};
 
@@ -44,10 +43,8 @@ pub fn print_after<S: Alter, O: Write>(
         spec.AreFollowed (map shown orders.now) store.old.office day.outcomes.items store.new.office) }
     ensures spares { IfOk result (λ day. spec.EachSparesOthers (map shown orders.now) store.old.office
         day.outcomes.items store.new.office) }
-    ensures passes { IfOk result (λ day. (last : OfficeIn S) × ArePassed S.Store (map shown orders.now) store.old
-        day.outcomes.items last × Stays S.Store last store.new) }
-    ensures sheet { IfOk result (λ day. PrintsAsked S.Store O.contents store.new
-        (sheet_asked (map string_bytes words.now)) out.old day.printed out.new) }
+    ensures passes { IfOk result (λ day. PassesDay S.Store O.contents (map shown orders.now)
+        (sheet_asked (map string_bytes words.now)) store.old out.old day store.new out.new) }
     ensures headline { (s : Code) → IsSeated store.new.office s }
     ensures kept { KeepsOn S.Store store.old store.new }
     ensures one { IfOk result (λ day. spec.EndsInOne (map shown orders.now) store.old.office day.outcomes.items
@@ -72,8 +69,8 @@ fn print_asked<S: Alter, O: Write>(
     words: &[String],
     out: &mut O,
 ) -> LineEnd
-    ensures sheet { PrintsAsked S.Store O.contents store.new (sheet_asked (map string_bytes words.now)) out.old result
-        out.new }
+    ensures sheet { PrintsAsked S.Store O.contents store.old store.new (sheet_asked (map string_bytes words.now))
+        out.old result out.new }
     ensures office { store.new.office ≡ store.old.office }
     ensures stays { Stays S.Store store.old store.new }
     ensures kept { KeepsOn S.Store store.old store.new }
@@ -91,8 +88,8 @@ fn print_line<S: Alter, O: Write>(
     line: &Line<'_>,
     out: &mut O,
 ) -> LineEnd
-    ensures sheet { PrintsAsked S.Store O.contents store.new (sheet_of (lines.job_shown line.now.job)) out.old result
-        out.new }
+    ensures sheet { PrintsAsked S.Store O.contents store.old store.new (sheet_of (lines.job_shown line.now.job))
+        out.old result out.new }
     ensures office { store.new.office ≡ store.old.office }
     ensures stays { Stays S.Store store.old store.new }
     ensures kept { KeepsOn S.Store store.old store.new }

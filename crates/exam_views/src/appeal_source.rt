@@ -15,8 +15,9 @@ pub trait AppealSource {
     /// Whether what it reads from, such as a disk, has returned what was written, so far.
     ghost IsHonest: { Self → Type 0 };
 
-    /// The refusals for which it has a reason, as it is after a call that refused.
-    ghost Refuses: { Self → Error → Type 0 };
+    /// The refusals for which it has a reason, from the source before some calls to the source after them. The last
+    /// call refused.
+    ghost Refuses: { Self → Self → Error → Type 0 };
 
     /// What every call leaves as it is, from the source before to the source after.
     ghost Stays: { Self → Self → Type 0 };
@@ -26,12 +27,14 @@ pub trait AppealSource {
         ensures row { Self.IsHonest self.new → IfOk result (λ row.
             Gives row (Self.coming self.old) (Self.coming self.new)) }
         ensures honest { Self.IsHonest self.new → Self.IsHonest self.old }
-        ensures refusal { IfErr result (λ e. IsTrue (is_source_refusal e) × Self.Refuses self.new e) }
+        ensures refusal { IfErr result (λ e. IsTrue (is_source_refusal e) × Self.Refuses self.old self.new e) }
         ensures stays { Self.Stays self.old self.new };
 
     ghost stays_itself: { (a : Self) → Stays a a };
 
     ghost stays_then: { (a b c : Self) → Stays a b → Stays b c → Stays a c };
+
+    ghost refuses_then: { (a b c : Self) → (e : Error) → Stays a b → Refuses b c e → Refuses a c e };
 }
 
 /// Rows in memory. Reading them refuses nothing.
@@ -47,7 +50,7 @@ impl<'a> AppealSource for ListedAppeals<'a> {
 
     ghost IsHonest = { λ s. ⊤ };
 
-    ghost Refuses = { λ s e. ⊥ };
+    ghost Refuses = { λ a b e. ⊥ };
 
     ghost Stays = { λ a b. ⊤ };
 
@@ -64,4 +67,6 @@ impl<'a> AppealSource for ListedAppeals<'a> {
     ghost stays_itself = { λ a. tt };
 
     ghost stays_then = { λ a b c first second. tt };
+
+    ghost refuses_then = { λ a b c e stays refuses. refuses };
 }

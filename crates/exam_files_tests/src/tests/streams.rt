@@ -32,7 +32,7 @@ impl AppealSource for Careless {
 
     ghost IsHonest = { λ s. ⊥ };
 
-    ghost Refuses = { λ s e. ⊤ };
+    ghost Refuses = { λ a b e. ⊤ };
 
     ghost Stays = { λ a b. ⊤ };
 
@@ -53,6 +53,8 @@ impl AppealSource for Careless {
     ghost stays_itself = { λ a. tt };
 
     ghost stays_then = { λ a b c first second. tt };
+
+    ghost refuses_then = { λ a b c e stays refuses. tt };
 }
 
 fn row() -> Option<AppealRow> {

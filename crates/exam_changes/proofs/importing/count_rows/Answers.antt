@@ -8,46 +8,11 @@ use Rattle.exam_changes.proofs.importing.count_rows.Goals as goal
 use Rattle.exam_changes.proofs.importing.count_rows.Goals.{then-is_first, else-is_first}
 
 pub loop-place-init : goal.loop-place-init
-loop-place-init c = counted_none (relations_of c.args.facts.now) c.args.import.now.rows
+loop-place-init c = (counted_none (relations_of c.args.facts.now) c.args.import.now.rows, refl)
 
 pub counted-counts-requires : goal.counted-counts-requires
 counted-counts-requires c =
-    let few = c.loop-place.invariant.few in
+    let few = c.loop-place.invariant.0.few in
     let here = c.loop-place-test.true in
     let limit = c.rows-row-items.ensures.few in
     omega arith
-
-pub loop-place-preserved : goal.loop-place-preserved
-loop-place-preserved c =
-    let r = relations_of c.args.facts.now in
-    let rows = c.args.import.now.rows in
-    let place = c.loop-place.place in
-    let row = c.row-item.result in
-    let all = c.rows-row-items.ensures.value in
-    let here : place < length rows = rw (← all) c.loop-place-test.true in
-    let is = rw all at c.row-item.is in
-    let first = first_here place rows row here is in
-    elim c.if-is_first.branch [
-      | then-is_first w ↦
-          let fresh = sym first ∙ sym c.is_first.ensures ∙ w.if-is_first.true in
-          rw w.counts-is
-          (counted_fresh r rows place c.loop-place.counts row here is w.counted-counts.result fresh
-          (w.counted-counts.ensures.added
-          ∙ ap (λ o. c.loop-place.counts.added + cond (is_none o) 1 0) w.is_stored.ensures)
-          (w.counted-counts.ensures.changed
-          ∙ ap (λ o. c.loop-place.counts.changed + cond (option_map_or not o false) 1 0) w.is_stored.ensures)
-          (w.counted-counts.ensures.same
-          ∙ ap (λ o. c.loop-place.counts.same + cond (option_map_or (λ same. same) o false) 1 0)
-          w.is_stored.ensures)
-          c.loop-place.invariant)
-      | else-is_first w ↦
-          let repeated = sym first ∙ sym c.is_first.ensures ∙ w.if-is_first.false in
-          rw w.counts-is (counted_repeated r rows place c.loop-place.counts row here is repeated c.loop-place.invariant)
-    ]
-
-pub returns : goal.returns
-returns c =
-    let end : length c.args.import.now.rows ≤ c.loop-place.place =
-    rw (← c.rows-row-items.ensures.value) c.loop-place-test.false in
-    counted_all (relations_of c.args.facts.now) c.args.import.now.rows c.loop-place.place c.loop-place.counts end
-    c.loop-place.invariant

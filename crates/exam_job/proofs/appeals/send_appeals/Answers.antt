@@ -22,11 +22,13 @@ returns-in-Ok-clause-fault g c = λ known.
     let rows = c.in-Ok.rows in
     let long : length (rows_from rows.store.now.office rows.session rows.from) ≡ c.in-Ok.count =
     ap length c.in-Ok.ensures.rows ∙ sym c.in-Ok.ensures.count in
-    let refuses = FailsToRead g.S.Store c.register_stream.new.source.store.now in
+    let new = c.register_stream.new.source.store.now in
+    let refuses = FailsToRead g.S.Store rows.store.now new in
     let enough : (⊤ → length (rows_from rows.store.now.office rows.session rows.from) < c.in-Ok.count) → ⊥ =
     λ short. let few = short tt in omega (arith, few, long) in
-    let fault : IfErr c.register_stream.result (BreaksOff refuses ⊥) =
-    none_missing refuses _ enough c.register_stream.result c.register_stream.ensures.fault in
+    let fault : IfErr c.register_stream.result (BreaksOff (FailsToRead g.S.Store c.args.store.now new) ⊥) =
+    subst (λ o. IfErr c.register_stream.result (BreaksOff (FailsToRead g.S.Store o new) ⊥)) c.in-Ok.ensures.same
+    (none_missing refuses _ enough c.register_stream.result c.register_stream.ensures.fault) in
     search rules
 
 pub returns-in-Ok-clause-read : goal.returns-in-Ok-clause-read

@@ -49,8 +49,13 @@ returns-clause-refusal g c = λ clean.
     let same = c.in_ok-version.ensures.reads.left (c.load_version.ensures.loads.early clean) in
     let newest : c.in_ok-version.version.number ≡ version = search rules in
     IfErr-weaker c.load_version.result _ _ (λ e why.
-    inl (part_failed e (λ told.
-    (told.0, still_then old mid (state g.S.Store told.0) same told.1, told.2, told.3, told.4))
+    inl (part_failed e (λ told. (
+      told.0,
+      still_then old mid (state g.S.Store told.0) same c.version_of.ensures.reads.survives told.1,
+      told.2,
+      told.3,
+      told.4,
+    ))
     (λ none. (
       λ all was. let there =
           still_of version old mid all same was in none all (made_of version mid.now all there) there,

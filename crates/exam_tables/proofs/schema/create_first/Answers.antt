@@ -24,7 +24,7 @@ texts-preserved g c =
     let run = c.in_ok-run.ensures in
     let step = table_leads (made at) (made (at + 1)) (get_or first_tables at tables.office) _
     (each_text c.args.statements.now c.requires at _ c.texts-test.true) (each_added at below) mid new
-    (Ok tt) run.failed run.ran run.kept run.survives run.told in
+    (Ok tt) run.runs in
     record {
       same = run.same_reference ∙ c.texts.invariant.same;
       made = leads_then (HasNoRows (made 0)) (HasNoRows (made at)) (HasNoRows (made (at + 1)))
@@ -42,7 +42,7 @@ returns-in_err-run-clause-made g c =
     let run = c.in_err-run.ensures in
     let step = table_leads (made at) (made (at + 1)) (get_or first_tables at tables.office) _
     (each_text c.args.statements.now c.requires at _ c.texts-test.true) (each_added at below) mid new
-    (Err e) run.failed run.ran run.kept run.survives run.told in
+    (Err e) run.runs in
     rw failed (leads_then (HasNoRows (made 0)) (HasNoRows (made at)) (HasNoRows (made 10))
     (state g.S.Store c.args.tx.now.conn.now) mid new (Err e) c.texts.invariant.made
     (leads_refused (HasNoRows (made at)) (HasNoRows (made (at + 1))) (HasNoRows (made 10)) mid new e step))

@@ -20,4 +20,4 @@ returns-clause-made g c = λ is_open all.
           (adds_soundly standing_added old new count was.0.schema_is run),
     ))
     (λ was error run. limited old new error (adding_fails standing_added old new was.0.schema_is error run))
-    c.run.ensures.failed c.run.ensures.ran c.run.ensures.kept c.run.ensures.survives c.run.ensures.told
+    c.run.ensures.runs

@@ -13,6 +13,4 @@ returns-clause-made g c = λ all.
     let new = state g.S.Store c.run.new.tx.conn.now in
     leads_by (HasRuled old.is_open all) (HasNewest all) old new office.put_text (Int (pos version) ∷ []) c.run.result
     (λ count run was. office.puts old new (pos version) (Ok count) run all was.0) (version_refused old new all)
-    (rw (c.from.ensures, passed version (lit< tt)) at c.run.ensures.failed)
-    (rw (c.from.ensures, passed version (lit< tt)) at c.run.ensures.ran) c.run.ensures.kept c.run.ensures.survives
-    c.run.ensures.told
+    (rw (c.from.ensures, passed version (lit< tt)) at c.run.ensures.runs)

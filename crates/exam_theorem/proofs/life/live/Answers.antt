@@ -10,35 +10,38 @@ use Rattle.exam_theorem.proofs.life.live.Goals as goal
 pub returns-in-Ok-print_after-clause-had : goal.returns-in-Ok-print_after-clause-had
 returns-in-Ok-print_after-clause-had g c =
     had_first g.S.Store (state g.S.Store c.args.conn) c.in-Ok.store c.print_after.new.store
-    (map shown c.args.orders.now) c.in-Ok-print_after.day.outcomes.items c.in-Ok-print_after.ensures.passes
+    (map shown c.args.orders.now) c.in-Ok-print_after.ensures.passes
     c.in-Ok.ensures.same
     c.in-Ok.ensures.had c.in-Ok.ensures.good
 
 pub returns-in-Ok-print_after-clause-lives : goal.returns-in-Ok-print_after-clause-lives
-returns-in-Ok-print_after-clause-lives g c =
-    lived g.S.Store (state g.S.Store c.args.conn) c.in-Ok.store c.print_after.new.store
-    (map shown c.args.orders.now) c.in-Ok-print_after.day.outcomes.items c.in-Ok-print_after.ensures.passes
-    c.in-Ok.ensures.same
-    c.in-Ok.ensures.stops c.in-Ok-print_after.ensures.run
+returns-in-Ok-print_after-clause-lives g c = (
+  c.in-Ok.store,
+  c.in-Ok-print_after.ensures.passes,
+  lived g.S.Store (state g.S.Store c.args.conn) c.in-Ok.store c.print_after.new.store
+      (map shown c.args.orders.now) c.in-Ok-print_after.ensures.passes
+      c.in-Ok.ensures.same
+      c.in-Ok.ensures.stops c.in-Ok-print_after.ensures.run,
+)
 
 pub returns-in-Ok-print_after-clause-rests : goal.returns-in-Ok-print_after-clause-rests
 returns-in-Ok-print_after-clause-rests g c =
     ends_at_rest g.S.Store (state g.S.Store c.args.conn) c.in-Ok.store c.print_after.new.store
-    (map shown c.args.orders.now) c.in-Ok-print_after.day.outcomes.items c.in-Ok-print_after.ensures.passes
+    (map shown c.args.orders.now) c.in-Ok-print_after.ensures.passes
     c.in-Ok.ensures.same
     c.in-Ok.ensures.had
 
 pub returns-in-Ok-print_after-clause-one : goal.returns-in-Ok-print_after-clause-one
 returns-in-Ok-print_after-clause-one g c =
     ended_in_one g.S.Store (state g.S.Store c.args.conn) c.in-Ok.store c.print_after.new.store
-    (map shown c.args.orders.now) c.in-Ok-print_after.day.outcomes.items c.in-Ok-print_after.ensures.passes
+    (map shown c.args.orders.now) c.in-Ok-print_after.ensures.passes
     c.in-Ok.ensures.same
     c.in-Ok-print_after.ensures.one
 
 pub returns-in-Ok-print_after-clause-tables : goal.returns-in-Ok-print_after-clause-tables
 returns-in-Ok-print_after-clause-tables g c =
     ends_in_tables g.S.Store (state g.S.Store c.args.conn) c.in-Ok.store c.print_after.new.store
-    (map shown c.args.orders.now) c.in-Ok-print_after.day.outcomes.items c.in-Ok-print_after.ensures.passes
+    (map shown c.args.orders.now) c.in-Ok-print_after.ensures.passes
     c.in-Ok.ensures.same
     c.in-Ok.ensures.had
 

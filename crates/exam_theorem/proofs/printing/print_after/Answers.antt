@@ -22,5 +22,9 @@ returns-clause-one g c =
     c.in_ok-outcomes.outcomes.items c.in_ok-outcomes.ensures.run)
 
 pub returns-clause-passes : goal.returns-clause-passes
-returns-clause-passes g c =
-    (c.follow_all.new.store, c.in_ok-outcomes.ensures.passes, c.print_asked-printed.ensures.stays)
+returns-clause-passes g c = record {
+  last = c.follow_all.new.store;
+  passed = c.in_ok-outcomes.ensures.passes;
+  stays = c.print_asked-printed.ensures.stays;
+  sheet = c.print_asked-printed.ensures.sheet;
+}

@@ -14,7 +14,7 @@ pub returns-then-is_sheet-clause-sheet : goal.returns-then-is_sheet-clause-sheet
 returns-then-is_sheet-clause-sheet g c =
     let job = job_shown c.args.line.now.job in
     let asks : is_some (sheet_of job) ≡ true = sym c.is_sheet.ensures ∙ c.if-is_sheet.true in
-    subst (λ (o : LineEnd). PrintsAsked g.S.Store g.O.Write.contents c.carry_out.new.store
+    subst (λ (o : LineEnd). PrintsAsked g.S.Store g.O.Write.contents c.args.store.now c.carry_out.new.store
     (sheet_of job) c.args.out.now o c.carry_out.new.out) (sym c.told.ensures)
     (job_printed g.S.Store g.O.Write.contents c.args.line.now.today (Some [])
     (Some []) c.args.store.now c.carry_out.new.store c.args.out.now c.carry_out.result c.carry_out.new.out job asks

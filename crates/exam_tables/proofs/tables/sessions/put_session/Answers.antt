@@ -15,11 +15,4 @@ returns-clause-made g c =
       c.from.ensures,
       c.get.ensures.value,
       passed c.args.start (omega (arith, c.get.ensures.range)),
-    ) at c.run.ensures.ran)
-    (rw (
-      c.as_bytes.ensures.value,
-      c.from.ensures,
-      c.get.ensures.value,
-      passed c.args.start (omega (arith, c.get.ensures.range)),
-    ) at c.run.ensures.failed) c.run.ensures.kept
-    c.run.ensures.survives c.run.ensures.told
+    ) at c.run.ensures.runs)

@@ -22,16 +22,4 @@ returns-clause-made g c =
       c.from-3.ensures,
       c.get-2.ensures.value,
       passed c.args.arrangement.now.extra (omega (arith, c.get-2.ensures.range)),
-    ) at c.run.ensures.ran)
-    (rw (
-      c.from.ensures,
-      c.get.ensures.value,
-      passed c.args.number.now (omega (arith, c.get.ensures.range)),
-      c.from-2.ensures,
-      c.sum.ensures.value,
-      passed (features_sum c.args.arrangement.now.needs) (omega (arith, c.sum.ensures.range, c.sum.ensures.value)),
-      c.from-3.ensures,
-      c.get-2.ensures.value,
-      passed c.args.arrangement.now.extra (omega (arith, c.get-2.ensures.range)),
-    ) at c.run.ensures.failed)
-    c.run.ensures.kept c.run.ensures.survives c.run.ensures.told
+    ) at c.run.ensures.runs)

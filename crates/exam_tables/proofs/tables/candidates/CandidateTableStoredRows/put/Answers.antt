@@ -17,13 +17,4 @@ returns-clause-made g c =
       c.as_bytes.ensures.value,
       c.as_str.ensures.value,
       c.as_bytes-2.ensures.value,
-    ) at c.run.ensures.ran)
-    (rw (
-      c.from.ensures,
-      c.get.ensures.value,
-      passed c.args.number.now (omega (arith, c.get.ensures.range)),
-      c.as_bytes.ensures.value,
-      c.as_str.ensures.value,
-      c.as_bytes-2.ensures.value,
-    ) at c.run.ensures.failed)
-    c.run.ensures.kept c.run.ensures.survives c.run.ensures.told
+    ) at c.run.ensures.runs)

@@ -17,13 +17,4 @@ returns-clause-made g c =
       c.as_bytes.ensures.value,
       c.flag.ensures,
       passed (if c.args.entry.now.live then 1 else 0) (flag_small c.args.entry.now.live),
-    ) at c.run.ensures.ran)
-    (rw (
-      c.from.ensures,
-      c.get.ensures.value,
-      passed c.args.key.now.0 (omega (arith, c.get.ensures.range)),
-      c.as_bytes.ensures.value,
-      c.flag.ensures,
-      passed (if c.args.entry.now.live then 1 else 0) (flag_small c.args.entry.now.live),
-    ) at c.run.ensures.failed)
-    c.run.ensures.kept c.run.ensures.survives c.run.ensures.told
+    ) at c.run.ensures.runs)

@@ -18,13 +18,4 @@ returns-clause-made g c =
       c.from.ensures,
       c.sum.ensures.value,
       passed (features_sum c.args.hall.now.features) (omega (arith, c.sum.ensures.range, c.sum.ensures.value)),
-    ) at
-    c.run.ensures.ran) (rw (
-      c.as_bytes.ensures.value,
-      c.as_bytes-2.ensures.value,
-      c.as_str.ensures.value,
-      c.from.ensures,
-      c.sum.ensures.value,
-      passed (features_sum c.args.hall.now.features) (omega (arith, c.sum.ensures.range, c.sum.ensures.value)),
-    ) at
-    c.run.ensures.failed) c.run.ensures.kept c.run.ensures.survives c.run.ensures.told
+    ) at c.run.ensures.runs)

@@ -8,6 +8,4 @@ returns-clause-made g c =
     let old = state g.S.Store c.args.tx.now.conn.now in
     let new = state g.S.Store c.run.new.tx.conn.now in
     makes_by (opening.deletes c.args.key.now.0 c.args.key.now.1) old new c.run.result
-    (rw (c.as_bytes.ensures.value, c.as_bytes-2.ensures.value) at c.run.ensures.ran)
-    (rw (c.as_bytes.ensures.value, c.as_bytes-2.ensures.value) at c.run.ensures.failed) c.run.ensures.kept
-    c.run.ensures.survives c.run.ensures.told
+    (rw (c.as_bytes.ensures.value, c.as_bytes-2.ensures.value) at c.run.ensures.runs)

@@ -22,17 +22,4 @@ returns-clause-made g c =
       passed c.args.opening.now.until (omega (arith, c.get-2.ensures.range)),
       c.flag.ensures,
       passed (if c.args.opening.now.reserved then 1 else 0) (flag_small c.args.opening.now.reserved),
-    ) at
-    c.run.ensures.ran) (rw (
-      c.as_bytes.ensures.value,
-      c.as_bytes-2.ensures.value,
-      c.from.ensures,
-      c.get.ensures.value,
-      passed c.args.opening.now.desks (omega (arith, c.get.ensures.range)),
-      c.from-2.ensures,
-      c.get-2.ensures.value,
-      passed c.args.opening.now.until (omega (arith, c.get-2.ensures.range)),
-      c.flag.ensures,
-      passed (if c.args.opening.now.reserved then 1 else 0) (flag_small c.args.opening.now.reserved),
-    ) at
-    c.run.ensures.failed) c.run.ensures.kept c.run.ensures.survives c.run.ensures.told
+    ) at c.run.ensures.runs)

@@ -23,17 +23,4 @@ returns-clause-made g c =
       c.from-2.ensures,
       c.sum.ensures.value,
       passed (features_sum c.args.paper.now.required) (omega (arith, c.sum.ensures.range, c.sum.ensures.value)),
-    ) at
-    c.run.ensures.ran) (rw (
-      c.as_bytes.ensures.value,
-      c.as_bytes-2.ensures.value,
-      c.as_str.ensures.value,
-      c.as_bytes-3.ensures.value,
-      c.from.ensures,
-      c.get.ensures.value,
-      passed c.args.paper.now.minutes (omega (arith, c.get.ensures.range)),
-      c.from-2.ensures,
-      c.sum.ensures.value,
-      passed (features_sum c.args.paper.now.required) (omega (arith, c.sum.ensures.range, c.sum.ensures.value)),
-    ) at
-    c.run.ensures.failed) c.run.ensures.kept c.run.ensures.survives c.run.ensures.told
+    ) at c.run.ensures.runs)

@@ -16,12 +16,4 @@ returns-clause-made g c =
       c.get.ensures.value,
       passed c.args.key.now.1 (omega (arith, c.get.ensures.range)),
       c.as_bytes-2.ensures.value,
-    ) at c.run.ensures.ran)
-    (rw (
-      c.as_bytes.ensures.value,
-      c.from.ensures,
-      c.get.ensures.value,
-      passed c.args.key.now.1 (omega (arith, c.get.ensures.range)),
-      c.as_bytes-2.ensures.value,
-    ) at
-    c.run.ensures.failed) c.run.ensures.kept c.run.ensures.survives c.run.ensures.told
+    ) at c.run.ensures.runs)

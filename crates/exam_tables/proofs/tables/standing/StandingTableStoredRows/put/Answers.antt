@@ -15,10 +15,4 @@ returns-clause-made g c =
       c.get.ensures.value,
       passed c.args.key.now.0 (omega (arith, c.get.ensures.range)),
       c.as_bytes.ensures.value,
-    ) at c.run.ensures.ran)
-    (rw (
-      c.from.ensures,
-      c.get.ensures.value,
-      passed c.args.key.now.0 (omega (arith, c.get.ensures.range)),
-      c.as_bytes.ensures.value,
-    ) at c.run.ensures.failed) c.run.ensures.kept c.run.ensures.survives c.run.ensures.told
+    ) at c.run.ensures.runs)
