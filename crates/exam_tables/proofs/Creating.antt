@@ -1,6 +1,6 @@
 -- The tables are made one after another.
 use Rattle.std.proofs.Common.{◌≡◌, ◌==◌, ◌≤◌, ◌<◌, IsSome, false, inl, inr, ℕ, get_or, length, map, pos, List, [], ◌∷◌}
-use Rattle.std.proofs.Common.{Ok, Err, Result, OnOk, IfErr, IsTrue, refl, subst, sym, ap, arith, ◌∙◌}
+use Rattle.std.proofs.Common.{Ok, Err, Result, IfErr, refl, subst, sym, ap, arith, ◌∙◌}
 use Rattle.std.specs.Borrow.{Bor}
 use Rattle.std.specs.List.Sorted.{IsPermutation}
 use Rattle.std.proofs.lemmas.Bool.{both_ways, cases_Bool, eqb-true}
@@ -16,7 +16,7 @@ use Rattle.sqlite.specs.Held.{Held, IsNew, state}
 use Rattle.sqlite.specs.Steps.{over_memory, IsEmpty}
 use Rattle.sqlite.specs.Effect.{Database}
 use Rattle.sqlite.specs.declared.error.Error.{Error}
-use Rattle.sqlite.specs.State.{State, HasCleanDisk, KeepsCommit, Survives, Executes, ExecutesInside}
+use Rattle.sqlite.specs.State.{State, HasCleanDisk, Survives, Executes, ExecutesInside}
 use Rattle.sqlite.proofs.StateLemmas.{survives_then}
 use Rattle.sqlite.proofs.InsideLemmas.{keeps_then}
 use Rattle.exam_types.specs.declared.refusal.Refusal.{Refusal}
@@ -30,7 +30,6 @@ use Rattle.exam_sql.proofs.AllTables.{first_is}
 use Rattle.exam_sql.proofs.Making.{AddsTable, adding_fails, adds_table}
 use Rattle.exam_sql.proofs.OfOffice as office
 use Rattle.exam_sql.proofs.VersionFails.{version_fails}
-use Rattle.exam_tables.specs.Faults.{refusal_of, is_store_refusal}
 use Rattle.exam_tables.specs.Inside.{Runs}
 use Rattle.exam_tables.specs.Versions.{HasFirst, HasNoRows, HasRuled, IsBlank, Leads, FailsToMake, FailsToCreate}
 use Rattle.exam_tables.specs.Versions.{version}

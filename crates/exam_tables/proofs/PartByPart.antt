@@ -11,8 +11,7 @@ use Rattle.sqlite.proofs.Callers.{unchanged_then}
 use Rattle.exam_types.specs.declared.refusal.Refusal.{Refusal}
 use Rattle.exam_types.specs.declared.refusal.Refusal.TheVariants.{NoMemory, BadStore}
 use Rattle.exam_sql.specs.Texts.{load_texts}
-use Rattle.exam_tables.specs.Faults.{is_store_refusal}
-use Rattle.exam_tables.specs.Loaded.{FailsThenFrom, IsLoadRefusal}
+use Rattle.exam_tables.specs.Loaded.{FailsThenFrom}
 use Rattle.exam_tables.specs.Parts.{Loading, LoadingBy, Part, then_part}
 use Rattle.exam_tables.proofs.Leaving.{both_survive, left_then, still_itself, still_then}
 use Rattle.exam_tables.proofs.Refusing.{part_failed}

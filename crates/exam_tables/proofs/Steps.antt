@@ -1,6 +1,6 @@
 -- One step inside a transaction, and one after another.
 use Rattle.std.proofs.Common.{Option, Some, None, Bool, true, false, if◌then◌else◌, lit<, ◌≡◌, ◌<◌, ◌^◌, pos, to_z}
-use Rattle.std.proofs.Common.{of_z, w64, ℕ, List, [], ◌∷◌, ◌++◌, Ok, Err, Result, OnOk, IfErr, IsTrue, refl, sym, ap}
+use Rattle.std.proofs.Common.{of_z, w64, ℕ, List, [], ◌∷◌, ◌++◌, Ok, Err, Result, IsTrue, refl, sym, ap}
 use Rattle.std.proofs.Common.{subst, ◌∙◌, ◌≤◌, inl, inr, append_assoc, arith, ◌+◌, drop, map, take}
 use Rattle.std.proofs.lemmas.Int.{to_z_pos}
 use Rattle.std.proofs.lemmas.List.{map-append, take-append-drop}
@@ -8,7 +8,7 @@ use Rattle.sqlite_value.specs.declared.value.Value.TheVariants.{Text}
 use Rattle.sqlite_value.specs.Order.{Row}
 use Rattle.sqlite.specs.Values.{bound_value, or_null}
 use Rattle.sqlite_trees.specs.Tree.{Trees}
-use Rattle.sqlite.specs.State.{State, HasCleanDisk, KeepsCommit, Survives, ExecutesInside}
+use Rattle.sqlite.specs.State.{State, HasCleanDisk, Survives}
 use Rattle.sqlite.proofs.StateLemmas.{survives_then}
 use Rattle.sqlite.proofs.InsideLemmas.{keeps_then}
 use Rattle.exam_types.specs.declared.refusal.Refusal.{Refusal}
@@ -17,7 +17,7 @@ use Rattle.exam_rules.specs.declared.rows.Subject.TheVariants.{Hall, Clash, Arra
 use Rattle.exam_rules.specs.declared.rows.Status.{Status}
 use Rattle.exam_rules.specs.declared.rows.Status.TheVariants.{Pending, Granted, Refused, Retracted, Superseded}
 use Rattle.exam_tables.specs.Stored.{kind_number, state_number}
-use Rattle.exam_tables.specs.Faults.{refusal_of, is_store_refusal}
+use Rattle.exam_tables.specs.Faults.{refusal_of}
 use Rattle.exam_tables.specs.Inside.{AreRun, Contains, Becomes, Makes, Runs, Write, written, FailsFor, FailsToWrite}
 use Rattle.exam_sql.specs.Refusals.{Fails, Refuses, IsDown, is_failure}
 use Rattle.exam_sql.proofs.Edits.{Edits}

@@ -1,5 +1,5 @@
 -- The key finds one row or none, since no two rows have it. Where the query fails, that is the reason.
-use Rattle.std.proofs.Common.{arith, ◌≡◌, ℕ, ◌∙◌}
+use Rattle.std.proofs.Common.{arith, ◌∙◌}
 use Rattle.sqlite.specs.Held.{state}
 use Rattle.sqlite.specs.State.{FailsToQuery, Shown}
 use Rattle.sqlite.proofs.StateLemmas.{survives_weaker}
