@@ -6,8 +6,9 @@
 -- - Following: the outcomes of orders, one after the other, and the office after each
 -- - Printing: the sheet that words ask for
 -- - Keeping: the tables of a database that keep an office
--- - Resting: the office that a database has, in whichever version, and what a stop leaves of it
--- - Life: the whole life of an office, from a database of any version
+-- - Resting: the office that a database has, in whichever version; what a stop leaves of it; why none is opened, and
+--   what that leaves
+-- - Life: what one order comes to, and what many do, from a database on
 pub mod Orders
 pub mod Requests
 pub mod Following

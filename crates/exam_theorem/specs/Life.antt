@@ -2,7 +2,8 @@
 use Rattle.std.specs.Prelude.{◌≡◌, ⊤, ℕ, List, [], ◌∷◌, Option, Ok}
 use Rattle.sqlite_trees.specs.declared.store.Store.{Ghosts}
 use Rattle.sqlite_trees.specs.Tree.{Trees}
-use Rattle.sqlite.specs.Held.{state}
+use Rattle.sqlite.specs.Effect.{Database}
+use Rattle.sqlite.specs.Held.{Held, state}
 use Rattle.sqlite.specs.State.{State as Shown, HasCleanDisk}
 use Rattle.exam_rules.specs.Relations.{Code}
 use Rattle.exam_commands.specs.Good.{IsGood}
@@ -15,13 +16,16 @@ use Rattle.exam_line.specs.declared.line.Sheet.{Sheet}
 use Rattle.exam_request.specs.Answer.{Told}
 use Rattle.exam_request.specs.Asked.{Asks, Request}
 use Rattle.exam_http.specs.Answering.{own_named}
+use Rattle.exam_tables.specs.Transactions.{IsSound}
+use Rattle.exam_store.specs.Kept.{HaveSameTables, Keeps}
 use Rattle.exam_store.specs.Stops.{HasRowDays}
 use Rattle.exam_store.specs.Stores.{OfficeIn}
-use Rattle.exam_theorem.specs.Following.{AreFollowed, Follows, FollowsWords, IsFailure, LineEnd, Spares}
+use Rattle.exam_theorem.specs.Following.{AreFollowed, EachSparesOthers, EndsInOne, Follows, FollowsWords, IsFailure}
+use Rattle.exam_theorem.specs.Following.{LineEnd, Spares}
 use Rattle.exam_theorem.specs.Orders.{Given, of_line, of_request}
 use Rattle.exam_theorem.specs.Printing.{PrintsAsked}
 use Rattle.exam_theorem.specs.Requests.{Tells}
-use Rattle.exam_theorem.specs.Resting.{IsAtRest, LeavesOffice, Rests, Settles}
+use Rattle.exam_theorem.specs.Resting.{HasOffice, IsAtRest, IsVersioned, LeavesOffice, Rests, Settles}
 use Rattle.exam_theorem.specs.declared.orders.Outcome.{Outcome}
 use Rattle.exam_theorem.specs.declared.orders.Outcome.TheVariants as outcome
 use Rattle.exam_theorem.specs.declared.printing.EndOfDay.{EndOfDay}
@@ -92,6 +96,18 @@ pub record PassesDay {S W : Type 0} (g : Ghosts S) (contents : W → Option (Lis
   pub stays : Stays g last new
   pub sheet : PrintsAsked g contents last new asked before day.printed after
 
+-- each order is followed in the office that the order before it left
+abbrev pub FollowsDay : {S : Type 0} → List Given → OfficeIn S → EndOfDay → OfficeIn S → Type 0
+FollowsDay orders start day new = AreFollowed orders start.office day.outcomes.items new.office
+
+-- each order spares others
+abbrev pub SparesDay : {S : Type 0} → List Given → OfficeIn S → EndOfDay → OfficeIn S → Type 0
+SparesDay orders start day new = EachSparesOthers orders start.office day.outcomes.items new.office
+
+-- followed again without a failure, the orders end in the same office
+abbrev pub EndsDay : {S : Type 0} → List Given → OfficeIn S → EndOfDay → OfficeIn S → Type 0
+EndsDay orders start day new = EndsInOne orders start.office day.outcomes.items new.office
+
 -- The office that the database had is brought over and opened, and the orders pass.
 pub record Lives {S : Type 0} (g : Ghosts S) (orders : List Given) (old : Shown) (first : State) (start : OfficeIn S)
     (outcomes : List Outcome) (new : OfficeIn S) : Type 0 where
@@ -104,3 +120,36 @@ pub record Lives {S : Type 0} (g : Ghosts S) (orders : List Given) (old : Shown)
   -- no fault of the disk is forgotten
   pub was_clean : HasCleanDisk (state g new.database) → HasCleanDisk (state g start.database)
   pub followed : AreFollowed orders first outcomes new.office
+
+-- ---- what a life comes to, from a database
+
+-- there was a good office, if the tables were those of a version
+abbrev pub HadFirst : {S : Type 0} → Ghosts S → Held S → OfficeIn S → Type 0
+HadFirst g old new =
+    HasCleanDisk (state g new.database) → IsVersioned (state g old).now
+    → (first : State) × IsGood first × HasOffice (state g old).now first
+
+-- A store is opened in which the orders pass and the sheet is printed. It has the office that was there, which lives
+-- through the orders.
+abbrev pub LivesFrom : {S W : Type 0} → Ghosts S → (W → Option (List ℕ)) → List Given → Option (Code × Sheet) → Held S
+    → W → EndOfDay → OfficeIn S → W → Type 0
+LivesFrom {S} g contents orders asked old before day new after =
+    (start : OfficeIn S) × PassesDay g contents orders asked start before day new after
+    × (HasCleanDisk (state g new.database) → (first : State) → HasOffice (state g old).now first
+    → Lives g orders (state g old) first start day.outcomes.items new)
+
+-- from the office that was there the same orders lead to no other office
+abbrev pub EndsAlike : {S : Type 0} → Ghosts S → List Given → Held S → EndOfDay → OfficeIn S → Type 0
+EndsAlike g orders old day new =
+    HasCleanDisk (state g new.database) → (first : State) → HasOffice (state g old).now first
+    → EndsInOne orders first day.outcomes.items new.office
+
+-- the life can go on from the database that it leaves
+abbrev pub GoesOn : {S : Type 0} → Ghosts S → Held S → OfficeIn S → Type 0
+GoesOn g old new = IsSound (state g new.database) → IsVersioned (state g old).now → IsAtRest g new
+
+-- a database that keeps the last office has the tables that the life leaves
+abbrev pub HasItsTables : {S : Type 0} → Ghosts S → Held S → OfficeIn S → Type 0
+HasItsTables g old new =
+    IsSound (state g new.database) → IsVersioned (state g old).now → (there : Database) → Keeps there new.office
+    → HaveSameTables (state g new.database).now there

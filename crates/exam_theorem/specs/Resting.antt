@@ -1,4 +1,5 @@
--- The office that a database has, in whichever version, and what a stop leaves of it.
+-- The office that a database has, in whichever version; what a stop leaves of it; what a call opens, and what its refusal
+-- leaves.
 use Rattle.std.specs.Prelude.{◌≡◌, ◌⊎◌, ℕ, false, IsTrue, Ok}
 use Rattle.sqlite_trees.specs.declared.store.Store.{Ghosts}
 use Rattle.sqlite_trees.specs.Tree.{Trees}
@@ -11,7 +12,7 @@ use Rattle.exam_commands.specs.Orders.{IsInOrder}
 use Rattle.exam_commands.specs.State.{State as Office}
 use Rattle.exam_tables.specs.Transactions.{Commits, IsSound}
 use Rattle.exam_tables.specs.Versions.{ContainsOf, HasVersion, IsVersion}
-use Rattle.exam_store.specs.Found.{FailsToFind, FailsToMigrate, HoldsGood}
+use Rattle.exam_store.specs.Found.{FailsToFind, FailsToMigrate, HoldsGood, is_open_refusal}
 use Rattle.exam_store.specs.Kept.{Keeps, KeepsIn}
 use Rattle.exam_store.specs.Stops.{HasDays}
 use Rattle.exam_store.specs.Stores.{OfficeIn}
@@ -100,3 +101,25 @@ pub record Settles {S : Type 0} (g : Ghosts S) (Failed : Type 0) (Leads : Office
   -- once a failure has shut the connection, a stop leaves only what it would have left before the call
   pub shut : (state g old.database).is_open ≡ false → HasCleanDisk (state g new.database) → (trees : Trees)
       → (state g new.database).may_leave trees → (state g old.database).may_leave trees
+
+-- ---- what a call opens, and what its refusal leaves
+
+-- if the tables were those of a version, the office that was opened is the one that they had
+abbrev pub HadOffice : {S : Type 0} → Ghosts S → Held S → OfficeIn S → Type 0
+HadOffice g old it =
+    HasCleanDisk (state g it.database) → IsVersioned (state g old).now → HasOffice (state g old).now it.office
+
+-- the office that was there was opened, and is at rest
+abbrev pub OpensIt : {S : Type 0} → Ghosts S → Held S → OfficeIn S → Type 0
+OpensIt g old it =
+    HasCleanDisk (state g it.database) → (office : Office) → HasOffice (state g old).now office
+    → (it.office ≡ office) × IsAtRest g it
+
+-- Why no office is opened, and what that leaves: the office that was there, also after a stop. A good office is refused
+-- only for memory or for a database that could not be used.
+pub record RefusesCarrying {S : Type 0} (g : Ghosts S) (old new : Held S) (e : Refusal) : Type 0 where
+  pub rests : RestsOn (state g old) (state g new)
+  pub stopped : StopsWith (state g old) (state g new)
+  pub why : HasCleanDisk (state g new) → FailsToCarry g old new e
+  pub only : HasCleanDisk (state g new) → IsAccepted (state g old).now → IsFailing e
+  pub told : IsTrue (is_open_refusal e)

@@ -8,15 +8,12 @@ ghost use Rattle.exam_commands.specs.Headline.{IsSeated};
 ghost use Rattle.exam_commands.specs.State.{State};
 ghost use Rattle.exam_tables.specs.Faults.{is_store_refusal};
 ghost use Rattle.exam_tables.specs.Inside.{IsOurs};
-ghost use Rattle.exam_tables.specs.Transactions.{Commits, IsSound};
-ghost use Rattle.exam_store.specs.Found.{FailsToMigrate, is_open_refusal};
-ghost use Rattle.exam_store.specs.Kept.{HaveSameTables, Keeps};
-ghost use Rattle.exam_store.specs.Stores.{OfficeIn};
-ghost use Rattle.exam_theorem.specs.Following as spec;
-ghost use Rattle.exam_theorem.specs.Life.{Lives, PassesDay};
+ghost use Rattle.exam_tables.specs.Transactions.{Commits};
+ghost use Rattle.exam_store.specs.Found.{FailsToMigrate};
+ghost use Rattle.exam_theorem.specs.Life.{EndsAlike, GoesOn, HadFirst, HasItsTables, LivesFrom};
 ghost use Rattle.exam_theorem.specs.Orders.{sheet_asked, shown};
-ghost use Rattle.exam_theorem.specs.Resting.{BringsOver, FailsToCarry, HasOffice, IsAccepted, IsAtRest, IsFailing};
-ghost use Rattle.exam_theorem.specs.Resting.{IsVersioned, RestsOn, StopsWith};
+ghost use Rattle.exam_theorem.specs.Resting.{BringsOver, HadOffice, HasOffice, IsAccepted, IsFailing, IsVersioned};
+ghost use Rattle.exam_theorem.specs.Resting.{OpensIt, RefusesCarrying, StopsWith};
 
 use crate::orders::Order;
 use crate::printing::{EndOfDay, print_after};
@@ -58,19 +55,11 @@ pub fn carry_over<S: Alter>(
     alloc: Global,
     mut conn: Connection<S>,
 ) -> Result<Store<S>, (Refusal, Connection<S>)>
-    ensures had { IfOk result (λ store. HasCleanDisk (state S.Store store.database)
-        → IsVersioned (state S.Store conn).now → HasOffice (state S.Store conn).now store.office) }
-    ensures same { IfOk result (λ store. HasCleanDisk (state S.Store store.database)
-        → (office : State) → HasOffice (state S.Store conn).now office
-        → (store.office ≡ office) × IsAtRest S.Store store) }
+    ensures had { IfOk result (λ store. HadOffice S.Store conn store) }
+    ensures same { IfOk result (λ store. OpensIt S.Store conn store) }
     ensures stops { IfOk result (λ store. StopsWith (state S.Store conn) (state S.Store store.database)) }
     ensures good { IfOk result (λ store. IsGood store.office) }
-    ensures rests { IfErr result (λ e. RestsOn (state S.Store conn) (state S.Store e.1)) }
-    ensures stopped { IfErr result (λ e. StopsWith (state S.Store conn) (state S.Store e.1)) }
-    ensures why { IfErr result (λ e. HasCleanDisk (state S.Store e.1) → FailsToCarry S.Store conn e.1 e.0) }
-    ensures only { IfErr result (λ e. HasCleanDisk (state S.Store e.1)
-        → IsAccepted (state S.Store conn).now → IsFailing e.0) }
-    ensures told { IfErr result (λ e. IsTrue (is_open_refusal e.0)) }
+    ensures refused { IfErr result (λ e. RefusesCarrying S.Store conn e.1 e.0) }
 {
     match bring_over(alloc, &mut conn) {
         Ok(()) => Store::open(alloc, conn),
@@ -88,31 +77,14 @@ pub fn live<S: Alter, O: Write>(
     words: &[String],
     out: &mut O,
 ) -> Result<(Store<S>, EndOfDay), (Refusal, Connection<S>)>
-    // There was a good office, if the tables are those of a version.
-    ensures had { IfOk result (λ life. HasCleanDisk (state S.Store life.0.database)
-        → IsVersioned (state S.Store conn).now
-        → (first : State) × IsGood first × HasOffice (state S.Store conn).now first) }
-    ensures lives { IfOk result (λ life. (start : OfficeIn S) × PassesDay S.Store O.contents (map shown orders.now)
-        (sheet_asked (map string_bytes words.now)) start out.old life.1 life.0 out.new
-        × (HasCleanDisk (state S.Store life.0.database)
-        → (first : State) → HasOffice (state S.Store conn).now first
-        → Lives S.Store (map shown orders.now) (state S.Store conn) first start life.1.outcomes.items life.0)) }
+    ensures had { IfOk result (λ life. HadFirst S.Store conn life.0) }
+    ensures lives { IfOk result (λ life. LivesFrom S.Store O.contents (map shown orders.now)
+        (sheet_asked (map string_bytes words.now)) conn out.old life.1 life.0 out.new) }
     ensures headline { IfOk result (λ life. (s : Code) → IsSeated life.0.office s) }
-    // The life can go on from the database that it leaves.
-    ensures rests { IfOk result (λ life. IsSound (state S.Store life.0.database)
-        → IsVersioned (state S.Store conn).now → IsAtRest S.Store life.0) }
-    ensures one { IfOk result (λ life. HasCleanDisk (state S.Store life.0.database)
-        → (first : State) → HasOffice (state S.Store conn).now first
-        → spec.EndsInOne (map shown orders.now) first life.1.outcomes.items life.0.office) }
-    ensures tables { IfOk result (λ life. IsSound (state S.Store life.0.database)
-        → IsVersioned (state S.Store conn).now → (there : _) → Keeps there life.0.office
-        → HaveSameTables (state S.Store life.0.database).now there) }
-    ensures still { IfErr result (λ e. RestsOn (state S.Store conn) (state S.Store e.1)) }
-    ensures stopped { IfErr result (λ e. StopsWith (state S.Store conn) (state S.Store e.1)) }
-    ensures why { IfErr result (λ e. HasCleanDisk (state S.Store e.1) → FailsToCarry S.Store conn e.1 e.0) }
-    ensures only { IfErr result (λ e. HasCleanDisk (state S.Store e.1)
-        → IsAccepted (state S.Store conn).now → IsFailing e.0) }
-    ensures told { IfErr result (λ e. IsTrue (is_open_refusal e.0)) }
+    ensures rests { IfOk result (λ life. GoesOn S.Store conn life.0) }
+    ensures one { IfOk result (λ life. EndsAlike S.Store (map shown orders.now) conn life.1 life.0) }
+    ensures tables { IfOk result (λ life. HasItsTables S.Store conn life.0) }
+    ensures refused { IfErr result (λ e. RefusesCarrying S.Store conn e.1 e.0) }
     ensures unsent { OnErr result (out.new ≡ out.old) }
 {
     match carry_over(alloc, conn) {

@@ -4,9 +4,8 @@ ghost use Rattle.exam_types.specs.Refusals.{OnlyMemory};
 ghost use Rattle.exam_rules.specs.Relations.{Code};
 ghost use Rattle.exam_commands.specs.Headline.{IsSeated};
 ghost use Rattle.exam_line.specs.Lines as lines;
-ghost use Rattle.exam_theorem.specs.Following as spec;
 ghost use Rattle.exam_theorem.specs.Keeping.{KeepsOn};
-ghost use Rattle.exam_theorem.specs.Life.{PassesDay, Stays};
+ghost use Rattle.exam_theorem.specs.Life.{EndsDay, FollowsDay, PassesDay, SparesDay, Stays};
 ghost use Rattle.exam_theorem.specs.Orders.{sheet_asked, sheet_of, shown};
 ghost use Rattle.exam_theorem.specs.Printing.{PrintsAsked};
 
@@ -39,16 +38,13 @@ pub fn print_after<S: Alter, O: Write>(
     words: &[String],
     out: &mut O,
 ) -> Result<EndOfDay, Refusal>
-    ensures run { IfOk result (λ day.
-        spec.AreFollowed (map shown orders.now) store.old.office day.outcomes.items store.new.office) }
-    ensures spares { IfOk result (λ day. spec.EachSparesOthers (map shown orders.now) store.old.office
-        day.outcomes.items store.new.office) }
+    ensures run { IfOk result (λ day. FollowsDay (map shown orders.now) store.old day store.new) }
+    ensures spares { IfOk result (λ day. SparesDay (map shown orders.now) store.old day store.new) }
     ensures passes { IfOk result (λ day. PassesDay S.Store O.contents (map shown orders.now)
         (sheet_asked (map string_bytes words.now)) store.old out.old day store.new out.new) }
     ensures headline { (s : Code) → IsSeated store.new.office s }
     ensures kept { KeepsOn S.Store store.old store.new }
-    ensures one { IfOk result (λ day. spec.EndsInOne (map shown orders.now) store.old.office day.outcomes.items
-        store.new.office) }
+    ensures one { IfOk result (λ day. EndsDay (map shown orders.now) store.old day store.new) }
     ensures memory { OnlyMemory result }
     ensures same { OnErr result ((store.new ≡ store.old) × (out.new ≡ out.old)) }
 {

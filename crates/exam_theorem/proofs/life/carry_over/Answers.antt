@@ -1,13 +1,15 @@
 -- What is opened is what bringing over left: the office that was there, or the connection with the database as it was.
 use Rattle.std.proofs.Common.{inl}
-use Rattle.std.specs.Prelude.{Result, Ok, Err, IfErr}
+use Rattle.std.specs.Prelude.{Result, Ok, Err, IfErr, IsTrue}
 use Rattle.std.proofs.lemmas.Result.{IfOk-weaker}
 use Rattle.sqlite_trees.specs.declared.store.Store.{Ghosts}
 use Rattle.sqlite.specs.Held.{Held, state}
 use Rattle.sqlite.specs.State.{HasCleanDisk, Survives}
 use Rattle.exam_types.specs.declared.refusal.Refusal.{Refusal}
 use Rattle.exam_tables.specs.Loaded.{IsLeft}
-use Rattle.exam_store.specs.Found.{FailsToFind, RefusesOpening}
+use Rattle.exam_store.specs.Found.{FailsToFind, RefusesOpening, is_open_refusal}
+use Rattle.exam_store.proofs.Marking.{opens_as}
+use Rattle.exam_theorem.specs.Resting.{FailsToCarry, IsAccepted, IsFailing, RefusesCarrying, RestsOn, StopsWith}
 use Rattle.exam_theorem.proofs.Accepting.{refused_only}
 use Rattle.exam_theorem.proofs.Bringing.{brought_stops, opened_had, opened_same, opened_stopped, refused_left}
 use Rattle.exam_theorem.proofs.Bringing.{refused_rests, refused_stopped}
@@ -22,6 +24,17 @@ parted : {A S : Type 0} (g : Ghosts S) (old : Held S) (result : Result A (Refusa
     × IfErr result (λ e. HasCleanDisk (state g e.1) → FailsToFind g old e.1 e.0)
 parted g old (Ok it) refused = (tt, tt, tt)
 parted g old (Err e) refused = (refused.survives, refused.same, refused.refusal)
+
+-- what a refusal leaves, and why it is given
+joined : {A S : Type 0} (g : Ghosts S) (old : Held S) (result : Result A (Refusal × Held S))
+    → IfErr result (λ e. RestsOn (state g old) (state g e.1))
+    → IfErr result (λ e. StopsWith (state g old) (state g e.1))
+    → IfErr result (λ e. HasCleanDisk (state g e.1) → FailsToCarry g old e.1 e.0)
+    → IfErr result (λ e. HasCleanDisk (state g e.1) → IsAccepted (state g old).now → IsFailing e.0)
+    → IfErr result (λ e. IsTrue (is_open_refusal e.0)) → IfErr result (λ e. RefusesCarrying g old e.1 e.0)
+joined g old (Ok it) rests stopped why only told = tt
+joined g old (Err e) rests stopped why only told =
+    record { rests = rests; stopped = stopped; why = why; only = only; told = told }
 
 pub returns-in-Ok-clause-had : goal.returns-in-Ok-clause-had
 returns-in-Ok-clause-had g c =
@@ -43,39 +56,29 @@ returns-in-Ok-clause-stops g c =
 pub returns-in-Ok-clause-good : goal.returns-in-Ok-clause-good
 returns-in-Ok-clause-good g c = IfOk-weaker c.open.result _ _ (λ store good. good.0) c.open.ensures.good
 
-pub returns-in-Ok-clause-rests : goal.returns-in-Ok-clause-rests
-returns-in-Ok-clause-rests g c =
+pub returns-in-Ok-clause-refused : goal.returns-in-Ok-clause-refused
+returns-in-Ok-clause-refused g c =
+    let old = state g.S.Store c.args.conn in
+    let mid = state g.S.Store c.bring_over.new.conn in
+    let made = c.in-Ok.ensures.made in
     let it = parted g.S.Store c.bring_over.new.conn c.open.result c.open.ensures.refused in
-    refused_left g.S.Store (state g.S.Store c.args.conn)
-    (state g.S.Store c.bring_over.new.conn) c.in-Ok.ensures.made c.open.result it.0 it.1
+    joined g.S.Store c.args.conn c.open.result
+    (refused_left g.S.Store old mid made c.open.result it.0 it.1)
+    (refused_stopped g.S.Store old mid made c.open.result it.0)
+    (not_opened g.S.Store c.args.conn c.bring_over.new.conn made c.open.result it.0 it.2)
+    (refused_only g.S.Store old c.bring_over.new.conn made c.open.result it.0 it.2)
+    c.open.ensures.told
 
-pub returns-in-Ok-clause-stopped : goal.returns-in-Ok-clause-stopped
-returns-in-Ok-clause-stopped g c =
-    let it = parted g.S.Store c.bring_over.new.conn c.open.result c.open.ensures.refused in
-    refused_stopped g.S.Store (state g.S.Store c.args.conn)
-    (state g.S.Store c.bring_over.new.conn) c.in-Ok.ensures.made c.open.result it.0
-
-pub returns-in-Err-clause-rests : goal.returns-in-Err-clause-rests
-returns-in-Err-clause-rests g c =
-    refused_rests (state g.S.Store c.args.conn)
-    (state g.S.Store c.bring_over.new.conn) c.in-Err.refusal c.in-Err.ensures.made
-
-pub returns-in-Err-clause-stopped : goal.returns-in-Err-clause-stopped
-returns-in-Err-clause-stopped g c =
-    brought_stops (state g.S.Store c.args.conn) (state g.S.Store c.bring_over.new.conn)
-    (Err c.in-Err.refusal) c.in-Err.ensures.made
-    (λ trees is may. g.met.S.Store.settled c.args.conn.store trees is may)
-
-pub returns-in-Ok-clause-only : goal.returns-in-Ok-clause-only
-returns-in-Ok-clause-only g c =
-    let it = parted g.S.Store c.bring_over.new.conn c.open.result c.open.ensures.refused in
-    refused_only g.S.Store
-    (state g.S.Store c.args.conn) c.bring_over.new.conn c.in-Ok.ensures.made c.open.result it.0 it.2
-
-pub returns-in-Ok-clause-why : goal.returns-in-Ok-clause-why
-returns-in-Ok-clause-why g c =
-    let it = parted g.S.Store c.bring_over.new.conn c.open.result c.open.ensures.refused in
-    not_opened g.S.Store c.args.conn c.bring_over.new.conn c.in-Ok.ensures.made c.open.result it.0 it.2
-
-pub returns-in-Err-clause-why : goal.returns-in-Err-clause-why
-returns-in-Err-clause-why g c = λ clean. inl (c.in-Err.ensures.why clean)
+pub returns-in-Err-clause-refused : goal.returns-in-Err-clause-refused
+returns-in-Err-clause-refused g c =
+    let old = state g.S.Store c.args.conn in
+    let mid = state g.S.Store c.bring_over.new.conn in
+    let it = c.in-Err.ensures in
+    record {
+      rests = refused_rests old mid c.in-Err.refusal it.made;
+      stopped = brought_stops old mid (Err c.in-Err.refusal) it.made
+          (λ trees is may. g.met.S.Store.settled c.args.conn.store trees is may);
+      why = λ clean. inl (it.why clean);
+      only = it.only;
+      told = opens_as c.in-Err.refusal it.told;
+    }

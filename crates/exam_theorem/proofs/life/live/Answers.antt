@@ -1,8 +1,10 @@
 -- The orders go on from the store that was opened, and the sheet is of the office that they leave. A refusal comes
 -- before the first order.
-use Rattle.std.proofs.Common.{inl, inr}
-use Rattle.std.specs.Prelude.{map}
+use Rattle.std.proofs.Common.{inl, inr, refl, subst, sym}
+use Rattle.std.specs.Prelude.{IsTrue, map}
 use Rattle.sqlite.specs.Held.{state}
+use Rattle.exam_types.specs.declared.refusal.Refusal.{Refusal}
+use Rattle.exam_store.specs.Found.{is_open_refusal}
 use Rattle.exam_theorem.specs.Orders.{shown}
 use Rattle.exam_theorem.proofs.Living.{ended_in_one, ends_at_rest, ends_in_tables, had_first, lived, opened_rests_on}
 use Rattle.exam_theorem.proofs.life.live.Goals as goal
@@ -45,10 +47,13 @@ returns-in-Ok-print_after-clause-tables g c =
     c.in-Ok.ensures.same
     c.in-Ok.ensures.had
 
-pub returns-in-Err-print_after-clause-still : goal.returns-in-Err-print_after-clause-still
-returns-in-Err-print_after-clause-still g c =
-    rw (c.close.ensures, c.in-Err-print_after.ensures.same.0)
-    (opened_rests_on g.S.Store (state g.S.Store c.args.conn) c.in-Ok.store c.in-Ok.ensures.same)
-
-pub returns-in-Err-print_after-clause-why : goal.returns-in-Err-print_after-clause-why
-returns-in-Err-print_after-clause-why g c = λ clean. inl (inr (inl (inl c.in-Err-print_after.ensures.memory)))
+pub returns-in-Err-print_after-clause-refused : goal.returns-in-Err-print_after-clause-refused
+returns-in-Err-print_after-clause-refused g c =
+    let memory = c.in-Err-print_after.ensures.memory in
+    rw (c.close.ensures, c.in-Err-print_after.ensures.same.0) (record {
+      rests = opened_rests_on g.S.Store (state g.S.Store c.args.conn) c.in-Ok.store c.in-Ok.ensures.same;
+      stopped = c.in-Ok.ensures.stops;
+      why = λ clean. inl (inr (inl (inl memory)));
+      only = λ clean accepted. inl memory;
+      told = subst (λ (e : Refusal). IsTrue (is_open_refusal e)) (sym memory) refl;
+    })
