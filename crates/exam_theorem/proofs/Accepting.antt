@@ -1,6 +1,6 @@
 -- A database that holds a good office of its version is refused only because memory ran out or it could not be used.
-use Rattle.std.proofs.Common.{◌≡◌, ◌≢◌, ◌⊎◌, ◌∙◌, ℕ, inl, inr, arith, refl, sym, subst}
-use Rattle.std.specs.Prelude.{IfErr, IsTrue, Result, Ok, Err}
+use Rattle.std.proofs.Common.{◌≡◌, ◌≢◌, ◌∙◌, ℕ, inl, inr, arith, refl, sym, subst}
+use Rattle.std.specs.Prelude.{IfErr, Result, Ok, Err}
 use Rattle.sqlite_trees.specs.declared.store.Store.{Ghosts}
 use Rattle.sqlite_trees.specs.Tree.{Trees}
 use Rattle.sqlite.specs.Effect.{Database}

@@ -1,5 +1,5 @@
 -- An office that is brought to the newest version and opened.
-use Rattle.std.proofs.Common.{◌≡◌, ◌≢◌, ◌⊎◌, ◌∙◌, ◌≤◌, ℕ, true, false, inl, inr, arith, refl, sym, ap, subst}
+use Rattle.std.proofs.Common.{◌≡◌, ◌≢◌, ◌⊎◌, ◌∙◌, ℕ, inl, inr, arith, refl, sym, ap, subst}
 use Rattle.std.specs.Prelude.{Result, Ok, Err, IsTrue, IfOk, IfErr}
 use Rattle.sqlite_trees.specs.declared.store.Store.{Ghosts}
 use Rattle.sqlite_trees.specs.Tree.{Trees}
@@ -14,19 +14,18 @@ use Rattle.exam_commands.specs.Orders.{IsInOrder}
 use Rattle.exam_commands.specs.State.{State as Office}
 use Rattle.exam_tables.specs.Inside.{IsOurs}
 use Rattle.exam_tables.specs.Loaded.{IsLeft}
-use Rattle.exam_tables.specs.Transactions.{Commits, IsSound}
+use Rattle.exam_tables.specs.Transactions.{Commits}
 use Rattle.exam_tables.specs.Versions.{HasVersion, IsVersion, version}
 use Rattle.exam_tables.proofs.Committing.{commits_at, then_commits}
 use Rattle.exam_tables.proofs.RowByRow.{survives_itself}
 use Rattle.exam_store.specs.Found.{Finds, HoldsGood, Migrates}
-use Rattle.exam_store.specs.Kept.{Keeps}
 use Rattle.exam_store.specs.Stops.{HasDays}
 use Rattle.exam_store.specs.Stores.{OfficeIn}
 use Rattle.exam_store.proofs.Marking.{made_of, still_made}
 use Rattle.exam_theorem.specs.Keeping.{KeepsIt}
-use Rattle.exam_theorem.specs.Resting.{BringsOver, HasOffice, IsAtRest, IsVersioned, LeavesOffice, Rests, RestsOn}
+use Rattle.exam_theorem.specs.Resting.{BringsOver, HasOffice, IsAtRest, IsVersioned, RestsOn}
 use Rattle.exam_theorem.specs.Resting.{StopsWith}
-use Rattle.exam_theorem.proofs.Having.{committed_found, good_has, keeps_found, keeps_has, newest_brings, newest_ours}
+use Rattle.exam_theorem.proofs.Having.{committed_found, good_has, keeps_found, keeps_has}
 use Rattle.exam_theorem.proofs.Having.{old_had, older_brings, same_found}
 
 -- ---- one transaction or none

@@ -1,5 +1,5 @@
 -- Why no office is brought to the newest version, or opened then.
-use Rattle.std.proofs.Common.{◌≡◌, ◌≤◌, ◌⊎◌, ◌∷◌, ℕ, IsTrue, inl, inr, sym, subst}
+use Rattle.std.proofs.Common.{◌≤◌, ◌∷◌, ℕ, IsTrue, inl, inr, subst}
 use Rattle.std.specs.Prelude.{IfErr, Result, Ok, Err}
 use Rattle.sqlite_trees.specs.declared.store.Store.{Ghosts}
 use Rattle.sqlite_trees.specs.Tree.{Trees}

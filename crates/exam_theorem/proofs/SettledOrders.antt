@@ -13,14 +13,12 @@ use Rattle.exam_commands.specs.declared.command.Reply.{Reply}
 use Rattle.exam_commands.specs.declared.import_row.Kind.{Kind}
 use Rattle.exam_commands.specs.Imports.{ImportRows}
 use Rattle.exam_commands.specs.State.{State}
-use Rattle.exam_commands.specs.Steps.{Step}
 use Rattle.exam_files.specs.ImportFiles.{import_of}
 use Rattle.exam_line.specs.Lines.{Job}
 use Rattle.exam_line.specs.Lines as line
 use Rattle.exam_line.specs.declared.line.Sheet.{Sheet}
 use Rattle.exam_line.specs.declared.line.Sheet.TheVariants as sheet
 use Rattle.exam_tables.specs.Faults.{is_store_refusal}
-use Rattle.exam_store.specs.Applied.{IsApplied}
 use Rattle.exam_store.specs.Stops.{HasRowDays}
 use Rattle.exam_store.specs.Stores.{OfficeIn}
 use Rattle.exam_request.specs.Answer.{Told, answer_text, refusal_told, state_told}

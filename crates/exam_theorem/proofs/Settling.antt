@@ -1,5 +1,5 @@
 -- What calls make of an office in a store that is at rest.
-use Rattle.std.proofs.Common.{◌≡◌, ◌≤◌, ◌⊎◌, ◌∙◌, ℕ, inl, inr, arith, refl, sym, ap, subst}
+use Rattle.std.proofs.Common.{◌≡◌, ◌⊎◌, ◌∙◌, ℕ, inl, inr, arith, refl, sym, ap, subst}
 use Rattle.std.specs.Prelude.{Result, Ok, Err, IsTrue}
 use Rattle.sqlite_trees.specs.declared.store.Store.{Ghosts}
 use Rattle.sqlite_trees.specs.Tree.{Trees}
@@ -16,7 +16,7 @@ use Rattle.exam_commands.specs.State.{State}
 use Rattle.exam_commands.specs.Steps.{Step, StepTo, change}
 use Rattle.exam_tables.specs.Faults.{is_store_refusal}
 use Rattle.exam_tables.specs.Transactions.{IsSound}
-use Rattle.exam_store.specs.Applied.{IsApplied, MayApply, TurnsBy}
+use Rattle.exam_store.specs.Applied.{IsApplied}
 use Rattle.exam_store.specs.Kept.{Keeps}
 use Rattle.exam_store.specs.Stops.{HasDays, HasRowDays}
 use Rattle.exam_store.specs.Stores.{OfficeIn}
