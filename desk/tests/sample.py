@@ -56,7 +56,7 @@ class SampleSchool(unittest.TestCase):
 
     @classmethod
     def setUpClass(cls):
-        """Makes the office, or takes the one that another class made: `bench/run-tests` names a folder for it."""
+        """Makes the office, or takes the one that another class made: `e2e/run-tests` names a folder for it."""
         cls.made = tempfile.mkdtemp(prefix="office-test-")
         cls.addClassCleanup(shutil.rmtree, cls.made, ignore_errors=True)
         cache = os.environ.get("TEST_CACHE")

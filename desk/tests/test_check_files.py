@@ -240,7 +240,7 @@ class Words(unittest.TestCase):
 
 class Big(unittest.TestCase):
     def test_big_files_take_little(self):
-        """A quarter of each; bench/big-files reads the whole of these and others."""
+        """A quarter of each; attacks/big-files reads the whole of these and others."""
         for name in ("doubled quotes", "rows that lack a value", "candidates with one code"):
             with self.subTest(name), tempfile.TemporaryDirectory() as folder:
                 big_files.write(os.path.join(folder, f"{big_files.BIG[name][0]}.csv"), name, "with a header", 1 << 20)

@@ -1,4 +1,4 @@
-"""The pages of eleven random offices beside the program's own sheets; `bench/random-offices` tries more."""
+"""The pages of eleven random offices beside the program's own sheets; `attacks/random-offices` tries more."""
 import collections
 import tempfile
 import unittest
