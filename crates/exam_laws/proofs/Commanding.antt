@@ -52,10 +52,10 @@ module _ (before : State) (good : IsGood before) (c : ℕ) (p : Code) where
 
   -- ---- a reinstatement
 
-  pub limits_refusal : (b : Bool) → within_limits (with_live before.relations c p true) ≡ b
+  pub reinstatement_limits : (b : Bool) → within_limits (with_live before.relations c p true) ≡ b
       → reinstatement_refusal before.relations c p
       ≡ option_or (revival_refusal before.relations c p) (cond (not b) (Some refusal.TooMany) None)
-  limits_refusal b e =
+  reinstatement_limits b e =
       ap (λ x. option_or (revival_refusal before.relations c p) (cond (not x) (Some refusal.TooMany) None)) e
 
   pub reinstatement_refers : (t : Relations) → revival_refusal before.relations c p ≡ None → IsMarked before c p true t

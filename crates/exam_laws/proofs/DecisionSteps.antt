@@ -17,10 +17,10 @@ module _ (before : State) (good : IsGood before) (d : Decision) where
   ArePlansDecided t after = (s : Code) → IsRepaired t (granted_number d d.outcome) before.seats after.seats s
 
   -- everybody else who is a member stays
-  pub others_seated : (after : State) → ArePlansDecided (with_decision before.relations d) after
+  pub others_seated_by_decision : (after : State) → ArePlansDecided (with_decision before.relations d) after
       → (s : Code) → Keeps (λ c. d.number ≡ c) (seating (with_decision before.relations d) s) (plan_of before.seats s)
       (plan_of after.seats s)
-  others_seated after plans s =
+  others_seated_by_decision after plans s =
       others_stay before.relations (with_decision before.relations d) s d.number
       (decision_candidates before.relations d) (decision_desks before.relations d s)
       (decision_fits before.relations d s)

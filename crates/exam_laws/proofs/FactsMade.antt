@@ -36,7 +36,7 @@ module _ (today : ℕ) (before : State) (good : IsGood before) (up : AreInOrder 
   made_is_change (command.Withdraw c p) ok within = ap (λ o. unless o (with_live before.relations c p false)) ok
   made_is_change (command.Reinstate c p) ok within =
       let new : Relations = with_live before.relations c p true in
-      ap (λ o. unless o new) (commanding.limits_refusal before good c p true within)
+      ap (λ o. unless o new) (commanding.reinstatement_limits before good c p true within)
       ∙ ap (λ o. unless (option_or o None) new) ok
   made_is_change (command.CloseHall s h) ok within = ap (λ o. unless o (without_opening before.relations s h)) ok
   made_is_change (command.Lodge l) ok within =
@@ -57,7 +57,7 @@ module _ (today : ℕ) (before : State) (good : IsGood before) (up : AreInOrder 
   past_limit (command.Withdraw c p) may ok past = absurd (let differ : false ≡ true = may in cc)
   past_limit (command.Reinstate c p) may ok past =
       let new : Relations = with_live before.relations c p true in
-      ap (λ o. unless o new) (commanding.limits_refusal before good c p false past)
+      ap (λ o. unless o new) (commanding.reinstatement_limits before good c p false past)
       ∙ ap (λ o. unless (option_or o (Some refusal.TooMany)) new) ok
   past_limit (command.CloseHall s h) may ok past = absurd (let differ : false ≡ true = may in cc)
   past_limit (command.Lodge l) may ok past =

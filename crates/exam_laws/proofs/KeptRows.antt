@@ -18,19 +18,19 @@ use Rattle.exam_commands.specs.declared.command.Outcome.{Outcome}
 use Rattle.exam_commands.specs.declared.command.Outcome.TheVariants as outcome
 use Rattle.exam_commands.specs.declared.command.Reply.{Reply}
 use Rattle.exam_commands.specs.Appeals.{appeal_at, is_open, is_retracted, superseded}
-use Rattle.exam_commands.specs.Changes.{closing_refusal, first_refusal, import_refusal, reinstatement_refusal}
-use Rattle.exam_commands.specs.Changes.{with_live, with_rows, withdrawal_refusal, without_opening}
+use Rattle.exam_commands.specs.Changes.{first_refusal, with_live, with_rows}
 use Rattle.exam_commands.specs.Decisions.{decision_checks, decision_refusal, gives_way, giving_way, grant_checks}
 use Rattle.exam_commands.specs.Decisions.{is_made, is_too_late, not_arrangement, open_checks, with_decided}
 use Rattle.exam_commands.specs.Decisions.{with_decision, with_outcome, with_superseded}
+use Rattle.exam_commands.specs.FactsMade.{early_refusal, facts_made}
 use Rattle.exam_commands.specs.Good as good
 use Rattle.exam_commands.specs.Good.{IsGood}
 use Rattle.exam_commands.specs.KeptRows.{KeepsKeys, KeepsOpenings, KeepsRows}
 use Rattle.exam_commands.specs.Lodgings as spec
 use Rattle.exam_commands.specs.State.{State}
-use Rattle.exam_commands.specs.Steps.{Step, change}
+use Rattle.exam_commands.specs.Steps.{Step}
 use Rattle.exam_laws.proofs.DecidedFacts.{marked_still, unmarked_open}
-use Rattle.exam_laws.proofs.Lasting.{made, new_facts, unrefused}
+use Rattle.exam_laws.proofs.Lasting.{step_made}
 use Rattle.exam_commands.proofs.Referring.{passed}
 use Rattle.exam_commands.proofs.Entering.{Keeps, keeps_rows}
 
@@ -130,56 +130,41 @@ decision_keeps r day d stand ok = inner (appeal_at r d.number d.reference) refl
 all_stay : (done : Command) (r t : Relations) → Keeps r t → KeepsRows r t × KeepsOpenings done r t
 all_stay done r t keeps = (λ name stays. keeps name, λ k apart. keeps table.Openings k)
 
-change_keeps : (done : Command) (day : ℕ) (before : State) (t : Relations) → IsGood before
-    → change done day before ≡ Ok t → KeepsRows before.relations t × KeepsOpenings done before.relations t
-change_keeps (command.Import import) day before t fine is =
-    all_stay (command.Import import) before.relations t
-    (subst (Keeps before.relations)
-    (made (import_refusal before.relations import.rows) (with_rows before.relations import.rows) t is)
-    (keeps_rows before.relations import.rows))
-change_keeps (command.Withdraw c p) day before t fine is =
-    all_stay (command.Withdraw c p) before.relations t
-    (subst (Keeps before.relations)
-    (made (withdrawal_refusal before.relations c p) (with_live before.relations c p false) t is)
-    (keeps_entries before.relations c p false))
-change_keeps (command.Reinstate c p) day before t fine is =
-    all_stay (command.Reinstate c p) before.relations t
-    (subst (Keeps before.relations)
-    (made (reinstatement_refusal before.relations c p) (with_live before.relations c p true) t is)
-    (keeps_entries before.relations c p true))
-change_keeps (command.CloseHall s h) day before t fine is =
-    let r = before.relations in
-    let new = made (closing_refusal r s h) (without_opening r s h) t is in (
-      subst (KeepsRows r) new
-          (elim [
-            | table.Openings ↦ λ stays. absurd
-                (let differ : true ≡ false = stays in cc)
-            | _ ↦ λ stays k has. has
-          ]),
-      subst (KeepsOpenings (command.CloseHall s h) r) new
-          (λ k apart has. ap is_some
-          (removed_elsewhere opening_cmp openings_exact r.openings (s, h) k
-          (key_apart opening_cmp openings_exact k (s, h) apart)) ∙ has),
-    )
-change_keeps (command.Lodge l) day before t fine is =
-    all_stay (command.Lodge l) before.relations t
-    (subst (Keeps before.relations)
-    (made (spec.lodging_refusal before.relations before.seats day l)
-    (spec.with_lodging before.relations day l) t is) (lodging_keeps before.relations day l))
-change_keeps (command.Retract c reference) day before t fine is =
-    all_stay (command.Retract c reference) before.relations t
-    (subst (Keeps before.relations)
-    (made (spec.retraction_refusal before.relations c reference)
-    (spec.with_retraction before.relations c reference) t is) (retraction_keeps before.relations c reference))
-change_keeps (command.Decide d) day before t fine is =
-    all_stay (command.Decide d) before.relations t
-    (subst (Keeps before.relations)
-    (made (decision_refusal before.relations day d) (with_decision before.relations d) t is)
-    (decision_keeps before.relations day d fine.marks
-    (unrefused (decision_refusal before.relations day d) (with_decision before.relations d) t is)))
+made_keeps : (done : Command) (day : ℕ) (before : State) → IsGood before → early_refusal done day before ≡ None
+    → KeepsRows before.relations (facts_made done day before)
+    × KeepsOpenings done before.relations (facts_made done day before)
+made_keeps (command.Import import) day before fine ok =
+    all_stay (command.Import import) before.relations (with_rows before.relations import.rows)
+    (keeps_rows before.relations import.rows)
+made_keeps (command.Withdraw c p) day before fine ok =
+    all_stay (command.Withdraw c p) before.relations (with_live before.relations c p false)
+    (keeps_entries before.relations c p false)
+made_keeps (command.Reinstate c p) day before fine ok =
+    all_stay (command.Reinstate c p) before.relations (with_live before.relations c p true)
+    (keeps_entries before.relations c p true)
+made_keeps (command.CloseHall s h) day before fine ok = (
+  elim [
+    | table.Openings ↦ λ stays. absurd (let differ : true ≡ false = stays in cc)
+    | _ ↦ λ stays k has. has
+  ],
+  λ k apart has. ap is_some
+      (removed_elsewhere opening_cmp openings_exact before.relations.openings (s, h) k
+      (key_apart opening_cmp openings_exact k (s, h) apart)) ∙ has,
+)
+made_keeps (command.Lodge l) day before fine ok =
+    all_stay (command.Lodge l) before.relations (spec.with_lodging before.relations day l)
+    (lodging_keeps before.relations day l)
+made_keeps (command.Retract c reference) day before fine ok =
+    all_stay (command.Retract c reference) before.relations (spec.with_retraction before.relations c reference)
+    (retraction_keeps before.relations c reference)
+made_keeps (command.Decide d) day before fine ok =
+    all_stay (command.Decide d) before.relations (with_decision before.relations d)
+    (decision_keeps before.relations day d fine.marks ok)
 
 pub step_keeps : (done : Command) (day : ℕ) (before : State) (reply : Reply) (after : State) → IsGood before
     → Step done day before (Ok reply) after
     → KeepsRows before.relations after.relations × KeepsOpenings done before.relations after.relations
 step_keeps done day before reply after fine step =
-    change_keeps done day before after.relations fine (new_facts done day before reply after step)
+    let made = step_made done day before reply after step in
+    subst (λ t. KeepsRows before.relations t × KeepsOpenings done before.relations t) (sym made.0)
+    (made_keeps done day before fine made.1)

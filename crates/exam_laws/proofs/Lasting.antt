@@ -38,17 +38,19 @@ use Rattle.exam_commands.specs.declared.command.AppealState.TheVariants as state
 use Rattle.exam_commands.specs.Decisions.{decision_checks, decision_refusal, gives_way, giving_way, grant_checks}
 use Rattle.exam_commands.specs.Decisions.{is_made, is_too_late, not_arrangement, open_checks, with_decided}
 use Rattle.exam_commands.specs.Decisions.{with_decision, with_outcome, with_superseded}
-use Rattle.exam_commands.specs.Changes.{closing_refusal, first_refusal, import_refusal, reinstatement_refusal, unless}
-use Rattle.exam_commands.specs.Changes.{with_live, with_rows, without_opening, withdrawal_refusal}
+use Rattle.exam_commands.specs.Changes.{first_refusal, unless, with_live, with_rows, without_opening}
+use Rattle.exam_commands.specs.FactsMade.{early_refusal, facts_made}
 use Rattle.exam_commands.specs.Good.{IsGood}
 use Rattle.exam_commands.specs.Limits.{within_limits}
 use Rattle.exam_commands.specs.Lodgings as spec
 use Rattle.exam_commands.specs.Orders.{IsInOrder}
 use Rattle.exam_commands.specs.State.{State}
 use Rattle.exam_commands.specs.Steps.{MayStep, Run, SameSeating, Step, StepTo, change}
+pub use Rattle.exam_laws.proofs.Accepted.{made}
+use Rattle.exam_laws.proofs.Accepted.{change_made}
 use Rattle.exam_laws.proofs.AppealSteps.{lodging_settled, retraction_settled}
 use Rattle.exam_laws.proofs.DecidedFacts.{marked_as_made, marked_still}
-use Rattle.exam_commands.proofs.Referring.{import_appeals, import_candidates, import_standing, neither, passed}
+use Rattle.exam_commands.proofs.Referring.{import_appeals, import_candidates, import_standing, passed}
 
 -- ---- the later states of an appeal
 
@@ -193,14 +195,6 @@ carries_put r k new continues =
     }
 
 -- ---- by a command
-
-pub made : (o : Option Refusal) (r t : Relations) → unless o r ≡ Ok t → r ≡ t
-made None r t is = cc
-made (Some e) r t is = absurd (let differ : unless (Some e) r ≡ Ok t = is in cc)
-
-pub unrefused : (o : Option Refusal) (r t : Relations) → unless o r ≡ Ok t → o ≡ None
-unrefused None r t is = refl
-unrefused (Some e) r t is = absurd (let differ : unless (Some e) r ≡ Ok t = is in cc)
 
 carries_import : (r t : Relations)
     → ((c : ℕ) → has_row nat_cmp r.candidates c ≡ true → has_row nat_cmp t.candidates c ≡ true) → t.appeals ≡ r.appeals
@@ -415,42 +409,21 @@ decision_carries r day d ok = inner (appeal_at r d.number d.reference) refl
     inner None at = carries_itself r
     inner (Some a) at = by_case a at (is_made r d a) (ap (λ o. first_refusal (decision_checks r day d o)) (sym at) ∙ ok)
 
-change_carries : (done : Command) (day : ℕ) (before : State) (t : Relations) → change done day before ≡ Ok t
-    → Carries before.relations t
-change_carries (command.Import import) day before t is =
-    let new = made (import_refusal before.relations import.rows) (with_rows before.relations import.rows) t is in
-    subst (Carries before.relations) new
-    (carries_import before.relations (with_rows before.relations import.rows)
+made_carries : (done : Command) (day : ℕ) (before : State) → early_refusal done day before ≡ None
+    → Carries before.relations (facts_made done day before)
+made_carries (command.Import import) day before ok =
+    carries_import before.relations (with_rows before.relations import.rows)
     (import_candidates before.relations import.rows) (import_appeals before.relations import.rows)
-    (import_standing before.relations import.rows))
-change_carries (command.Withdraw c p) day before t is =
-    subst (Carries before.relations)
-    (made (withdrawal_refusal before.relations c p) (with_live before.relations c p false) t is)
-    (carries_import before.relations (with_live before.relations c p false) (λ d has. has) refl refl)
-change_carries (command.Reinstate c p) day before t is =
-    subst (Carries before.relations)
-    (made (reinstatement_refusal before.relations c p) (with_live before.relations c p true) t is)
-    (carries_import before.relations (with_live before.relations c p true) (λ d has. has) refl refl)
-change_carries (command.CloseHall s h) day before t is =
-    subst (Carries before.relations)
-    (made (closing_refusal before.relations s h) (without_opening before.relations s h) t is)
-    (carries_import before.relations (without_opening before.relations s h) (λ d has. has) refl refl)
-change_carries (command.Lodge l) day before t is =
-    subst (Carries before.relations)
-    (made (spec.lodging_refusal before.relations before.seats day l)
-    (spec.with_lodging before.relations day l) t is) (lodging_carries before.relations day l)
-change_carries (command.Retract c reference) day before t is =
-    subst (Carries before.relations)
-    (made (spec.retraction_refusal before.relations c reference)
-    (spec.with_retraction before.relations c reference) t is)
-    (retraction_carries before.relations c reference
-    (unrefused (spec.retraction_refusal before.relations c reference)
-    (spec.with_retraction before.relations c reference) t is))
-change_carries (command.Decide d) day before t is =
-    subst (Carries before.relations)
-    (made (decision_refusal before.relations day d) (with_decision before.relations d) t is)
-    (decision_carries before.relations day d
-    (unrefused (decision_refusal before.relations day d) (with_decision before.relations d) t is))
+    (import_standing before.relations import.rows)
+made_carries (command.Withdraw c p) day before ok =
+    carries_import before.relations (with_live before.relations c p false) (λ d has. has) refl refl
+made_carries (command.Reinstate c p) day before ok =
+    carries_import before.relations (with_live before.relations c p true) (λ d has. has) refl refl
+made_carries (command.CloseHall s h) day before ok =
+    carries_import before.relations (without_opening before.relations s h) (λ d has. has) refl refl
+made_carries (command.Lodge l) day before ok = lodging_carries before.relations day l
+made_carries (command.Retract c reference) day before ok = retraction_carries before.relations c reference ok
+made_carries (command.Decide d) day before ok = decision_carries before.relations day d ok
 
 step_carries : (done : Command) (day : ℕ) (before : State) (answer : Result Reply Refusal) (after : State)
     → Step done day before answer after → Carries before.relations after.relations
@@ -458,7 +431,9 @@ step_carries done day before answer after step = inner (change done day before) 
   where
     inner : (o : Result Relations Refusal) → change done day before ≡ o → StepTo done before answer after o
         → Carries before.relations after.relations
-    inner (Ok t) is to = subst (Carries before.relations) (sym to.0) (change_carries done day before t is)
+    inner (Ok t) is to =
+        let accepted = change_made done day before t is in
+        subst (Carries before.relations) (sym (to.0 ∙ accepted.0)) (made_carries done day before accepted.1)
     inner (Err e) is to =
         subst (λ (x : State). Carries before.relations x.relations) (sym to.1) (carries_itself before.relations)
 
@@ -487,6 +462,13 @@ new_facts done day before answer after step = inner (change done day before) ref
         → o ≡ Ok after.relations
     inner (Ok t) is to = ap Ok (sym to.0)
     inner (Err e) is to = absurd (let differ : Ok answer ≡ Err e = to.0 in cc)
+
+-- an accepted command passed the checks, and these are the facts that it makes
+pub step_made : (done : Command) (day : ℕ) (before : State) (answer : Reply) (after : State)
+    → Step done day before (Ok answer) after
+    → (after.relations ≡ facts_made done day before) × (early_refusal done day before ≡ None)
+step_made done day before answer after step =
+    change_made done day before after.relations (new_facts done day before answer after step)
 
 pub same_office : (done : Command) (before : State) (answer : Result Reply Refusal) (after : State) → IsInOrder before
     → IsInOrder after → StepTo done before answer after (Ok before.relations) → after ≡ before
@@ -591,14 +573,9 @@ pub repeated_lodging : (l : Lodging) (day later : ℕ) (before mid late after : 
     → Step (command.Lodge l) later late second after
     → (second ≡ Ok (reply.Lodged (stored_state late.relations l.number l.reference))) × (after ≡ late)
 repeated_lodging l day later before mid late after first done replies second up up_after one run two =
-    let changed = new_facts (command.Lodge l) day before first mid one in
-    let refused = spec.lodging_refusal before.relations before.seats day l in
-    let none = unrefused refused (spec.with_lodging before.relations day l) mid.relations changed in
-    let standing = neither (spec.lodging_refusal_but_limits before.relations before.seats day l)
-    (first_refusal (spec.one_too_many before.relations day l ∷ [])) none in
+    let accepted = step_made (command.Lodge l) day before first mid one in
     let there : IsLodged mid.relations l =
-    subst (λ t. IsLodged t l) (made refused (spec.with_lodging before.relations day l) mid.relations changed)
-    (lodged_then l day before standing.0) in
+    subst (λ t. IsLodged t l) (sym accepted.0) (lodged_then l day before accepted.1) in
     let still = lodged_still l mid.relations late.relations (run_carries done mid replies late run) there in
     let to : StepTo (command.Lodge l) late second after (Ok late.relations) =
     subst (StepTo (command.Lodge l) late second after) (lodged_again l later late still) two in (
@@ -661,13 +638,10 @@ pub repeated_retraction : (c : ℕ) (reference : Code) (day later : ℕ) (before
     → Run done mid replies late → Step (command.Retract c reference) later late second after
     → (second ≡ Ok reply.Retracted) × (after ≡ late)
 repeated_retraction c reference day later before mid late after first done replies second up up_after one run two =
-    let changed = new_facts (command.Retract c reference) day before first mid one in
-    let refused = spec.retraction_refusal before.relations c reference in
-    let none = unrefused refused (spec.with_retraction before.relations c reference) mid.relations changed in
+    let accepted = step_made (command.Retract c reference) day before first mid one in
     let there : IsRetractedAt mid.relations c reference =
-    subst (λ t. IsRetractedAt t c reference)
-    (made refused (spec.with_retraction before.relations c reference) mid.relations changed)
-    (retracted_then c reference before.relations none) in
+    subst (λ t. IsRetractedAt t c reference) (sym accepted.0)
+    (retracted_then c reference before.relations accepted.1) in
     let still = retracted_still c reference mid.relations late.relations
     (run_carries done mid replies late run) there in
     let to : StepTo (command.Retract c reference) late second after (Ok late.relations) =
@@ -774,12 +748,9 @@ pub repeated_decision : (d : Decision) (day later : ℕ) (before mid late after 
     ⊎ ((stored_state late.relations d.number d.reference ≡ state.Superseded)
     × (second ≡ Err refusal.NotOpenAppeal))) × (after ≡ late)
 repeated_decision d day later before mid late after first done replies second up up_after one run two =
-    let changed = new_facts (command.Decide d) day before first mid one in
-    let refused = decision_refusal before.relations day d in
-    let none = unrefused refused (with_decision before.relations d) mid.relations changed in
+    let accepted = step_made (command.Decide d) day before first mid one in
     let there : IsDecidedAt mid.relations d =
-    subst (λ t. IsDecidedAt t d) (made refused (with_decision before.relations d) mid.relations changed)
-    (decided_then d before.relations day none) in
+    subst (λ t. IsDecidedAt t d) (sym accepted.0) (decided_then d before.relations day accepted.1) in
     let still = decided_still d mid.relations late.relations (run_carries done mid replies late run) there in
     inner still.appeal still.stored still.is_settled
   where
@@ -821,12 +792,8 @@ pub lodging_moves_nobody : (l : Lodging) (day : ℕ) (before after : State) (fir
     → after.seats ≡ before.seats
 lodging_moves_nobody l day before after first good up up_after step =
     let changed = new_facts (command.Lodge l) day before first after step in
-    let refused = spec.lodging_refusal before.relations before.seats day l in
-    let none = unrefused refused (spec.with_lodging before.relations day l) after.relations changed in
-    let standing = neither (spec.lodging_refusal_but_limits before.relations before.seats day l)
-    (first_refusal (spec.one_too_many before.relations day l ∷ [])) none in
-    let settled = lodging_settled before good day l after.relations standing.0
-    (sym (made refused (spec.with_lodging before.relations day l) after.relations changed)) in
+    let accepted = change_made (command.Lodge l) day before after.relations changed in
+    let settled = lodging_settled before good day l after.relations accepted.1 accepted.0 in
     same_seats (command.Lodge l) before (Ok first) after after.relations settled.seated up up_after
     (subst (StepTo (command.Lodge l) before (Ok first) after) changed step)
 
@@ -835,9 +802,7 @@ pub retraction_moves_nobody : (c : ℕ) (reference : Code) (day : ℕ) (before a
     → Step (command.Retract c reference) day before (Ok first) after → after.seats ≡ before.seats
 retraction_moves_nobody c reference day before after first good up up_after step =
     let changed = new_facts (command.Retract c reference) day before first after step in
-    let refused = spec.retraction_refusal before.relations c reference in
-    let none = unrefused refused (spec.with_retraction before.relations c reference) after.relations changed in
-    let settled = retraction_settled before good c reference after.relations up.tables none
-    (sym (made refused (spec.with_retraction before.relations c reference) after.relations changed)) in
+    let accepted = change_made (command.Retract c reference) day before after.relations changed in
+    let settled = retraction_settled before good c reference after.relations up.tables accepted.1 accepted.0 in
     same_seats (command.Retract c reference) before (Ok first) after after.relations settled.seated up up_after
     (subst (StepTo (command.Retract c reference) before (Ok first) after) changed step)

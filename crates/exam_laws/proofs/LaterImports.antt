@@ -19,9 +19,9 @@ use Rattle.exam_commands.specs.declared.import_row.Row.{Row}
 use Rattle.exam_commands.specs.declared.import_row.Row.TheVariants as row
 use Rattle.exam_commands.specs.Appeals.{appeal_at, is_retracted}
 use Rattle.exam_commands.specs.Between.{NoneImportsOrCloses, imports_or_closes}
-use Rattle.exam_commands.specs.Changes.{imported, reinstatement_refusal, rows_refusal, first_refusal, too_many}
-use Rattle.exam_commands.specs.Changes.{with_live, with_rows, withdrawal_refusal}
-use Rattle.exam_commands.specs.Decisions.{decision_refusal, is_made, with_decided, with_decision, with_outcome}
+use Rattle.exam_commands.specs.Changes.{imported, rows_refusal, with_live, with_rows}
+use Rattle.exam_commands.specs.Decisions.{is_made, with_decided, with_decision, with_outcome}
+use Rattle.exam_commands.specs.FactsMade.{facts_made}
 use Rattle.exam_commands.specs.Good.{IsGood}
 use Rattle.exam_commands.specs.Imports.{ImportRows, distinct_rows, is_consistent}
 use Rattle.exam_commands.specs.Limits.{within_limits}
@@ -29,9 +29,10 @@ use Rattle.exam_commands.specs.Lodgings as spec
 use Rattle.exam_commands.specs.Orders.{IsInOrder}
 use Rattle.exam_commands.specs.State.{State}
 use Rattle.exam_commands.specs.Steps.{MayStep, Run, Step, StepTo, change}
-use Rattle.exam_laws.proofs.Lasting.{made, new_facts, same_office}
-use Rattle.exam_commands.proofs.Referring.{Grows, import_refers_still, neither, rows_refer_still}
-use Rattle.exam_laws.proofs.RepeatedImports.{accepted, stored_reply}
+use Rattle.exam_laws.proofs.Accepted.{change_made}
+use Rattle.exam_laws.proofs.Lasting.{same_office, step_made}
+use Rattle.exam_commands.proofs.Referring.{Grows, import_refers_still, rows_refer_still}
+use Rattle.exam_laws.proofs.RepeatedImports.{stored_reply}
 use Rattle.exam_laws.proofs.Stepping.{import_accepted}
 use Rattle.exam_commands.proofs.Stored.{IsStored, rows_again, rows_stored}
 
@@ -92,30 +93,15 @@ decision_holds r d = inner (appeal_at r d.number d.reference)
     inner None = holds_itself r
     inner (Some a) = by_case a (is_made r d a)
 
-change_holds : (done : Command) (day : ℕ) (before : State) (t : Relations) → imports_or_closes done ≡ false
-    → change done day before ≡ Ok t → Holds before.relations t
-change_holds (command.Import import) day before t leaves is = absurd (let differ : true ≡ false = leaves in cc)
-change_holds (command.Withdraw c p) day before t leaves is =
-    subst (Holds before.relations)
-    (made (withdrawal_refusal before.relations c p) (with_live before.relations c p false) t is)
-    (holds_live before.relations c p false)
-change_holds (command.Reinstate c p) day before t leaves is =
-    subst (Holds before.relations)
-    (made (reinstatement_refusal before.relations c p) (with_live before.relations c p true) t is)
-    (holds_live before.relations c p true)
-change_holds (command.CloseHall s h) day before t leaves is = absurd (let differ : true ≡ false = leaves in cc)
-change_holds (command.Lodge l) day before t leaves is =
-    subst (Holds before.relations)
-    (made (spec.lodging_refusal before.relations before.seats day l)
-    (spec.with_lodging before.relations day l) t is) (lodging_holds before.relations day l)
-change_holds (command.Retract c reference) day before t leaves is =
-    subst (Holds before.relations)
-    (made (spec.retraction_refusal before.relations c reference)
-    (spec.with_retraction before.relations c reference) t is) (retraction_holds before.relations c reference)
-change_holds (command.Decide d) day before t leaves is =
-    subst (Holds before.relations)
-    (made (decision_refusal before.relations day d) (with_decision before.relations d) t is)
-    (decision_holds before.relations d)
+made_holds : (done : Command) (day : ℕ) (before : State) → imports_or_closes done ≡ false
+    → Holds before.relations (facts_made done day before)
+made_holds (command.Import import) day before leaves = absurd (let differ : true ≡ false = leaves in cc)
+made_holds (command.Withdraw c p) day before leaves = holds_live before.relations c p false
+made_holds (command.Reinstate c p) day before leaves = holds_live before.relations c p true
+made_holds (command.CloseHall s h) day before leaves = absurd (let differ : true ≡ false = leaves in cc)
+made_holds (command.Lodge l) day before leaves = lodging_holds before.relations day l
+made_holds (command.Retract c reference) day before leaves = retraction_holds before.relations c reference
+made_holds (command.Decide d) day before leaves = decision_holds before.relations d
 
 -- what a command keeps of an office's facts; an office in order stays in order
 record GoesOn (before after : State) : Type 0 where
@@ -134,7 +120,8 @@ step_goes_on done day before answer after leaves step = inner (change done day b
         → GoesOn before after
     inner (Ok t) is to =
         record {
-          holds = subst (Holds before.relations) (sym to.0) (change_holds done day before t leaves is);
+          holds = subst (Holds before.relations) (sym (to.0 ∙ (change_made done day before t is).0))
+              (made_holds done day before leaves);
           order = λ up. to.3;
         }
     inner (Err e) is to = goes_on_itself before after to.1
@@ -202,17 +189,13 @@ pub repeated_later : (import : ImportRows) (day later : ℕ) (before mid late af
     → Step (command.Import import) later late second after
     → (second ≡ Ok (reply.Imported 0 0 (length (distinct_rows import.rows)))) × (after ≡ late)
 repeated_later import day later before mid late after first done replies second good agree none one run two =
-    let new = new_facts (command.Import import) day before first mid one in
-    let made_so = accepted before.relations mid.relations import.rows new in
-    let checks = neither (rows_refusal before.relations import.rows)
-    (first_refusal (too_many (with_rows before.relations import.rows) ∷ [])) made_so.0 in
+    let made = step_made (command.Import import) day before first mid one in
     let on = run_goes_on done mid replies late none run in
     let stored_then : AllByRecursion (IsStored mid.relations) import.rows =
-    subst (λ t. AllByRecursion (IsStored t) import.rows) made_so.1
+    subst (λ t. AllByRecursion (IsStored t) import.rows) (sym made.0)
     (rows_stored before.relations import.rows agree) in
     let referred_then : rows_refusal mid.relations import.rows ≡ None =
-    ap (λ t. rows_refusal t import.rows) (sym made_so.1)
-    ∙ import_refers_still before.relations import.rows checks.0 in
+    ap (λ t. rows_refusal t import.rows) made.0 ∙ import_refers_still before.relations import.rows made.1 in
     let stored = all_stored_still mid.relations late.relations on.holds import.rows stored_then in
     let refer = rows_refer_still mid.relations late.relations import.rows
     (grows_still mid.relations late.relations on.holds) referred_then in

@@ -1,3 +1,4 @@
+pub mod Accepted
 pub mod Stepping
 pub mod Commanding
 pub mod Appealing

@@ -33,9 +33,9 @@ use Rattle.exam_commands.specs.declared.command.Lodging.{Lodging}
 use Rattle.exam_commands.specs.declared.command.Reply.{Reply}
 use Rattle.exam_commands.specs.declared.command.Reply.TheVariants as reply
 use Rattle.exam_commands.specs.Appeals.{appeal_at, stored_state}
-use Rattle.exam_commands.specs.Changes.{closed, first_refusal, imported, no_candidate, reinstated}
-use Rattle.exam_commands.specs.Changes.{reinstatement_refusal, unless, with_live, withdrawal_refusal, withdrawn}
-use Rattle.exam_commands.specs.Decisions.{decision_made, decision_refusal, granted_number, is_made, with_decision}
+use Rattle.exam_commands.specs.Changes.{closed, first_refusal, imported, no_candidate, reinstated, unless, with_live}
+use Rattle.exam_commands.specs.Changes.{withdrawn}
+use Rattle.exam_commands.specs.Decisions.{decision_made, granted_number, is_made, with_decision}
 use Rattle.exam_commands.specs.Good.{IsGood}
 use Rattle.exam_commands.specs.Lodgings as lodgings
 use Rattle.exam_commands.specs.Moves.{is_elsewhere, is_move, moved}
@@ -50,7 +50,7 @@ use Rattle.exam_commands.specs.Touched.{is_appeal_for, touches}
 use Rattle.exam_laws.proofs.AppealSteps.{all_stay}
 use Rattle.exam_laws.proofs.Commanding.{ArePlansRepaired, DoListsRise, others_seated}
 use Rattle.exam_laws.proofs.DecisionSteps as decisions
-use Rattle.exam_laws.proofs.Lasting.{made}
+use Rattle.exam_laws.proofs.Accepted.{change_made}
 use Rattle.exam_commands.proofs.Staying.{best_is_repaired, kept_stays}
 use Rattle.exam_laws.proofs.Stepping.{accepted_step, refused_step, same_seating}
 use Rattle.exam_laws.proofs.Untouched.{spared}
@@ -215,14 +215,14 @@ kept_on (command.Import import) today office after t good up is rising plans s =
     kept_stays (seating t s) None (plan_of office.seats s) (plan_of after.seats s) (plans s).repair
 kept_on (command.Withdraw c p) today office after t good up is rising plans s =
     let r = office.relations in
-    let new : with_live r c p false ≡ t = made (withdrawal_refusal r c p) (with_live r c p false) t is in
+    let new : with_live r c p false ≡ t = sym (change_made (command.Withdraw c p) today office t is).0 in
     subst (λ (u : Relations). SeatsOn (command.Withdraw c p) (seating u s) (plan_of office.seats s)
     (plan_of after.seats s)) new
     (others_seated office good c p false after
     (subst (λ (u : Relations). ArePlansRepaired u office after) (sym new) plans) s)
 kept_on (command.Reinstate c p) today office after t good up is rising plans s =
     let r = office.relations in
-    let new : with_live r c p true ≡ t = made (reinstatement_refusal r c p) (with_live r c p true) t is in
+    let new : with_live r c p true ≡ t = sym (change_made (command.Reinstate c p) today office t is).0 in
     subst (λ (u : Relations). SeatsOn (command.Reinstate c p) (seating u s) (plan_of office.seats s)
     (plan_of after.seats s)) new
     (others_seated office good c p true after
@@ -239,10 +239,10 @@ kept_on (command.Retract c reference) today office after t good up is rising pla
     (and_none (has_row code_cmp office.relations.sessions q))) rising plans (λ d. c ≡ d) s
 kept_on (command.Decide d) today office after t good up is rising plans s =
     let r = office.relations in
-    let new : with_decision r d ≡ t = made (decision_refusal r today d) (with_decision r d) t is in
+    let new : with_decision r d ≡ t = sym (change_made (command.Decide d) today office t is).0 in
     subst (λ (u : Relations). SeatsOn (command.Decide d) (seating u s) (plan_of office.seats s)
     (plan_of after.seats s)) new
-    (decisions.others_seated office good d after
+    (decisions.others_seated_by_decision office good d after
     (subst (λ (u : Relations). (q : Code) → IsRepaired u (granted_number d d.outcome) office.seats after.seats q)
     (sym new) plans) s)
 

@@ -1,6 +1,6 @@
 -- An accepted import repeated at once is accepted, changes nothing, and finds every row the same.
 use Rattle.std.proofs.Common.{◌≡◌, ℕ, not, Bool, true, false, cond, List, [], ◌∷◌, length, filter, nat_eq, Option, None}
-use Rattle.std.proofs.Common.{Some, Result, Ok, Err, is_some, is_none, eq-eqb, refl, ap, sym, subst, ◌∙◌}
+use Rattle.std.proofs.Common.{Some, Result, Ok, is_some, is_none, eq-eqb, refl, ap, sym, subst, ◌∙◌}
 use Rattle.std.specs.Bool.{beq}
 use Rattle.std.specs.List.{AllByRecursion}
 use Rattle.std.specs.Option.{option_map, option_map_or}
@@ -16,16 +16,14 @@ use Rattle.exam_rules.specs.declared.rows.Opening.{Opening}
 use Rattle.exam_rules.specs.declared.rows.Paper.{Paper}
 use Rattle.exam_rules.specs.declared.rows.Session.{Session}
 use Rattle.exam_rules.specs.Orders.{AreInOrder}
-use Rattle.exam_rules.specs.Relations.{Relations, entry_cmp, row_at, seat_cmp}
+use Rattle.exam_rules.specs.Relations.{Relations, entry_cmp, row_at}
 use Rattle.exam_rules.proofs.Naming.{same_code_itself}
-use Rattle.exam_commands.proofs.KeyedRows.{same_rows, seats_exact, seats_total}
 use Rattle.exam_commands.specs.declared.command.Command.TheVariants as command
 use Rattle.exam_commands.specs.declared.command.Reply.{Reply}
 use Rattle.exam_commands.specs.declared.command.Reply.TheVariants as reply
 use Rattle.exam_commands.specs.declared.import_row.Row.{Row}
 use Rattle.exam_commands.specs.declared.import_row.Row.TheVariants as row
-use Rattle.exam_commands.specs.Changes.{first_refusal, import_refusal, imported, rows_refusal, too_many, unless}
-use Rattle.exam_commands.specs.Changes.{with_rows}
+use Rattle.exam_commands.specs.Changes.{first_refusal, import_refusal, imported, rows_refusal, too_many, with_rows}
 use Rattle.exam_commands.specs.Imports.{ImportRows, distinct_rows, has_key, is_consistent, key_of}
 use Rattle.exam_commands.specs.SameRows as contents
 use Rattle.exam_commands.specs.Limits.{within_limits}
@@ -35,6 +33,8 @@ use Rattle.exam_commands.specs.Replies.{import_reply, is_changed, is_new, is_sam
 use Rattle.exam_commands.specs.State.{State}
 use Rattle.exam_commands.specs.Steps.{Step, StepTo}
 use Rattle.exam_commands.proofs.Referring.{import_refers_still, neither, there}
+use Rattle.exam_laws.proofs.Accepted.{unrefused}
+use Rattle.exam_laws.proofs.Lasting.{new_facts, same_office}
 use Rattle.exam_laws.proofs.Stepping.{import_accepted}
 use Rattle.exam_commands.proofs.Stored.{IsStored, rows_again, rows_in_order, rows_stored}
 
@@ -132,15 +132,6 @@ module _ (r : Relations) where
 
 -- ---- on the definitions
 
-pub accepted : (r t : Relations) (rows : List Row) → imported r rows ≡ Ok t
-    → (import_refusal r rows ≡ None) × (with_rows r rows ≡ t)
-accepted r t rows is = inner (import_refusal r rows) refl is
-  where
-    inner : (o : Option Refusal) → import_refusal r rows ≡ o → unless o (with_rows r rows) ≡ Ok t
-        → (import_refusal r rows ≡ None) × (with_rows r rows ≡ t)
-    inner None e answer = (e, cc)
-    inner (Some refused) e answer = absurd (let differ : unless (Some refused) (with_rows r rows) ≡ Ok t = answer in cc)
-
 repeated_itself : (r : Relations) (rows : List Row) → AreInOrder r → is_consistent rows ≡ true
     → import_refusal r rows ≡ None
     → (imported (with_rows r rows) rows ≡ Ok (with_rows r rows))
@@ -160,21 +151,11 @@ pub repeated_import : (r t : Relations) (rows : List Row) → AreInOrder r → i
     → imported r rows ≡ Ok t
     → (imported t rows ≡ Ok t) × (import_reply t rows ≡ reply.Imported 0 0 (length (distinct_rows rows)))
 repeated_import r t rows up agree is =
-    let first = accepted r t rows is in
+    let first = unrefused (import_refusal r rows) (with_rows r rows) t is in
     subst (λ u. (imported u rows ≡ Ok u) × (import_reply u rows ≡ reply.Imported 0 0 (length (distinct_rows rows))))
-    first.1 (repeated_itself r rows up agree first.0)
+    (sym first.0) (repeated_itself r rows up agree first.1)
 
 -- ---- on steps
-
-new_facts : (import : ImportRows) (day : ℕ) (before after : State) (answer : Reply)
-    → Step (command.Import import) day before (Ok answer) after
-    → imported before.relations import.rows ≡ Ok after.relations
-new_facts import day before after answer step = inner (imported before.relations import.rows) refl step
-  where
-    inner : (o : Result Relations Refusal) → imported before.relations import.rows ≡ o
-        → StepTo (command.Import import) before (Ok answer) after o → o ≡ Ok after.relations
-    inner (Ok r) e to = ap Ok (sym to.0)
-    inner (Err refused) e to = absurd (let differ : Ok answer ≡ Err refused = to.0 in cc)
 
 pub repeated_step : (import : ImportRows) (day later : ℕ) (before mid after : State) (first : Reply)
     (second : Result Reply Refusal) → IsInOrder before → IsInOrder mid → IsInOrder after
@@ -183,10 +164,7 @@ pub repeated_step : (import : ImportRows) (day later : ℕ) (before mid after : 
     → (second ≡ Ok (reply.Imported 0 0 (length (distinct_rows import.rows)))) × (after ≡ mid)
 repeated_step import day later before mid after first second up up_mid up_after agree one two =
     let again = repeated_import before.relations mid.relations import.rows up.tables agree
-    (new_facts import day before mid first one) in
+    (new_facts (command.Import import) day before first mid one) in
     let to : StepTo (command.Import import) mid second after (Ok mid.relations) =
     subst (StepTo (command.Import import) mid second after) again.0 two in
-    let same : after.seats ≡ mid.seats =
-    same_rows seat_cmp seats_total seats_exact after.seats mid.seats up_after.seats up_mid.seats
-    (λ q. (to.1 q.0).untouched (record { members = refl; fits = λ c h. refl; desks = λ h. refl }) q.1) in
-    (to.2 ∙ ap Ok again.1, λ i. record { relations = to.0 i; seats = same i })
+    (to.2 ∙ ap Ok again.1, same_office (command.Import import) mid second after up_mid up_after to)

@@ -41,12 +41,12 @@ use Rattle.exam_commands.specs.declared.command.Reply.{Reply}
 use Rattle.exam_commands.specs.declared.import_row.Row.{Row}
 use Rattle.exam_commands.specs.declared.import_row.Row.TheVariants as row
 use Rattle.exam_commands.specs.Appeals.{appeal_at, bears_mark, decided, is_grant, is_open, superseded, supersedes}
-use Rattle.exam_commands.specs.Changes.{closing_refusal, first_refusal, import_refusal, no_hall, not_opened}
-use Rattle.exam_commands.specs.Changes.{reinstatement_refusal, row_checks, rows_refusal, too_many, with_live, with_row}
-use Rattle.exam_commands.specs.Changes.{with_rows, withdrawal_refusal, without_opening}
+use Rattle.exam_commands.specs.Changes.{first_refusal, no_hall, not_opened, row_checks, rows_refusal, with_live}
+use Rattle.exam_commands.specs.Changes.{with_row, with_rows, without_opening}
 use Rattle.exam_commands.specs.Decisions.{decision_checks, decision_refusal, gives_way, giving_way, grant_checks}
 use Rattle.exam_commands.specs.Decisions.{is_earlier, is_made, is_too_late, not_arrangement, open_checks, with_decided}
 use Rattle.exam_commands.specs.Decisions.{with_decision, with_mark, with_outcome, with_superseded, without_mark}
+use Rattle.exam_commands.specs.FactsMade.{early_refusal, facts_made}
 use Rattle.exam_commands.specs.Good.{IsGood, marks_were_granted, refers}
 use Rattle.exam_commands.specs.Lodgings as lodgings
 use Rattle.exam_commands.specs.Orders.{IsInOrder}
@@ -61,7 +61,8 @@ use Rattle.exam_laws.proofs.Appealing.{with_decisions}
 use Rattle.exam_laws.proofs.AppealSteps.{lodging_settled, retraction_settled}
 use Rattle.exam_commands.proofs.Borne.{unmarked_same}
 use Rattle.exam_laws.proofs.DecidedFacts.{others_standing_grants, unmarked_open}
-use Rattle.exam_laws.proofs.Lasting.{made, new_facts, unrefused}
+use Rattle.exam_laws.proofs.Accepted.{change_made}
+use Rattle.exam_laws.proofs.Lasting.{new_facts}
 use Rattle.exam_commands.proofs.PutRows.{mapped_filtered}
 use Rattle.exam_commands.proofs.Referring.{Grows, appeals_row, grows_both, grows_none, grows_row, neither, parted}
 use Rattle.exam_commands.proofs.Referring.{passed, standing_row, there}
@@ -741,39 +742,27 @@ module _ (r : Relations) (refer : refers r ≡ true) (stand : marks_were_granted
 -- ---- any command
 
 module _ (before : State) (good : IsGood before) (up : IsInOrder before) (today : ℕ) (s : Code) where
-  spared_by : (done : Command) (t : Relations) → change done today before ≡ Ok t → is_set_by done s ≡ false
-      → reaches before.relations done s ≡ false → SameSeating (seating before.relations s) (seating t s)
-  spared_by (command.Import import) t is unset away =
+  made_spares : (done : Command) → early_refusal done today before ≡ None → is_set_by done s ≡ false
+      → reaches before.relations done s ≡ false
+      → SameSeating (seating before.relations s) (seating (facts_made done today before) s)
+  made_spares (command.Import import) ok unset away =
       let r = before.relations in
-      let none = unrefused (import_refusal r import.rows) (with_rows r import.rows) t is in
-      let checked = neither (rows_refusal r import.rows)
-      (first_refusal (too_many (with_rows r import.rows) ∷ [])) none in
-      subst (λ u. SameSeating (seating r s) (seating u s))
-      (made (import_refusal r import.rows) (with_rows r import.rows) t is)
-      (alike_seating r (with_rows r import.rows) s
+      alike_seating r (with_rows r import.rows) s
       (import_spares r good.refer s (up.tables table.Candidates) import.rows unset
       (neither_any (list_any (λ (x : Row). row_reaches r x s) import.rows)
-      (is_of_sessions import.kind && has_standing_member r s) away).0 checked.0))
-  spared_by (command.Withdraw c p) t is unset away =
+      (is_of_sessions import.kind && has_standing_member r s) away).0 ok)
+  made_spares (command.Withdraw c p) ok unset away =
       let r = before.relations in
-      subst (λ u. SameSeating (seating r s) (seating u s))
-      (made (withdrawal_refusal r c p) (with_live r c p false) t is)
-      (alike_seating r (with_live r c p false) s (live_spares r c p false s away))
-  spared_by (command.Reinstate c p) t is unset away =
+      alike_seating r (with_live r c p false) s (live_spares r c p false s away)
+  made_spares (command.Reinstate c p) ok unset away =
       let r = before.relations in
-      subst (λ u. SameSeating (seating r s) (seating u s))
-      (made (reinstatement_refusal r c p) (with_live r c p true) t is)
-      (alike_seating r (with_live r c p true) s (live_spares r c p true s away))
-  spared_by (command.CloseHall named h) t is unset away =
+      alike_seating r (with_live r c p true) s (live_spares r c p true s away)
+  made_spares (command.CloseHall named h) ok unset away =
       let r = before.relations in
-      let none = unrefused (closing_refusal r named h) (without_opening r named h) t is in
       let known : has_row code_cmp r.sessions named ≡ true =
-      there (has_row code_cmp r.sessions named) refusal.UnknownSession
-      (no_hall r h ∷ not_opened r named h ∷ []) none in
-      subst (λ u. SameSeating (seating r s) (seating u s))
-      (made (closing_refusal r named h) (without_opening r named h) t is)
-      (alike_seating r (without_opening r named h) s
-      (closing_spares r named h s (unnamed r known (same_code named s) refl away)))
+      there (has_row code_cmp r.sessions named) refusal.UnknownSession (no_hall r h ∷ not_opened r named h ∷ []) ok in
+      alike_seating r (without_opening r named h) s
+      (closing_spares r named h s (unnamed r known (same_code named s) refl away))
     where
       unnamed : (r : Relations) → has_row code_cmp r.sessions named ≡ true → (b : Bool) → same_code named s ≡ b
           → names r named s ≡ false → b ≡ false
@@ -782,31 +771,21 @@ module _ (before : State) (good : IsGood before) (up : IsInOrder before) (today 
           sym (ap (λ b. b && has_row code_cmp r.sessions s) same
           ∙ ap (has_row code_cmp r.sessions) (sym (same_code_exact named s same)) ∙ known) ∙ out in cc)
       unnamed r known false same out = refl
-  spared_by (command.Lodge l) t is unset away =
-      let r = before.relations in
-      let refused = lodgings.lodging_refusal r before.seats today l in
-      let none = unrefused refused (lodgings.with_lodging r today l) t is in
-      let standing = neither (lodgings.lodging_refusal_but_limits r before.seats today l)
-      (first_refusal (lodgings.one_too_many r today l ∷ [])) none in
-      (lodging_settled before good today l t standing.0
-      (sym (made refused (lodgings.with_lodging r today l) t is))).seated s
-  spared_by (command.Retract c reference) t is unset away =
-      let r = before.relations in
-      let refused = lodgings.retraction_refusal r c reference in
-      let none = unrefused refused (lodgings.with_retraction r c reference) t is in
-      (retraction_settled before good c reference t up.tables none
-      (sym (made refused (lodgings.with_retraction r c reference) t is))).seated s
-  spared_by (command.Decide d) t is unset away =
-      let r = before.relations in
-      let none = unrefused (decision_refusal r today d) (with_decision r d) t is in
-      subst (λ u. SameSeating (seating r s) (seating u s)) (made (decision_refusal r today d) (with_decision r d) t is)
-      (decision_spares r good.refer good.marks today d s none away)
+  made_spares (command.Lodge l) ok unset away =
+      (lodging_settled before good today l (lodgings.with_lodging before.relations today l) ok refl).seated s
+  made_spares (command.Retract c reference) ok unset away =
+      (retraction_settled before good c reference (lodgings.with_retraction before.relations c reference) up.tables
+      ok refl).seated s
+  made_spares (command.Decide d) ok unset away =
+      decision_spares before.relations good.refer good.marks today d s ok away
 
   pub spared : (done : Command) (t : Relations) → change done today before ≡ Ok t
       → touches before.relations done s ≡ false → SameSeating (seating before.relations s) (seating t s)
   spared done t is away =
-      spared_by done t is (untouched_is_unset before.relations good.refer s done away)
-      (untouched_is_unreached before.relations good.refer s done away)
+      let made = change_made done today before t is in
+      subst (λ u. SameSeating (seating before.relations s) (seating u s)) (sym made.0)
+      (made_spares done made.1 (untouched_is_unset before.relations good.refer s done away)
+      (untouched_is_unreached before.relations good.refer s done away))
 
   -- and its plan
   pub untouched_stays : (done : Command) (after : State) (reply : Reply) → Step done today before (Ok reply) after
