@@ -1,14 +1,10 @@
 -- Every problem has a best plan: of a lawful plan either the closed set is full, and it is best, or another lawful plan
 -- seats one more; and nobody can go on seating more for ever.
+use Rattle.exam_plan.proofs.Words.{range_with_len, list_any, cases_Bool, cases_lt, and_parts, and_from, ltb-true}
+use Rattle.exam_plan.proofs.Words.{lt-ltb, list_any_at, Any-from_list_any, Plan, occupants, size, IsLawful, IsBest}
+use Rattle.exam_plan.proofs.Words.{augmented, Problem, IsProblem, seating_of, is_drawn}
 use Rattle.std.proofs.Common.{◌≡◌, ◌⊎◌, ℕ, zero, suc, ◌+◌, ◌≤◌, Bool, true, false, ◌&&◌, List, length, get_or, Option}
 use Rattle.std.proofs.Common.{None, Some, is_some, nat_lt, refl, sym, ap, ◌∙◌, inl, inr, arith}
-use Rattle.std.specs.List.{range_with_len, list_any}
-use Rattle.std.proofs.lemmas.Bool.{cases_Bool, cases_lt, and_parts, and_from, ltb-true, lt-ltb}
-use Rattle.std.proofs.lemmas.List.Folds.{list_any_at, Any-from_list_any}
-use Rattle.exam_plan.specs.Matching.{Plan, occupants, size, IsLawful, IsBest}
-use Rattle.exam_plan.specs.Chains.{augmented}
-use Rattle.exam_plan.specs.Problems.{Problem, IsProblem, seating_of}
-use Rattle.exam_plan.specs.Searches.{is_drawn}
 use Rattle.exam_plan.proofs.Counting.{count_below, count_below-le-bound, sits_at, count_below-none}
 use Rattle.exam_plan.proofs.Seatings.{length-occupants, size-count, below-member}
 use Rattle.exam_plan.proofs.Optimality.{IsClosedSet, drawn_in, closed_is_greatest}

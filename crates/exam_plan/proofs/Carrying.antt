@@ -1,18 +1,11 @@
 -- What is so by indices is so by names, for two seatings, one a renaming of the other.
+use Rattle.exam_plan.proofs.Words.{Ordering, Less, AllByRecursion, IsStrictlySortedBy, sum_by-cons, option_map}
+use Rattle.exam_plan.proofs.Words.{option_and_then, get_or-map, get_or_default, length-map, recursion_from_All}
+use Rattle.exam_plan.proofs.Words.{IfSome_then, Naming, named_plan, indexed_plan, Plan, IsLawful, IsBest, IsContested}
+use Rattle.exam_plan.proofs.Words.{IsCertificate, is_hall, occupants, unseated, desk_number, size}
 use Rattle.std.proofs.Common.{◌≡◌, ℕ, ◌+◌, ◌<◌, ◌≤◌, Bool, IsTrue, List, [], ◌∷◌, length, map, filter, get_or, Contains}
 use Rattle.std.proofs.Common.{count_by, sum_by, Option, None, Some, IfSome, is_none, refl, sym, ap, subst, ◌∙◌, arith}
-use Rattle.std.specs.declared.cmp.Ordering.{Ordering}
-use Rattle.std.specs.declared.cmp.Ordering.TheVariants.{Less}
-use Rattle.std.specs.List.{AllByRecursion}
-use Rattle.std.specs.List.Sorted.{IsStrictlySortedBy}
-use Rattle.std.proofs.lemmas.List.Sums.{sum_by-cons}
-use Rattle.std.specs.Option.{option_map, option_and_then}
-use Rattle.std.proofs.lemmas.List.{get_or-map, get_or_default, length-map}
-use Rattle.std.proofs.lemmas.List.Elements.{All-contains, All-map, recursion_from_All}
-use Rattle.std.proofs.lemmas.Option.{IfSome_then}
-use Rattle.exam_plan.specs.Naming.{Naming, named_plan, indexed_plan}
-use Rattle.exam_plan.specs.Matching.{Plan, IsLawful, IsBest, IsContested, IsCertificate, is_hall, occupants, unseated}
-use Rattle.exam_plan.specs.Matching.{desk_number, size}
+use Rattle.std.proofs.lemmas.List.Elements.{All-contains, All-map}
 use Rattle.exam_plan.proofs.Renaming.{Renames, named_member, indexed_member, is_hall-known, IsLawful-named}
 use Rattle.exam_plan.proofs.Renaming.{IsBest-named, size-named, size-indexed, IsLawful-indexed}
 use Rattle.exam_plan.proofs.Small.{all_filter, count_same, filter_same, of_members, some_value}

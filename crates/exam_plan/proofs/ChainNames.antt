@@ -1,18 +1,12 @@
 -- Augmenting chains by indices are those by names, for two seatings, one a renaming of the other.
+use Rattle.exam_plan.proofs.Words.{Greater, nat_cmp, ordering_then, AllByRecursion, option_map, option_and_then}
+use Rattle.exam_plan.proofs.Words.{get_or-map, length-map, All-from_recursion, same_Some, Naming, named_plan, Plan}
+use Rattle.exam_plan.proofs.Words.{is_hall, occupants, Chain, HasFreeDesk, Leads, IsChain, IsLeastChain}
 use Rattle.std.proofs.Common.{◌≡◌, ◌≢◌, ◌↔◌, ℕ, ◌<◌, true, IsTrue, List, [], ◌∷◌, ◌++◌, length, map, filter, get_or}
 use Rattle.std.proofs.Common.{Contains, Option, None, Some, IfSome, refl, sym, ap, subst, ◌∙◌, arith}
 use Rattle.std.specs.Prelude.{AllPairs}
-use Rattle.std.specs.declared.cmp.Ordering.TheVariants.{Greater}
-use Rattle.std.specs.Ordering.{nat_cmp, ordering_then}
 use Rattle.std.specs.Cmp.Lexicographic.{slice_cmp}
-use Rattle.std.specs.List.{AllByRecursion}
-use Rattle.std.specs.Option.{option_map, option_and_then}
-use Rattle.std.proofs.lemmas.List.{get_or-map, length-map}
-use Rattle.std.proofs.lemmas.List.Elements.{All-from_recursion}
-use Rattle.std.proofs.lemmas.Option.{same_Some}
-use Rattle.exam_plan.specs.Naming.{Naming, named_plan}
-use Rattle.exam_plan.specs.Matching.{Plan, is_hall, occupants}
-use Rattle.exam_plan.specs.Chains.{Chain, chain_halls, HasFreeDesk, Leads, IsChain, chain_cmp, IsLeastChain}
+use Rattle.exam_plan.specs.Chains.{chain_halls, chain_cmp}
 use Rattle.exam_plan.proofs.Renaming.{Renames, named_member, is_hall-known}
 use Rattle.exam_plan.proofs.Small.{filter_same, of_members, some_value, value_at}
 

@@ -1,21 +1,16 @@
 -- The closed set of a best plan, found in the logic: those that some best plan leaves out, and their halls, are a
 -- certificate of every best plan.
+use Rattle.exam_plan.proofs.Words.{range_with_len, list_any, IsStrictlySortedBy, nat_cmp, cases_lt, cases_Bool}
+use Rattle.exam_plan.proofs.Words.{or_cases, or_left, or_right, and_parts, and_from, get_or_past, get_or-replicate}
+use Rattle.exam_plan.proofs.Words.{length-replicate, list_any_at, Any-from_list_any, Plan, IsBest, IsCertificate}
+use Rattle.exam_plan.proofs.Words.{IsContested, Problem, IsProblem, seating_of, IsMarked, MarksAll, Draws, is_drawn}
 use Rattle.std.proofs.Common.{◌≡◌, ◌⊎◌, ℕ, zero, suc, ◌<◌, ◌≤◌, ◌↔◌, Bool, true, false, not, ◌&&◌, ◌||◌, IsTrue, List}
 use Rattle.std.proofs.Common.{map, length, get_or, count_by, refl, sym, ap, ◌∙◌, inl, inr, subst, arith}
 use Rattle.std.specs.Prelude.{Contains, filter}
-use Rattle.std.specs.List.{range_with_len, list_any}
-use Rattle.std.specs.List.Sorted.{IsStrictlySortedBy}
-use Rattle.std.specs.Ordering.{nat_cmp}
 use Rattle.std.specs.Cmp.Lexicographic.{pointwise}
 use Rattle.std.proofs.Math.Bool.{beq}
 use Rattle.std.proofs.Math.ListN.{replicate}
-use Rattle.std.proofs.lemmas.Bool.{cases_lt, cases_Bool, or_cases, or_left, or_right, and_parts, and_from}
-use Rattle.std.proofs.lemmas.List.{get_or_past, get_or-replicate, length-replicate}
-use Rattle.std.proofs.lemmas.List.Folds.{list_any_at, Any-from_list_any}
 use Rattle.std.proofs.lemmas.List.FromFn.{get_or-map-range_with_len, length-map-range_with_len}
-use Rattle.exam_plan.specs.Matching.{Plan, IsBest, IsCertificate, IsContested}
-use Rattle.exam_plan.specs.Problems.{Problem, IsProblem, seating_of}
-use Rattle.exam_plan.specs.Searches.{IsMarked, MarksAll, Draws, is_drawn}
 use Rattle.exam_plan.proofs.Seatings.{below-member, fits_member, fits_below}
 use Rattle.exam_plan.proofs.Marks.{unmarked-lt, marks_agree, marks_differ}
 use Rattle.exam_plan.proofs.DrawLemmas.{draws_more, closed_after}

@@ -1,10 +1,9 @@
 -- Counting: how many numbers below a bound pass a test, and counting in two ways.
+use Rattle.exam_plan.proofs.Words.{range_with_len, cases_eq, cases_Bool, eq-eqb, ne_eqb, sum_by-cons}
 use Rattle.std.proofs.Common.{◌≡◌, ◌≢◌, ℕ, zero, suc, ◌+◌, ◌<◌, ◌≤◌, Bool, true, false, cond, [], ◌∷◌, ◌++◌, count_by}
 use Rattle.std.proofs.Common.{Option, None, Some, IfSome, nat_eq, refl, sym, ap, ◌∙◌, inl, inr, arith, add-zero}
 use Rattle.std.proofs.Common.{zero-add, List}
-use Rattle.std.specs.List.{range_with_len}
-use Rattle.std.proofs.lemmas.Bool.{cases_eq, cases_Bool, eq-eqb, ne_eqb}
-use Rattle.std.proofs.lemmas.List.Sums.{sum_by_push, sum_by-cons}
+use Rattle.std.proofs.lemmas.List.Sums.{sum_by_push}
 
 abbrev pub bit : Bool → ℕ
 bit b = cond b 1 0

@@ -1,27 +1,25 @@
 -- Candidates in the order of desks: as many of a hall come before one of them as have a lesser rank.
+use Rattle.exam_plan.proofs.Words.{range_with_len, nat_cmp, is_lt, ordering_then, option_map, IsTotalOrder, nat_cmp_is}
+use Rattle.exam_plan.proofs.Words.{nat_cmp_total, Ordering, Less, cases_eq, cases_lt, cases_Bool, eq-eqb, eqb-true}
+use Rattle.exam_plan.proofs.Words.{lt-ltb, le-ltb, length-set, length-replicate, get_or-set_same, get_or-set_other}
+use Rattle.exam_plan.proofs.Words.{get_or-replicate, get_or_past, get_or_default, All-from_get_or}
+use Rattle.exam_plan.proofs.Words.{length-range_with_len, get_or-range_with_len, behind_rank, Plan, is_hall, occupants}
+use Rattle.exam_plan.proofs.Words.{desk_number, Problem, IsProblem, seating_of, plan_at}
 use Rattle.std.proofs.Common.{◌≡◌, ℕ, zero, suc, ◌+◌, ◌<◌, ◌≤◌, Bool, true, false, ◌&&◌, List, [], ◌∷◌, length, get_or}
 use Rattle.std.proofs.Common.{set, take, replicate, map, count_by, Option, None, Some, IfSome, nat_eq, nat_lt, refl}
 use Rattle.std.proofs.Common.{sym, ap, ◌∙◌, inl, inr, arith, zero-add}
 use Rattle.std.specs.Prelude.{All, Contains, IsSorted}
-use Rattle.std.specs.List.{range_with_len}
 use Rattle.std.specs.List.Sorted.{IsPermutation}
-use Rattle.std.specs.Ordering.{nat_cmp, is_lt, ordering_then}
-use Rattle.std.specs.Option.{option_map}
-use Rattle.std.specs.Cmp.{IsTotalOrder, nat_cmp_is, nat_cmp_total, then_total, on_total}
-use Rattle.std.specs.declared.cmp.Ordering.{Ordering}
-use Rattle.std.specs.declared.cmp.Ordering.TheVariants.{Less}
-use Rattle.std.proofs.lemmas.Bool.{cases_eq, cases_lt, cases_Bool, eq-eqb, eqb-true, lt-ltb, le-ltb}
-use Rattle.std.proofs.lemmas.List.{length-set, length-take, length-replicate, get_or-set_same, get_or-set_other}
-use Rattle.std.proofs.lemmas.List.{get_or-replicate, get_or_past, get_or_default}
-use Rattle.std.proofs.lemmas.List.Elements.{All-from_get_or, All-map}
-use Rattle.std.proofs.lemmas.List.FromFn.{length-range_with_len, get_or-range_with_len, length-map-range_with_len}
+use Rattle.std.specs.Cmp.{then_total, on_total}
+use Rattle.std.proofs.lemmas.List.{length-take}
+use Rattle.std.proofs.lemmas.List.Elements.{All-map}
+use Rattle.std.proofs.lemmas.List.FromFn.{length-map-range_with_len}
 use Rattle.std.proofs.lemmas.List.FromFn.{get_or-map-range_with_len, fill_by_all, sum_by-map-range_with_len_more}
 use Rattle.std.proofs.lemmas.List.Sorted.{ranks_by, sorted_far, length_permutation, All-permutation}
 use Rattle.std.proofs.lemmas.List.Sorted.{Contains-permutation, sum_by-IsPermutation}
 use Rattle.std.proofs.lemmas.List.Sums.{sum_by_more, count_by-le-length}
-use Rattle.exam_plan.specs.DeskOrder.{behind_rank, rank_cmp}
-use Rattle.exam_plan.specs.Matching.{Plan, is_hall, occupants, desk_number}
-use Rattle.exam_plan.specs.Problems.{Problem, IsProblem, seating_of, plan_at, ranks_before}
+use Rattle.exam_plan.specs.DeskOrder.{rank_cmp}
+use Rattle.exam_plan.specs.Problems.{ranks_before}
 use Rattle.exam_plan.proofs.Counting.{bit, count_below, sum_below, count_by-cons}
 use Rattle.exam_plan.proofs.NumberLaws.{differ_at, below_count, number_at}
 use Rattle.exam_plan.proofs.Steps.{one_counted, place_below}

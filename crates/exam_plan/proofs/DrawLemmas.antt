@@ -1,18 +1,13 @@
 -- The steps of the search forwards from the unseated candidates.
+use Rattle.exam_plan.proofs.Words.{range_with_len, cases_lt, or_cases, or_left, or_right, length-append, length-filter}
+use Rattle.exam_plan.proofs.Words.{length-range_with_len, holds, Plan, Problem, IsProblem, plan_at, seating_of}
+use Rattle.exam_plan.proofs.Words.{IsMarked, MarksAll, Draws, is_drawn}
 use Rattle.std.proofs.Common.{◌≡◌, ℕ, zero, suc, ◌+◌, ◌<◌, ◌≤◌, ◌↔◌, Bool, true, false, not, ◌||◌, cond, IsTrue, List}
 use Rattle.std.proofs.Common.{[], ◌∷◌, ◌++◌, length, get_or, Option, None, Some, is_some, is_none, ◌⊎◌, refl, sym, ap}
 use Rattle.std.proofs.Common.{◌∙◌, inl, inr, subst, arith, append-nil}
 use Rattle.std.specs.Prelude.{filter}
-use Rattle.std.specs.List.{range_with_len}
-use Rattle.std.proofs.lemmas.Bool.{cases_lt, or_cases, or_left, or_right}
-use Rattle.std.proofs.lemmas.List.{length-append}
 use Rattle.std.proofs.lemmas.List.Elements.{filter-append}
-use Rattle.std.proofs.lemmas.List.Sums.{length-filter, count_by-le-length}
-use Rattle.std.proofs.lemmas.List.FromFn.{length-range_with_len}
-use Rattle.exam_plan.specs.HallSets.{holds}
-use Rattle.exam_plan.specs.Matching.{Plan}
-use Rattle.exam_plan.specs.Problems.{Problem, IsProblem, plan_at, seating_of}
-use Rattle.exam_plan.specs.Searches.{IsMarked, MarksAll, Draws, is_drawn}
+use Rattle.std.proofs.lemmas.List.Sums.{count_by-le-length}
 use Rattle.exam_plan.proofs.Counting.{bit, range_next}
 use Rattle.exam_plan.proofs.Seatings.{fits_member, fits_below}
 use Rattle.exam_plan.proofs.Steps.{plan_at-get_or}

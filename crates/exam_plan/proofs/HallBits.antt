@@ -1,17 +1,17 @@
 -- What the operations on numbers do to the sets that the numbers are, and on two words to the set of both.
+use Rattle.exam_plan.proofs.Words.{cases_eq, cases_lt, eq-eqb, ne_eqb, and_parts, holds}
 use Rattle.std.proofs.Common.{◌≡◌, ◌≢◌, ℕ, zero, suc, ◌+◌, ◌-◌, ◌*◌, ◌/◌, ◌%◌, ◌^◌, ◌<◌, ◌≤◌, ◌↔◌, Option, None, Some}
 use Rattle.std.proofs.Common.{Bool, true, false, not, ◌&&◌, ◌||◌, cond, min, max, nat_eq, bit_and, bit_or, bit_xor}
 use Rattle.std.proofs.Common.{refl, sym, ap, ◌∙◌, inl, inr, arith}
 use Rattle.std.specs.Prelude.{MatchOption, is_some}
 use Rattle.std.specs.Int.{bit_at, bit_not, trailing_zeros, w128}
 use Rattle.std.specs.Int.Bits.{and_le_l, or_lt}
-use Rattle.std.proofs.lemmas.Bool.{cases_eq, cases_lt, eq-eqb, ne_eqb, and_parts}
 use Rattle.std.proofs.lemmas.Nat.{one_shl}
 use Rattle.std.proofs.lemmas.Nat.Bits.{bit_at-lt, bit_at-zero, bit_at_lowest, bit_at-suc, bit_at_or, bit_at_and}
 use Rattle.std.proofs.lemmas.Nat.Bits.{bit_at_xor, bit_at_not, bit_at_above, bit_at-pow_same, bit_at-pow_other}
 use Rattle.std.proofs.lemmas.Nat.Bits.{shr_and_one, bit_at-trailing_zeros, bit_at_cat_low, bit_at_cat_high}
 use Rattle.std.proofs.Math.Bool.{or_comm, and-false, and_self}
-use Rattle.exam_plan.specs.HallSets.{holds, IsLeast}
+use Rattle.exam_plan.specs.HallSets.{IsLeast}
 
 -- ---- bits as tests
 

@@ -1,15 +1,13 @@
 -- The rows of a problem, kept as sets.
+use Rattle.exam_plan.proofs.Words.{range_with_len, list_any, IsDistinct, IsStrictlySortedBy, nat_cmp, cases_lt}
+use Rattle.exam_plan.proofs.Words.{get_or-map, length-map, All-get_or, All-from_get_or, All-filter, most_halls, holds}
+use Rattle.exam_plan.proofs.Words.{halls_below, IsProblem, AreMasks}
 use Rattle.std.proofs.Common.{◌≡◌, ℕ, ◌+◌, ◌<◌, ◌≤◌, ◌^◌, true, false, List, [], ◌∷◌, ◌++◌, map, length, get_or, take}
 use Rattle.std.proofs.Common.{nat_eq, sym, ap, ◌∙◌, inl, inr, subst, arith, Vec, Global}
 use Rattle.std.specs.Prelude.{All}
-use Rattle.std.specs.List.{range_with_len, list_any, IsDistinct}
-use Rattle.std.specs.List.Sorted.{IsStrictlySortedBy}
-use Rattle.std.specs.Ordering.{nat_cmp}
-use Rattle.std.proofs.lemmas.Bool.{cases_lt}
-use Rattle.std.proofs.lemmas.List.{get_or-map, length-map, map-append, take_more, take_all}
-use Rattle.std.proofs.lemmas.List.Elements.{All-get_or, All-from_get_or, All-push, All-filter}
-use Rattle.exam_plan.specs.HallSets.{most_halls, holds, halls_below}
-use Rattle.exam_plan.specs.Problems.{IsProblem, AreMasks, most_members}
+use Rattle.std.proofs.lemmas.List.{map-append, take_more, take_all}
+use Rattle.std.proofs.lemmas.List.Elements.{All-push}
+use Rattle.exam_plan.specs.Problems.{most_members}
 use Rattle.exam_plan.proofs.HallBits.{holds_past}
 use Rattle.exam_plan.proofs.Seatings.{listed_below}
 use Rattle.exam_plan.proofs.Rising.{filter_sorted, range_below, any_passing, row_again}

@@ -1,21 +1,16 @@
 -- Who stays in a plan: the loops that put out, and that what stays is lawful.
+use Rattle.exam_plan.proofs.Words.{range_with_len, nat_cmp, is_lt, nat_cmp_is, Less, Equal, Greater, cases_eq, cases_lt}
+use Rattle.exam_plan.proofs.Words.{cases_Bool, cases_order, eq-eqb, ne_eqb, eqb-true, and_parts, lt-ltb, le-ltb}
+use Rattle.exam_plan.proofs.Words.{ltb-true, get_or_past, Seating, Plan, is_hall, IsLawful, Problem, seating_of}
+use Rattle.exam_plan.proofs.Words.{plan_at, where_fitting, fitting_part, lesser_occupants, where_room, room_part}
+use Rattle.exam_plan.proofs.Words.{kept_part, count_at}
 use Rattle.std.proofs.Common.{◌≡◌, ℕ, zero, suc, ◌+◌, ◌<◌, ◌≤◌, Bool, true, false, cond, ◌&&◌, IsTrue, List, length}
 use Rattle.std.proofs.Common.{get_or, set, Option, None, Some, IfSome, nat_lt, refl, sym, ap, ◌∙◌, inl, inr, subst}
 use Rattle.std.proofs.Common.{arith}
 use Rattle.std.specs.Prelude.{All}
-use Rattle.std.specs.List.{range_with_len}
-use Rattle.std.specs.Ordering.{nat_cmp, is_lt}
-use Rattle.std.specs.Cmp.{nat_cmp_is}
-use Rattle.std.specs.declared.cmp.Ordering.TheVariants.{Less, Equal, Greater}
-use Rattle.std.proofs.lemmas.Bool.{cases_eq, cases_lt, cases_Bool, cases_order, eq-eqb, ne_eqb, eqb-true, and_parts}
-use Rattle.std.proofs.lemmas.Bool.{and_right, lt-ltb, le-ltb, ltb-true}
-use Rattle.std.proofs.lemmas.List.{get_or_past}
+use Rattle.std.proofs.lemmas.Bool.{and_right}
 use Rattle.std.proofs.lemmas.List.Elements.{All-set}
-use Rattle.exam_plan.specs.Matching.{Seating, Plan, is_hall, IsLawful}
-use Rattle.exam_plan.specs.Problems.{Problem, seating_of, plan_at}
-use Rattle.exam_plan.specs.Repair.{is_member, where_fitting, fitting_part, lesser_occupants, where_room, room_part}
-use Rattle.exam_plan.specs.Repair.{kept_part}
-use Rattle.exam_plan.specs.Searches.{count_at}
+use Rattle.exam_plan.specs.Repair.{is_member}
 use Rattle.exam_plan.proofs.Counting.{bit, count_below, count_below-same, count_by-range, sits_at}
 use Rattle.exam_plan.proofs.Seatings.{is_hall-sits_at, length-occupants, below-member, member-below}
 use Rattle.exam_plan.proofs.Steps.{plan_at-get_or, plan_at-set, count_at-below}

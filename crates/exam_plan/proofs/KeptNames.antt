@@ -1,18 +1,14 @@
 -- What stays of a plan, and its repair, by indices are those by names, for two seatings, one a renaming of the other.
+use Rattle.exam_plan.proofs.Words.{is_lt, option_map, option_and_then, list_any_at, IfSome_then, false_from_ne_true}
+use Rattle.exam_plan.proofs.Words.{fun_ext, Naming, named_plan, indexed_plan, Seating, Plan, SamePlan, IsLawful}
+use Rattle.exam_plan.proofs.Words.{is_hall, where_fitting, fitting_part, lesser_occupants, where_room, room_part}
+use Rattle.exam_plan.proofs.Words.{kept_part, IsSweep, IsRepair}
 use Rattle.std.proofs.Common.{◌≡◌, ℕ, Bool, true, false, cond, ◌&&◌, IsTrue, nat_eq, Contains, count_by, Option, None}
 use Rattle.std.proofs.Common.{Some, IsSome, IfSome, is_some, eq-eqb, refl, sym, ap, subst, ◌∙◌}
 use Rattle.std.specs.Prelude.{nat_lt}
-use Rattle.std.specs.Ordering.{is_lt}
-use Rattle.std.specs.Option.{option_map, option_and_then}
-use Rattle.std.proofs.lemmas.List.Folds.{list_any_at}
 use Rattle.std.proofs.lemmas.Map.Views.{Contains-from_any, exact_unsigned_eq}
-use Rattle.std.proofs.lemmas.Option.{IfSome_then}
-use Rattle.std.proofs.lemmas.Bool.{false_from_ne_true}
-use Rattle.std.proofs.Math.Path.{fun_ext}
-use Rattle.exam_plan.specs.Naming.{Naming, named_plan, at_index, indexed_plan}
-use Rattle.exam_plan.specs.Matching.{Seating, Plan, SamePlan, IsLawful, is_hall}
-use Rattle.exam_plan.specs.Repair.{is_member, where_fitting, fitting_part, lesser_occupants, where_room, room_part}
-use Rattle.exam_plan.specs.Repair.{kept_part, IsSweep, IsRepair}
+use Rattle.exam_plan.specs.Naming.{at_index}
+use Rattle.exam_plan.specs.Repair.{is_member}
 use Rattle.exam_plan.proofs.Renaming.{Renames, named_member, indexed_member, is_hall-known}
 use Rattle.exam_plan.proofs.Carrying.{member_index, sum_same}
 use Rattle.exam_plan.proofs.ChainNames.{Follows, AreKnown}

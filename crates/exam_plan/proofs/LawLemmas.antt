@@ -1,21 +1,14 @@
 -- Laws of matchings that follow from the definitions.
+use Rattle.exam_plan.proofs.Words.{list_any, IsStrictlySortedBy, nat_cmp, nat_cmp_total, nat_cmp-IsAntisymmetric}
+use Rattle.exam_plan.proofs.Words.{cases_eq, eq-eqb, ne_eqb, lt-ltb, sum_by-cons, Plan, SamePlan, occupants, unseated}
+use Rattle.exam_plan.proofs.Words.{size, IsLawful, IsBest, IsCertificate, Chain, IsChain, IsLeastChain, augmented}
+use Rattle.exam_plan.proofs.Words.{where_fitting, fitting_part, lesser_occupants, where_room, kept_part, TurnFrom}
+use Rattle.exam_plan.proofs.Words.{Sweeps, sweep_order, IsRepair, Problem, IsProblem, seating_of}
 use Rattle.std.proofs.Common.{◌≡◌, ◌≢◌, ℕ, zero, suc, ◌+◌, ◌<◌, ◌≤◌, Bool, true, false, cond, ◌||◌, IsTrue, List, []}
 use Rattle.std.proofs.Common.{◌∷◌, ◌++◌, map, length, get_or, Option, None, Some, is_some, is_none, nat_eq, refl, sym}
 use Rattle.std.proofs.Common.{ap, ◌∙◌, inl, inr, subst, arith}
 use Rattle.std.specs.Prelude.{All, AllPairs, sum_by}
-use Rattle.std.specs.List.{list_any}
-use Rattle.std.specs.List.Sorted.{IsStrictlySortedBy}
-use Rattle.std.specs.Ordering.{nat_cmp}
-use Rattle.std.specs.Cmp.{nat_cmp_total}
-use Rattle.std.specs.FinMap.{nat_cmp-IsAntisymmetric}
-use Rattle.std.proofs.lemmas.Bool.{cases_eq, eq-eqb, ne_eqb, lt-ltb}
 use Rattle.std.proofs.lemmas.List.Elements.{All-head, All-tail}
-use Rattle.std.proofs.lemmas.List.Sums.{sum_by-cons}
-use Rattle.exam_plan.specs.Matching.{Plan, SamePlan, occupants, unseated, size, IsLawful, IsBest, IsCertificate}
-use Rattle.exam_plan.specs.Chains.{Chain, IsChain, IsLeastChain, augmented}
-use Rattle.exam_plan.specs.Repair.{where_fitting, fitting_part, lesser_occupants, where_room, kept_part, TurnFrom}
-use Rattle.exam_plan.specs.Repair.{Sweeps, sweep_order, IsRepair}
-use Rattle.exam_plan.specs.Problems.{Problem, IsProblem, seating_of}
 use Rattle.exam_plan.proofs.Counting.{bit, count_below, count_below-same, count_below-add, count_below-point, sits_at}
 use Rattle.exam_plan.proofs.Counting.{sits_within, count_below-reaches, count_below-none}
 use Rattle.exam_plan.proofs.Seatings.{length-occupants, length-unseated, size-count, member-below}

@@ -1,19 +1,13 @@
 -- The chain that takes the least hall and the least occupant each time is the least chain.
+use Rattle.exam_plan.proofs.Words.{Ordering, Less, Equal, Greater, nat_cmp, ordering_then, nat_cmp_is, cases_order}
+use Rattle.exam_plan.proofs.Words.{cases_lt, Plan, Leads, IsChain, IsLeastChain, Problem, seating_of, Reaches, CanReach}
 use Rattle.std.proofs.Common.{◌≡◌, ◌≢◌, ℕ, zero, suc, ◌<◌, ◌≤◌, IsTrue, List, [], ◌∷◌, ◌++◌, map, length, Some, ◌⊎◌}
 use Rattle.std.proofs.Common.{refl, sym, ap, ◌∙◌, inl, inr, subst, arith}
 use Rattle.std.specs.Prelude.{All, AllPairs}
-use Rattle.std.specs.declared.cmp.Ordering.{Ordering}
-use Rattle.std.specs.declared.cmp.Ordering.TheVariants.{Less, Equal, Greater}
-use Rattle.std.specs.Ordering.{nat_cmp, ordering_then}
-use Rattle.std.specs.Cmp.{nat_cmp_is}
 use Rattle.std.specs.Cmp.Lexicographic.{slice_cmp}
-use Rattle.std.proofs.lemmas.Bool.{cases_order, cases_lt}
 use Rattle.std.proofs.lemmas.List.Elements.{All-nil, All-cons}
 use Rattle.std.proofs.lemmas.List.Kept.{AllPairs-cons}
-use Rattle.exam_plan.specs.Matching.{Plan}
-use Rattle.exam_plan.specs.Chains.{Leads, IsChain, IsLeastChain}
-use Rattle.exam_plan.specs.Problems.{Problem, seating_of}
-use Rattle.exam_plan.specs.Searches.{Reaches, CanReach, TakesLeast}
+use Rattle.exam_plan.specs.Searches.{TakesLeast}
 use Rattle.exam_plan.proofs.Moves.{Avoids, AreDistinct}
 
 -- ---- distinct halls, as the definitions say it

@@ -1,14 +1,12 @@
 -- There is at most one least chain, where the orders tell candidates and halls apart.
+use Rattle.exam_plan.proofs.Words.{Ordering, Less, Equal, Greater, IsTotalOrder, nat_cmp_total, Seating, Plan, Chain}
+use Rattle.exam_plan.proofs.Words.{IsLeastChain}
 use Rattle.std.proofs.Common.{◌≡◌, length, refl}
-use Rattle.std.specs.declared.cmp.Ordering.{Ordering}
-use Rattle.std.specs.declared.cmp.Ordering.TheVariants.{Less, Equal, Greater}
 use Rattle.std.specs.Ordering.{ordering_reverse}
-use Rattle.std.specs.Cmp.{IsTotalOrder, nat_cmp_total}
 use Rattle.std.specs.FinMap.{IsAntisymmetric, slice_cmp-IsAntisymmetric}
 use Rattle.std.proofs.lemmas.Cmp.{on_total, then_total, lists_total}
 use Rattle.std.proofs.lemmas.Map.Lookups.{exact_pairs}
-use Rattle.exam_plan.specs.Matching.{Seating, Plan}
-use Rattle.exam_plan.specs.Chains.{Chain, IsLeastChain, chain_cmp}
+use Rattle.exam_plan.specs.Chains.{chain_cmp}
 use Rattle.exam_plan.proofs.Small.{both_tie}
 
 -- neither is greater: they tie

@@ -30,3 +30,4 @@ pub mod Contested
 pub mod BestPlans
 pub mod OneRepair
 pub mod NumberLaws
+pub mod Words

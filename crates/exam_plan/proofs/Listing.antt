@@ -1,16 +1,13 @@
 -- The list of the dead halls: one set after the other, each hall once.
+use Rattle.exam_plan.proofs.Words.{range_with_len, list_any, AllByRecursion, IsDistinct, IsStrictlySortedBy, nat_cmp}
+use Rattle.exam_plan.proofs.Words.{cases_Bool, eq-eqb, or_cases, or_left, or_right, length-append, length-filter, holds}
+use Rattle.exam_plan.proofs.Words.{halls_below, IsMarked}
 use Rattle.std.proofs.Common.{◌≡◌, ◌↔◌, ℕ, ◌+◌, ◌<◌, ◌≤◌, Bool, true, false, ◌||◌, List, [], ◌∷◌, ◌++◌, length, nat_eq}
 use Rattle.std.proofs.Common.{refl, sym, ap, ◌∙◌, inl, inr, subst, arith}
 use Rattle.std.specs.Prelude.{Contains, filter}
-use Rattle.std.specs.List.{range_with_len, list_any, AllByRecursion, IsDistinct}
-use Rattle.std.specs.List.Sorted.{IsStrictlySortedBy}
-use Rattle.std.specs.Ordering.{nat_cmp}
-use Rattle.std.proofs.lemmas.Bool.{cases_Bool, eq-eqb, or_cases, or_left, or_right, or_from, or_parts}
-use Rattle.std.proofs.lemmas.List.{length-append, append_assoc}
-use Rattle.std.proofs.lemmas.List.Sums.{length-filter}
+use Rattle.std.proofs.lemmas.Bool.{or_from, or_parts}
+use Rattle.std.proofs.lemmas.List.{append_assoc}
 use Rattle.std.proofs.lemmas.List.Folds.{list_any-append}
-use Rattle.exam_plan.specs.HallSets.{holds, halls_below}
-use Rattle.exam_plan.specs.Searches.{IsMarked}
 use Rattle.exam_plan.proofs.Counting.{bit, count_below, count_by-range, count_below-add, count_below-le-bound}
 use Rattle.exam_plan.proofs.Counting.{count_below-reaches, count_below-none}
 use Rattle.exam_plan.proofs.DrawLemmas.{filter_takes, filter_leaves}

@@ -1,12 +1,9 @@
 -- What a move along a chain leaves: one more in the last hall, and as many as before in each other hall.
+use Rattle.exam_plan.proofs.Words.{cases_eq, eq-eqb, ne_eqb, same_Some, Plan, occupants, size, IsLawful, Leads}
+use Rattle.exam_plan.proofs.Words.{HasFreeDesk, augmented, Problem, seating_of}
 use Rattle.std.proofs.Common.{◌≡◌, ◌≢◌, ℕ, ◌+◌, ◌<◌, ◌≤◌, Bool, cond, IsTrue, List, [], ◌∷◌, length, get_or, Option}
 use Rattle.std.proofs.Common.{None, Some, IsSome, IfSome, is_some, nat_eq, ◌⊎◌, refl, sym, ap, ◌∙◌, inl, inr, subst}
 use Rattle.std.proofs.Common.{arith}
-use Rattle.std.proofs.lemmas.Bool.{cases_eq, eq-eqb, ne_eqb}
-use Rattle.std.proofs.lemmas.Option.{same_Some}
-use Rattle.exam_plan.specs.Matching.{Plan, occupants, size, IsLawful}
-use Rattle.exam_plan.specs.Chains.{Leads, HasFreeDesk, augmented}
-use Rattle.exam_plan.specs.Problems.{Problem, seating_of}
 use Rattle.exam_plan.proofs.Counting.{bit, count_below, count_below-point, sits_at}
 use Rattle.exam_plan.proofs.Seatings.{length-occupants, size-count, below-member, fits_member}
 

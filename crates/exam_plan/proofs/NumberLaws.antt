@@ -1,13 +1,11 @@
 -- Desk numbers are distinct in a hall and at most its desks.
+use Rattle.exam_plan.proofs.Words.{IsDistinct, option_map, cases_eq, cases_order, cases_Bool, eq-eqb, lt-ltb, le-ltb}
+use Rattle.exam_plan.proofs.Words.{ltb-true, same_Some, Plan, is_hall, occupants, desk_number, IsLawful, Problem}
+use Rattle.exam_plan.proofs.Words.{IsProblem, seating_of}
 use Rattle.std.proofs.Common.{◌≡◌, ◌≢◌, ℕ, zero, suc, ◌+◌, ◌<◌, ◌≤◌, Bool, true, false, List, length, get_or, count_by}
 use Rattle.std.proofs.Common.{Some, is_some, nat_eq, nat_lt, refl, sym, ap, ◌∙◌, inl, inr, arith}
-use Rattle.std.specs.List.{IsDistinct}
-use Rattle.std.specs.Option.{option_map}
-use Rattle.std.proofs.lemmas.Bool.{cases_eq, cases_order, cases_Bool, eq-eqb, lt-ltb, le-ltb, ltb-true}
-use Rattle.std.proofs.lemmas.Option.{same_Some}
 use Rattle.std.proofs.lemmas.Map.Keys.{apart_from_distinct}
-use Rattle.exam_plan.specs.Matching.{Plan, is_hall, occupants, desk_number, IsLawful}
-use Rattle.exam_plan.specs.Problems.{Problem, IsProblem, seating_of, ranks_before}
+use Rattle.exam_plan.specs.Problems.{ranks_before}
 use Rattle.exam_plan.proofs.Counting.{bit, count_below, count_below-same, sum_below, sum_below-le, sits_at, bit_le}
 use Rattle.exam_plan.proofs.Seatings.{is_hall-sits_at, length-occupants, member-below}
 use Rattle.exam_plan.proofs.ShortOfDesks.{sum_by-passing}

@@ -1,11 +1,8 @@
 -- A plan has one repair, where the orders tell candidates and halls apart.
+use Rattle.exam_plan.proofs.Words.{IsTotalOrder, fun_ext, Seating, Plan, SamePlan, Chain, augmented, TurnFrom, Sweeps}
+use Rattle.exam_plan.proofs.Words.{kept_part, sweep_order, IsRepair}
 use Rattle.std.proofs.Common.{◌≡◌, List, [], ◌∷◌, Option, None, Some, inl, inr, sym, ap, subst, ◌∙◌}
-use Rattle.std.specs.Cmp.{IsTotalOrder}
 use Rattle.std.specs.FinMap.{IsAntisymmetric}
-use Rattle.std.proofs.Math.Path.{fun_ext}
-use Rattle.exam_plan.specs.Matching.{Seating, Plan, SamePlan}
-use Rattle.exam_plan.specs.Chains.{Chain, augmented}
-use Rattle.exam_plan.specs.Repair.{TurnFrom, Sweeps, kept_part, sweep_order, IsRepair}
 use Rattle.exam_plan.proofs.LeastChains.{least_chain_is_one}
 
 module _ {C H : Type 0} (g : Seating C H) (candidates : IsTotalOrder g.candidate_cmp) (halls : IsTotalOrder g.hall_cmp)

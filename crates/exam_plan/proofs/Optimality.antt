@@ -1,11 +1,9 @@
 -- A plan with a closed set of full halls is best: those who sit outside the set can be no more, and the
 -- set's desks are all taken.
+use Rattle.exam_plan.proofs.Words.{cases_Bool, and_parts, IfSome_then, Plan, occupants, size, IsLawful, Problem}
+use Rattle.exam_plan.proofs.Words.{IsProblem, seating_of}
 use Rattle.std.proofs.Common.{◌≡◌, ℕ, ◌+◌, ◌<◌, ◌≤◌, Bool, true, false, not, ◌&&◌, IsTrue, length, get_or, Option, None}
 use Rattle.std.proofs.Common.{Some, IfSome, is_some, refl, sym, ap, ◌∙◌, inl, inr, arith}
-use Rattle.std.proofs.lemmas.Bool.{cases_Bool, and_parts}
-use Rattle.std.proofs.lemmas.Option.{IfSome_then}
-use Rattle.exam_plan.specs.Matching.{Plan, occupants, size, IsLawful}
-use Rattle.exam_plan.specs.Problems.{Problem, IsProblem, seating_of}
 use Rattle.exam_plan.proofs.Counting.{bit, count_below, count_below-le, count_below-lt, count_below-add, sum_below}
 use Rattle.exam_plan.proofs.Counting.{sum_below-le, sum_below-same, sits_within, sits_at, counted_twice, bit_le}
 use Rattle.exam_plan.proofs.Seatings.{length-occupants, size-count, lawful_exists}

@@ -1,16 +1,14 @@
 -- A plan by indices, read by names, is lawful and best where it was so by indices.
+use Rattle.exam_plan.proofs.Words.{option_map, option_and_then, length-filter, cases_eq, false_from_ne_true}
+use Rattle.exam_plan.proofs.Words.{IfSome_then, same_Some, Naming, named_plan, indexed_plan, Plan, IsLawful, IsBest}
+use Rattle.exam_plan.proofs.Words.{is_hall, occupants, size}
 use Rattle.std.proofs.Common.{◌≡◌, ℕ, ◌+◌, ◌≤◌, ◌↔◌, Bool, true, false, cond, IsTrue, length, map, count_by, Contains}
 use Rattle.std.proofs.Common.{Option, None, Some, IsSome, IfSome, is_some, nat_eq, eq-eqb, ◌⊎◌, inl, inr, refl, sym, ap}
 use Rattle.std.proofs.Common.{subst, ◌∙◌, arith, map-id}
-use Rattle.std.specs.Option.{option_map, option_and_then}
 use Rattle.std.specs.Cmp.{both_ways}
-use Rattle.std.proofs.lemmas.List.Sums.{length-filter}
 use Rattle.std.proofs.lemmas.List.Folds.{fold_stays}
-use Rattle.std.proofs.lemmas.Bool.{cases_eq, false_from_ne_true}
 use Rattle.std.proofs.lemmas.Map.Views.{exact_unsigned_eq}
-use Rattle.std.proofs.lemmas.Option.{IfSome_then, same_Some}
-use Rattle.exam_plan.specs.Naming.{Naming, named_plan, at_index, indexed_plan}
-use Rattle.exam_plan.specs.Matching.{Plan, IsLawful, IsBest, is_hall, occupants, size}
+use Rattle.exam_plan.specs.Naming.{at_index}
 use Rattle.exam_plan.proofs.Small.{of_members, count_same}
 
 -- candidates and halls of a have names in b, and positions back

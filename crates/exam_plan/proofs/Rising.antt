@@ -1,18 +1,13 @@
 -- Lists that rise: the numbers below a bound that pass a test, and lists with the same elements.
+use Rattle.exam_plan.proofs.Words.{range_with_len, list_any, AllByRecursion, IsStrictlySortedBy, nat_cmp, nat_cmp_is}
+use Rattle.exam_plan.proofs.Words.{Less, cases_eq, cases_lt, eq-eqb, ne_eqb, eqb-true, All-filter, All-from_get_or}
+use Rattle.exam_plan.proofs.Words.{list_any_at, Any-from_list_any, length-range_with_len, get_or-range_with_len}
 use Rattle.std.proofs.Common.{◌≡◌, ℕ, zero, suc, ◌+◌, ◌<◌, Bool, true, false, cond, ◌||◌, List, [], ◌∷◌, ◌++◌, get_or}
 use Rattle.std.proofs.Common.{nat_eq, refl, sym, ap, ◌∙◌, inl, inr, subst, arith, zero-add}
 use Rattle.std.specs.Prelude.{All, Contains, filter}
-use Rattle.std.specs.List.{range_with_len, list_any, AllByRecursion}
-use Rattle.std.specs.List.Sorted.{IsStrictlySortedBy}
-use Rattle.std.specs.Ordering.{nat_cmp}
-use Rattle.std.specs.Cmp.{nat_cmp_is}
-use Rattle.std.specs.declared.cmp.Ordering.TheVariants.{Less}
-use Rattle.std.proofs.lemmas.Bool.{cases_eq, cases_lt, eq-eqb, ne_eqb, eqb-true}
-use Rattle.std.proofs.lemmas.List.Elements.{All-filter, All-contains, All-from_get_or, filter_passes, filter-append}
+use Rattle.std.proofs.lemmas.List.Elements.{All-contains, filter_passes, filter-append}
 use Rattle.std.proofs.lemmas.List.Elements.{Contains-push, Contains-append_left}
-use Rattle.std.proofs.lemmas.List.Folds.{list_any_at, Any-from_list_any}
 use Rattle.std.proofs.lemmas.List.Kept.{IsStrictlySortedBy-filter}
-use Rattle.std.proofs.lemmas.List.FromFn.{length-range_with_len, get_or-range_with_len}
 use Rattle.std.proofs.lemmas.Cmp.{ranked}
 use Rattle.exam_plan.proofs.Counting.{range_more}
 use Rattle.exam_plan.proofs.Seatings.{listed_below}

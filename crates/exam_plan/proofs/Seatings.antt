@@ -1,16 +1,11 @@
 -- The seating of a problem: its counts, and what fits.
+use Rattle.exam_plan.proofs.Words.{range_with_len, list_any, AllByRecursion, cases_lt, or_cases, eqb-true, get_or_past}
+use Rattle.exam_plan.proofs.Words.{length-range_with_len, get_or-range_with_len, All-get_or, recursion_from_All}
+use Rattle.exam_plan.proofs.Words.{length-filter, IfSome_then, Plan, is_hall, occupants, unseated, size, IsLawful}
+use Rattle.exam_plan.proofs.Words.{Problem, IsProblem, seating_of}
 use Rattle.std.proofs.Common.{◌≡◌, ℕ, ◌+◌, ◌<◌, true, false, IsTrue, List, [], ◌∷◌, length, get_or, Option, None, Some}
 use Rattle.std.proofs.Common.{IfSome, is_some, is_none, nat_eq, refl, sym, ap, ◌∙◌, inl, inr, arith}
 use Rattle.std.specs.Prelude.{All, Contains}
-use Rattle.std.specs.List.{range_with_len, list_any, AllByRecursion}
-use Rattle.std.proofs.lemmas.Bool.{cases_lt, or_cases, eqb-true}
-use Rattle.std.proofs.lemmas.List.{get_or_past}
-use Rattle.std.proofs.lemmas.List.FromFn.{length-range_with_len, get_or-range_with_len}
-use Rattle.std.proofs.lemmas.List.Elements.{All-get_or, recursion_from_All}
-use Rattle.std.proofs.lemmas.List.Sums.{length-filter}
-use Rattle.std.proofs.lemmas.Option.{IfSome_then}
-use Rattle.exam_plan.specs.Matching.{Plan, is_hall, occupants, unseated, size, IsLawful}
-use Rattle.exam_plan.specs.Problems.{Problem, IsProblem, seating_of}
 use Rattle.exam_plan.proofs.Counting.{bit, count_below, count_by-range, count_below-same, sits_at}
 
 pub is_hall-sits_at : (p : Problem) (h : ℕ) (o : Option ℕ) → is_hall (seating_of p) h o ≡ sits_at h o

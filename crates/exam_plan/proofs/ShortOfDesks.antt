@@ -1,19 +1,14 @@
 -- The closed set of a best plan: a deficiency certificate, and exactly the contested candidates.
+use Rattle.exam_plan.proofs.Words.{range_with_len, IsStrictlySortedBy, nat_cmp, cases_eq, cases_lt, cases_Bool, eq-eqb}
+use Rattle.exam_plan.proofs.Words.{ne_eqb, length-filter, same_Some, Plan, occupants, unseated, size, IsLawful, IsBest}
+use Rattle.exam_plan.proofs.Words.{IsCertificate, IsContested, HasFreeDesk, augmented, Problem, IsProblem, seating_of}
+use Rattle.exam_plan.proofs.Words.{IsMarked, Draws, is_drawn}
 use Rattle.std.proofs.Common.{◌≡◌, ◌≢◌, ℕ, zero, suc, ◌+◌, ◌<◌, ◌≤◌, ◌↔◌, Bool, true, false, cond, IsTrue, List, []}
 use Rattle.std.proofs.Common.{◌∷◌, ◌++◌, length, get_or, Option, None, Some, IsSome, IfSome, is_some, is_none, nat_eq}
 use Rattle.std.proofs.Common.{◌⊎◌, refl, sym, ap, ◌∙◌, inl, inr, subst, arith, zero-add}
 use Rattle.std.specs.Prelude.{Contains, filter, sum_by}
-use Rattle.std.specs.List.{range_with_len}
-use Rattle.std.specs.List.Sorted.{IsStrictlySortedBy}
-use Rattle.std.specs.Ordering.{nat_cmp}
-use Rattle.std.proofs.lemmas.Bool.{cases_eq, cases_lt, cases_Bool, eq-eqb, ne_eqb}
 use Rattle.std.proofs.lemmas.List.Elements.{All-contains_itself}
-use Rattle.std.proofs.lemmas.List.Sums.{length-filter, sum_by-append}
-use Rattle.std.proofs.lemmas.Option.{same_Some}
-use Rattle.exam_plan.specs.Matching.{Plan, occupants, unseated, size, IsLawful, IsBest, IsCertificate, IsContested}
-use Rattle.exam_plan.specs.Chains.{HasFreeDesk, augmented}
-use Rattle.exam_plan.specs.Problems.{Problem, IsProblem, seating_of}
-use Rattle.exam_plan.specs.Searches.{IsMarked, Draws, is_drawn}
+use Rattle.std.proofs.lemmas.List.Sums.{sum_by-append}
 use Rattle.exam_plan.proofs.Counting.{bit, count_below, count_below-add, count_below-point, count_by-range, sum_below}
 use Rattle.exam_plan.proofs.Counting.{sits_within, sits_at}
 use Rattle.exam_plan.proofs.Rising.{next_filter, passing, passes_in, filter_sorted}

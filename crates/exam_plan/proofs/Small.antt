@@ -1,15 +1,10 @@
 -- Small facts that several proofs share: the value of an option, two orders that decide in turn, and what holds of each
 -- element of a list.
+use Rattle.exam_plan.proofs.Words.{Ordering, Less, Equal, Greater, ordering_then, AllByRecursion, length-map}
+use Rattle.exam_plan.proofs.Words.{All-filter, All-from_recursion, recursion_from_All, length-filter}
 use Rattle.std.proofs.Common.{◌≡◌, Bool, true, false, cond, List, [], ◌∷◌, length, map, filter, count_by, Contains}
 use Rattle.std.proofs.Common.{Option, None, Some, IsSome, IfSome, refl, sym, ap, subst, ◌∙◌}
-use Rattle.std.specs.declared.cmp.Ordering.{Ordering}
-use Rattle.std.specs.declared.cmp.Ordering.TheVariants.{Less, Equal, Greater}
-use Rattle.std.specs.Ordering.{ordering_then}
-use Rattle.std.specs.List.{AllByRecursion}
-use Rattle.std.proofs.lemmas.List.{length-map}
-use Rattle.std.proofs.lemmas.List.Elements.{All-contains_itself, All-filter, All-from_recursion, All-weaker}
-use Rattle.std.proofs.lemmas.List.Elements.{recursion_from_All}
-use Rattle.std.proofs.lemmas.List.Sums.{length-filter}
+use Rattle.std.proofs.lemmas.List.Elements.{All-contains_itself, All-weaker}
 
 -- ---- options
 

@@ -1,19 +1,16 @@
 -- The steps of the searches' loops.
+use Rattle.exam_plan.proofs.Words.{All-get_or, cases_eq, cases_lt, cases_Bool, or_cases, or_left, or_right, and_parts}
+use Rattle.exam_plan.proofs.Words.{and_from, eq-eqb, ne_eqb, get_or-set_same, get_or-set_other, get_or_past}
+use Rattle.exam_plan.proofs.Words.{length-append, get_or_default, holds, Plan, occupants, HasFreeDesk, LeadsTo, Problem}
+use Rattle.exam_plan.proofs.Words.{IsProblem, IsPlan, plan_at, seating_of, IsMarked, MarksAll, Reaches, CanReach}
+use Rattle.exam_plan.proofs.Words.{AreInward, AreOnward, count_at}
 use Rattle.std.proofs.Common.{◌≡◌, ◌≢◌, ℕ, zero, suc, ◌+◌, ◌<◌, ◌≤◌, ◌↔◌, Bool, true, false, not, ◌&&◌, ◌||◌, cond}
 use Rattle.std.proofs.Common.{IsTrue, List, [], ◌∷◌, ◌++◌, length, get_or, set, Option, None, Some, IfSome, is_some}
 use Rattle.std.proofs.Common.{nat_eq, ◌⊎◌, refl, sym, ap, ◌∙◌, inl, inr, subst, arith}
 use Rattle.std.specs.Prelude.{All, MatchOption}
-use Rattle.std.proofs.lemmas.List.Elements.{All-get_or, All-set}
+use Rattle.std.proofs.lemmas.List.Elements.{All-set}
 use Rattle.std.specs.Option.{option_map_or}
-use Rattle.std.proofs.lemmas.Bool.{cases_eq, cases_lt, cases_Bool, or_cases, or_left, or_right, and_parts, and_from}
-use Rattle.std.proofs.lemmas.Bool.{eq-eqb, ne_eqb}
-use Rattle.std.proofs.lemmas.List.{get_or-set_same, get_or-set_other, get_or_past, length-append, get_or_default}
-use Rattle.exam_plan.specs.HallSets.{holds}
-use Rattle.exam_plan.specs.Matching.{Plan, occupants}
-use Rattle.exam_plan.specs.Chains.{HasFreeDesk, LeadsTo}
-use Rattle.exam_plan.specs.Problems.{Problem, IsProblem, IsPlan, plan_at, seating_of}
-use Rattle.exam_plan.specs.Searches.{IsMarked, MarksAll, IsTouching, Reaches, CanReach, AreLayers, AreInward, AreOnward}
-use Rattle.exam_plan.specs.Searches.{IsLeastHall, IsLeastMover, IsAdvanced, count_at}
+use Rattle.exam_plan.specs.Searches.{IsTouching, AreLayers, IsLeastHall, IsLeastMover, IsAdvanced}
 use Rattle.exam_plan.proofs.Counting.{bit, count_below, count_below-same, count_by-range, count_below-more}
 use Rattle.exam_plan.proofs.Counting.{count_below-lt, count_below-le-bound, sits_at, bit_le}
 use Rattle.exam_plan.proofs.Seatings.{fits_below}

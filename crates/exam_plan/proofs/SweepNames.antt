@@ -1,19 +1,14 @@
 -- Turns and sweeps by indices are those by names, and the other way round, for two seatings, one a renaming of the
 -- other.
+use Rattle.exam_plan.proofs.Words.{AllByRecursion, option_map, option_and_then, All-from_recursion, recursion_from_All}
+use Rattle.exam_plan.proofs.Words.{same_Some, false_from_ne_true, fun_ext, Naming, named_plan, Plan, SamePlan, Chain}
+use Rattle.exam_plan.proofs.Words.{Leads, IsLeastChain, augmented, TurnFrom, Turn, Sweeps, sweep_order, IsSweep}
 use Rattle.std.proofs.Common.{◌≡◌, ℕ, Bool, true, false, cond, not, List, [], ◌∷◌, ◌++◌, map, filter, Contains, Option}
 use Rattle.std.proofs.Common.{None, Some, IfSome, inl, inr, refl, sym, ap, subst, ◌∙◌}
-use Rattle.std.specs.List.{AllByRecursion}
-use Rattle.std.specs.Option.{option_map, option_and_then}
 use Rattle.std.specs.Cmp.{both_ways}
 use Rattle.std.proofs.lemmas.List.{map-append}
-use Rattle.std.proofs.lemmas.List.Elements.{All-append, All-from_recursion, recursion_from_All}
-use Rattle.std.proofs.lemmas.Option.{same_Some}
-use Rattle.std.proofs.lemmas.Bool.{false_from_ne_true}
-use Rattle.std.proofs.Math.Path.{fun_ext}
-use Rattle.exam_plan.specs.Naming.{Naming, named_plan}
-use Rattle.exam_plan.specs.Matching.{Plan, SamePlan}
-use Rattle.exam_plan.specs.Chains.{Chain, Leads, IsLeastChain, seated, augmented}
-use Rattle.exam_plan.specs.Repair.{TurnFrom, Turn, Sweeps, sweep_order, IsSweep}
+use Rattle.std.proofs.lemmas.List.Elements.{All-append}
+use Rattle.exam_plan.specs.Chains.{seated}
 use Rattle.exam_plan.proofs.Renaming.{Renames, named_member}
 use Rattle.exam_plan.proofs.ChainNames.{named_hop, named_chain, Follows, AreKnown, IsKnownHop, hops_known}
 use Rattle.exam_plan.proofs.ChainNames.{IsChain-named, IsLeastChain-named, IsLeastChain-indexed, no_chain-named}

@@ -1,9 +1,8 @@
 -- The turns of a sweep, one after the other.
+use Rattle.exam_plan.proofs.Words.{holds, Problem, plan_at, seating_of, ListsDead}
 use Rattle.std.proofs.Common.{◌≡◌, ℕ, ◌+◌, ◌<◌, List, [], length, Option, None, Some, refl, sym, subst}
 use Rattle.exam_plan.specs.declared.turns.Progress.{Progress}
-use Rattle.exam_plan.specs.HallSets.{holds}
-use Rattle.exam_plan.specs.Problems.{Problem, plan_at, seating_of}
-use Rattle.exam_plan.specs.Repair.{ListsDead, SweepsDead}
+use Rattle.exam_plan.specs.Repair.{SweepsDead}
 use Rattle.exam_plan.specs.Searches.{IsKept, IsNextTurn}
 use Rattle.exam_plan.proofs.Sweeping.{IsSwept, SweepsDead-push, done, done_more, done_same, first_done, swept_none}
 use Rattle.exam_plan.proofs.Sweeping.{swept_first, swept_more, swept_skip}

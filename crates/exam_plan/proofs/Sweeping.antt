@@ -1,17 +1,14 @@
 -- A sweep so far, and at its end.
+use Rattle.exam_plan.proofs.Words.{range_with_len, cases_eq, cases_lt, eq-eqb, ne_eqb, eqb-true, same_Some, IfSome_then}
+use Rattle.exam_plan.proofs.Words.{Seating, Plan, occupants, IsLawful, IsBest, IsContested, IsSweep, ListsDead, Sweeps}
+use Rattle.exam_plan.proofs.Words.{Turn, Problem, IsProblem, seating_of, LeadsTo, IsMarked, IsSettled, Draws, is_drawn}
 use Rattle.std.proofs.Common.{◌≡◌, ℕ, zero, suc, ◌+◌, ◌<◌, ◌≤◌, Bool, true, false, not, cond, IsTrue, List, [], ◌∷◌}
 use Rattle.std.proofs.Common.{◌++◌, length, get_or, Option, None, Some, IsSome, IfSome, is_some, nat_eq, refl, sym, ap}
 use Rattle.std.proofs.Common.{◌∙◌, inl, inr, subst, arith, append-nil, append_assoc}
 use Rattle.std.specs.Prelude.{filter, Contains, ◌↔◌}
 use Rattle.std.specs.Option.{option_eq}
-use Rattle.std.specs.List.{range_with_len}
-use Rattle.std.proofs.lemmas.Bool.{cases_eq, cases_lt, eq-eqb, ne_eqb, eqb-true}
-use Rattle.std.proofs.lemmas.Option.{same_Some, IfSome_then}
-use Rattle.exam_plan.specs.Matching.{Seating, Plan, occupants, IsLawful, IsBest, IsContested}
-use Rattle.exam_plan.specs.Repair.{IsDeadList, IsSweep, ListsDead, Sweeps, SweepsDead, Turn}
-use Rattle.exam_plan.specs.Problems.{Problem, IsProblem, seating_of}
-use Rattle.exam_plan.specs.Chains.{LeadsTo}
-use Rattle.exam_plan.specs.Searches.{IsMarked, AreClosed, IsSettled, IsTraced, Draws, is_drawn}
+use Rattle.exam_plan.specs.Repair.{IsDeadList, SweepsDead}
+use Rattle.exam_plan.specs.Searches.{AreClosed, IsTraced}
 use Rattle.exam_plan.proofs.Counting.{range_next}
 use Rattle.exam_plan.proofs.Seatings.{fits_member, fits_below}
 use Rattle.exam_plan.proofs.Optimality.{drawn_in, closed_is_greatest}

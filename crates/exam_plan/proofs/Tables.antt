@@ -1,21 +1,16 @@
 -- The table of how many occupants of each hall each hall fits.
+use Rattle.exam_plan.proofs.Words.{cases_eq, cases_lt, cases_Bool, and_parts, and_from, eq-eqb, ne_eqb, eqb-true}
+use Rattle.exam_plan.proofs.Words.{or_cases, or_left, or_right, get_or-set_same, get_or-set_other, get_or_past}
+use Rattle.exam_plan.proofs.Words.{length-set, same_Some, Tally, holds, one_if, tally_of, Plan, Problem, IsPlan}
+use Rattle.exam_plan.proofs.Words.{plan_at, seating_of, IsMarked, AreInward, AreOnward, no_digits, tally_at}
 use Rattle.std.proofs.Common.{◌≡◌, ◌≢◌, ℕ, zero, suc, ◌+◌, ◌<◌, ◌≤◌, ◌↔◌, Bool, true, false, not, ◌&&◌, ◌||◌, cond}
 use Rattle.std.proofs.Common.{IsTrue, List, length, get_or, set, Option, None, Some, nat_eq, refl, sym, ap, ◌∙◌, inl}
 use Rattle.std.proofs.Common.{inr, subst, arith}
 use Rattle.std.specs.Option.{option_map_or}
-use Rattle.std.proofs.lemmas.Bool.{cases_eq, cases_lt, cases_Bool, and_parts, and_from, eq-eqb, ne_eqb, eqb-true}
-use Rattle.std.proofs.lemmas.Bool.{or_cases, or_left, or_right}
-use Rattle.std.proofs.lemmas.List.{get_or-set_same, get_or-set_other, get_or_past, length-set}
-use Rattle.std.proofs.lemmas.Option.{same_Some}
 use Rattle.std.proofs.Math.Bool.{and-true}
 use Rattle.exam_plan.specs.declared.onward.Onward.{Onward}
-use Rattle.exam_plan.specs.declared.tally.Tally.{Tally}
-use Rattle.exam_plan.specs.HallSets.{holds}
-use Rattle.exam_plan.specs.Tallies.{IsWhole, one_if, tally_of}
-use Rattle.exam_plan.specs.Matching.{Plan}
-use Rattle.exam_plan.specs.Problems.{Problem, IsPlan, plan_at, seating_of}
-use Rattle.exam_plan.specs.Searches.{IsMarked, AreInward, AreOnward, IsShaped, IsTable, IsOnward, IsEntered, IsLeft}
-use Rattle.exam_plan.specs.Searches.{is_fitting_occupant, fitting_count, no_digits, tally_at}
+use Rattle.exam_plan.specs.Tallies.{IsWhole}
+use Rattle.exam_plan.specs.Searches.{IsShaped, IsTable, IsOnward, IsEntered, IsLeft, is_fitting_occupant, fitting_count}
 use Rattle.exam_plan.proofs.Counting.{bit, count_below, count_by-range, count_below-more, count_below-le-bound}
 use Rattle.exam_plan.proofs.Counting.{count_below-point}
 use Rattle.exam_plan.proofs.HallBits.{holds_empty}

@@ -1,11 +1,10 @@
 -- Counting by binary digits, all halls of a set at once.
+use Rattle.exam_plan.proofs.Words.{cases_lt, cases_Bool, or_cases, or_left, or_right, lt-ltb, le-ltb, holds, Tally}
+use Rattle.exam_plan.proofs.Words.{one_if, tally_of}
 use Rattle.std.proofs.Common.{◌≡◌, ℕ, zero, suc, ◌+◌, ◌-◌, ◌*◌, ◌^◌, ◌<◌, ◌≤◌, ◌↔◌, Bool, true, false, not, cond, ◌&&◌}
 use Rattle.std.proofs.Common.{◌||◌, List, [], ◌∷◌, length, replicate, get_or, set, refl, sym, ap, ◌∙◌, inl, inr, arith}
-use Rattle.std.proofs.lemmas.Bool.{cases_lt, cases_Bool, or_cases, or_left, or_right, lt-ltb, le-ltb}
 use Rattle.std.proofs.Math.Bool.{and_comm}
-use Rattle.exam_plan.specs.HallSets.{holds}
-use Rattle.exam_plan.specs.declared.tally.Tally.{Tally}
-use Rattle.exam_plan.specs.Tallies.{one_if, tallied, tally_of}
+use Rattle.exam_plan.specs.Tallies.{tallied}
 use Rattle.exam_plan.proofs.HallBits.{holds_empty, in_low, in_high}
 
 -- what a one at this digit adds

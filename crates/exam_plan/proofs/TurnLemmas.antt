@@ -1,22 +1,16 @@
 -- What one turn of the sweep keeps.
+use Rattle.exam_plan.proofs.Words.{cases_eq, cases_lt, eq-eqb, ne_eqb, eqb-true, ltb-true, lt-ltb, or_cases, or_left}
+use Rattle.exam_plan.proofs.Words.{or_right, and_from, and_parts, get_or_default, same_Some, IsStrictlySortedBy}
+use Rattle.exam_plan.proofs.Words.{nat_cmp, holds, halls_below, Plan, occupants, IsLawful, Chain, HasFreeDesk, Leads}
+use Rattle.exam_plan.proofs.Words.{IsChain, augmented, LeadsTo, ListsDead, Turn, TurnFrom, Problem, seating_of, plan_at}
+use Rattle.exam_plan.proofs.Words.{IsMarked, MarksAll, CanReach, IsSettled, count_at}
 use Rattle.std.proofs.Common.{append-nil, ◌++◌, ◌≡◌, ◌⊎◌, ℕ, zero, suc, ◌+◌, ◌<◌, ◌||◌, ◌&&◌, not, Bool, true}
 use Rattle.std.proofs.Common.{false, cond, IsTrue, List, [], ◌∷◌, length, get_or, set, nat_eq, nat_lt, Option, None}
 use Rattle.std.proofs.Common.{Some, IsSome, is_some, refl, sym, ap, ◌∙◌, inl, inr, subst, arith}
-use Rattle.std.proofs.lemmas.Bool.{cases_eq, cases_lt, eq-eqb, ne_eqb, eqb-true, ltb-true, lt-ltb, or_cases, or_left}
-use Rattle.std.proofs.lemmas.Bool.{or_right, and_from, and_parts}
-use Rattle.std.proofs.lemmas.List.{get_or_default}
-use Rattle.std.proofs.lemmas.Option.{same_Some}
 use Rattle.std.proofs.Math.Bool.{not-not}
 use Rattle.std.specs.Prelude.{Contains, ◌↔◌}
-use Rattle.std.specs.List.Sorted.{IsStrictlySortedBy}
-use Rattle.std.specs.Ordering.{nat_cmp}
-use Rattle.exam_plan.specs.HallSets.{holds, halls_below}
-use Rattle.exam_plan.specs.Matching.{Plan, occupants, IsLawful}
-use Rattle.exam_plan.specs.Chains.{Chain, HasFreeDesk, Leads, IsChain, augmented, LeadsTo}
-use Rattle.exam_plan.specs.Repair.{AreNewlyDead, ListsDead, ListsDeadFrom, Turn, TurnFrom}
-use Rattle.exam_plan.specs.Problems.{Problem, seating_of, plan_at}
-use Rattle.exam_plan.specs.Searches.{IsMarked, MarksAll, IsWithin, IsTraced, CanReach, IsAdvanced, AreClosed, IsSettled}
-use Rattle.exam_plan.specs.Searches.{TakesLeast, count_at}
+use Rattle.exam_plan.specs.Repair.{AreNewlyDead, ListsDeadFrom}
+use Rattle.exam_plan.specs.Searches.{IsWithin, IsTraced, IsAdvanced, AreClosed, TakesLeast}
 use Rattle.exam_plan.proofs.Counting.{bit}
 use Rattle.exam_plan.proofs.Rising.{passing, passes_in, filter_sorted}
 use Rattle.exam_plan.proofs.Seatings.{length-occupants}

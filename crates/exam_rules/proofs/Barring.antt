@@ -1,12 +1,10 @@
 -- A hall is barred exactly if some granted appeal asks for another hall.
+use Rattle.exam_rules.proofs.Words.{list_any, Appeal, Code, same_code, head_of}
 use Rattle.std.proofs.Common.{◌≡◌, ℕ, List, [], ◌∷◌, Bool, true, false, refl, is_some}
 use Rattle.std.specs.Prelude.{filter_map}
-use Rattle.std.specs.List.{list_any}
-use Rattle.exam_rules.specs.declared.rows.Appeal.{Appeal}
 use Rattle.exam_rules.specs.declared.rows.Subject.TheVariants as subject
-use Rattle.exam_rules.specs.Relations.{Code, same_code}
 use Rattle.exam_rules.specs.Granted.{Subject, barred_by, first_made}
-use Rattle.exam_rules.specs.Sessions.{asked_hall, barred_halls_in, granted_subjects, head_of}
+use Rattle.exam_rules.specs.Sessions.{asked_hall, barred_halls_in, granted_subjects}
 
 any_of : (h : Code) (asked : List Subject)
     → list_any (same_code h) (filter_map asked_hall asked) ≡ is_some (head_of (filter_map (barred_by h) asked))

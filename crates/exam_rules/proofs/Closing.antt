@@ -1,28 +1,17 @@
 -- What changes of openings change in the lists: those of halls alone. That of the session of a hall that is closed is
 -- without it.
+use Rattle.exam_rules.proofs.Words.{Global, is_at, IsTotalOrder, on_total, then_total, nat_list_cmp_total}
+use Rattle.exam_rules.proofs.Words.{AllByRecursion, IsStrictlySortedBy, keys_of, Less, is_eq, nat_cmp, tied_itself}
+use Rattle.exam_rules.proofs.Words.{IsStrictlySortedBy-filter, sorted_head, sorted_tail, exact_bytes, exact_pairs}
+use Rattle.exam_rules.proofs.Words.{Entrant, SessionLists, Opening, AreListsOf, entrants, listed, AreInOrder, Openings}
+use Rattle.exam_rules.proofs.Words.{Code, Relations, code_cmp, opening_cmp, same_code, open_halls}
 use Rattle.std.proofs.Common.{◌≡◌, not, Bool, true, false, cond, List, [], ◌∷◌, filter, map, Vec, refl, ap, sym, subst}
 use Rattle.std.proofs.Common.{◌∙◌}
-use Rattle.std.specs.Global.{Global}
-use Rattle.std.specs.BTreeMap.{BTreeMap, is_at}
-use Rattle.std.specs.Cmp.{Equal-is, IsTotalOrder, on_total, then_total}
-use Rattle.std.specs.Cmp.Lexicographic.{nat_list_cmp_total}
-use Rattle.std.specs.List.{AllByRecursion}
-use Rattle.std.specs.List.Sorted.{IsStrictlySortedBy}
-use Rattle.std.specs.Map.{keys_of}
-use Rattle.std.specs.declared.cmp.Ordering.TheVariants.{Less}
-use Rattle.std.specs.Ordering.{is_eq, nat_cmp}
-use Rattle.std.proofs.lemmas.Cmp.{tied_itself}
-use Rattle.std.proofs.lemmas.List.Kept.{IsStrictlySortedBy-filter}
-use Rattle.std.proofs.lemmas.Map.Keys.{sorted_head, sorted_tail}
-use Rattle.std.proofs.lemmas.Map.Lookups.{CmpEqualImpliesEq, exact_bytes, exact_pairs}
-use Rattle.exam_rules.specs.declared.listing.Entrant.{Entrant}
-use Rattle.exam_rules.specs.declared.listing.SessionLists.{SessionLists}
-use Rattle.exam_rules.specs.declared.rows.Opening.{Opening}
-use Rattle.exam_rules.specs.Lists.{AreListsOf, closed, entrants, listed, without_hall}
-use Rattle.exam_rules.specs.Orders.{AreInOrder}
-use Rattle.exam_rules.specs.Tables.{Openings}
-use Rattle.exam_rules.specs.Relations.{Code, Relations, code_cmp, opening_cmp, remove_row, same_code}
-use Rattle.exam_rules.specs.Seatings.{open_halls}
+use Rattle.std.specs.BTreeMap.{BTreeMap}
+use Rattle.std.specs.Cmp.{Equal-is}
+use Rattle.std.proofs.lemmas.Map.Lookups.{CmpEqualImpliesEq}
+use Rattle.exam_rules.specs.Lists.{closed, without_hall}
+use Rattle.exam_rules.specs.Relations.{remove_row}
 use Rattle.exam_rules.specs.Sessions as sessions
 use Rattle.exam_rules.proofs.Listed.{entrants_are_members}
 use Rattle.exam_rules.proofs.Naming.{halls_rise, later_is_other, same_code_exact, same_code_itself}

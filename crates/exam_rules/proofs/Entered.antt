@@ -1,37 +1,27 @@
 -- What an entry that is made live changes in the lists: its candidate is in the list of its session, with the lesser
 -- paper.
+use Rattle.exam_rules.proofs.Words.{option_map, option_map_or, AllByRecursion, cons_option, IsNonDecreasingBy}
+use Rattle.exam_rules.proofs.Words.{IsStrictlySortedBy, keys_of, Ordering, Less, Equal, Greater, IsTotalOrder}
+use Rattle.exam_rules.proofs.Words.{nat_cmp_total, then_total, on_total, nat_list_cmp_total, nat_cmp, MatchOrdering}
+use Rattle.exam_rules.proofs.Words.{ordering_then, is_eq, is_lt, nat_tests, and_parts, ranked, tied_itself, get_or-map}
+use Rattle.exam_rules.proofs.Words.{length-map, IsStrictlySortedBy-filter, Less-from_sorted, sorted_head, sorted_tail}
+use Rattle.exam_rules.proofs.Words.{exact_unsigned_eq, Entry, Paper, Entrant, SessionLists, Code, Relations, code_cmp}
+use Rattle.exam_rules.proofs.Words.{same_code, entry_cmp, opening_cmp, row_at, has_row, has_live_entry, head_of}
+use Rattle.exam_rules.proofs.Words.{is_live_entry, is_paper_of, least_live_paper, ListsRise, AreInOrder, Candidates}
+use Rattle.exam_rules.proofs.Words.{Openings, listed, entrant, entrants, entered, AreListsOf}
 use Rattle.std.proofs.Common.{◌≡◌, ℕ, zero, suc, ◌<◌, ◌≤◌, ◌&&◌, Bool, true, false, cond, List, [], ◌∷◌, length, filter}
 use Rattle.std.proofs.Common.{map, get_or, set, nat_eq, nat_lt, Option, None, Some, is_some, eq-eqb, refl, ap, sym}
 use Rattle.std.proofs.Common.{subst, ◌∙◌, arith}
-use Rattle.std.specs.Option.{option_map, option_map_or}
-use Rattle.std.specs.List.{AllByRecursion, cons_option, insert}
-use Rattle.std.specs.List.Sorted.{IsNonDecreasingBy, IsPartitionPoint, IsStrictlySortedBy}
-use Rattle.std.specs.Map.{keys_of}
+use Rattle.std.specs.List.{insert}
+use Rattle.std.specs.List.Sorted.{IsPartitionPoint}
 use Rattle.std.specs.BTreeMap.{insert_entry}
-use Rattle.std.specs.declared.cmp.Ordering.{Ordering}
-use Rattle.std.specs.declared.cmp.Ordering.TheVariants.{Less, Equal, Greater}
-use Rattle.std.specs.Cmp.{IsTotalOrder, nat_cmp_total, then_total, on_total, unsigned_ties}
-use Rattle.std.specs.Cmp.Lexicographic.{nat_list_cmp_total}
-use Rattle.std.specs.Ordering.{nat_cmp, match_ordering, MatchOrdering, ordering_then, is_eq, is_lt}
-use Rattle.std.proofs.lemmas.Bool.Decides.{nat_tests}
-use Rattle.std.proofs.lemmas.Bool.{and_parts}
-use Rattle.std.proofs.lemmas.Cmp.{ranked, tied_itself}
-use Rattle.std.proofs.lemmas.List.{get_or-map, length-map}
-use Rattle.std.proofs.lemmas.List.Kept.{IsStrictlySortedBy-filter}
-use Rattle.std.proofs.lemmas.Map.Keys.{Less-from_sorted, sorted_head, sorted_tail}
-use Rattle.std.proofs.lemmas.Map.Views.{exact_unsigned_eq}
+use Rattle.std.specs.Cmp.{unsigned_ties}
+use Rattle.std.specs.Ordering.{match_ordering}
 use Rattle.exam_rules.specs.declared.rows.Candidate.{Candidate}
-use Rattle.exam_rules.specs.declared.rows.Entry.{Entry}
-use Rattle.exam_rules.specs.declared.rows.Paper.{Paper}
-use Rattle.exam_rules.specs.declared.listing.Entrant.{Entrant}
-use Rattle.exam_rules.specs.declared.listing.SessionLists.{SessionLists}
-use Rattle.exam_rules.specs.Relations.{Code, Relations, code_cmp, same_code, entry_cmp, opening_cmp, row_at, has_row}
 use Rattle.exam_rules.specs.Relations.{put_row}
-use Rattle.exam_rules.specs.Sessions.{has_live_entry, head_of, is_live_entry, is_paper_of, least_live_paper}
-use Rattle.exam_rules.specs.Names.{ListsRise}
-use Rattle.exam_rules.specs.Orders.{AreInOrder, KeysRise}
-use Rattle.exam_rules.specs.Tables.{Candidates, Entries, Openings}
-use Rattle.exam_rules.specs.Lists.{listed, entrant, entrants, entered, lesser_paper, SetsEntry, MakesLive, AreListsOf}
+use Rattle.exam_rules.specs.Orders.{KeysRise}
+use Rattle.exam_rules.specs.Tables.{Entries}
+use Rattle.exam_rules.specs.Lists.{lesser_paper, SetsEntry, MakesLive}
 use Rattle.exam_rules.proofs.Listed.{listed_with}
 use Rattle.exam_rules.proofs.Naming.{halls_rise}
 use Rattle.exam_rules.proofs.Relisting.{above_same, entries_exact, least_of_other, lists_with, raised}

@@ -1,18 +1,13 @@
 -- Numbers and codes are ordered as their indices, so chains by indices can be read by numbers and codes.
+use Rattle.exam_rules.proofs.Words.{Ordering, Less, Equal, Greater, nat_cmp, ordering_reverse, IsTotalOrder}
+use Rattle.exam_rules.proofs.Words.{nat_cmp_total, nat_cmp_is, nat_list_cmp_total, tied_itself, exact_unsigned_eq, Plan}
+use Rattle.exam_rules.proofs.Words.{Code, Relations, code_cmp, naming, number_at, hall_at, hall_index, ListsRise}
 use Rattle.std.proofs.Common.{◌≡◌, ℕ, Contains, Some, inl, inr, sym, ap, ◌∙◌, eq-eqb}
-use Rattle.std.specs.declared.cmp.Ordering.{Ordering}
-use Rattle.std.specs.declared.cmp.Ordering.TheVariants.{Less, Equal, Greater}
-use Rattle.std.specs.Ordering.{nat_cmp, ordering_reverse}
-use Rattle.std.specs.Cmp.{IsTotalOrder, nat_cmp_total, nat_cmp_is}
-use Rattle.std.specs.Cmp.Lexicographic.{nat_list_cmp_total}
 use Rattle.std.proofs.lemmas.Bool.{cases_order}
-use Rattle.std.proofs.lemmas.Cmp.{tied_itself}
-use Rattle.std.proofs.lemmas.Map.Views.{exact_unsigned_eq}
 use Rattle.std.proofs.lemmas.Option.{IfSome_then}
-use Rattle.exam_plan.specs.Matching.{Plan, IsLawful}
-use Rattle.exam_rules.specs.Relations.{Code, Relations, code_cmp}
+use Rattle.exam_plan.specs.Matching.{IsLawful}
 use Rattle.exam_rules.specs.Seatings.{indexed_seating}
-use Rattle.exam_rules.specs.Names.{naming, number_at, hall_at, hall_index, ListsRise, SeatsInOpenHalls}
+use Rattle.exam_rules.specs.Names.{SeatsInOpenHalls}
 use Rattle.exam_rules.proofs.Naming.{numbers_rise, codes_rise, fit_member, fit_open}
 use Rattle.exam_plan.proofs.ChainNames.{Follows}
 

@@ -1,16 +1,16 @@
 -- The places of halls, kept as sets.
+use Rattle.exam_rules.proofs.Words.{ne_eqb, holds, halls_below, sets_of, positions}
 use Rattle.std.proofs.Common.{◌≡◌, ℕ, zero, suc, ◌+◌, ◌<◌, ◌≤◌, Bool, true, false, cond, ◌||◌, List, [], ◌∷◌, ◌++◌}
 use Rattle.std.proofs.Common.{length, map, get_or, drop, drop-cons, append_assoc, append-nil, add-one, nat_eq, refl}
 use Rattle.std.proofs.Common.{sym, ap, subst, ◌∙◌, inl, inr, arith}
 use Rattle.std.specs.Prelude.{All, filter}
 use Rattle.std.specs.List.{range_with_len}
-use Rattle.std.proofs.lemmas.Bool.{cases_Bool, or_cases, ne_eqb, eq-eqb, eqb-true, or_left}
+use Rattle.std.proofs.lemmas.Bool.{cases_Bool, or_cases, eq-eqb, eqb-true, or_left}
 use Rattle.std.proofs.lemmas.List.{drop_all, map-append}
 use Rattle.std.proofs.lemmas.List.Elements.{All-push}
-use Rattle.exam_plan.specs.HallSets.{holds, halls_below, set_of_mask, sets_of}
+use Rattle.exam_plan.specs.HallSets.{set_of_mask}
 use Rattle.exam_plan.proofs.Rising.{next_filter}
 use Rattle.exam_plan.proofs.Small.{none_kept}
-use Rattle.exam_rules.specs.Seatings.{positions}
 use Rattle.exam_rules.proofs.Ranking.{map_step, map_end}
 
 -- numbers below a bound that pass either of two tests that agree below it

@@ -1,18 +1,16 @@
 -- Which of the standing grants counts on a day: the last of those that are not later.
+use Rattle.exam_rules.proofs.Words.{AllByRecursion, Ordering, Less, Equal, Greater, is_lt, ordering_reverse}
+use Rattle.exam_rules.proofs.Words.{IsTotalOrder, nat_cmp_total, then_total, on_total, nat_list_cmp_total, tied_itself}
+use Rattle.exam_rules.proofs.Words.{All-from_recursion, later_of}
 use Rattle.std.proofs.Common.{◌≡◌, ◌⊎◌, ◌↔◌, ℕ, zero, suc, ◌<◌, ◌≤◌, Bool, true, false, cond, List, [], ◌∷◌, length}
 use Rattle.std.proofs.Common.{filter, None, Some, inl, inr, refl, sym, ap, subst, ◌∙◌, arith}
 use Rattle.std.specs.Prelude.{Contains, All, fold, nat_le}
-use Rattle.std.specs.List.{AllByRecursion}
-use Rattle.std.specs.declared.cmp.Ordering.{Ordering}
-use Rattle.std.specs.declared.cmp.Ordering.TheVariants.{Less, Equal, Greater}
-use Rattle.std.specs.Ordering.{is_gt, is_lt, ordering_reverse}
-use Rattle.std.specs.Cmp.{IsTotalOrder, nat_cmp_total, then_total, on_total}
-use Rattle.std.specs.Cmp.Lexicographic.{nat_list_cmp_total}
-use Rattle.std.proofs.lemmas.Cmp.{tied_itself, upto}
-use Rattle.std.proofs.lemmas.List.Elements.{All-from_recursion, recursion_from_All}
+use Rattle.std.specs.Ordering.{is_gt}
+use Rattle.std.proofs.lemmas.Cmp.{upto}
+use Rattle.std.proofs.lemmas.List.Elements.{recursion_from_All}
 use Rattle.std.proofs.lemmas.Option.{same_Some}
 use Rattle.exam_rules.specs.declared.standing.StandingGrant.{StandingGrant}
-use Rattle.exam_rules.specs.Sessions.{last_until, later_of, standing_cmp}
+use Rattle.exam_rules.specs.Sessions.{last_until, standing_cmp}
 
 grants_total : IsTotalOrder standing_cmp
 grants_total = then_total (on_total (λ (g : StandingGrant). g.day) nat_cmp_total)

@@ -8,6 +8,7 @@ pub mod Ranking
 pub mod Sitters
 pub mod Together
 pub mod Turns
+pub mod Words
 pub mod Writing
 pub mod Listed
 pub mod Entered

@@ -1,34 +1,22 @@
 -- Lists by session: what appending to one of them makes of all.
+use Rattle.exam_rules.proofs.Words.{Global, option_map, option_map_or, option_or, All, cons_option, is_at, keys_of}
+use Rattle.exam_rules.proofs.Words.{texts_ties, length-map, get_or-map, Less, nat_cmp, IsStrictlySortedBy, ranked}
+use Rattle.exam_rules.proofs.Words.{IsStrictlySortedBy-filter, Less-from_sorted, ne_eqb, Entry, Paper, Code, Relations}
+use Rattle.exam_rules.proofs.Words.{code_cmp, same_code, row_at, head_of, is_live_entry, has_live_entry, is_paper_of}
+use Rattle.exam_rules.proofs.Words.{live_papers_in, least_live_paper, members, Entrant, listed, with_last, with_member}
+use Rattle.exam_rules.proofs.Words.{entrant, entrants}
 use Rattle.std.proofs.Common.{◌≡◌, ℕ, ◌<◌, ◌-◌, ◌&&◌, Bool, true, false, cond, List, [], ◌∷◌, ◌++◌, length, filter, map}
 use Rattle.std.proofs.Common.{nat_eq, Option, None, Some, Vec, refl, ap, sym, subst, ◌∙◌, arith, append-nil, get_or}
 use Rattle.std.proofs.Common.{eq-eqb, ◌+◌, is_some}
-use Rattle.std.specs.Global.{Global}
 use Rattle.std.specs.Prelude.{slice_get}
-use Rattle.std.specs.Option.{option_map, option_map_or, option_or}
-use Rattle.std.specs.List.{All, filter_map, cons_option}
-use Rattle.std.specs.BTreeMap.{is_at}
-use Rattle.std.specs.Map.{keys_of}
-use Rattle.std.specs.Cmp.Lexicographic.{texts_ties}
-use Rattle.std.proofs.lemmas.List.{length-append, length-map, get_or-map}
+use Rattle.std.specs.List.{filter_map}
+use Rattle.std.proofs.lemmas.List.{length-append}
 use Rattle.std.proofs.lemmas.Option.{slice_get_read, slice_get-get_or}
 use Rattle.std.proofs.Math.Seq.{get_or-append_seam}
-use Rattle.std.specs.declared.cmp.Ordering.TheVariants.{Less}
-use Rattle.std.specs.Ordering.{nat_cmp}
-use Rattle.std.specs.List.Sorted.{IsStrictlySortedBy}
-use Rattle.std.proofs.lemmas.Cmp.{ranked}
 use Rattle.std.proofs.lemmas.List.{get_or_append_left}
 use Rattle.std.proofs.lemmas.List.Elements.{All-cons, filter-append, filter_map-append, filter_agree}
-use Rattle.std.proofs.lemmas.List.Kept.{IsStrictlySortedBy-filter}
-use Rattle.std.proofs.lemmas.Map.Keys.{Less-from_sorted}
-use Rattle.std.proofs.lemmas.Bool.{ne_eqb}
-use Rattle.exam_rules.specs.declared.rows.Entry.{Entry}
-use Rattle.exam_rules.specs.declared.rows.Paper.{Paper}
-use Rattle.exam_rules.specs.Relations.{Code, Relations, code_cmp, same_code, row_at}
-use Rattle.exam_rules.specs.Sessions.{head_of, is_live_entry, has_live_entry, is_paper_of, live_papers_in}
-use Rattle.exam_rules.specs.Sessions.{least_live_paper, members}
 use Rattle.exam_rules.proofs.Together.{any_is}
-use Rattle.exam_rules.specs.declared.listing.Entrant.{Entrant}
-use Rattle.exam_rules.specs.Lists.{listed, ends_with, with_last, with_member, entrant, entrants, entered_session}
+use Rattle.exam_rules.specs.Lists.{ends_with, entered_session}
 use Rattle.exam_rules.proofs.Naming.{same_code_exact}
 
 -- after one list has been set to what a change makes of the old one

@@ -1,17 +1,15 @@
 -- Desk numbers by numbers and codes: everybody who sits in a hall has a desk of their own in it.
+use Rattle.exam_rules.proofs.Words.{option_and_then, length-map, Plan, most_members, Code, Relations, members}
+use Rattle.exam_rules.proofs.Words.{problem_of, desks, fits, open_halls, fitting_places, comes_before, naming}
+use Rattle.exam_rules.proofs.Words.{ListsRise, number_at, index_of, hall_index, named_plan}
 use Rattle.std.proofs.Common.{◌≡◌, ℕ, ◌<◌, ◌≤◌, IsTrue, length, Some, is_some, sym, ap, subst, ◌∙◌}
-use Rattle.std.specs.Option.{option_and_then}
 use Rattle.std.proofs.Math.Path.{fun_ext}
-use Rattle.std.proofs.lemmas.List.{length-map}
-use Rattle.exam_plan.specs.Matching.{Plan, IsLawful, desk_number}
-use Rattle.exam_plan.specs.Problems.{most_members, ranks_before}
+use Rattle.exam_plan.specs.Matching.{IsLawful, desk_number}
+use Rattle.exam_plan.specs.Problems.{ranks_before}
 use Rattle.exam_plan.proofs.NumberLaws.{number_fits, numbers_differ}
 use Rattle.exam_plan.proofs.Renaming.{IsLawful-indexed}
-use Rattle.exam_rules.specs.Relations.{Code, Relations}
-use Rattle.exam_rules.specs.Sessions.{members}
-use Rattle.exam_rules.specs.Seatings.{indexed_seating, seating, problem_of, desks, fits, open_halls, fitting_places}
-use Rattle.exam_rules.specs.Seatings.{comes_before}
-use Rattle.exam_rules.specs.Names.{naming, ListsRise, number_at, index_of, hall_index, named_plan, indexed_plan}
+use Rattle.exam_rules.specs.Seatings.{indexed_seating, seating}
+use Rattle.exam_rules.specs.Names.{indexed_plan}
 use Rattle.exam_rules.proofs.Naming.{renames, index_below, order_same}
 use Rattle.exam_rules.proofs.Following.{follows}
 use Rattle.exam_plan.proofs.Carrying.{member_index, desk_number-named}

@@ -1,39 +1,32 @@
 -- The problem by indices is the seating by numbers and codes.
+use Rattle.exam_rules.proofs.Words.{Ordering, Less, Equal, nat_cmp, ordering_then, is_eq, IsTotalOrder, nat_cmp_total}
+use Rattle.exam_rules.proofs.Words.{nat_list_cmp_total, texts_ties, AllByRecursion, list_any, keys_of, option_map}
+use Rattle.exam_rules.proofs.Words.{option_and_then, IsStrictlySortedBy, tied_itself, ranked, and_parts, ne_eqb}
+use Rattle.exam_rules.proofs.Words.{get_or-map, length-map, All-from_recursion, sorted_head, sorted_tail}
+use Rattle.exam_rules.proofs.Words.{Less-from_sorted, exact_bytes, exact_unsigned_eq, Opening, Room, Code, Relations}
+use Rattle.exam_rules.proofs.Words.{code_cmp, same_code, opening_cmp, row_at, members, has_live_entry, barred_halls}
+use Rattle.exam_rules.proofs.Words.{positions, fits, desks, open_halls, fitting_places, problem_of, rank, comes_before}
+use Rattle.exam_rules.proofs.Words.{sitting_terms, opened_room, naming, number_at, hall_at, index_of, hall_index}
+use Rattle.exam_rules.proofs.Words.{ListsRise}
 use Rattle.std.proofs.Common.{◌≡◌, ℕ, zero, suc, ◌+◌, ◌<◌, ◌≤◌, Bool, true, false, cond, not, ◌&&◌, ◌||◌, IsTrue, List}
 use Rattle.std.proofs.Common.{[], ◌∷◌, length, map, filter, get_or, nat_eq, Contains, Option, None, Some, IsSome, refl}
 use Rattle.std.proofs.Common.{sym, ap, subst, ◌∙◌, inl, inr, arith}
-use Rattle.std.specs.declared.cmp.Ordering.{Ordering}
-use Rattle.std.specs.declared.cmp.Ordering.TheVariants.{Less, Equal}
-use Rattle.std.specs.Ordering.{nat_cmp, ordering_then, is_eq}
-use Rattle.std.specs.Cmp.{IsTotalOrder, nat_cmp_total, Equal-is}
-use Rattle.std.specs.Cmp.Lexicographic.{nat_list_cmp_total, texts_ties}
-use Rattle.std.specs.List.{AllByRecursion, list_any, range_with_len}
-use Rattle.std.specs.Map.{keys_of}
-use Rattle.std.specs.Option.{option_map, option_and_then}
-use Rattle.std.specs.List.Sorted.{IsStrictlySortedBy}
+use Rattle.std.specs.Cmp.{Equal-is}
+use Rattle.std.specs.List.{range_with_len}
 use Rattle.std.specs.Prelude.{nat_lt}
-use Rattle.std.proofs.lemmas.Cmp.{tied_itself, ranked, nat_eq_equiv}
-use Rattle.std.proofs.lemmas.Bool.{cases_lt, and_parts, eq-eqb, false_from_ne_true, ne_eqb, or_right}
-use Rattle.std.proofs.lemmas.List.{get_or-map, get_or_past, get_or_default, length-map}
+use Rattle.std.proofs.lemmas.Cmp.{nat_eq_equiv}
+use Rattle.std.proofs.lemmas.Bool.{cases_lt, eq-eqb, false_from_ne_true, or_right}
+use Rattle.std.proofs.lemmas.List.{get_or_past, get_or_default}
 use Rattle.std.proofs.lemmas.List.FromFn.{fill_by_all, length-range_with_len, get_or-range_with_len}
-use Rattle.std.proofs.lemmas.List.Elements.{All-from_recursion}
-use Rattle.std.proofs.lemmas.Map.Keys.{sorted_head, sorted_tail, Less-from_sorted}
-use Rattle.std.proofs.lemmas.Map.Lookups.{exact_bytes}
-use Rattle.std.proofs.lemmas.Map.Views.{exact_unsigned_eq}
 use Rattle.std.proofs.lemmas.Option.{same_Some}
 use Rattle.exam_plan.specs.Problems.{ranks_before}
 use Rattle.exam_plan.proofs.Renaming.{Renames}
 use Rattle.exam_plan.proofs.Seatings.{any_below}
 use Rattle.exam_plan.proofs.Small.{both_tie}
 use Rattle.exam_rules.specs.declared.rows.Hall.{Hall}
-use Rattle.exam_rules.specs.declared.rows.Opening.{Opening}
 use Rattle.exam_rules.specs.declared.fit.Terms.{Terms}
-use Rattle.exam_rules.specs.declared.fit.Room.{Room}
-use Rattle.exam_rules.specs.Relations.{Code, Relations, code_cmp, same_code, opening_cmp, row_at}
-use Rattle.exam_rules.specs.Sessions.{members, has_live_entry, barred_halls}
-use Rattle.exam_rules.specs.Seatings.{positions, fits, desks, open_halls, fitting_places, problem_of, rank}
-use Rattle.exam_rules.specs.Seatings.{comes_before, suits_opened, sitting_terms, opened_room, room_of}
-use Rattle.exam_rules.specs.Names.{naming, first_place, number_at, hall_at, index_of, hall_index, ListsRise}
+use Rattle.exam_rules.specs.Seatings.{suits_opened, room_of}
+use Rattle.exam_rules.specs.Names.{first_place}
 use Rattle.exam_rules.proofs.Places.{within}
 use Rattle.exam_rules.proofs.Ranking.{all_there, order_is_rank}
 

@@ -1,18 +1,11 @@
 -- Places in a list.
+use Rattle.exam_rules.proofs.Words.{Less, nat_cmp, All, AllByRecursion, IsStrictlySortedBy, nat_cmp_is}
+use Rattle.exam_rules.proofs.Words.{All-from_recursion, Code, Relations, has_live_entry, barred_halls, Room, positions}
+use Rattle.exam_rules.proofs.Words.{fits, fitting_places, sitting_terms, is_suiting, opened_room}
 use Rattle.std.proofs.Common.{◌≡◌, ℕ, ◌+◌, ◌<◌, ◌≤◌, Bool, true, false, cond, ◌&&◌, List, [], ◌∷◌, length, map, Option}
 use Rattle.std.proofs.Common.{refl, sym, ap, ◌∙◌, arith}
-use Rattle.std.specs.declared.cmp.Ordering.TheVariants.{Less}
-use Rattle.std.specs.Ordering.{nat_cmp}
-use Rattle.std.specs.List.{All, AllByRecursion}
-use Rattle.std.specs.List.Sorted.{IsStrictlySortedBy}
-use Rattle.std.specs.Cmp.{nat_cmp_is}
 use Rattle.std.proofs.lemmas.Bool.{and_left}
-use Rattle.std.proofs.lemmas.List.Elements.{All-from_recursion}
-use Rattle.exam_rules.specs.Relations.{Code, Relations}
-use Rattle.exam_rules.specs.Sessions.{has_live_entry, barred_halls}
-use Rattle.exam_rules.specs.declared.fit.Room.{Room}
-use Rattle.exam_rules.specs.Seatings.{positions, fits, fitting_places, sitting_terms, is_suiting, with_rooms}
-use Rattle.exam_rules.specs.Seatings.{opened_room}
+use Rattle.exam_rules.specs.Seatings.{with_rooms}
 
 module _ {A : Type 0} where
   pub positions_same : (p q : A → Bool) (n : ℕ) (xs : List A) → ((x : A) → p x ≡ q x)

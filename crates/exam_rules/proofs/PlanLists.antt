@@ -1,16 +1,14 @@
 -- A list with each member's place of a hall is a plan by indices.
+use Rattle.exam_rules.proofs.Words.{option_map, option_and_then, exact_unsigned_eq, Plan, Code, Relations, members}
+use Rattle.exam_rules.proofs.Words.{number_at, hall_at, index_of, hall_index, named_plan, ListsRise}
 use Rattle.std.proofs.Common.{◌≡◌, ℕ, ◌<◌, ◌≤◌, Bool, true, false, List, length, get_or, cond, nat_eq, Option, None}
 use Rattle.std.proofs.Common.{Some, inl, inr, refl, sym, ap, ◌∙◌, eq-eqb, arith}
-use Rattle.std.specs.Option.{option_map, option_and_then}
 use Rattle.std.proofs.lemmas.Bool.{cases_lt}
 use Rattle.std.proofs.lemmas.List.{get_or_past}
-use Rattle.std.proofs.lemmas.Map.Views.{exact_unsigned_eq}
-use Rattle.exam_plan.specs.Matching.{Plan, SamePlan}
+use Rattle.exam_plan.specs.Matching.{SamePlan}
 use Rattle.exam_plan.specs.Problems.{plan_at}
 use Rattle.exam_plan.proofs.Steps.{plan_at-get_or}
-use Rattle.exam_rules.specs.Relations.{Code, Relations}
-use Rattle.exam_rules.specs.Sessions.{members}
-use Rattle.exam_rules.specs.Names.{number_at, hall_at, index_of, hall_index, named_plan, indexed_plan, ListsRise}
+use Rattle.exam_rules.specs.Names.{indexed_plan}
 use Rattle.exam_rules.proofs.Naming.{index_known, index_below}
 
 module _ (r : Relations) (s : Code) where

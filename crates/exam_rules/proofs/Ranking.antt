@@ -1,36 +1,32 @@
 -- Places in the order of desks.
+use Rattle.exam_rules.proofs.Words.{Ordering, Less, Equal, Greater, nat_cmp, ordering_reverse, is_lt, IsTotalOrder}
+use Rattle.exam_rules.proofs.Words.{nat_cmp_total, on_total, then_total, nat_list_cmp_total, All, AllByRecursion}
+use Rattle.exam_rules.proofs.Words.{list_any, IsStrictlySortedBy, sorted_head, sorted_tail, exact_unsigned}
+use Rattle.exam_rules.proofs.Words.{exact_unsigned_eq, le-ltb, lt-ltb, ne_eqb, tied_itself, ranked, length-map, map-map}
+use Rattle.exam_rules.proofs.Words.{most_members, Code, Relations, code_cmp, members, sitting, fits, desks, open_halls}
+use Rattle.exam_rules.proofs.Words.{fitting_places, desk_key, desk_cmp, comes_before, rank, problem_of}
 use Rattle.std.proofs.Common.{◌≡◌, ℕ, zero, suc, ◌+◌, ◌<◌, ◌≤◌, Bool, true, false, cond, ◌||◌, List, [], ◌∷◌, ◌++◌}
 use Rattle.std.proofs.Common.{length, map, count_by, get_or, drop, drop-cons, append_assoc, append-nil, add-one, nat_eq}
 use Rattle.std.proofs.Common.{Option, IsSorted, refl, sym, ap, ◌∙◌, arith, inl, inr}
-use Rattle.std.specs.declared.cmp.Ordering.{Ordering}
-use Rattle.std.specs.declared.cmp.Ordering.TheVariants.{Less, Equal, Greater}
-use Rattle.std.specs.Ordering.{nat_cmp, ordering_index, ordering_reverse, is_lt}
+use Rattle.std.specs.Ordering.{ordering_index}
 use Rattle.std.specs.Option.{option_cmp}
-use Rattle.std.specs.Cmp.{IsTotalOrder, nat_cmp_total, on_total, then_total}
-use Rattle.std.specs.Cmp.Lexicographic.{options_total, nat_list_cmp_total}
-use Rattle.std.specs.List.{All, AllByRecursion, IsDistinct, list_any}
-use Rattle.std.specs.List.Sorted.{IsStrictlySortedBy, IsPermutation, IsPartitionedBy}
+use Rattle.std.specs.Cmp.Lexicographic.{options_total}
+use Rattle.std.specs.List.{IsDistinct}
+use Rattle.std.specs.List.Sorted.{IsPermutation, IsPartitionedBy}
 use Rattle.std.proofs.lemmas.List.Sums.{sum_by-le-sum_by}
 use Rattle.std.proofs.lemmas.List.Sorted.{searchable_from_sorted, sum_by-IsPermutation}
-use Rattle.std.proofs.lemmas.Map.Keys.{sorted_head, sorted_tail}
-use Rattle.std.proofs.lemmas.Map.Lookups.{exact_unsigned}
-use Rattle.std.proofs.lemmas.Map.Views.{exact_unsigned_eq}
 use Rattle.std.proofs.lemmas.Map.Made.{All-is_member}
 use Rattle.std.specs.Prelude.{nat_lt}
-use Rattle.std.proofs.lemmas.Bool.{cases_Bool, le-ltb, lt-ltb, ne_eqb}
-use Rattle.std.proofs.lemmas.Cmp.{tied_itself, ranked, nat_eq_equiv}
-use Rattle.std.proofs.lemmas.List.{length-map, drop_all}
+use Rattle.std.proofs.lemmas.Bool.{cases_Bool}
+use Rattle.std.proofs.lemmas.Cmp.{nat_eq_equiv}
+use Rattle.std.proofs.lemmas.List.{drop_all}
 use Rattle.std.proofs.lemmas.List.Elements.{All-map, recursion_from_All}
 use Rattle.std.proofs.lemmas.List.Folds.{fold-map}
-use Rattle.std.proofs.lemmas.Simd.{map-map}
-use Rattle.exam_plan.specs.Problems.{Problem, IsProblem, most_members}
+use Rattle.exam_plan.specs.Problems.{Problem, IsProblem}
 use Rattle.exam_plan.proofs.Counting.{bit, bit_le, count_by-cons}
 use Rattle.exam_plan.proofs.Small.{both_tie}
 use Rattle.exam_rules.proofs.Places.{positions_rise, positions_exist}
-use Rattle.exam_rules.specs.Relations.{Code, Relations, code_cmp}
-use Rattle.exam_rules.specs.Sessions.{members, sitting}
-use Rattle.exam_rules.specs.Seatings.{fits, desks, open_halls, fitting_places, desk_key, desk_cmp, comes_before, rank}
-use Rattle.exam_rules.specs.Seatings.{ranks_of, problem_of}
+use Rattle.exam_rules.specs.Seatings.{ranks_of}
 
 pub desk_total : IsTotalOrder desk_cmp
 desk_total = then_total (on_total (λ (k : Option Code × ℕ). k.0) (options_total nat_list_cmp_total))

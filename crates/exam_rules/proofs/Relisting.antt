@@ -1,33 +1,20 @@
 -- What an entry that is set changes in the lists: the place of its candidate in the list of its session.
+use Rattle.exam_rules.proofs.Words.{Global, option_map, option_map_or, AllByRecursion, cons_option, IsStrictlySortedBy}
+use Rattle.exam_rules.proofs.Words.{keys_of, is_at, texts_ties, nat_cmp_is, Ordering, Less, Equal, Greater, nat_cmp}
+use Rattle.exam_rules.proofs.Words.{MatchOrdering, is_eq, le-ltb, lt-ltb, ne_eqb, ranked, sorted_head, sorted_tail}
+use Rattle.exam_rules.proofs.Words.{exact_pairs, exact_bytes, exact_unsigned, Entry, Paper, Opening, Entrant}
+use Rattle.exam_rules.proofs.Words.{SessionLists, Code, Relations, code_cmp, same_code, entry_cmp, row_at, has_row}
+use Rattle.exam_rules.proofs.Words.{head_of, is_live_entry, is_paper_of, least_live_paper, ListsRise, AreInOrder}
+use Rattle.exam_rules.proofs.Words.{Candidates, listed, entrant, entrants, AreListsOf}
 use Rattle.std.proofs.Common.{◌≡◌, ℕ, ◌<◌, ◌≤◌, ◌&&◌, Bool, true, false, cond, List, [], ◌∷◌, ◌++◌, filter, map, nat_eq}
 use Rattle.std.proofs.Common.{nat_lt, Option, None, Some, Vec, is_some, refl, ap, sym, ◌∙◌, arith}
-use Rattle.std.specs.Global.{Global}
-use Rattle.std.specs.Option.{option_map, option_map_or}
-use Rattle.std.specs.List.{AllByRecursion, cons_option}
-use Rattle.std.specs.List.Sorted.{IsStrictlySortedBy}
-use Rattle.std.specs.Map.{keys_of}
-use Rattle.std.specs.BTreeMap.{is_at, insert_entry}
-use Rattle.std.specs.Cmp.Lexicographic.{texts_ties}
-use Rattle.std.specs.Cmp.{nat_cmp_is}
-use Rattle.std.specs.declared.cmp.Ordering.{Ordering}
-use Rattle.std.specs.declared.cmp.Ordering.TheVariants.{Less, Equal, Greater}
-use Rattle.std.specs.Ordering.{nat_cmp, match_ordering, MatchOrdering, is_eq}
-use Rattle.std.proofs.lemmas.Bool.{and_right, le-ltb, lt-ltb, ne_eqb}
-use Rattle.std.proofs.lemmas.Cmp.{ranked}
-use Rattle.std.proofs.lemmas.Map.Keys.{sorted_head, sorted_tail}
-use Rattle.std.proofs.lemmas.Map.Lookups.{CmpEqualImpliesEq, exact_pairs, exact_bytes, exact_unsigned}
-use Rattle.exam_rules.specs.declared.rows.Entry.{Entry}
-use Rattle.exam_rules.specs.declared.rows.Paper.{Paper}
+use Rattle.std.specs.BTreeMap.{insert_entry}
+use Rattle.std.specs.Ordering.{match_ordering}
+use Rattle.std.proofs.lemmas.Bool.{and_right}
+use Rattle.std.proofs.lemmas.Map.Lookups.{CmpEqualImpliesEq}
 use Rattle.exam_rules.specs.declared.rows.Candidate.{Candidate}
-use Rattle.exam_rules.specs.declared.rows.Opening.{Opening}
-use Rattle.exam_rules.specs.declared.listing.Entrant.{Entrant}
-use Rattle.exam_rules.specs.declared.listing.SessionLists.{SessionLists}
-use Rattle.exam_rules.specs.Relations.{Code, Relations, code_cmp, same_code, entry_cmp, row_at, has_row, put_row}
-use Rattle.exam_rules.specs.Sessions.{head_of, is_live_entry, is_paper_of, least_live_paper}
-use Rattle.exam_rules.specs.Names.{ListsRise}
-use Rattle.exam_rules.specs.Orders.{AreInOrder}
-use Rattle.exam_rules.specs.Tables.{Candidates}
-use Rattle.exam_rules.specs.Lists.{listed, entrant, entrants, placed, listed_paper, SetsEntry, AreListsOf}
+use Rattle.exam_rules.specs.Relations.{put_row}
+use Rattle.exam_rules.specs.Lists.{placed, listed_paper, SetsEntry}
 use Rattle.exam_rules.proofs.InOrder.{lists_rise}
 use Rattle.exam_rules.proofs.Listed.{listed_with, entrants_are_members}
 use Rattle.exam_rules.proofs.Naming.{same_code_exact}

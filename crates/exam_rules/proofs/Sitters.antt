@@ -1,21 +1,16 @@
 -- A candidate sits a paper exactly if they are a member.
+use Rattle.exam_rules.proofs.Words.{list_any, is_at, option_map_or, option_or, exact_bytes, exact_pairs, exact_unsigned}
+use Rattle.exam_rules.proofs.Words.{exact_unsigned_eq, and_parts, keys_of, nat_cmp, Entry, Code, Relations, code_cmp}
+use Rattle.exam_rules.proofs.Words.{entry_cmp, row_at, has_row, is_paper_of, is_live_entry, has_live_entry, members}
+use Rattle.exam_rules.proofs.Words.{least_live_paper, sitting}
 use Rattle.std.proofs.Common.{◌≡◌, ◌==◌, ◌↔◌, ◌∙◌, ℕ, ap, subst, Bool, true, false, cond, ◌&&◌, ◌||◌, is_some, nat_eq}
 use Rattle.std.proofs.Common.{Contains, List, [], ◌∷◌, filter, Option, Some, None, refl, sym, eq-eqb}
-use Rattle.std.specs.List.{list_any}
-use Rattle.std.specs.BTreeMap.{is_at}
-use Rattle.std.specs.Option.{option_map_or, option_or}
-use Rattle.std.proofs.lemmas.Map.Lookups.{exact_bytes, exact_pairs, exact_unsigned}
-use Rattle.std.proofs.lemmas.Map.Views.{tells_apart, exact_unsigned_eq, Contains-from_any, Contains-keys_from_lookup}
+use Rattle.std.proofs.lemmas.Map.Views.{tells_apart, Contains-from_any, Contains-keys_from_lookup}
 use Rattle.std.proofs.lemmas.Map.Views.{IsSome-lookup_from_Contains}
 use Rattle.std.proofs.lemmas.List.Elements.{All-contains, All-contains_itself, All-filter, filter_passes}
-use Rattle.std.proofs.lemmas.Bool.{and_from, and_parts, or_right}
+use Rattle.std.proofs.lemmas.Bool.{and_from, or_right}
 use Rattle.std.proofs.lemmas.Cmp.{eq_by_cmp_equiv, nat_cmp_total}
-use Rattle.std.specs.Map.{keys_of}
-use Rattle.std.specs.Ordering.{nat_cmp}
-use Rattle.exam_rules.specs.declared.rows.Entry.{Entry}
-use Rattle.exam_rules.specs.Relations.{Code, Relations, code_cmp, entry_cmp, row_at, has_row}
-use Rattle.exam_rules.specs.Sessions.{is_paper_of, is_live_entry, is_live, is_live_paper, has_live_entry, is_member}
-use Rattle.exam_rules.specs.Sessions.{members, granted_paper, least_live_paper, option_filter, sitting}
+use Rattle.exam_rules.specs.Sessions.{is_live, is_live_paper, is_member, granted_paper, option_filter}
 use Rattle.exam_rules.proofs.Together.{any_is}
 use Rattle.exam_plan.proofs.Rising.{listed_in}
 

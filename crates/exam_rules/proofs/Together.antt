@@ -1,24 +1,19 @@
 -- In a table whose keys begin with a candidate's number the rows of one candidate are together, from the first key that
 -- is not less than the number with the least second part.
+use Rattle.exam_rules.proofs.Words.{AllByRecursion, list_any, IsStrictlySortedBy, keys_of, Ordering, Less, Equal}
+use Rattle.exam_rules.proofs.Words.{Greater, nat_cmp, ordering_then, MatchOrdering, ranked, sorted_head, sorted_tail}
+use Rattle.exam_rules.proofs.Words.{IsStrictlySortedBy-filter, nat_tests, and_parts, ne_eqb, code_cmp, is_row_of}
+use Rattle.exam_rules.proofs.Words.{leading, head_of}
 use Rattle.std.proofs.Common.{◌≡◌, ℕ, ◌<◌, ◌≤◌, Bool, true, false, cond, not, ◌&&◌, ◌||◌, is_some, IsTrue, List, []}
 use Rattle.std.proofs.Common.{◌∷◌, ◌++◌, length, filter, map, nat_eq, refl, sym, ap, subst, ◌∙◌, arith}
 use Rattle.std.specs.Prelude.{nat_le}
-use Rattle.std.specs.List.{AllByRecursion, list_all, list_any}
-use Rattle.std.specs.List.Sorted.{IsStrictlySortedBy}
-use Rattle.std.specs.Map.{keys_of}
-use Rattle.std.specs.declared.cmp.Ordering.{Ordering}
-use Rattle.std.specs.declared.cmp.Ordering.TheVariants.{Less, Equal, Greater}
+use Rattle.std.specs.List.{list_all}
 use Rattle.std.specs.declared.ops.Bound.TheVariants.{Included, Excluded, Unbounded}
-use Rattle.std.specs.Ordering.{nat_cmp, ordering_then, is_le, MatchOrdering}
+use Rattle.std.specs.Ordering.{is_le}
 use Rattle.std.specs.BTreeMap.Range.{entries_between}
-use Rattle.std.proofs.lemmas.Cmp.{ranked}
-use Rattle.std.proofs.lemmas.Map.Keys.{sorted_head, sorted_tail}
-use Rattle.std.proofs.lemmas.List.Kept.{IsStrictlySortedBy-filter}
-use Rattle.std.proofs.lemmas.Bool.Decides.{nat_tests}
-use Rattle.std.proofs.lemmas.Bool.{and_parts, eqb-false, ne_eqb}
+use Rattle.std.proofs.lemmas.Bool.{eqb-false}
 use Rattle.exam_types.specs.Codes.{is_code, is_dashed, is_capital_or_digit}
-use Rattle.exam_rules.specs.Relations.{pair_cmp, code_cmp, is_row_of, leading}
-use Rattle.exam_rules.specs.Sessions.{head_of}
+use Rattle.exam_rules.specs.Relations.{pair_cmp}
 
 then_le : (m n : ℕ) (o : Ordering) → is_le (ordering_then (nat_cmp m n) o) ≡ true → m ≤ n
 then_le m n o h = inner (nat_cmp m n) (ranked m n (nat_cmp m n) refl) h

@@ -1,10 +1,7 @@
 -- One turn of a loop that appends.
+use Rattle.exam_rules.proofs.Words.{flat_map, Entry, Code, Relations, is_paper_of, live_papers_in, is_clash}
 use Rattle.std.proofs.Common.{◌≡◌, ℕ, ◌+◌, ◌<◌, true, List, [], ◌∷◌, ◌++◌, length, map, filter, get_or, drop, drop-cons}
 use Rattle.std.proofs.Common.{append_assoc, add-one, nat_eq, Option, sym, ap, ◌∙◌}
-use Rattle.std.specs.List.{flat_map}
-use Rattle.exam_rules.specs.declared.rows.Entry.{Entry}
-use Rattle.exam_rules.specs.Relations.{Code, Relations}
-use Rattle.exam_rules.specs.Sessions.{is_paper_of, live_papers_in, is_clash}
 
 -- after the pieces of one more element have been appended
 pub flat_step : {A Y : Type 0} (f : A → List Y) (xs : List A) (i : ℕ) (d : A) (before after whole : List Y)

@@ -1,19 +1,13 @@
 -- What a plan by indices leaves when it is written seat by seat.
+use Rattle.exam_rules.proofs.Words.{option_map, option_and_then, option_or, Ordering, Less, Equal, Greater}
+use Rattle.exam_rules.proofs.Words.{ordering_then, nat_cmp, is_eq, is_at, texts_ties, le-ltb, lt-ltb, exact_unsigned_eq}
+use Rattle.exam_rules.proofs.Words.{Code, Relations, code_cmp, same_code, members, ListsRise, number_at, hall_at}
+use Rattle.exam_rules.proofs.Words.{index_of, named_plan}
 use Rattle.std.proofs.Common.{◌≡◌, ℕ, ◌+◌, ◌<◌, ◌≤◌, ◌&&◌, Bool, true, false, cond, List, length, nat_eq, nat_lt}
 use Rattle.std.proofs.Common.{Option, None, Some, refl, ap, sym, ◌∙◌, arith, eq-eqb}
-use Rattle.std.specs.Option.{option_map, option_and_then, option_or}
-use Rattle.std.specs.declared.cmp.Ordering.{Ordering}
-use Rattle.std.specs.declared.cmp.Ordering.TheVariants.{Less, Equal, Greater}
-use Rattle.std.specs.Ordering.{ordering_then, nat_cmp, is_eq}
-use Rattle.std.specs.BTreeMap.{is_at}
 use Rattle.std.specs.Cmp.{unsigned_ties}
-use Rattle.std.specs.Cmp.Lexicographic.{texts_ties}
-use Rattle.std.proofs.lemmas.Bool.{le-ltb, lt-ltb}
-use Rattle.std.proofs.lemmas.Map.Views.{exact_unsigned_eq}
 use Rattle.exam_plan.specs.Problems.{plan_at}
-use Rattle.exam_rules.specs.Relations.{Code, Relations, code_cmp, same_code, seat_cmp}
-use Rattle.exam_rules.specs.Sessions.{members}
-use Rattle.exam_rules.specs.Names.{ListsRise, number_at, hall_at, index_of, named_plan}
+use Rattle.exam_rules.specs.Relations.{seat_cmp}
 use Rattle.exam_rules.proofs.Naming.{renames, index_known, index_below}
 
 pub then_eq : (a b : Ordering) → is_eq (ordering_then a b) ≡ (is_eq a && is_eq b)

@@ -1,8 +1,9 @@
 -- The eleven tables are made one after the other; the table of marks over tables with rows too.
+use Rattle.exam_sql.proofs.Words.{first_schema, made, store_schema}
 use Rattle.std.proofs.Common.{◌≡◌, ◌+◌, ◌<◌, ℕ, zero, suc, get_or, true, false, refl, subst, arith}
 use Rattle.sqlite_schema.specs.Names.{same_name}
 use Rattle.exam_sql.specs.Made.{lists_marks}
-use Rattle.exam_sql.specs.Tables.{first_schema, first_tables, made, store_schema}
+use Rattle.exam_sql.specs.Tables.{first_tables}
 use Rattle.exam_sql.specs.Tables as tables
 use Rattle.exam_sql.proofs.OfAppeal as appeal
 use Rattle.exam_sql.proofs.OfArrangement as arrangement

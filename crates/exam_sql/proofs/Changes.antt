@@ -1,19 +1,12 @@
 -- The rows of one table after many puts and deletes.
+use Rattle.exam_sql.proofs.Words.{AllByRecursion, IsPermutation, cases_Bool, eqb-true, eq-eqb, IsPermutation-refl}
+use Rattle.exam_sql.proofs.Words.{IsPermutation-trans, Row, Trees, with_tree, filter_all, all_of, IsPermutation-filter}
+use Rattle.exam_sql.proofs.Words.{Schema, Table, Database, places, Holds, ContainsIn, put, delete, same_key}
 use Rattle.std.proofs.Common.{◌≡◌, inl, inr, ℕ, true, false, not, ◌||◌, ◌==◌, List, [], ◌∷◌, ◌++◌, filter, refl, sym}
 use Rattle.std.proofs.Common.{ap, ap₂, subst, ◌∙◌, append_assoc}
-use Rattle.std.specs.List.{AllByRecursion}
-use Rattle.std.specs.List.Sorted.{IsPermutation}
 use Rattle.std.proofs.lemmas.List.Elements.{filter-append}
-use Rattle.std.proofs.lemmas.Bool.{cases_Bool, eqb-true, eq-eqb}
-use Rattle.std.proofs.lemmas.List.Sorted.{IsPermutation-refl, IsPermutation-trans, IsPermutation-append_left}
+use Rattle.std.proofs.lemmas.List.Sorted.{IsPermutation-append_left}
 use Rattle.std.proofs.lemmas.List.Sorted.{IsPermutation-append_comm}
-use Rattle.sqlite_value.specs.Order.{Row}
-use Rattle.sqlite_trees.specs.Tree.{Trees, with_tree}
-use Rattle.sqlite_trees.proofs.ListLemmas.{filter_all, all_of, IsPermutation-filter}
-use Rattle.sqlite_schema.specs.declared.schema.Schema.{Schema}
-use Rattle.sqlite_schema.specs.declared.schema.Table.{Table}
-use Rattle.sqlite.specs.Effect.{Database}
-use Rattle.exam_sql.specs.Content.{places, Holds, ContainsIn, put, delete, same_key}
 use Rattle.exam_sql.specs.Changes.{put_all, delete_all, with_puts, with_deletes, is_among, AreApart}
 use Rattle.exam_sql.proofs.RowLemmas.{twice}
 

@@ -1,13 +1,8 @@
 -- A text that every database understands, whatever its schema.
+use Rattle.exam_sql.proofs.Words.{Compiled, CompileError, Schema, everything, Error, understood, State, IsNotRun}
 use Rattle.std.proofs.Common.{◌≡◌, ℕ, length, codes, List, [], ◌∷◌, inl, inr, Result, Ok, Err, arith, refl, ap, sym}
 use Rattle.std.proofs.Common.{◌∙◌}
-use Rattle.sqlite_resolve.specs.declared.compiled.Compiled.{Compiled}
-use Rattle.sqlite_resolve.specs.declared.error.CompileError.{CompileError}
-use Rattle.sqlite_schema.specs.declared.schema.Schema.{Schema}
-use Rattle.sqlite_tied.specs.Compute.{everything}
-use Rattle.sqlite.specs.declared.error.Error.{Error}
-use Rattle.sqlite.specs.Listing.{understood}
-use Rattle.sqlite.specs.State.{State, Fails, IsNotRun}
+use Rattle.sqlite.specs.State.{Fails}
 
 abbrev pub one : List ℕ
 one = codes "SELECT 1"

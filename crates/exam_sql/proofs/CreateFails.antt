@@ -1,33 +1,20 @@
 -- Why CREATE TABLE fails if nothing in the schema forbids it.
+use Rattle.exam_sql.proofs.Words.{list_all, not-true, Text, CreateTable, Schema, Table, Index, table_reals, Has}
+use Rattle.exam_sql.proofs.Words.{test_has, Error, created, next_tree, table_defined_by, Does, Tally, lacks_sequence}
+use Rattle.exam_sql.proofs.Words.{Database, understood, Then, State, mode_of, ExecutesInside, Escapes, IsMisplaced}
+use Rattle.exam_sql.proofs.Words.{IsPlain, command_of, statement_of, Fails}
 use Rattle.std.proofs.Common.{◌≡◌, ◌⊎◌, ◌+◌, ◌*◌, ◌^◌, ◌<◌, ◌≤◌, inl, inr, ℕ, List, [], length, codes, not, ◌==◌, true}
 use Rattle.std.proofs.Common.{false, None, Some, Option, Ok, Err, Result, refl, sym, ap, subst, ◌∙◌, arith, IsUtf8}
 use Rattle.std.proofs.Common.{nat_lt, true≢false}
-use Rattle.std.specs.List.{list_all}
-use Rattle.std.proofs.lemmas.Bool.{not-true, ltb-true}
-use Rattle.sqlite_value.specs.declared.value.Value.TheVariants.{Text}
-use Rattle.sqlite_schema.specs.declared.command.Command.TheVariants.{CreateTable}
-use Rattle.sqlite_schema.specs.declared.schema.Schema.{Schema}
-use Rattle.sqlite_schema.specs.declared.schema.Table.{Table}
-use Rattle.sqlite_schema.specs.declared.schema.Index.{Index}
-use Rattle.sqlite_schema.specs.Rules.{table_reals, index_reals}
-use Rattle.sqlite_rules.specs.Lists.{Has}
-use Rattle.sqlite_rules.proofs.ListLemmas.{test_has}
+use Rattle.std.proofs.lemmas.Bool.{ltb-true}
+use Rattle.sqlite_schema.specs.Rules.{index_reals}
 use Rattle.sqlite_catalog.specs.declared.error.Refusal as alter
 use Rattle.sqlite_catalog.specs.declared.error.Refusal.TheVariants.{Invalid, NameTaken, BadName, TooBig, BadKey}
 use Rattle.sqlite_catalog.specs.declared.error.Refusal.TheVariants.{BadText, Violates}
 use Rattle.sqlite_catalog.specs.Calls.{RefusesTable, IsLongTable}
 use Rattle.sqlite_catalog.specs.Change.{is_used, is_reserved, automatics}
 use Rattle.sqlite_catalog.specs.Listing.{is_fit, is_formed}
-use Rattle.sqlite.specs.declared.error.Error.{Error}
-use Rattle.sqlite.specs.Change.{created, next_tree}
-use Rattle.sqlite.specs.Compile.{table_defined_by}
-use Rattle.sqlite.specs.Does.{Does, Tally, Defines, MakesTable, MakesSequence, lacks_sequence}
-use Rattle.sqlite.specs.Effect.{Database}
-use Rattle.sqlite.specs.Listing.{understood}
-use Rattle.sqlite.specs.Rows.{Then}
-use Rattle.sqlite.specs.State.{State, mode_of, ExecutesInside, Escapes, IsMisplaced}
-use Rattle.sqlite.proofs.Callers.{IsPlain, command_of, statement_of}
-use Rattle.exam_sql.specs.Refusals.{Fails}
+use Rattle.sqlite.specs.Does.{Defines, MakesTable, MakesSequence}
 use Rattle.exam_sql.proofs.Failing.{IsWhole}
 use Rattle.exam_sql.proofs.StatementFails.{IsQuiet, fails_by}
 use Rattle.exam_sql.proofs.KeysHold.{first_of}

@@ -1,25 +1,12 @@
 -- What CREATE TABLE adds to the tables that are there.
+use Rattle.exam_sql.proofs.Words.{AllByRecursion, list_all, not-true, IsPermutation-refl, Row, Trees, with_tree}
+use Rattle.exam_sql.proofs.Words.{CreateTable, Schema, Table, all_has, all_from, test_has, Error, table_defined_by}
+use Rattle.exam_sql.proofs.Words.{created, next_tree, Database, IsDatabase, Tally, lacks_sequence, understood, State}
+use Rattle.exam_sql.proofs.Words.{Executes, Writes, IsPlain, command_of, statement_of, runs_as, places, Holds}
+use Rattle.exam_sql.proofs.Words.{ContainsIn}
 use Rattle.std.proofs.Common.{◌≡◌, ℕ, List, [], ◌∷◌, true, false, not, ◌==◌, Ok, Err, Result, OnOk, None, sym, ap}
 use Rattle.std.proofs.Common.{subst, ◌∙◌}
-use Rattle.std.specs.List.{AllByRecursion, list_all}
-use Rattle.std.proofs.lemmas.Bool.{not-true}
-use Rattle.std.proofs.lemmas.List.Sorted.{IsPermutation-refl}
-use Rattle.sqlite_value.specs.Order.{Row}
-use Rattle.sqlite_trees.specs.Tree.{Trees, with_tree}
 use Rattle.sqlite_trees.proofs.ListLemmas.{all-append}
-use Rattle.sqlite_schema.specs.declared.command.Command.TheVariants.{CreateTable}
-use Rattle.sqlite_schema.specs.declared.schema.Schema.{Schema}
-use Rattle.sqlite_schema.specs.declared.schema.Table.{Table}
-use Rattle.sqlite_rules.proofs.ListLemmas.{all_has, all_from, test_has}
-use Rattle.sqlite.specs.declared.error.Error.{Error}
-use Rattle.sqlite.specs.Compile.{table_defined_by}
-use Rattle.sqlite.specs.Change.{created, next_tree}
-use Rattle.sqlite.specs.Effect.{Database, IsDatabase}
-use Rattle.sqlite.specs.Does.{Tally, lacks_sequence}
-use Rattle.sqlite.specs.Listing.{understood}
-use Rattle.sqlite.specs.State.{State, Executes, Writes}
-use Rattle.sqlite.proofs.Callers.{IsPlain, command_of, statement_of, runs_as}
-use Rattle.exam_sql.specs.Content.{places, Holds, ContainsIn}
 use Rattle.exam_sql.proofs.Statements.{went, same_value}
 use Rattle.exam_sql.proofs.Changes.{set_here}
 

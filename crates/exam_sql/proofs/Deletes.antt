@@ -1,39 +1,17 @@
 -- What a DELETE by the key leaves.
+use Rattle.exam_sql.proofs.Words.{AllByRecursion, list_all, IsPermutation, IsPermutation-sym, Null, Row, Trees, rowid}
+use Rattle.exam_sql.proofs.Words.{with_tree, IsShaped, filter-map, IsPermutation-filter, Term, col, holds, overlay}
+use Rattle.exam_sql.proofs.Words.{Delete, Enforced, Schema, Table, Given, Has, id_in, edit_of, taken_by, without_all}
+use Rattle.exam_sql.proofs.Words.{ids_of, has_filtered, has_kept, has_mapped, mapped_has, Database, Written, Tally}
+use Rattle.exam_sql.proofs.Words.{Does, AtPlace, OnRows, State, mode_of, Writes, Executes, understood, Error, one_step}
+use Rattle.exam_sql.proofs.Words.{IsPlain, command_of, runs_as, places, bare, Holds, ContainsIn, delete, same_key}
+use Rattle.exam_sql.proofs.Words.{IsKeyed, one_table}
 use Rattle.std.proofs.Common.{◌≡◌, ◌≢◌, ℕ, ℤ, List, [], ◌∷◌, map, filter, true, not, Ok, Err, Result, OnOk, None}
 use Rattle.std.proofs.Common.{Option, refl, sym, ap, subst, ◌∙◌}
-use Rattle.std.specs.List.{AllByRecursion, list_all}
-use Rattle.std.specs.List.Sorted.{IsPermutation}
-use Rattle.std.proofs.lemmas.List.Sorted.{IsPermutation-sym}
-use Rattle.sqlite_value.specs.declared.value.Value.TheVariants.{Null}
-use Rattle.sqlite_value.specs.Order.{Row}
 use Rattle.sqlite_trees.specs.declared.store.Shape.TheVariants.{Table as TableShape}
-use Rattle.sqlite_trees.specs.Tree.{Trees, rowid, with_tree}
-use Rattle.sqlite_trees.specs.View.{IsShaped}
 use Rattle.sqlite_trees.proofs.TreeLemmas.{IsShaped-filter}
-use Rattle.sqlite_trees.proofs.ListLemmas.{filter-map, IsPermutation-filter}
-use Rattle.sqlite_sql.specs.Term.{Term, col, holds}
-use Rattle.sqlite_sql.specs.Program.{overlay}
-use Rattle.sqlite_schema.specs.declared.command.Command.TheVariants.{Delete}
 use Rattle.sqlite_schema.specs.declared.program.Program.{Program}
-use Rattle.sqlite_schema.specs.declared.schema.Keys.TheVariants.{Enforced}
-use Rattle.sqlite_schema.specs.declared.schema.Schema.{Schema}
-use Rattle.sqlite_schema.specs.declared.schema.Table.{Table}
-use Rattle.sqlite_rules.specs.declared.error.Rowids.TheVariants.{Given}
-use Rattle.sqlite_rules.specs.Lists.{Has}
-use Rattle.sqlite_rules.specs.Edit.{id_in, edit_of, taken_by, without_all}
-use Rattle.sqlite_rules.specs.Calls.{ids_of}
-use Rattle.sqlite_rules.proofs.ListLemmas.{has_filtered, has_kept}
-use Rattle.sqlite_rules.proofs.ProbeLemmas.{has_mapped, mapped_has}
-use Rattle.sqlite.specs.Effect.{Database}
-use Rattle.sqlite.specs.Rows.{Written, Deletes}
-use Rattle.sqlite.specs.Does.{Tally, Does, AtPlace, OnRows}
-use Rattle.sqlite.specs.State.{State, mode_of, Writes, Executes}
-use Rattle.sqlite.specs.Listing.{understood}
-use Rattle.sqlite.specs.declared.error.Error.{Error}
-use Rattle.sqlite.proofs.Callers.{one_step, IsPlain, command_of, runs_as}
-use Rattle.exam_sql.specs.Content.{places, bare, Holds, ContainsIn, delete, same_key}
-use Rattle.exam_sql.specs.Keyed.{IsKeyed}
-use Rattle.exam_sql.specs.Plain.{one_table}
+use Rattle.sqlite.specs.Rows.{Deletes}
 use Rattle.exam_sql.proofs.RowLemmas.{taken_out}
 use Rattle.exam_sql.proofs.Queries.{picks, has_permuted}
 use Rattle.exam_sql.proofs.Statements.{went, same_value, database_is, held_at, set_in, task, without}

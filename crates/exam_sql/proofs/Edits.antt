@@ -1,33 +1,14 @@
 -- What a text that puts or deletes a row does, why it fails, and that no foreign key refuses it if each row then has
 -- what it refers to.
+use Rattle.exam_sql.proofs.Words.{list_all, Value, Null, Int, Row, Trees, rowid, overlay, Term, col, eval_all, holds}
+use Rattle.exam_sql.proofs.Words.{Command, InsertOr, Delete, Conflict, Abort, Replace, Values, Upsert, Schema, Table}
+use Rattle.exam_sql.proofs.Words.{Error, Database, understood, shown, State, Executes, IsPlain, command_of, without_row}
+use Rattle.exam_sql.proofs.Words.{ContainsIn, bare, places, same_key, same_rowid, IsKeyed, on_conflict, one_table}
+use Rattle.exam_sql.proofs.Words.{Refuses, store_schema}
 use Rattle.std.proofs.Common.{◌≡◌, ◌++◌, ◌/◌, ℕ, ℤ, true, List, [], ◌∷◌, length, Option, Result, OnOk, refl, subst}
-use Rattle.std.specs.List.{list_all}
-use Rattle.sqlite_value.specs.declared.value.Value.{Value}
-use Rattle.sqlite_value.specs.declared.value.Value.TheVariants.{Null, Int}
-use Rattle.sqlite_value.specs.Order.{Row}
-use Rattle.sqlite_trees.specs.Tree.{Trees, rowid}
-use Rattle.sqlite_sql.specs.Program.{overlay}
-use Rattle.sqlite_sql.specs.Term.{Term, col, eval_all, holds}
-use Rattle.sqlite_schema.specs.declared.command.Command.{Command}
-use Rattle.sqlite_schema.specs.declared.command.Command.TheVariants.{InsertOr, Delete}
-use Rattle.sqlite_schema.specs.declared.command.Conflict.{Conflict}
-use Rattle.sqlite_schema.specs.declared.command.Conflict.TheVariants.{Abort, Replace}
-use Rattle.sqlite_schema.specs.declared.command.Source.TheVariants.{Values}
-use Rattle.sqlite_schema.specs.declared.command.Upsert.{Upsert}
-use Rattle.sqlite_schema.specs.declared.schema.Schema.{Schema}
-use Rattle.sqlite_schema.specs.declared.schema.Table.{Table}
-use Rattle.sqlite.specs.declared.error.Error.{Error}
-use Rattle.sqlite.specs.Effect.{Database, value_rows}
-use Rattle.sqlite.specs.Listing.{understood}
-use Rattle.sqlite.specs.Rows.{shown}
-use Rattle.sqlite.specs.State.{State, Executes}
-use Rattle.sqlite.proofs.Callers.{IsPlain, command_of}
-use Rattle.exam_sql.specs.Changes.{with_row, without_row}
-use Rattle.exam_sql.specs.Content.{ContainsIn, bare, places, same_key, same_rowid}
-use Rattle.exam_sql.specs.Keyed.{IsKeyed}
-use Rattle.exam_sql.specs.Plain.{on_conflict, one_table}
-use Rattle.exam_sql.specs.Refusals.{Refuses, RefusesRows}
-use Rattle.exam_sql.specs.Tables.{store_schema}
+use Rattle.sqlite.specs.Effect.{value_rows}
+use Rattle.exam_sql.specs.Changes.{with_row}
+use Rattle.exam_sql.specs.Refusals.{RefusesRows}
 use Rattle.exam_sql.proofs.Deletes.{delete_by, delete_takes}
 use Rattle.exam_sql.proofs.Failing.{Answers, IsWhole, answers}
 use Rattle.exam_sql.proofs.Fits.{Fits}

@@ -1,46 +1,33 @@
 -- Why a statement on the rows of a table fails.
+use Rattle.exam_sql.proofs.Words.{Row, Trees, rowid, Conflict, Abort, Replace, Upsert, Command, InsertOr, Delete}
+use Rattle.exam_sql.proofs.Words.{Values, Schema, Table, cast_row, edit_of, with_rowid, ids_of, Given, Compiled}
+use Rattle.exam_sql.proofs.Words.{CompileError, Error, Database, Then, Task, Edited, Written, Puts, Clears, Tries}
+use Rattle.exam_sql.proofs.Words.{TriesEach, InsertsOr, nothing, shown, count_of, mended, Does, OnRows, AtPlace, Tally}
+use Rattle.exam_sql.proofs.Words.{timed, State, Executes, IsNotRun, ExecutesInside, Escapes, IsMisplaced, text_of}
+use Rattle.exam_sql.proofs.Words.{mode_of, understood, IsPlain, command_of, Refuses, Fails, is_failure}
 use Rattle.std.proofs.Common.{◌≡◌, ◌≤◌, inl, inr, ℕ, ℤ, List, [], ◌∷◌, ◌++◌, length, Bool, true, false, ◌||◌, MatchBool}
 use Rattle.std.proofs.Common.{IsTrue, Some, None, Option, option_map, Ok, Err, Result, refl, sym, ap, subst, ◌∙◌}
 use Rattle.std.proofs.Common.{append-nil}
-use Rattle.sqlite_value.specs.Order.{Row}
-use Rattle.sqlite_trees.specs.Tree.{Trees, rowid}
 use Rattle.sqlite_trees.specs.declared.error.StoreError.TheVariants.{OutOfMemory, Io, Corrupt, Full, Broken, Unstorable}
-use Rattle.sqlite_schema.specs.declared.command.Conflict.{Conflict}
-use Rattle.sqlite_schema.specs.declared.command.Conflict.TheVariants.{Abort, Ignore, Replace}
-use Rattle.sqlite_schema.specs.declared.command.Upsert.{Upsert}
-use Rattle.sqlite_schema.specs.declared.command.Command.{Command}
-use Rattle.sqlite_schema.specs.declared.command.Command.TheVariants.{InsertOr, Delete}
+use Rattle.sqlite_schema.specs.declared.command.Conflict.TheVariants.{Ignore}
 use Rattle.sqlite_schema.specs.declared.command.Source.{Source}
-use Rattle.sqlite_schema.specs.declared.command.Source.TheVariants.{Values, Query}
+use Rattle.sqlite_schema.specs.declared.command.Source.TheVariants.{Query}
 use Rattle.sqlite_schema.specs.declared.program.Program.{Program}
-use Rattle.sqlite_schema.specs.declared.schema.Schema.{Schema}
 use Rattle.sqlite_schema.specs.declared.schema.Keys.{Keys}
-use Rattle.sqlite_schema.specs.declared.schema.Table.{Table}
 use Rattle.sqlite_rules.specs.declared.error.Refusal.{Refusal}
 use Rattle.sqlite_rules.specs.declared.error.Refusal.TheVariants.{Violates, Mismatch, NoRowid, BadReference, TooDeep}
-use Rattle.sqlite_rules.specs.Cast.{cast_row}
-use Rattle.sqlite_rules.specs.Edit.{Edit, edit_of, with_rowid}
-use Rattle.sqlite_rules.specs.Calls.{ids_of}
-use Rattle.sqlite_rules.specs.declared.error.Rowids.TheVariants.{Given}
-use Rattle.sqlite_resolve.specs.declared.compiled.Compiled.{Compiled}
-use Rattle.sqlite_resolve.specs.declared.error.CompileError.{CompileError}
-use Rattle.sqlite.specs.declared.error.Error.{Error}
+use Rattle.sqlite_rules.specs.Edit.{Edit}
 use Rattle.sqlite.specs.declared.error.Error.TheVariants.{InvalidQuery}
 use Rattle.sqlite_schema.specs.declared.schema.Constraint.TheVariants.{ForeignKey}
 use Rattle.sqlite.specs.declared.run.Mode.{Mode}
-use Rattle.sqlite.specs.Effect.{Database, edit_error, is_query}
-use Rattle.sqlite.specs.Rows.{Part, Then, Gives, Task, Queried, Sourced, Edited, Counter, CounterIn, Counts, CountsIn}
-use Rattle.sqlite.specs.Rows.{Written, Puts, Clears, Updates, Resolves, Meets, Upserts, Judged, Tries, TriesEach}
-use Rattle.sqlite.specs.Rows.{InsertsOr, Deletes, passes_over, sequence, nothing, shown, count_of, joined, higher}
-use Rattle.sqlite.specs.Rows.{rowids_for, mended, stamped}
-use Rattle.sqlite.specs.Does.{Does, Concludes, OnRows, AtPlace, Tally}
-use Rattle.sqlite.specs.Clock.{timed}
+use Rattle.sqlite.specs.Effect.{edit_error, is_query}
+use Rattle.sqlite.specs.Rows.{Part, Gives, Queried, Sourced, Counter, CounterIn, Counts, CountsIn, Updates, Resolves}
+use Rattle.sqlite.specs.Rows.{Meets, Upserts, Judged, Deletes, passes_over, sequence, joined, higher, rowids_for}
+use Rattle.sqlite.specs.Rows.{stamped}
+use Rattle.sqlite.specs.Does.{Concludes}
 use Rattle.sqlite.specs.State as state
-use Rattle.sqlite.specs.State.{State, Executes, ExecutesIn, IsNotRun, IsStatement, ExecutesInside, Escapes, EndsScope}
-use Rattle.sqlite.specs.State.{IsMisplaced, shows_rows, is_pragma, text_of, mode_of, Runs, RunsCommand}
-use Rattle.sqlite.specs.Listing.{understood}
-use Rattle.sqlite.proofs.Callers.{IsPlain, command_of}
-use Rattle.exam_sql.specs.Refusals.{Refuses, RunsTo, Fails, is_failure}
+use Rattle.sqlite.specs.State.{ExecutesIn, IsStatement, EndsScope, shows_rows, is_pragma, Runs, RunsCommand}
+use Rattle.exam_sql.specs.Refusals.{RunsTo}
 
 -- ---- the errors by which a part of a statement is refused
 

@@ -1,26 +1,14 @@
 -- The values of a statement, as a row that a table keeps.
+use Rattle.exam_sql.proofs.Words.{is_eq, and_parts, Value, Null, Int, Row, value_cmp, plain, first_key, rowid, IsShaped}
+use Rattle.exam_sql.proofs.Words.{Table, equal, Chosen, cast, Has, with_rowid, is_taken, all_has, some_from, int_is}
+use Rattle.exam_sql.proofs.Words.{places, bare, same_key, same_rowid}
 use Rattle.std.proofs.Common.{◌≡◌, ℕ, ℤ, true, List, ◌∷◌, refl, sym, ap, subst, ◌∙◌, true≢false, Equal}
-use Rattle.std.specs.Ordering.{is_eq}
-use Rattle.std.proofs.lemmas.Bool.{and_parts}
-use Rattle.sqlite_value.specs.declared.value.Value.{Value}
-use Rattle.sqlite_value.specs.declared.value.Value.TheVariants.{Null, Int}
-use Rattle.sqlite_value.specs.Order.{Row, value_cmp}
-use Rattle.sqlite_value.specs.Keys.{plain, first_key}
 use Rattle.sqlite_trees.specs.declared.store.Shape.TheVariants.{Table as TableShape}
-use Rattle.sqlite_trees.specs.Tree.{rowid}
-use Rattle.sqlite_trees.specs.View.{IsShaped}
 use Rattle.sqlite_schema.specs.declared.schema.Kind.TheVariants.{Integer}
-use Rattle.sqlite_schema.specs.declared.schema.Table.{Table}
-use Rattle.sqlite_schema.specs.Rules.{equal}
-use Rattle.sqlite_rules.specs.declared.error.Rowids.TheVariants.{Chosen}
-use Rattle.sqlite_rules.specs.Cast.{cast, cast_all}
-use Rattle.sqlite_rules.specs.Lists.{Has}
-use Rattle.sqlite_rules.specs.Edit.{next_rowid, with_rowid, is_taken}
-use Rattle.sqlite_rules.proofs.ListLemmas.{all_has, some_from}
-use Rattle.sqlite_rules.proofs.TableLemmas.{int_is}
+use Rattle.sqlite_rules.specs.Cast.{cast_all}
+use Rattle.sqlite_rules.specs.Edit.{next_rowid}
 use Rattle.sqlite_rules.proofs.PlaceLemmas.{next_is_free}
 use Rattle.sqlite.specs.Rows.{mended_from}
-use Rattle.exam_sql.specs.Content.{places, bare, same_key, same_rowid}
 use Rattle.exam_sql.proofs.Keys.{cast_int, cast_null, tied_from, same_ints}
 
 -- the row that a statement's source becomes, beside the rows that are there

@@ -1,17 +1,11 @@
 -- On the way of tables from some rows to others, by puts and then deletes, each row has what it refers to.
+use Rattle.exam_sql.proofs.Words.{AllByRecursion, list_any, list_all, and_parts, cases_Bool, eqb-true, eq-eqb, Row}
+use Rattle.exam_sql.proofs.Words.{plain, Trees, with_tree, agree, Has, all_has, all_from, some_from, some_has}
+use Rattle.exam_sql.proofs.Words.{has_filtered, has_kept, put, delete, same_key}
 use Rattle.std.proofs.Common.{◌≡◌, ◌⊎◌, ◌&&◌, ◌||◌, ◌==◌, inl, inr, ℕ, List, [], ◌∷◌, ◌++◌, map, Bool, true, false}
 use Rattle.std.proofs.Common.{if◌then◌else◌, not, IsTrue, refl, sym, ap, subst, subst₂, ◌∙◌}
-use Rattle.std.specs.List.{AllByRecursion, list_any, list_all}
-use Rattle.std.proofs.lemmas.Bool.{and_parts, cases_Bool, eqb-true, eq-eqb}
-use Rattle.sqlite_value.specs.Order.{Row}
-use Rattle.sqlite_value.specs.Keys.{plain}
-use Rattle.sqlite_trees.specs.Tree.{Trees, with_tree}
-use Rattle.sqlite_schema.specs.Rules.{agree}
-use Rattle.sqlite_rules.specs.Lists.{Has}
 use Rattle.sqlite_rules.proofs.KeyLemmas.{agree_back, agree_chain}
-use Rattle.sqlite_rules.proofs.ListLemmas.{all_has, all_from, some_from, some_has, has_filtered, has_kept}
 use Rattle.exam_sql.specs.Changes.{put_all, delete_all}
-use Rattle.exam_sql.specs.Content.{put, delete, same_key}
 use Rattle.exam_sql.proofs.References.{Link, links, AllRefer, LinkHolds, has_parent}
 use Rattle.exam_sql.proofs.Changes.{set_here}
 

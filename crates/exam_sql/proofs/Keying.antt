@@ -1,17 +1,12 @@
 -- A table of the office has one key, and no foreign key acts on its rows.
+use Rattle.exam_sql.proofs.Words.{list_all, list_any, Row, Trees, rowid, Unique, Enforced, passes, bare, places}
+use Rattle.exam_sql.proofs.Words.{same_key, same_rowid, IsKeyed, Described, store_schema}
 use Rattle.std.proofs.Common.{◌≡◌, ◌&&◌, ◌||◌, ◌==◌, bytes_eq, ℕ, Bool, true, false, not, List, [], ◌∷◌, Some, None}
 use Rattle.std.proofs.Common.{slice_get, length, flat_map, refl}
-use Rattle.std.specs.List.{filter_map, list_all, list_any}
-use Rattle.sqlite_value.specs.Order.{Row}
-use Rattle.sqlite_trees.specs.Tree.{Trees, rowid}
-use Rattle.sqlite_schema.specs.declared.schema.Constraint.TheVariants.{Unique}
-use Rattle.sqlite_schema.specs.declared.schema.Keys.TheVariants.{Enforced}
-use Rattle.sqlite_schema.specs.Rules.{differ, parent_key, passes}
+use Rattle.std.specs.List.{filter_map}
+use Rattle.sqlite_schema.specs.Rules.{differ, parent_key}
 use Rattle.sqlite_rules.specs.Action.{Work, works, work_by, deed_for, pairs}
 use Rattle.sqlite_rules.specs.Keys.{conflicts}
-use Rattle.exam_sql.specs.Content.{bare, places, same_key, same_rowid}
-use Rattle.exam_sql.specs.Keyed.{IsKeyed}
-use Rattle.exam_sql.specs.Tables.{Described, store_schema}
 use Rattle.exam_sql.proofs.Keys.{alone_by_index, alone_by_rowid}
 
 pub or_false : (b : Bool) → (b || false) ≡ b

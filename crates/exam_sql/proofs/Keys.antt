@@ -1,38 +1,22 @@
 -- What the tests of keys say of rows.
+use Rattle.exam_sql.proofs.Words.{is_eq, list_any, both_true, and_parts, eq-eqb, Value, Null, Int, Text, Row, value_cmp}
+use Rattle.exam_sql.proofs.Words.{plain, first_key, Trees, rowid, IsShaped, Unique, Schema, Table, equal, passes, cast}
+use Rattle.exam_sql.proofs.Words.{Has, id_in, all_has, some_from, int_is, tied_same, places, bare, same_key, same_rowid}
 use Rattle.std.proofs.Common.{◌≡◌, ℕ, ℤ, Bool, true, false, not, ◌&&◌, ◌||◌, ◌==◌, bytes_eq, cond, if◌then◌else◌, List}
 use Rattle.std.proofs.Common.{Some, Ordering, Less, Equal, Greater, refl, sym, ap, subst, subst₂, ◌∙◌, arith}
 use Rattle.std.proofs.Common.{true≢false}
-use Rattle.std.specs.Ordering.{is_eq, is_ne}
-use Rattle.std.specs.List.{list_any}
-use Rattle.std.specs.Cmp.Derive.{both_true}
-use Rattle.std.proofs.lemmas.Bool.{and_parts, eq-eqb}
+use Rattle.std.specs.Ordering.{is_ne}
 use Rattle.std.specs.FinMap.{nat_cmp-IsAntisymmetric, slice_cmp-IsAntisymmetric}
 use Rattle.std.proofs.lemmas.Cmp.{tied_itself}
 use Rattle.std.proofs.lemmas.Bool.Decides.{nat_tests}
 use Rattle.std.proofs.lemmas.Int.{ints}
 use Rattle.std.proofs.lemmas.Slice.Eq.{bytes_eq-Decides}
-use Rattle.sqlite_value.specs.declared.value.Value.{Value}
-use Rattle.sqlite_value.specs.declared.value.Value.TheVariants.{Null, Int, Text}
-use Rattle.sqlite_value.specs.Order.{Row, value_cmp}
-use Rattle.sqlite_value.specs.Keys.{plain, first_key}
 use Rattle.sqlite_value.proofs.OrderLemmas.{value_cmp-Int, value_cmp-Text, value_cmp_total}
 use Rattle.sqlite_value.proofs.KeyLemmas.{class_tied}
 use Rattle.sqlite_trees.specs.declared.store.Shape.TheVariants.{Table as TableShape}
-use Rattle.sqlite_trees.specs.Tree.{Trees, rowid}
-use Rattle.sqlite_trees.specs.View.{IsShaped}
 use Rattle.sqlite_sql.specs.Ops.{unary, binary, is_true, from_truth}
 use Rattle.sqlite_schema.specs.declared.schema.Kind.TheVariants.{Integer}
-use Rattle.sqlite_schema.specs.declared.schema.Constraint.TheVariants.{Unique}
-use Rattle.sqlite_schema.specs.declared.schema.Schema.{Schema}
-use Rattle.sqlite_schema.specs.declared.schema.Table.{Table}
-use Rattle.sqlite_schema.specs.Rules.{equal, differ, passes}
-use Rattle.sqlite_rules.specs.Cast.{cast}
-use Rattle.sqlite_rules.specs.Lists.{Has}
-use Rattle.sqlite_rules.specs.Edit.{id_in}
-use Rattle.sqlite_rules.proofs.ListLemmas.{all_has, some_from}
-use Rattle.sqlite_rules.proofs.TableLemmas.{int_is}
-use Rattle.sqlite_rules.proofs.PlaceLemmas.{tied_same}
-use Rattle.exam_sql.specs.Content.{places, bare, same_key, same_rowid}
+use Rattle.sqlite_schema.specs.Rules.{differ}
 use Rattle.exam_sql.specs.Keyed.{IsAlone}
 
 either : (b : Bool) (x : Value) → cond b x x ≡ x

@@ -1,30 +1,13 @@
 -- A statement whose rows would have what they refer to is refused by no foreign key.
+use Rattle.exam_sql.proofs.Words.{Null, Row, Trees, with_tree, Term, Conflict, Upsert, Command, InsertOr, Delete}
+use Rattle.exam_sql.proofs.Words.{Values, Enforced, Schema, Table, Refers, Error, Does, AtPlace, OnRows, Database}
+use Rattle.exam_sql.proofs.Words.{understood, Task, Written, text_of, IsPlain, command_of, ContainsIn, put, delete}
+use Rattle.exam_sql.proofs.Words.{IsKeyed, Refuses}
 use Rattle.std.proofs.Common.{◌≡◌, inl, inr, ℕ, List, [], ◌∷◌, Some, None, Option, Ok, Err, Result, option_and_then}
 use Rattle.std.proofs.Common.{slice_get, refl, sym, ap, subst, ◌∙◌}
-use Rattle.sqlite_value.specs.declared.value.Value.TheVariants.{Null}
-use Rattle.sqlite_value.specs.Order.{Row}
-use Rattle.sqlite_trees.specs.Tree.{Trees, with_tree}
-use Rattle.sqlite_sql.specs.Term.{Term}
-use Rattle.sqlite_schema.specs.declared.command.Conflict.{Conflict}
-use Rattle.sqlite_schema.specs.declared.command.Upsert.{Upsert}
-use Rattle.sqlite_schema.specs.declared.command.Command.{Command}
-use Rattle.sqlite_schema.specs.declared.command.Command.TheVariants.{InsertOr, Delete}
-use Rattle.sqlite_schema.specs.declared.command.Source.TheVariants.{Values}
 use Rattle.sqlite_schema.specs.declared.schema.Among.TheVariants as among
-use Rattle.sqlite_schema.specs.declared.schema.Keys.TheVariants.{Enforced}
-use Rattle.sqlite_schema.specs.declared.schema.Schema.{Schema}
-use Rattle.sqlite_schema.specs.declared.schema.Table.{Table}
-use Rattle.sqlite_schema.specs.Rules.{Refers}
-use Rattle.sqlite.specs.declared.error.Error.{Error}
-use Rattle.sqlite.specs.Does.{Does, AtPlace, OnRows, WritesRows}
-use Rattle.sqlite.specs.Effect.{Database}
-use Rattle.sqlite.specs.Listing.{understood}
-use Rattle.sqlite.specs.Rows.{Task, Written}
-use Rattle.sqlite.specs.State.{text_of}
-use Rattle.sqlite.proofs.Callers.{IsPlain, command_of}
-use Rattle.exam_sql.specs.Content.{ContainsIn, put, delete}
-use Rattle.exam_sql.specs.Keyed.{IsKeyed}
-use Rattle.exam_sql.specs.Refusals.{Refuses, RefusesRows, at_once, written_table}
+use Rattle.sqlite.specs.Does.{WritesRows}
+use Rattle.exam_sql.specs.Refusals.{RefusesRows, at_once, written_table}
 use Rattle.exam_sql.proofs.Statements.{SetsRow, task, database_is}
 use Rattle.exam_sql.proofs.Deletes.{TakesRow, taking}
 

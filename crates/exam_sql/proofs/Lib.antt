@@ -35,3 +35,4 @@ pub mod StatementFails
 pub mod Statements
 pub mod Terms
 pub mod VersionFails
+pub mod Words

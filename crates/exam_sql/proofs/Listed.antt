@@ -1,14 +1,8 @@
 -- The tables of each version are tables of its schema.
+use Rattle.exam_sql.proofs.Words.{list_all, and_parts, Schema, Trees, Database, made_schema, first_schema, store_schema}
 use Rattle.std.proofs.Common.{◌≡◌, ◌&&◌, ◌||◌, codes, Bool, true, false, refl, ap, ◌∙◌}
-use Rattle.std.specs.List.{list_all}
-use Rattle.std.proofs.lemmas.Bool.{and_parts}
-use Rattle.sqlite_schema.specs.declared.schema.Schema.{Schema}
 use Rattle.sqlite_schema.specs.Names.{same_name}
-use Rattle.sqlite_trees.specs.Tree.{Trees}
-use Rattle.sqlite.specs.Effect.{Database}
 use Rattle.exam_sql.specs.Made.{ContainsMade, first_names, is_free, is_table, lists_marks, lists_newest, lists_tables}
-use Rattle.exam_sql.specs.Made.{made_schema}
-use Rattle.exam_sql.specs.Tables.{first_schema, store_schema}
 
 made_listed : (has_marks : Bool) → lists_tables (made_schema has_marks) ≡ true
 unfolding store_schema first_schema same_name lists_tables

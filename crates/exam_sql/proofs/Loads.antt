@@ -1,30 +1,15 @@
 -- A text that loads a table shows its rows.
+use Rattle.exam_sql.proofs.Words.{IsPermutation, IsPermutation-sym, IsPermutation-trans, IsPermutation-map, Null, Row}
+use Rattle.exam_sql.proofs.Words.{Trees, map-map, filter_all, all_of, Term, col, eval_all, IsAnswer, overlay, all_has}
+use Rattle.exam_sql.proofs.Words.{Select, Schema, Table, Error, SqliteFailure, OutOfMemory, State, FailsToQuery, Shown}
+use Rattle.exam_sql.proofs.Words.{understood, reads_listing, IsPlain, command_of, places, bare, Holds, ContainsIn}
+use Rattle.exam_sql.proofs.Words.{IsLoad, one_table, is_failure, Described}
 use Rattle.std.proofs.Common.{◌≡◌, ◌⊎◌, IsTrue, sym, ap, ℕ, List, [], ◌∷◌, map, filter, true, false, Some, slice_get}
 use Rattle.std.proofs.Common.{refl, subst, ◌∙◌}
-use Rattle.std.specs.List.Sorted.{IsPermutation}
-use Rattle.std.proofs.lemmas.List.Sorted.{IsPermutation-sym, IsPermutation-trans, IsPermutation-map}
-use Rattle.sqlite_value.specs.declared.value.Value.TheVariants.{Null}
-use Rattle.sqlite_value.specs.Order.{Row}
-use Rattle.sqlite_trees.specs.Tree.{Trees}
-use Rattle.sqlite_trees.proofs.ListLemmas.{map-map, filter_all, all_of}
-use Rattle.sqlite_sql.specs.Term.{Term, col, eval_all}
-use Rattle.sqlite_sql.specs.Query.{IsAnswer}
-use Rattle.sqlite_sql.specs.Program.{overlay}
-use Rattle.sqlite_rules.proofs.ListLemmas.{all_has, has_got}
-use Rattle.sqlite_schema.specs.declared.command.Command.TheVariants.{Select}
-use Rattle.sqlite_schema.specs.declared.schema.Schema.{Schema}
-use Rattle.sqlite_schema.specs.declared.schema.Table.{Table}
-use Rattle.sqlite.specs.declared.error.Error.{Error}
-use Rattle.sqlite.specs.declared.error.Error.TheVariants.{SqliteFailure}
-use Rattle.sqlite.specs.declared.error.ErrorCode.TheVariants.{OutOfMemory}
-use Rattle.sqlite.specs.State.{State, FailsToQuery, Shown, IsUnchanged}
-use Rattle.sqlite.specs.Listing.{understood, reads_listing}
-use Rattle.sqlite.proofs.Callers.{IsPlain, command_of, reads_as}
-use Rattle.exam_sql.specs.Content.{places, bare, Holds, ContainsIn}
-use Rattle.exam_sql.specs.Loads.{IsLoad}
-use Rattle.exam_sql.specs.Plain.{one_table}
-use Rattle.exam_sql.specs.Refusals.{is_failure}
-use Rattle.exam_sql.specs.Tables.{Described, names}
+use Rattle.sqlite_rules.proofs.ListLemmas.{has_got}
+use Rattle.sqlite.specs.State.{IsUnchanged}
+use Rattle.sqlite.proofs.Callers.{reads_as}
+use Rattle.exam_sql.specs.Tables.{names}
 use Rattle.exam_sql.proofs.Queries.{picks, map_same}
 use Rattle.exam_sql.proofs.QueryFails.{query_fails}
 

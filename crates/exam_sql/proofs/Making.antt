@@ -1,27 +1,13 @@
 -- The text that makes a table adds it, empty, to the tables that are there, and nothing forbids it.
+use Rattle.exam_sql.proofs.Words.{list_all, Text, Trees, with_tree, CreateTable, Index, Schema, Table, table_reals}
+use Rattle.exam_sql.proofs.Words.{Error, created, next_tree, table_defined_by, lacks_sequence, IsDatabase, understood}
+use Rattle.exam_sql.proofs.Words.{State, Executes, ExecutesInside, IsPlain, command_of, statement_of, ContainsIn, Fails}
+use Rattle.exam_sql.proofs.Words.{Described, made}
 use Rattle.std.proofs.Common.{◌≡◌, ◌+◌, ◌*◌, ◌^◌, ◌<◌, ◌==◌, ℕ, true, false, not, List, [], length, codes, IsUtf8}
 use Rattle.std.proofs.Common.{nat_lt, Ok, Err, Result, OnOk, subst}
-use Rattle.std.specs.List.{list_all}
-use Rattle.sqlite_value.specs.declared.value.Value.TheVariants.{Text}
-use Rattle.sqlite_trees.specs.Tree.{Trees, with_tree}
 use Rattle.sqlite_catalog.specs.Change.{is_used, is_reserved, automatics}
 use Rattle.sqlite_catalog.specs.Listing.{is_fit, is_formed}
-use Rattle.sqlite_schema.specs.declared.command.Command.TheVariants.{CreateTable}
-use Rattle.sqlite_schema.specs.declared.schema.Index.{Index}
-use Rattle.sqlite_schema.specs.declared.schema.Schema.{Schema}
-use Rattle.sqlite_schema.specs.declared.schema.Table.{Table}
-use Rattle.sqlite_schema.specs.Rules.{table_reals, index_reals}
-use Rattle.sqlite.specs.declared.error.Error.{Error}
-use Rattle.sqlite.specs.Change.{created, next_tree}
-use Rattle.sqlite.specs.Compile.{table_defined_by}
-use Rattle.sqlite.specs.Does.{lacks_sequence}
-use Rattle.sqlite.specs.Effect.{IsDatabase}
-use Rattle.sqlite.specs.Listing.{understood}
-use Rattle.sqlite.specs.State.{State, Executes, ExecutesInside}
-use Rattle.sqlite.proofs.Callers.{IsPlain, command_of, statement_of}
-use Rattle.exam_sql.specs.Content.{ContainsIn}
-use Rattle.exam_sql.specs.Refusals.{Fails}
-use Rattle.exam_sql.specs.Tables.{Described, made}
+use Rattle.sqlite_schema.specs.Rules.{index_reals}
 use Rattle.exam_sql.proofs.CreateFails.{IsFree, fails_create}
 use Rattle.exam_sql.proofs.Creates.{create_by, sound_by}
 use Rattle.exam_sql.proofs.Failing.{IsWhole}

@@ -1,32 +1,16 @@
 -- The table appeal: how it is made, what its texts mean, and what they do.
+use Rattle.exam_sql.proofs.Words.{and_parts, not-true, cast, Int, Null, Text, Row, value_cmp, rowid, Term, col}
+use Rattle.exam_sql.proofs.Words.{eval_all, Abort, InsertOr, Values, everything, understood, first_key, shown, encode}
+use Rattle.exam_sql.proofs.Words.{begins, fits_kind, is_free_name, same_name, bare, places, same_key, same_rowid}
+use Rattle.exam_sql.proofs.Words.{IsLoad, made_schema, first_schema, made, store_schema, on_conflict, IsKeyed}
 use Rattle.std.proofs.Common.{Bool, map, List, None, Some, Option, [], ap, false, lit<, lit≤, refl, true, ℕ, ℤ, ◌++◌}
 use Rattle.std.proofs.Common.{◌||◌, ◌∷◌, ◌≡◌}
-use Rattle.std.proofs.lemmas.Bool.{and_parts, not-true}
 use Rattle.sqlite.specs.Kind.TheVariants.{Text as KindText}
-use Rattle.sqlite_rules.specs.Cast.{cast}
-use Rattle.sqlite_value.specs.declared.value.Value.TheVariants.{Int, Null, Text}
-use Rattle.sqlite_value.specs.Order.{Row, value_cmp}
-use Rattle.sqlite_trees.specs.Tree.{rowid}
-use Rattle.sqlite_sql.specs.Term.{Term, col, eval_all}
-use Rattle.sqlite_schema.specs.declared.command.Conflict.TheVariants.{Abort}
-use Rattle.sqlite_schema.specs.declared.command.Command.TheVariants.{InsertOr}
-use Rattle.sqlite_schema.specs.declared.command.Source.TheVariants.{Values}
-use Rattle.sqlite_tied.specs.Compute.{everything}
-use Rattle.sqlite.specs.Listing.{understood}
-use Rattle.sqlite_value.specs.Keys.{first_key}
-use Rattle.sqlite.specs.Rows.{shown}
 use Rattle.sqlite.specs.Values.{or_null}
-use lib.Utf8.{encode}
-use Rattle.sqlite_trees.specs.Sound.{begins, fits_kind, is_free_name, same_name}
-use Rattle.exam_sql.specs.Content.{bare, places, same_key, same_rowid}
-use Rattle.exam_sql.specs.Loads.{IsLoad}
-use Rattle.exam_sql.specs.Made.{made_schema}
-use Rattle.exam_sql.specs.Tables.{appeal, first_schema, made, store_schema}
+use Rattle.exam_sql.specs.Tables.{appeal}
 use Rattle.exam_sql.proofs.Fits.{Fits, fits_chosen}
 use Rattle.exam_sql.proofs.Keys.{cast_int, text_same}
 use Rattle.exam_sql.proofs.Loads.{load_of}
-use Rattle.exam_sql.specs.Plain.{on_conflict}
-use Rattle.exam_sql.specs.Keyed.{IsKeyed}
 use Rattle.exam_sql.proofs.Edits.{Means, PutsRow, upserts}
 use Rattle.exam_sql.proofs.Keying.{by_index, or_false}
 use Rattle.exam_sql.proofs.Making.{Adds, IsCreate, adds_by}

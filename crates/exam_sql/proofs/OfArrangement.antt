@@ -1,18 +1,12 @@
 -- The table arrangement: how it is made, what its texts mean, and what they do.
+use Rattle.exam_sql.proofs.Words.{Int, Null, Row, value_cmp, everything, understood, encode, begins, fits_kind}
+use Rattle.exam_sql.proofs.Words.{is_free_name, same_name, IsLoad, made_schema, first_schema, made, store_schema}
+use Rattle.exam_sql.proofs.Words.{IsKeyed}
 use Rattle.std.proofs.Common.{Bool, [], false, lit<, lit≤, refl, true, ℤ, ◌∷◌}
-use Rattle.sqlite_value.specs.declared.value.Value.TheVariants.{Int, Null}
-use Rattle.sqlite_value.specs.Order.{Row, value_cmp}
-use Rattle.sqlite_tied.specs.Compute.{everything}
-use Rattle.sqlite.specs.Listing.{understood}
-use lib.Utf8.{encode}
-use Rattle.sqlite_trees.specs.Sound.{begins, fits_kind, is_free_name, same_name}
-use Rattle.exam_sql.specs.Loads.{IsLoad}
-use Rattle.exam_sql.specs.Made.{made_schema}
-use Rattle.exam_sql.specs.Tables.{arrangement, first_schema, made, store_schema}
+use Rattle.exam_sql.specs.Tables.{arrangement}
 use Rattle.exam_sql.proofs.Fits.{Fits, fits_given}
 use Rattle.exam_sql.proofs.Keys.{cast_int, cast_null}
 use Rattle.exam_sql.proofs.Loads.{load_of}
-use Rattle.exam_sql.specs.Keyed.{IsKeyed}
 use Rattle.exam_sql.proofs.Edits.{PutsRow, replaces}
 use Rattle.exam_sql.proofs.Keying.{by_rowid, or_false, or_twice}
 use Rattle.exam_sql.proofs.Making.{Adds, IsCreate, adds_by}

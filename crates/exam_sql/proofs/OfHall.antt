@@ -1,22 +1,12 @@
 -- The table hall: how it is made, what its texts mean, and what they do.
+use Rattle.exam_sql.proofs.Words.{and_parts, not-true, Int, Null, Text, Row, value_cmp, rowid, everything, understood}
+use Rattle.exam_sql.proofs.Words.{first_key, encode, begins, fits_kind, is_free_name, same_name, same_rowid, IsLoad}
+use Rattle.exam_sql.proofs.Words.{made_schema, first_schema, made, store_schema, IsKeyed}
 use Rattle.std.proofs.Common.{Bool, List, [], ap, false, lit<, lit≤, refl, true, ℕ, ℤ, ◌||◌, ◌∷◌}
-use Rattle.std.proofs.lemmas.Bool.{and_parts, not-true}
-use Rattle.sqlite_value.specs.declared.value.Value.TheVariants.{Int, Null, Text}
-use Rattle.sqlite_value.specs.Order.{Row, value_cmp}
-use Rattle.sqlite_trees.specs.Tree.{rowid}
-use Rattle.sqlite_tied.specs.Compute.{everything}
-use Rattle.sqlite.specs.Listing.{understood}
-use Rattle.sqlite_value.specs.Keys.{first_key}
-use lib.Utf8.{encode}
-use Rattle.sqlite_trees.specs.Sound.{begins, fits_kind, is_free_name, same_name}
-use Rattle.exam_sql.specs.Content.{same_rowid}
-use Rattle.exam_sql.specs.Loads.{IsLoad}
-use Rattle.exam_sql.specs.Made.{made_schema}
-use Rattle.exam_sql.specs.Tables.{hall, first_schema, made, store_schema}
+use Rattle.exam_sql.specs.Tables.{hall}
 use Rattle.exam_sql.proofs.Fits.{Fits, fits_chosen}
 use Rattle.exam_sql.proofs.Keys.{cast_int, text_same}
 use Rattle.exam_sql.proofs.Loads.{load_of}
-use Rattle.exam_sql.specs.Keyed.{IsKeyed}
 use Rattle.exam_sql.proofs.Edits.{PutsRow, upserts}
 use Rattle.exam_sql.proofs.Keying.{by_index, or_false}
 use Rattle.exam_sql.proofs.Making.{Adds, IsCreate, adds_by}

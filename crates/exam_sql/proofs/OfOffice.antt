@@ -1,28 +1,15 @@
 -- The table office: how it is made, what its texts mean, and what they do.
+use Rattle.exam_sql.proofs.Words.{Int, Null, Row, value_cmp, Trees, Term, col, Replace, InsertOr, Values, everything}
+use Rattle.exam_sql.proofs.Words.{Error, understood, Executes, State, IsPlain, command_of, encode, begins, fits_kind}
+use Rattle.exam_sql.proofs.Words.{is_free_name, same_name, ContainsIn, IsLoad, made_schema, first_schema, made}
+use Rattle.exam_sql.proofs.Words.{store_schema, IsKeyed}
 use Rattle.std.proofs.Common.{Bool, List, OnOk, Result, [], false, lit<, lit≤, pos, refl, true, ℕ, ℤ, ◌∷◌, ◌≡◌}
-use Rattle.sqlite_value.specs.declared.value.Value.TheVariants.{Int, Null}
-use Rattle.sqlite_value.specs.Order.{Row, value_cmp}
-use Rattle.sqlite_trees.specs.Tree.{Trees}
-use Rattle.sqlite_sql.specs.Term.{Term, col, lit}
-use Rattle.sqlite_schema.specs.declared.command.Conflict.TheVariants.{Replace}
-use Rattle.sqlite_schema.specs.declared.command.Command.TheVariants.{InsertOr}
-use Rattle.sqlite_schema.specs.declared.command.Source.TheVariants.{Values}
-use Rattle.sqlite_tied.specs.Compute.{everything}
-use Rattle.sqlite.specs.declared.error.Error.{Error}
-use Rattle.sqlite.specs.Listing.{understood}
-use Rattle.sqlite.specs.State.{Executes, State}
-use Rattle.sqlite.proofs.Callers.{IsPlain, command_of}
-use lib.Utf8.{encode}
-use Rattle.sqlite_trees.specs.Sound.{begins, fits_kind, is_free_name, same_name}
+use Rattle.sqlite_sql.specs.Term.{lit}
 use Rattle.exam_sql.specs.Changes.{with_row}
-use Rattle.exam_sql.specs.Content.{ContainsIn}
-use Rattle.exam_sql.specs.Loads.{IsLoad}
-use Rattle.exam_sql.specs.Made.{made_schema}
-use Rattle.exam_sql.specs.Tables.{office, first_schema, made, store_schema}
+use Rattle.exam_sql.specs.Tables.{office}
 use Rattle.exam_sql.proofs.Fits.{Fits, fits_given}
 use Rattle.exam_sql.proofs.Keys.{cast_int, cast_null}
 use Rattle.exam_sql.proofs.Loads.{load_of}
-use Rattle.exam_sql.specs.Keyed.{IsKeyed}
 use Rattle.exam_sql.proofs.Keying.{by_rowid, or_false, or_twice}
 use Rattle.exam_sql.proofs.Making.{Adds, IsCreate, adds_by}
 use Rattle.exam_sql.proofs.Quiet.{IsQuery}

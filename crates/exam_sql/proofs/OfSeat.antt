@@ -1,25 +1,14 @@
 -- The table seat: how it is made, what its texts mean, and what they do.
+use Rattle.exam_sql.proofs.Words.{list_all, and_parts, not-true, Int, Null, Text, Row, value_cmp, holds, everything}
+use Rattle.exam_sql.proofs.Words.{understood, first_key, encode, begins, fits_kind, is_free_name, same_name, bare}
+use Rattle.exam_sql.proofs.Words.{places, same_key, same_rowid, IsLoad, made_schema, first_schema, made, store_schema}
+use Rattle.exam_sql.proofs.Words.{IsKeyed, without_row}
 use Rattle.std.proofs.Common.{Bool, List, [], ap, false, lit<, lit≤, refl, true, ℕ, ℤ, ◌||◌, ◌∷◌, ◌≡◌}
-use Rattle.std.specs.List.{list_all}
-use Rattle.std.proofs.lemmas.Bool.{and_parts, not-true}
-use Rattle.sqlite_value.specs.declared.value.Value.TheVariants.{Int, Null, Text}
-use Rattle.sqlite_value.specs.Order.{Row, value_cmp}
-use Rattle.sqlite_sql.specs.Term.{holds}
-use Rattle.sqlite_tied.specs.Compute.{everything}
-use Rattle.sqlite.specs.Listing.{understood}
-use Rattle.sqlite_value.specs.Keys.{first_key}
-use lib.Utf8.{encode}
-use Rattle.sqlite_trees.specs.Sound.{begins, fits_kind, is_free_name, same_name}
-use Rattle.exam_sql.specs.Content.{bare, places, same_key, same_rowid}
-use Rattle.exam_sql.specs.Loads.{IsLoad}
-use Rattle.exam_sql.specs.Made.{made_schema}
-use Rattle.exam_sql.specs.Tables.{seat, first_schema, made, store_schema}
+use Rattle.exam_sql.specs.Tables.{seat}
 use Rattle.exam_sql.specs.Texts.{delete_seat}
 use Rattle.exam_sql.proofs.Fits.{Fits, fits_chosen}
 use Rattle.exam_sql.proofs.Keys.{cast_int}
 use Rattle.exam_sql.proofs.Loads.{load_of}
-use Rattle.exam_sql.specs.Keyed.{IsKeyed}
-use Rattle.exam_sql.specs.Changes.{without_row}
 use Rattle.exam_sql.proofs.Edits.{Edits, PutsRow, removes, replaces}
 use Rattle.exam_sql.proofs.Keying.{by_index, or_false}
 use Rattle.exam_sql.proofs.Making.{Adds, IsCreate, adds_by}

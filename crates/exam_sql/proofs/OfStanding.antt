@@ -1,19 +1,12 @@
 -- The table standing: how it is made, what its texts mean, and what they do.
+use Rattle.exam_sql.proofs.Words.{and_parts, not-true, Int, Null, Text, Row, value_cmp, everything, understood, encode}
+use Rattle.exam_sql.proofs.Words.{begins, fits_kind, is_free_name, same_name, same_rowid, IsLoad, made, store_schema}
+use Rattle.exam_sql.proofs.Words.{IsKeyed}
 use Rattle.std.proofs.Common.{List, [], ap, lit<, lit≤, refl, ℕ, ℤ, ◌||◌, ◌∷◌}
-use Rattle.std.proofs.lemmas.Bool.{and_parts, not-true}
-use Rattle.sqlite_value.specs.declared.value.Value.TheVariants.{Int, Null, Text}
-use Rattle.sqlite_value.specs.Order.{Row, value_cmp}
-use Rattle.sqlite_tied.specs.Compute.{everything}
-use Rattle.sqlite.specs.Listing.{understood}
-use lib.Utf8.{encode}
-use Rattle.sqlite_trees.specs.Sound.{begins, fits_kind, is_free_name, same_name}
-use Rattle.exam_sql.specs.Content.{same_rowid}
-use Rattle.exam_sql.specs.Loads.{IsLoad}
-use Rattle.exam_sql.specs.Tables.{standing, made, store_schema}
+use Rattle.exam_sql.specs.Tables.{standing}
 use Rattle.exam_sql.proofs.Fits.{Fits, fits_chosen}
 use Rattle.exam_sql.proofs.Keys.{cast_int}
 use Rattle.exam_sql.proofs.Loads.{load_of}
-use Rattle.exam_sql.specs.Keyed.{IsKeyed}
 use Rattle.exam_sql.proofs.Edits.{PutsRow, replaces}
 use Rattle.exam_sql.proofs.Keying.{by_index, or_false}
 use Rattle.exam_sql.proofs.Making.{Adds, IsCreate, adds_by}

@@ -1,28 +1,12 @@
 -- The appeal with a key: what its text means, and what it shows.
+use Rattle.exam_sql.proofs.Words.{list_all, IsPermutation, IsPermutation-map, IsPermutation-sym, IsPermutation-trans}
+use Rattle.exam_sql.proofs.Words.{Null, Row, first_key, Trees, filter-map, map-map, IsPermutation-filter, eval_all}
+use Rattle.exam_sql.proofs.Words.{holds, overlay, Select, everything, Error, SqliteFailure, OutOfMemory, understood}
+use Rattle.exam_sql.proofs.Words.{reads_listing, State, FailsToQuery, Shown, IsPlain, command_of, ContainsIn, bare}
+use Rattle.exam_sql.proofs.Words.{places, same_key, one_table, is_failure, store_schema}
 use Rattle.std.proofs.Common.{◌≡◌, ◌⊎◌, IsTrue, List, [], ◌∷◌, map, filter, false, Bool, refl, sym, ap, subst, ◌∙◌}
-use Rattle.std.specs.List.{list_all}
-use Rattle.std.specs.List.Sorted.{IsPermutation}
-use Rattle.std.proofs.lemmas.List.Sorted.{IsPermutation-map, IsPermutation-sym, IsPermutation-trans}
-use Rattle.sqlite_value.specs.declared.value.Value.TheVariants.{Null}
-use Rattle.sqlite_value.specs.Order.{Row}
-use Rattle.sqlite_value.specs.Keys.{first_key}
-use Rattle.sqlite_trees.specs.Tree.{Trees}
-use Rattle.sqlite_trees.proofs.ListLemmas.{filter-map, map-map, IsPermutation-filter}
-use Rattle.sqlite_sql.specs.Term.{eval_all, holds}
-use Rattle.sqlite_sql.specs.Program.{overlay}
-use Rattle.sqlite_schema.specs.declared.command.Command.TheVariants.{Select}
-use Rattle.sqlite_tied.specs.Compute.{everything}
-use Rattle.sqlite.specs.declared.error.Error.{Error}
-use Rattle.sqlite.specs.declared.error.Error.TheVariants.{SqliteFailure}
-use Rattle.sqlite.specs.declared.error.ErrorCode.TheVariants.{OutOfMemory}
-use Rattle.sqlite.specs.Listing.{understood, reads_listing}
-use Rattle.sqlite.specs.State.{State, FailsToQuery, Shown}
-use Rattle.sqlite.proofs.Callers.{IsPlain, command_of, reads_as}
-use Rattle.exam_sql.specs.Content.{ContainsIn, bare, places, same_key}
-use Rattle.exam_sql.specs.Plain.{one_table}
-use Rattle.exam_sql.specs.Refusals.{is_failure}
+use Rattle.sqlite.proofs.Callers.{reads_as}
 use Rattle.exam_sql.specs.Tables as tables
-use Rattle.exam_sql.specs.Tables.{store_schema}
 use Rattle.exam_sql.specs.Texts.{find_appeal}
 use Rattle.exam_sql.proofs.Queries.{map_same, picks}
 use Rattle.exam_sql.proofs.QueryFails.{query_fails}

@@ -1,18 +1,12 @@
 -- What a query on one table answers.
+use Rattle.exam_sql.proofs.Words.{list_all, IsPermutation, IsPermutation-map, Row, Trees, map-map, Term, eval_all}
+use Rattle.exam_sql.proofs.Words.{holds, IsAnswer, Has, one_table}
 use Rattle.std.proofs.Common.{◌≡◌, ℕ, List, [], ◌∷◌, ◌++◌, map, filter, flat_map, Bool, true, false, cond, refl, sym}
 use Rattle.std.proofs.Common.{ap, ap₂, subst, ◌∙◌}
-use Rattle.std.specs.List.{list_all}
-use Rattle.std.specs.List.Sorted.{IsPermutation}
-use Rattle.std.proofs.lemmas.List.Sorted.{IsPermutation-map, Contains-permutation}
+use Rattle.std.proofs.lemmas.List.Sorted.{Contains-permutation}
 use Rattle.sqlite_value.specs.declared.keys.Key.{Key}
-use Rattle.sqlite_value.specs.Order.{Row}
-use Rattle.sqlite_trees.specs.Tree.{Trees}
-use Rattle.sqlite_trees.proofs.ListLemmas.{map-map}
-use Rattle.sqlite_sql.specs.Term.{Term, eval_all, holds}
-use Rattle.sqlite_sql.specs.Query.{IsAnswer, Output, output}
-use Rattle.sqlite_rules.specs.Lists.{Has}
+use Rattle.sqlite_sql.specs.Query.{Output, output}
 use Rattle.sqlite_rules.proofs.ListLemmas.{has_contained, contains_had}
-use Rattle.exam_sql.specs.Plain.{one_table}
 
 pub chosen : {X Y : Type 0} (p : X → Bool) (f : X → Y) (xs : List X)
     → flat_map (λ x. cond (p x) (f x ∷ []) []) xs ≡ map f (filter p xs)

@@ -1,25 +1,16 @@
 -- Why a query of a text that is understood fails.
+use Rattle.exam_sql.proofs.Words.{Row, Command, Select, Schema, Compiled, CompileError, Error, SqliteFailure}
+use Rattle.exam_sql.proofs.Words.{OutOfMemory, timed, Database, understood, State, FailsToQuery, IsNotRun, IsPlain}
+use Rattle.exam_sql.proofs.Words.{is_failure}
 use Rattle.std.proofs.Common.{◌≡◌, ◌⊎◌, inl, inr, ℕ, List, Option, None, Some, Result, IsTrue, refl, sym, ap, subst}
 use Rattle.std.proofs.Common.{◌∙◌}
-use Rattle.sqlite_value.specs.Order.{Row}
 use Rattle.sqlite_trees.specs.declared.error.StoreError.TheVariants.{OutOfMemory as NoMemory, Io, Corrupt, Full, Broken}
 use Rattle.sqlite_trees.specs.declared.error.StoreError.TheVariants.{Unstorable}
-use Rattle.sqlite_schema.specs.declared.command.Command.{Command}
-use Rattle.sqlite_schema.specs.declared.command.Command.TheVariants.{Select, Rows}
+use Rattle.sqlite_schema.specs.declared.command.Command.TheVariants.{Rows}
 use Rattle.sqlite_schema.specs.declared.command.Returning.{Returning}
-use Rattle.sqlite_schema.specs.declared.schema.Schema.{Schema}
-use Rattle.sqlite_resolve.specs.declared.compiled.Compiled.{Compiled}
-use Rattle.sqlite_resolve.specs.declared.error.CompileError.{CompileError}
-use Rattle.sqlite.specs.declared.error.Error.{Error}
-use Rattle.sqlite.specs.declared.error.Error.TheVariants.{SqliteFailure}
-use Rattle.sqlite.specs.declared.error.ErrorCode.TheVariants.{OutOfMemory}
-use Rattle.sqlite.specs.Clock.{timed}
-use Rattle.sqlite.specs.Effect.{Database, RefusesToRead}
-use Rattle.sqlite.specs.Listing.{understood}
+use Rattle.sqlite.specs.Effect.{RefusesToRead}
 use Rattle.sqlite.specs.State as state
-use Rattle.sqlite.specs.State.{State, FailsToQuery, FailsToShow, IsNotRun}
-use Rattle.sqlite.proofs.Callers.{IsPlain}
-use Rattle.exam_sql.specs.Refusals.{is_failure}
+use Rattle.sqlite.specs.State.{FailsToShow}
 
 -- memory ran out, or a failure
 abbrev IsKnown : Error → Type 0

@@ -1,22 +1,15 @@
 -- A query leaves the database as it is, whatever its tables are; where it fails, it may undo the transaction.
+use Rattle.exam_sql.proofs.Words.{cases_Bool, Row, Trees, Schema, Command, timed, Compiled, CompileError, Error}
+use Rattle.exam_sql.proofs.Words.{understood, reads_listing, State, Shown, FailsToQuery, IsNotRun}
 use Rattle.std.proofs.Common.{◌≡◌, ◌⊎◌, ℕ, List, [], None, Some, Option, Ok, Err, Result, inl, inr, refl, sym, ap, ◌∙◌}
-use Rattle.std.proofs.lemmas.Bool.{cases_Bool}
-use Rattle.sqlite_value.specs.Order.{Row}
 use Rattle.sqlite_trees.specs.declared.store.Store.{Ghosts}
-use Rattle.sqlite_trees.specs.Tree.{Trees}
 use Rattle.sqlite_schema.specs.declared.command.Returning.{Returning}
-use Rattle.sqlite_schema.specs.declared.schema.Schema.{Schema}
 use Rattle.sqlite_resolve.specs.Compile.{compiled, planned, meaning, first, returning, with_command}
 use Rattle.sqlite_resolve.specs.Lowering.{Checked, and_then}
-use Rattle.sqlite_schema.specs.declared.command.Command.{Command}
-use Rattle.sqlite.specs.Clock.{timed}
-use Rattle.sqlite_resolve.specs.declared.compiled.Compiled.{Compiled}
-use Rattle.sqlite_resolve.specs.declared.error.CompileError.{CompileError}
-use Rattle.sqlite.specs.declared.error.Error.{Error}
 use Rattle.sqlite.specs.Given.{HasBegun, HasGiven, Returns}
 use Rattle.sqlite.specs.Held.{Held, state}
-use Rattle.sqlite.specs.Listing.{understood, if_select, is_select, reads_listing, listing_schema}
-use Rattle.sqlite.specs.State.{State, CommitsShowing, Shown, FailsToQuery, FailsToShow, IsNotRun, IsUnchanged}
+use Rattle.sqlite.specs.Listing.{if_select, is_select, listing_schema}
+use Rattle.sqlite.specs.State.{CommitsShowing, FailsToShow, IsUnchanged}
 use Rattle.sqlite.specs.State.{IsRolledBack}
 
 -- the text has no RETURNING

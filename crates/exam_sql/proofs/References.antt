@@ -1,22 +1,13 @@
 -- What the rows of the eleven tables refer to: if each has it, no foreign key forbids a statement.
+use Rattle.exam_sql.proofs.Words.{both_true, AllByRecursion, list_any, IsPermutation-sym, Row, plain, Trees, Refers}
+use Rattle.exam_sql.proofs.Words.{agree, Has, all_has, all_from, some_from, some_has, has_mapped, mapped_has, Database}
+use Rattle.exam_sql.proofs.Words.{ContainsIn, Holds, places, bare, Described, store_schema}
 use Rattle.std.proofs.Common.{◌≡◌, ℕ, List, [], ◌∷◌, Bool, true, refl, subst, ◌∙◌}
-use Rattle.std.specs.Cmp.Derive.{both_true}
-use Rattle.std.specs.List.{AllByRecursion, list_any}
 use Rattle.std.proofs.lemmas.Bool.{or_right}
-use Rattle.std.proofs.lemmas.List.Sorted.{IsPermutation-sym}
-use Rattle.sqlite_value.specs.Order.{Row}
-use Rattle.sqlite_value.specs.Keys.{plain, joined}
-use Rattle.sqlite_trees.specs.Tree.{Trees}
+use Rattle.sqlite_value.specs.Keys.{joined}
 use Rattle.sqlite_schema.specs.declared.schema.Among.TheVariants as among
 use Rattle.sqlite_schema.specs.Names.{same_name}
-use Rattle.sqlite_schema.specs.Rules.{Refers, agree}
-use Rattle.sqlite_rules.specs.Lists.{Has}
-use Rattle.sqlite_rules.proofs.ListLemmas.{all_has, all_from, some_from, some_has}
-use Rattle.sqlite_rules.proofs.ProbeLemmas.{has_mapped, mapped_has}
-use Rattle.sqlite.specs.Effect.{Database}
-use Rattle.exam_sql.specs.Content.{ContainsIn, Holds, places, bare}
 use Rattle.exam_sql.specs.Tables as tables
-use Rattle.exam_sql.specs.Tables.{Described, store_schema}
 use Rattle.exam_sql.proofs.Queries.{has_permuted}
 
 -- a foreign key: the tree of the rows that refer to others, the places of their columns, and the tree and the key of

@@ -1,20 +1,11 @@
 -- Why a statement fails, where what the database itself may refuse is known.
+use Rattle.exam_sql.proofs.Words.{Row, Command, Schema, Compiled, CompileError, Error, timed, Does, understood, State}
+use Rattle.exam_sql.proofs.Words.{mode_of, Executes, ExecutesInside, Escapes, IsNotRun, IsMisplaced, text_of, IsPlain}
+use Rattle.exam_sql.proofs.Words.{command_of, statement_of, Fails, is_failure}
 use Rattle.std.proofs.Common.{◌≡◌, ◌||◌, ◌≤◌, inl, inr, ℕ, List, [], length, false, None, Some, Option, Ok, Err, Result}
 use Rattle.std.proofs.Common.{sym, ap, subst, ◌∙◌, append-nil, IsTrue}
-use Rattle.sqlite_value.specs.Order.{Row}
-use Rattle.sqlite_schema.specs.declared.command.Command.{Command}
-use Rattle.sqlite_schema.specs.declared.schema.Schema.{Schema}
-use Rattle.sqlite_resolve.specs.declared.compiled.Compiled.{Compiled}
-use Rattle.sqlite_resolve.specs.declared.error.CompileError.{CompileError}
-use Rattle.sqlite.specs.declared.error.Error.{Error}
-use Rattle.sqlite.specs.Clock.{timed}
-use Rattle.sqlite.specs.Does.{Does}
 use Rattle.sqlite.specs.Effect.{is_query}
-use Rattle.sqlite.specs.Listing.{understood}
-use Rattle.sqlite.specs.State.{State, mode_of, Executes, ExecutesIn, ExecutesInside, EndsScope, Escapes, IsNotRun}
-use Rattle.sqlite.specs.State.{IsMisplaced, RunsCommand, shows_rows, is_pragma, text_of}
-use Rattle.sqlite.proofs.Callers.{IsPlain, command_of, statement_of}
-use Rattle.exam_sql.specs.Refusals.{Fails, is_failure}
+use Rattle.sqlite.specs.State.{ExecutesIn, EndsScope, RunsCommand, shows_rows, is_pragma}
 use Rattle.exam_sql.proofs.Failing.{IsWhole, cause}
 
 -- the command ends no transaction and shows no rows

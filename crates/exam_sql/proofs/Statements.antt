@@ -1,55 +1,36 @@
 -- What INSERT OR REPLACE and INSERT .. ON CONFLICT .. DO UPDATE make of a keyed table.
+use Rattle.exam_sql.proofs.Words.{AllByRecursion, list_all, IsPermutation, and_parts, not-true, false_from_ne_true}
+use Rattle.exam_sql.proofs.Words.{cases_Bool, eqb-true, IsPermutation-trans, IsPermutation-sym, IsPermutation-map}
+use Rattle.exam_sql.proofs.Words.{Value, Null, Int, Row, value_cmp, Trees, rowid, with_tree, IsShaped, filter-map}
+use Rattle.exam_sql.proofs.Words.{filter_all, IsPermutation-filter, Term, eval_all, holds, overlay, IsAnswer, Conflict}
+use Rattle.exam_sql.proofs.Words.{Abort, Replace, Upsert, InsertOr, Values, Enforced, Schema, Table, Unique, passes}
+use Rattle.exam_sql.proofs.Words.{Given, Chosen, cast_row, Has, id_in, edit_of, with_rowid, without_all, is_taken}
+use Rattle.exam_sql.proofs.Words.{taken_by, ids_of, all_has, all_from, test_has, has_kept, mapped_has, has_mapped}
+use Rattle.exam_sql.proofs.Words.{int_is, tied_same, Error, Database, Then, Written, Task, Edited, mended, nothing}
+use Rattle.exam_sql.proofs.Words.{count_of, shown, Puts, Clears, Tries, TriesEach, InsertsOr, Tally, Does, AtPlace}
+use Rattle.exam_sql.proofs.Words.{OnRows, State, mode_of, Writes, Executes, understood, one_step, IsPlain, command_of}
+use Rattle.exam_sql.proofs.Words.{runs_as, places, bare, Holds, ContainsIn, put, same_key, same_rowid, IsKeyed}
+use Rattle.exam_sql.proofs.Words.{one_table, on_conflict}
 use Rattle.std.proofs.Common.{◌≡◌, ◌≢◌, ◌⊎◌, inl, inr, ℕ, ℤ, List, [], ◌∷◌, ◌++◌, map, filter, length, Bool, true}
 use Rattle.std.proofs.Common.{false, if◌then◌else◌, MatchBool, not, ◌==◌, ◌/◌, Some, None, Option, Ok, Err, Result}
 use Rattle.std.proofs.Common.{OnOk, refl, sym, ap, ap₂, subst, ◌∙◌, append-nil, true≢false, Equal}
-use Rattle.std.specs.List.{AllByRecursion, list_all}
-use Rattle.std.specs.List.Sorted.{IsPermutation}
-use Rattle.std.proofs.lemmas.Bool.{and_parts, or_cases, or_right, not-true, false_from_ne_true, cases_Bool, eqb-true}
+use Rattle.std.proofs.lemmas.Bool.{or_cases, or_right}
 use Rattle.std.proofs.lemmas.Bool.{eqb-false}
-use Rattle.std.proofs.lemmas.List.Sorted.{IsPermutation-cons, IsPermutation-trans, IsPermutation-sym, IsPermutation-map}
-use Rattle.sqlite_value.specs.declared.value.Value.{Value}
-use Rattle.sqlite_value.specs.declared.value.Value.TheVariants.{Null, Int}
-use Rattle.sqlite_value.specs.Order.{Row, value_cmp}
+use Rattle.std.proofs.lemmas.List.Sorted.{IsPermutation-cons}
 use Rattle.sqlite_trees.specs.declared.store.Shape.TheVariants.{Table as TableShape}
-use Rattle.sqlite_trees.specs.Tree.{Trees, rowid, has_rowid, put_row, with_tree}
-use Rattle.sqlite_trees.specs.View.{IsShaped}
+use Rattle.sqlite_trees.specs.Tree.{has_rowid, put_row}
 use Rattle.sqlite_trees.proofs.TreeLemmas.{IsShaped-put_row, IsShaped-filter}
-use Rattle.sqlite_trees.proofs.ListLemmas.{filter-map, filter_all, all_both, IsPermutation-filter}
-use Rattle.sqlite_sql.specs.Term.{Term, Env, eval_all, holds}
-use Rattle.sqlite_sql.specs.Program.{overlay}
-use Rattle.sqlite_sql.specs.Query.{IsAnswer}
-use Rattle.sqlite_schema.specs.declared.command.Conflict.{Conflict}
-use Rattle.sqlite_schema.specs.declared.command.Conflict.TheVariants.{Abort, Replace}
-use Rattle.sqlite_schema.specs.declared.command.Upsert.{Upsert}
-use Rattle.sqlite_schema.specs.declared.command.Command.TheVariants.{InsertOr}
-use Rattle.sqlite_schema.specs.declared.command.Source.TheVariants.{Values}
-use Rattle.sqlite_schema.specs.declared.schema.Keys.TheVariants.{Enforced}
-use Rattle.sqlite_schema.specs.declared.schema.Schema.{Schema}
-use Rattle.sqlite_schema.specs.declared.schema.Table.{Table}
-use Rattle.sqlite_schema.specs.declared.schema.Constraint.TheVariants.{Unique}
+use Rattle.sqlite_trees.proofs.ListLemmas.{all_both}
+use Rattle.sqlite_sql.specs.Term.{Env}
 use Rattle.sqlite_schema.specs.Rules as rules
-use Rattle.sqlite_schema.specs.Rules.{passes}
-use Rattle.sqlite_rules.specs.declared.error.Rowids.TheVariants.{Given, Chosen, Above}
-use Rattle.sqlite_rules.specs.Cast.{cast_row}
-use Rattle.sqlite_rules.specs.Lists.{Has}
+use Rattle.sqlite_rules.specs.declared.error.Rowids.TheVariants.{Above}
 use Rattle.sqlite_rules.specs.Keys.{AreConflicts, conflicts}
-use Rattle.sqlite_rules.specs.Edit.{id_in, edit_of, with_rowid, are_fresh, without_all, put_all, is_taken, taken_by}
-use Rattle.sqlite_rules.specs.Calls.{ids_of}
-use Rattle.sqlite_rules.proofs.ListLemmas.{all_has, all_from, test_has, has_got, has_kept}
-use Rattle.sqlite_rules.proofs.ProbeLemmas.{mapped_has, has_mapped}
-use Rattle.sqlite_rules.proofs.TableLemmas.{int_is, put_all_adds, put_all_keeps}
-use Rattle.sqlite_rules.proofs.PlaceLemmas.{tied_same}
-use Rattle.sqlite.specs.declared.error.Error.{Error}
-use Rattle.sqlite.specs.Effect.{Database, value_rows}
-use Rattle.sqlite.specs.Rows.{Then, Gives, Written, Task, Edited, mended, nothing, rowids_for, count_of, shown, Updates}
-use Rattle.sqlite.specs.Rows.{Puts, Clears, Meets, Upserts, Tries, TriesEach, InsertsOr}
-use Rattle.sqlite.specs.Does.{Tally, Does, AtPlace, OnRows}
-use Rattle.sqlite.specs.State.{State, mode_of, Writes, Executes}
-use Rattle.sqlite.specs.Listing.{understood}
-use Rattle.sqlite.proofs.Callers.{one_step, IsPlain, command_of, runs_as, one_permutation}
-use Rattle.exam_sql.specs.Content.{places, bare, Holds, ContainsIn, put, same_key, same_rowid}
-use Rattle.exam_sql.specs.Keyed.{IsKeyed}
-use Rattle.exam_sql.specs.Plain.{one_table, on_conflict}
+use Rattle.sqlite_rules.specs.Edit.{are_fresh, put_all}
+use Rattle.sqlite_rules.proofs.ListLemmas.{has_got}
+use Rattle.sqlite_rules.proofs.TableLemmas.{put_all_adds, put_all_keeps}
+use Rattle.sqlite.specs.Effect.{value_rows}
+use Rattle.sqlite.specs.Rows.{Gives, rowids_for, Updates, Meets, Upserts}
+use Rattle.sqlite.proofs.Callers.{one_permutation}
 use Rattle.exam_sql.proofs.Fits.{Fits, Comes}
 use Rattle.exam_sql.proofs.Keys.{cast_int, equal_is, same_place, ties_itself, tied_rows}
 use Rattle.exam_sql.proofs.Queries.{picks}

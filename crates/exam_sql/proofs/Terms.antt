@@ -1,21 +1,13 @@
 -- The terms of the statements that put a row of a table.
+use Rattle.exam_sql.proofs.Words.{list_all, Int, Null, Row, rowid, Term, col, eval_all, holds, Delete, InsertOr, Abort}
+use Rattle.exam_sql.proofs.Words.{Replace, Values, Table, shown, bare, places, same_key, same_rowid, on_conflict}
+use Rattle.exam_sql.proofs.Words.{one_table, Described, store_schema}
 use Rattle.std.proofs.Common.{◌≡◌, ◌+◌, ◌-◌, ◌++◌, true, ℕ, ℤ, List, [], ◌∷◌, length, map, Option, None, Some}
-use Rattle.std.specs.List.{list_all, range_with_len}
+use Rattle.std.specs.List.{range_with_len}
 use Rattle.sqlite_value.specs.declared.keys.Collation.TheVariants.{Binary}
-use Rattle.sqlite_value.specs.declared.value.Value.TheVariants.{Int, Null}
-use Rattle.sqlite_value.specs.Order.{Row}
-use Rattle.sqlite_trees.specs.Tree.{rowid}
-use Rattle.sqlite_sql.specs.Term.{Term, col, eval_all, holds, lit, op2}
+use Rattle.sqlite_sql.specs.Term.{lit, op2}
 use Rattle.sqlite_sql.specs.declared.ops.BinaryOp.TheVariants.{Compare}
 use Rattle.sqlite_sql.specs.declared.ops.CompareOp.TheVariants.{Eq}
-use Rattle.sqlite_schema.specs.declared.command.Command.TheVariants.{Delete, InsertOr}
-use Rattle.sqlite_schema.specs.declared.command.Conflict.TheVariants.{Abort, Replace}
-use Rattle.sqlite_schema.specs.declared.command.Source.TheVariants.{Values}
-use Rattle.sqlite_schema.specs.declared.schema.Table.{Table}
-use Rattle.sqlite.specs.Rows.{shown}
-use Rattle.exam_sql.specs.Content.{bare, places, same_key, same_rowid}
-use Rattle.exam_sql.specs.Plain.{on_conflict, one_table}
-use Rattle.exam_sql.specs.Tables.{Described, store_schema}
 use Rattle.exam_sql.proofs.Edits.{Means}
 
 -- what a statement gives for the rowid and for each column; a column that is the rowid is kept as NULL

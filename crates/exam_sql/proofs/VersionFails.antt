@@ -1,60 +1,44 @@
 -- Why the version is not set: whatever rows the tables have, only a limit of steps that is too low prevents it.
+use Rattle.exam_sql.proofs.Words.{AllByRecursion, list_all, list_any, is_eq, both_true, not-true, and_parts, cases_Bool}
+use Rattle.exam_sql.proofs.Words.{eqb-true, false_from_ne_true, Null, Int, Row, value_cmp, plain, first_key, Trees}
+use Rattle.exam_sql.proofs.Words.{rowid, IsShaped, Replace, InsertOr, Values, Unique, Enforced, Table, Index, passes}
+use Rattle.exam_sql.proofs.Words.{equal, Refers, agree, table_reals, Chosen, Given, ids_of, cast_row, edit_of}
+use Rattle.exam_sql.proofs.Words.{with_rowid, without_all, id_in, is_taken, taken_by, Has, all_has, all_from, test_has}
+use Rattle.exam_sql.proofs.Words.{has_filtered, some_has, int_is, Error, SqliteFailure, Task, Written, Edited, Puts}
+use Rattle.exam_sql.proofs.Words.{Clears, Tries, TriesEach, InsertsOr, count_of, mended, nothing, Does, OnRows}
+use Rattle.exam_sql.proofs.Words.{Database, IsDatabase, understood, State, ExecutesInside, text_of, IsPlain, command_of}
+use Rattle.exam_sql.proofs.Words.{one_step, ContainsIn, bare, places, same_key, same_rowid, Fails, Refuses}
+use Rattle.exam_sql.proofs.Words.{store_schema}
 use Rattle.std.proofs.Common.{◌≡◌, ◌⊎◌, ◌==◌, ◌||◌, ◌&&◌, not, inl, inr, ℕ, ℤ, zero, suc, pos, negsuc, List, [], ◌∷◌}
 use Rattle.std.proofs.Common.{length, Bool, true, false, None, Some, Option, Ok, Err, refl, sym, ap, ap₂, subst, ◌∙◌}
 use Rattle.std.proofs.Common.{arith, IsSome, lit≤, lit<, length-append, true≢false, All, Equal}
-use Rattle.std.specs.List.{AllByRecursion, list_all, list_any}
-use Rattle.std.specs.Ordering.{is_eq}
-use Rattle.std.specs.Cmp.Derive.{both_true}
-use Rattle.std.proofs.lemmas.Bool.{not-true, and_parts, cases_Bool, eqb-true, eqb-false, false_from_ne_true}
+use Rattle.std.proofs.lemmas.Bool.{eqb-false}
 use Rattle.std.specs.Float.{NotNan}
 use Rattle.std.proofs.lemmas.Nat.Bits.{bit_at-zero}
-use Rattle.sqlite_value.specs.declared.value.Value.TheVariants.{Null, Int}
-use Rattle.sqlite_value.specs.Order.{Row, number, value_cmp}
-use Rattle.sqlite_value.specs.Keys.{plain, first_key, joined}
+use Rattle.sqlite_value.specs.Order.{number}
+use Rattle.sqlite_value.specs.Keys.{joined}
 use Rattle.sqlite_trees.specs.declared.store.Shape.TheVariants.{Table as TableShape}
-use Rattle.sqlite_trees.specs.Tree.{Trees, rowid}
-use Rattle.sqlite_trees.specs.View.{IsShaped, IsStorableRow}
+use Rattle.sqlite_trees.specs.View.{IsStorableRow}
 use Rattle.sqlite_sql.specs.Ops.{fits_i64}
-use Rattle.sqlite_schema.specs.declared.command.Conflict.TheVariants.{Replace}
-use Rattle.sqlite_schema.specs.declared.command.Command.TheVariants.{InsertOr}
-use Rattle.sqlite_schema.specs.declared.command.Source.TheVariants.{Values}
 use Rattle.sqlite_schema.specs.declared.schema.Constraint.{Constraint}
-use Rattle.sqlite_schema.specs.declared.schema.Constraint.TheVariants.{Datatype, NotNull, Check, PrimaryKey, Unique}
+use Rattle.sqlite_schema.specs.declared.schema.Constraint.TheVariants.{Datatype, NotNull, Check, PrimaryKey}
 use Rattle.sqlite_schema.specs.declared.schema.Constraint.TheVariants.{ForeignKey}
-use Rattle.sqlite_schema.specs.declared.schema.Keys.TheVariants.{Enforced}
 use Rattle.sqlite_schema.specs.declared.schema.Among.TheVariants as among
-use Rattle.sqlite_schema.specs.declared.schema.Table.{Table}
-use Rattle.sqlite_schema.specs.declared.schema.Index.{Index}
 use Rattle.sqlite_schema.specs.declared.schema.Reference.{Reference}
 use Rattle.sqlite_schema.specs.Names.{same_name}
-use Rattle.sqlite_schema.specs.Rules.{passes, guards, clashes, equal, Keeps, Refers, ParentKey, parent_key, agree}
-use Rattle.sqlite_schema.specs.Rules.{has_null, is_held, is_among, has_parent, references_fit, table_reals}
+use Rattle.sqlite_schema.specs.Rules.{guards, clashes, Keeps, ParentKey, parent_key, has_null, is_held, is_among}
+use Rattle.sqlite_schema.specs.Rules.{has_parent, references_fit}
 use Rattle.sqlite_rules.specs.declared.error.Refusal.{Refusal}
 use Rattle.sqlite_rules.specs.declared.error.Refusal.TheVariants.{Violates, Mismatch, NoRowid, BadReference, TooDeep}
-use Rattle.sqlite_rules.specs.declared.error.Rowids.TheVariants.{Chosen, Given}
 use Rattle.sqlite_rules.specs.Action.{Leads, Writes}
-use Rattle.sqlite_rules.specs.Calls.{ids_of}
-use Rattle.sqlite_rules.specs.Cast.{cast_row}
-use Rattle.sqlite_rules.specs.Edit.{Edit, edit_of, left_by, IsRefused, IsOversized, are_fresh, have_rowids, with_rowid}
-use Rattle.sqlite_rules.specs.Edit.{without_all, id_in, is_taken, taken_by}
-use Rattle.sqlite_rules.specs.Lists.{Has}
+use Rattle.sqlite_rules.specs.Edit.{Edit, left_by, IsRefused, IsOversized, are_fresh, have_rowids}
 use Rattle.sqlite_rules.specs.Steps.{IsJudged}
-use Rattle.sqlite_rules.proofs.ListLemmas.{all_has, all_from, test_has, test_from, has_filtered, some_has}
-use Rattle.sqlite_rules.proofs.TableLemmas.{int_is}
-use Rattle.sqlite.specs.declared.error.Error.{Error}
-use Rattle.sqlite.specs.declared.error.Error.TheVariants.{SqliteFailure}
+use Rattle.sqlite_rules.proofs.ListLemmas.{test_from}
 use Rattle.sqlite.specs.declared.error.ErrorCode.TheVariants.{OperationInterrupted}
-use Rattle.sqlite.specs.Rows.{Task, Written, Sourced, Edited, Puts, Clears, Tries, TriesEach, InsertsOr, count_of}
-use Rattle.sqlite.specs.Rows.{mended, nothing, stamped}
-use Rattle.sqlite.specs.Does.{Does, OnRows, Concludes}
-use Rattle.sqlite.specs.Effect.{Database, IsDatabase}
-use Rattle.sqlite.specs.Listing.{understood}
-use Rattle.sqlite.specs.State.{State, ExecutesInside, text_of}
-use Rattle.sqlite.proofs.Callers.{IsPlain, command_of, one_step}
-use Rattle.exam_sql.specs.Content.{ContainsIn, bare, places, same_key, same_rowid}
-use Rattle.exam_sql.specs.Refusals.{Fails, Refuses, at_once}
+use Rattle.sqlite.specs.Rows.{Sourced, stamped}
+use Rattle.sqlite.specs.Does.{Concludes}
+use Rattle.exam_sql.specs.Refusals.{at_once}
 use Rattle.exam_sql.specs.Tables as tables
-use Rattle.exam_sql.specs.Tables.{store_schema}
 use Rattle.exam_sql.proofs.Fits.{Comes}
 use Rattle.exam_sql.proofs.Keys.{cast_int, cast_null, equal_is, equal_itself, same_ints}
 use Rattle.exam_sql.proofs.KeysHold.{on_insert}

@@ -1,6 +1,5 @@
+use Rattle.exam_plan.proofs.Words.{seating_of, plan_at, fitting_part, room_part}
 use Rattle.std.proofs.Common.{◌≡◌, ℕ, List, Option, length, take, drop, ◌++◌, ap, ◌∙◌, take_at}
-use Rattle.exam_plan.specs.Problems.{seating_of, plan_at}
-use Rattle.exam_plan.specs.Repair.{fitting_part, room_part}
 use Rattle.exam_plan.proofs.KeptLemmas.{kept_after, lawful_after}
 use Rattle.exam_plan.proofs.calls.keep_lawful.Goals as goal
 

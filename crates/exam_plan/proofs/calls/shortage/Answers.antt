@@ -1,11 +1,8 @@
 -- The halls that the search marks are those that fit a contested candidate: it marks no other, and it is closed. So
 -- the candidates who can only sit there outnumber their desks by exactly those whom the best plan leaves out.
+use Rattle.exam_plan.proofs.Words.{range_with_len, holds, halls_below, seating_of, plan_at, IsMarked, Draws, is_drawn}
 use Rattle.std.proofs.Common.{◌≡◌, ℕ, List, Option, length, ap, ◌∙◌, subst, IsTrue}
 use Rattle.std.specs.Prelude.{filter}
-use Rattle.std.specs.List.{range_with_len}
-use Rattle.exam_plan.specs.HallSets.{holds, halls_below}
-use Rattle.exam_plan.specs.Problems.{seating_of, plan_at}
-use Rattle.exam_plan.specs.Searches.{IsMarked, Draws, is_drawn}
 use Rattle.exam_plan.proofs.ShortOfDesks.{is_certificate, exactly_contested}
 use Rattle.exam_plan.proofs.calls.shortage.Goals as goal
 

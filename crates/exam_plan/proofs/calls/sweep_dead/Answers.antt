@@ -1,8 +1,7 @@
 -- Before each turn the sweep is under way: the first candidate and all lesser numbers have had their turn. After the
 -- last one nobody is left with a chain to a free desk, so the plan is best and its dead halls are the contested ones.
+use Rattle.exam_plan.proofs.Words.{holds, plan_at}
 use Rattle.std.proofs.Common.{◌≡◌, ◌<◌, ℕ, length, Option, IfSome, sym, ◌∙◌, subst, arith}
-use Rattle.exam_plan.specs.HallSets.{holds}
-use Rattle.exam_plan.specs.Problems.{plan_at}
 use Rattle.exam_plan.proofs.Sweeping.{listed_in_order, swept_best, swept_turns, swept_dead, not_first, is_first}
 use Rattle.exam_plan.proofs.SweepSteps.{IsUnderWay, begun, first_turn, one_turn, no_turn}
 use Rattle.exam_plan.proofs.calls.sweep_dead.Goals as goal

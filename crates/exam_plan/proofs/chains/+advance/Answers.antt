@@ -1,11 +1,8 @@
 -- The least chain of so many hops begins at the least hall of that layer and goes on with its first occupant who
 -- reaches the next layer, who has one hop less to go. Those who move behind them sit in other halls, so the table of
 -- the plan stays right.
+use Rattle.exam_plan.proofs.Words.{and_parts, length-set, holds, IsPlan, plan_at}
 use Rattle.std.proofs.Common.{◌≡◌, ℕ, suc, ◌+◌, ◌-◌, ◌<◌, length, refl, sym, ◌∙◌, arith, subst}
-use Rattle.std.proofs.lemmas.Bool.{and_parts}
-use Rattle.std.proofs.lemmas.List.{length-set}
-use Rattle.exam_plan.specs.HallSets.{holds}
-use Rattle.exam_plan.specs.Problems.{IsPlan, plan_at}
 use Rattle.exam_plan.specs.Searches.{IsLeastHall}
 use Rattle.exam_plan.proofs.Steps.{layer_at, hall_found, mover_of, mover_found, mover_far, advanced_last, advanced_more}
 use Rattle.exam_plan.proofs.Steps.{places_set, touching_reach}

@@ -1,7 +1,6 @@
+use Rattle.exam_plan.proofs.Words.{holds, plan_at}
 use Rattle.std.proofs.Common.{◌≡◌, ◌<◌, ℕ, Some}
-use Rattle.exam_plan.specs.HallSets.{holds}
 use Rattle.exam_plan.specs.Searches.{IsTouching}
-use Rattle.exam_plan.specs.Problems.{plan_at}
 use Rattle.exam_plan.proofs.chains.first_mover.Given as goal
 
 abbrev pub invariant-loop-candidate : goal.invariant-loop-candidate

@@ -1,10 +1,8 @@
 -- Each layer holds all halls from which a free desk is so many hops away. A round that adds a hall makes the set
 -- larger, so there are no more rounds than halls; a round that adds none shows that no chain begins at the candidate.
+use Rattle.exam_plan.proofs.Words.{length-set, most_halls, holds, plan_at}
 use Rattle.std.proofs.Common.{◌≡◌, ◌+◌, ◌<◌, ◌≤◌, ℕ, true, false, length, sym, ◌∙◌, arith, rules}
 use Rattle.std.specs.Prelude.{IsTrue}
-use Rattle.std.proofs.lemmas.List.{length-set}
-use Rattle.exam_plan.specs.HallSets.{most_halls, holds}
-use Rattle.exam_plan.specs.Problems.{plan_at}
 use Rattle.exam_plan.proofs.Counting.{count_below-le-bound}
 use Rattle.exam_plan.proofs.Steps.{sits_below, first_none, first_some, within_other, next_of, next_fresh, layer_below}
 use Rattle.exam_plan.proofs.Steps.{next_layer, layer_grows, layers_set, far_push, leads_nowhere, touching_reach}

@@ -1,7 +1,6 @@
+use Rattle.exam_plan.proofs.Words.{holds, MarksAll, Reaches, CanReach, plan_at}
 use Rattle.std.proofs.Common.{◌≡◌, ◌-◌, ◌<◌, ◌≤◌, ◌+◌, ℕ, length}
-use Rattle.exam_plan.specs.HallSets.{holds}
-use Rattle.exam_plan.specs.Searches.{MarksAll, Reaches, AreLayers, CanReach}
-use Rattle.exam_plan.specs.Problems.{plan_at}
+use Rattle.exam_plan.specs.Searches.{AreLayers}
 use Rattle.exam_plan.proofs.Counting.{count_below}
 use Rattle.exam_plan.proofs.Steps.{IsFresh}
 use Rattle.exam_plan.proofs.chains.layer_until.Given as goal

@@ -1,9 +1,8 @@
 -- All halls that were found lead back to the candidate, and those not yet followed are among them. Each round finds
 -- one more or is the last, after which what sits in a found hall fits only found or dead ones.
+use Rattle.exam_plan.proofs.Words.{most_halls, holds, plan_at}
 use Rattle.std.proofs.Common.{◌≡◌, ◌<◌, ◌≤◌, ℕ, false, length, arith}
 use Rattle.std.specs.Prelude.{IsTrue}
-use Rattle.exam_plan.specs.HallSets.{most_halls, holds}
-use Rattle.exam_plan.specs.Problems.{plan_at}
 use Rattle.exam_plan.proofs.Counting.{count_below-le-bound}
 use Rattle.exam_plan.proofs.Steps.{sits_below, first_none, first_some, leads_below, more_apart, more_leads, more_fits}
 use Rattle.exam_plan.proofs.Steps.{more_grows, more_within, more_followed, led_closed}

@@ -1,9 +1,6 @@
+use Rattle.exam_plan.proofs.Words.{holds, LeadsTo, IsMarked, plan_at, seating_of}
 use Rattle.std.proofs.Common.{◌-◌, ◌⊎◌, ℕ, length}
 use Rattle.std.specs.Prelude.{IsTrue}
-use Rattle.exam_plan.specs.HallSets.{holds}
-use Rattle.exam_plan.specs.Chains.{LeadsTo}
-use Rattle.exam_plan.specs.Searches.{IsMarked}
-use Rattle.exam_plan.specs.Problems.{plan_at, seating_of}
 use Rattle.exam_plan.proofs.Counting.{count_below}
 use Rattle.exam_plan.proofs.Steps.{IsFollowed}
 use Rattle.exam_plan.proofs.chains.led_to.Given as goal

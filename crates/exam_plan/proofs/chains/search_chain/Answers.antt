@@ -1,6 +1,5 @@
+use Rattle.exam_plan.proofs.Words.{plan_at, AreInward}
 use Rattle.std.proofs.Common.{ℕ, List, sym, subst}
-use Rattle.exam_plan.specs.Problems.{plan_at}
-use Rattle.exam_plan.specs.Searches.{AreInward}
 use Rattle.exam_plan.proofs.Tables.{inward_of}
 use Rattle.exam_plan.proofs.chains.search_chain.Goals as goal
 

@@ -1,6 +1,6 @@
 -- What was united so far is the marked halls and the sets of the fresh ones that are no longer in the rest.
+use Rattle.exam_plan.proofs.Words.{get_or_default}
 use Rattle.std.proofs.Common.{◌∙◌, length}
-use Rattle.std.proofs.lemmas.List.{get_or_default}
 use Rattle.exam_plan.proofs.Steps.{united_none, united_more, united_all, less_within, one_fewer}
 use Rattle.exam_plan.proofs.chains.widened.Goals as goal
 

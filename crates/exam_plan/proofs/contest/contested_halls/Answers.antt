@@ -1,9 +1,8 @@
 -- Whatever is marked draws somebody whom some best plan leaves out. A round that marks no more shows that the set is
 -- closed; every other round marks one hall more, so there are no more rounds than halls.
+use Rattle.exam_plan.proofs.Words.{most_halls, holds, plan_at}
 use Rattle.std.proofs.Common.{◌≡◌, ◌<◌, ◌≤◌, ℕ, false, length, inl, arith}
 use Rattle.std.specs.Prelude.{IsTrue}
-use Rattle.exam_plan.specs.HallSets.{most_halls, holds}
-use Rattle.exam_plan.specs.Problems.{plan_at}
 use Rattle.exam_plan.proofs.Counting.{count_below-le-bound}
 use Rattle.exam_plan.proofs.Steps.{first_none, first_some, within_other, beyond, holds_more}
 use Rattle.exam_plan.proofs.DrawLemmas.{draws_more, draws_below, closed_after}

@@ -1,7 +1,5 @@
+use Rattle.exam_plan.proofs.Words.{holds, plan_at, IsMarked, Draws}
 use Rattle.std.proofs.Common.{◌-◌, ℕ, length}
-use Rattle.exam_plan.specs.HallSets.{holds}
-use Rattle.exam_plan.specs.Problems.{plan_at}
-use Rattle.exam_plan.specs.Searches.{IsMarked, Draws}
 use Rattle.exam_plan.proofs.Counting.{count_below}
 use Rattle.exam_plan.proofs.contest.contested_halls.Given as goal
 

@@ -1,7 +1,5 @@
+use Rattle.exam_plan.proofs.Words.{plan_at, holds, is_drawn}
 use Rattle.std.proofs.Common.{sym, ap, ◌∙◌}
-use Rattle.exam_plan.specs.Problems.{plan_at}
-use Rattle.exam_plan.specs.HallSets.{holds}
-use Rattle.exam_plan.specs.Searches.{is_drawn}
 use Rattle.exam_plan.proofs.Steps.{plan_at-get_or}
 use Rattle.exam_plan.proofs.DrawLemmas.{filter_takes, filter_leaves}
 use Rattle.exam_plan.proofs.contest.drawn_in.Goals as goal

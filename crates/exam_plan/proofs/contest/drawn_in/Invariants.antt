@@ -1,9 +1,6 @@
+use Rattle.exam_plan.proofs.Words.{range_with_len, plan_at, holds, is_drawn}
 use Rattle.std.proofs.Common.{◌≡◌}
 use Rattle.std.specs.Prelude.{filter}
-use Rattle.std.specs.List.{range_with_len}
-use Rattle.exam_plan.specs.Problems.{plan_at}
-use Rattle.exam_plan.specs.HallSets.{holds}
-use Rattle.exam_plan.specs.Searches.{is_drawn}
 use Rattle.exam_plan.proofs.contest.drawn_in.Given as goal
 
 abbrev pub invariant-loop-candidate : goal.invariant-loop-candidate

@@ -1,5 +1,5 @@
+use Rattle.exam_plan.proofs.Words.{holds}
 use Rattle.std.proofs.Common.{sym, ◌∙◌}
-use Rattle.exam_plan.specs.HallSets.{holds}
 use Rattle.exam_plan.proofs.DrawLemmas.{filter_takes, filter_leaves}
 use Rattle.exam_plan.proofs.contest.listed.Goals as goal
 use Rattle.exam_plan.proofs.contest.listed.Goals.{then-contains+in_ok-push, else-contains}

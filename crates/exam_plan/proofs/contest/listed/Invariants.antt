@@ -1,5 +1,5 @@
+use Rattle.exam_plan.proofs.Words.{halls_below}
 use Rattle.std.proofs.Common.{◌≡◌}
-use Rattle.exam_plan.specs.HallSets.{halls_below}
 use Rattle.exam_plan.proofs.contest.listed.Given as goal
 
 abbrev pub invariant-loop-hall : goal.invariant-loop-hall

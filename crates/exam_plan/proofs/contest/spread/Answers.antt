@@ -1,5 +1,5 @@
+use Rattle.exam_plan.proofs.Words.{holds}
 use Rattle.std.proofs.Common.{arith}
-use Rattle.exam_plan.specs.HallSets.{holds}
 use Rattle.exam_plan.proofs.DrawLemmas.{spread_more, spread_skip, spread_all, union_marks}
 use Rattle.exam_plan.proofs.contest.spread.Goals as goal
 use Rattle.exam_plan.proofs.contest.spread.Goals.{then-is_drawn_in, else-is_drawn_in}

@@ -1,4 +1,4 @@
-use Rattle.exam_plan.specs.HallSets.{holds}
+use Rattle.exam_plan.proofs.Words.{holds}
 use Rattle.exam_plan.proofs.DrawLemmas.{IsSpread}
 use Rattle.exam_plan.proofs.contest.spread.Given as goal
 

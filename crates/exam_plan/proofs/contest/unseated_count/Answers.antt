@@ -1,7 +1,6 @@
+use Rattle.exam_plan.proofs.Words.{range_with_len, plan_at}
 use Rattle.std.proofs.Common.{rules, ◌≡◌, ◌≤◌, length, is_none, ap, arith}
 use Rattle.std.specs.Prelude.{filter}
-use Rattle.std.specs.List.{range_with_len}
-use Rattle.exam_plan.specs.Problems.{plan_at}
 use Rattle.exam_plan.proofs.Counting.{bit}
 use Rattle.exam_plan.proofs.DrawLemmas.{length_next, length_below, none_test}
 use Rattle.exam_plan.proofs.contest.unseated_count.Goals as goal

@@ -1,7 +1,6 @@
+use Rattle.exam_plan.proofs.Words.{range_with_len, plan_at}
 use Rattle.std.proofs.Common.{◌≡◌, length, is_none}
 use Rattle.std.specs.Prelude.{filter}
-use Rattle.std.specs.List.{range_with_len}
-use Rattle.exam_plan.specs.Problems.{plan_at}
 use Rattle.exam_plan.proofs.contest.unseated_count.Given as goal
 
 abbrev pub invariant-loop-candidate : goal.invariant-loop-candidate

@@ -1,12 +1,10 @@
 -- The counts are those who were met so far, by hall. Who meets a count above the desks is one with as many lesser
 -- candidates in their hall as it has desks; all others stay.
+use Rattle.exam_plan.proofs.Words.{length-set, get_or-set_same, get_or_default, Problem, plan_at, seating_of}
+use Rattle.exam_plan.proofs.Words.{where_room, lesser_occupants, count_at}
 use Rattle.std.proofs.Common.{rules, ◌≡◌, ℕ, ◌+◌, ◌<◌, ◌≤◌, List, Option, length, get_or, set, None, Some, IfSome, refl}
 use Rattle.std.proofs.Common.{arith}
 use Rattle.std.specs.Prelude.{All}
-use Rattle.std.proofs.lemmas.List.{length-set, get_or-set_same, get_or_default}
-use Rattle.exam_plan.specs.Problems.{Problem, plan_at, seating_of}
-use Rattle.exam_plan.specs.Repair.{where_room, lesser_occupants}
-use Rattle.exam_plan.specs.Searches.{count_at}
 use Rattle.exam_plan.proofs.Steps.{count_at-le, met_some, met_none, place_below}
 use Rattle.exam_plan.proofs.KeptLemmas.{IsFilteredBelow, below_read, below_stays_at, below_out_at, below_all}
 use Rattle.exam_plan.proofs.KeptLemmas.{counted_lesser, room_out, room_stays, places_none}

@@ -1,7 +1,5 @@
+use Rattle.exam_plan.proofs.Words.{seating_of, plan_at, where_room, count_at}
 use Rattle.std.proofs.Common.{◌≡◌, ℕ, ◌<◌, ◌≤◌, length, get_or, All, IfSome}
-use Rattle.exam_plan.specs.Problems.{seating_of, plan_at}
-use Rattle.exam_plan.specs.Repair.{where_room}
-use Rattle.exam_plan.specs.Searches.{count_at}
 use Rattle.exam_plan.proofs.KeptLemmas.{IsFilteredBelow}
 use Rattle.exam_plan.proofs.keeping.put_out_crowded.Given as goal
 

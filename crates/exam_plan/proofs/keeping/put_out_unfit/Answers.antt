@@ -1,7 +1,6 @@
 -- Below the candidate at hand everybody sits where the hall fits, and from there on as before.
+use Rattle.exam_plan.proofs.Words.{seating_of, where_fitting}
 use Rattle.std.proofs.Common.{length, None, Some, refl, sym, ◌∙◌, arith}
-use Rattle.exam_plan.specs.Problems.{seating_of}
-use Rattle.exam_plan.specs.Repair.{where_fitting}
 use Rattle.exam_plan.proofs.KeptLemmas.{below_stays_at, below_out_at, below_all, fitting_stays, fitting_out}
 use Rattle.exam_plan.proofs.KeptLemmas.{places_none}
 use Rattle.exam_plan.proofs.keeping.put_out_unfit.Goals as goal

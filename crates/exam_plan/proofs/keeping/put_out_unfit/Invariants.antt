@@ -1,7 +1,6 @@
+use Rattle.exam_plan.proofs.Words.{seating_of, where_fitting}
 use Rattle.std.proofs.Common.{◌<◌, length, All, IfSome}
-use Rattle.exam_plan.specs.Problems.{seating_of}
 use Rattle.exam_plan.proofs.KeptLemmas.{IsFilteredBelow}
-use Rattle.exam_plan.specs.Repair.{where_fitting}
 use Rattle.exam_plan.proofs.keeping.put_out_unfit.Given as goal
 
 abbrev pub invariant-loop-candidate : goal.invariant-loop-candidate

@@ -1,12 +1,10 @@
 -- In the order of desks each candidate gets one number more than those before them in their hall: the count of that
 -- hall. A count is at most the number of candidates, so it fits into 32 bits.
+use Rattle.exam_plan.proofs.Words.{range_with_len, get_or-set_same, behind_rank, plan_at}
 use Rattle.std.proofs.Common.{rules, ◌≡◌, ◌∙◌, ◌+◌, ◌<◌, ◌≤◌, length, get_or, replicate, map, None, sym, subst, arith}
 use Rattle.std.specs.Prelude.{IsSorted}
-use Rattle.std.specs.List.{range_with_len}
 use Rattle.std.specs.List.Sorted.{IsPermutation}
-use Rattle.std.proofs.lemmas.List.{get_or-set_same}
-use Rattle.exam_plan.specs.DeskOrder.{behind_rank, rank_cmp}
-use Rattle.exam_plan.specs.Problems.{plan_at}
+use Rattle.exam_plan.specs.DeskOrder.{rank_cmp}
 use Rattle.exam_plan.proofs.DeskOrder.{none_numbered, taken_few, order_long, candidate_below, skipped, given}
 use Rattle.exam_plan.proofs.DeskOrder.{all_numbered}
 use Rattle.exam_plan.proofs.Steps.{plan_at-get_or}

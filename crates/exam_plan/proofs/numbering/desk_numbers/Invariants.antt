@@ -1,4 +1,4 @@
-use Rattle.exam_plan.specs.Problems.{plan_at}
+use Rattle.exam_plan.proofs.Words.{plan_at}
 use Rattle.exam_plan.proofs.DeskOrder.{IsDeskOrder, IsNumberedUpTo}
 use Rattle.exam_plan.proofs.numbering.desk_numbers.Given as goal
 

@@ -1,7 +1,6 @@
+use Rattle.exam_plan.proofs.Words.{range_with_len, behind_rank}
 use Rattle.std.proofs.Common.{◌++◌, ◌∷◌, [], map, ap, sym, ◌∙◌, zero-add}
-use Rattle.std.specs.List.{range_with_len}
 use Rattle.std.proofs.lemmas.List.FromFn.{map-range_with_len_more}
-use Rattle.exam_plan.specs.DeskOrder.{behind_rank}
 use Rattle.exam_plan.proofs.numbering.in_desk_order.Goals as goal
 
 pub loop-candidate-preserved : goal.loop-candidate-preserved

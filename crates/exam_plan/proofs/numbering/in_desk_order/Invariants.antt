@@ -1,6 +1,5 @@
+use Rattle.exam_plan.proofs.Words.{range_with_len, behind_rank}
 use Rattle.std.proofs.Common.{◌≡◌, map}
-use Rattle.std.specs.List.{range_with_len}
-use Rattle.exam_plan.specs.DeskOrder.{behind_rank}
 use Rattle.exam_plan.proofs.numbering.in_desk_order.Given as goal
 
 abbrev pub invariant-loop-candidate : goal.invariant-loop-candidate

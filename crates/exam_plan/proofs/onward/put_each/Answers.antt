@@ -1,7 +1,6 @@
 -- The sets of those halls that are no longer in the rest are changed, the others are not.
+use Rattle.exam_plan.proofs.Words.{length-set, get_or_default, holds}
 use Rattle.std.proofs.Common.{rules, ◌<◌, ◌∙◌, length, cond, nat_eq, ap, arith}
-use Rattle.std.proofs.lemmas.List.{length-set, get_or_default}
-use Rattle.exam_plan.specs.HallSets.{holds}
 use Rattle.exam_plan.proofs.Steps.{less_within, one_fewer}
 use Rattle.exam_plan.proofs.Tables.{put_none, put_more, put_all}
 use Rattle.exam_plan.proofs.onward.put_each.Goals as goal

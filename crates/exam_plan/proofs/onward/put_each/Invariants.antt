@@ -1,5 +1,5 @@
+use Rattle.exam_plan.proofs.Words.{holds}
 use Rattle.std.proofs.Common.{◌≡◌, ℕ, true, length}
-use Rattle.exam_plan.specs.HallSets.{holds}
 use Rattle.exam_plan.proofs.Counting.{count_below}
 use Rattle.exam_plan.proofs.Tables.{ArePut}
 use Rattle.exam_plan.proofs.onward.put_each.Given as goal

@@ -1,6 +1,5 @@
+use Rattle.exam_plan.proofs.Words.{list_any, holds}
 use Rattle.std.proofs.Common.{◌≡◌, ℕ, take, nat_eq}
-use Rattle.std.specs.List.{list_any}
-use Rattle.exam_plan.specs.HallSets.{holds}
 use Rattle.exam_plan.proofs.problem.set_of.Given as goal
 
 abbrev pub invariant-loop-hall : goal.invariant-loop-hall

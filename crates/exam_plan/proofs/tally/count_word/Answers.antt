@@ -1,6 +1,5 @@
+use Rattle.exam_plan.proofs.Words.{length-set, holds}
 use Rattle.std.proofs.Common.{◌+◌, get_or, bit_and, bit_xor, refl, ap, ◌∙◌, arith}
-use Rattle.std.proofs.lemmas.List.{length-set}
-use Rattle.exam_plan.specs.HallSets.{holds}
 use Rattle.exam_plan.proofs.HallBits.{holds_empty, holds_xor, holds_and}
 use Rattle.exam_plan.proofs.Tallying.{counts_more, counting_done, carried_none}
 use Rattle.exam_plan.proofs.tally.count_word.Goals as goal

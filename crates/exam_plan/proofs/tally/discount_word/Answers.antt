@@ -1,8 +1,7 @@
 -- The borrow goes on to the next place only where a digit was none, as in a subtraction by hand. A hall that was
 -- counted has some digit, so its borrow ends.
+use Rattle.exam_plan.proofs.Words.{length-set, holds}
 use Rattle.std.proofs.Common.{◌+◌, ◌&&◌, get_or, bit_and, bit_xor, refl, ap, ◌∙◌, arith}
-use Rattle.std.proofs.lemmas.List.{length-set}
-use Rattle.exam_plan.specs.HallSets.{holds}
 use Rattle.exam_plan.proofs.HallBits.{holds_empty, holds_xor, holds_and}
 use Rattle.exam_plan.proofs.Tallying.{still_borrowed, discounts_more, discounting_done, borrowed_none}
 use Rattle.exam_plan.proofs.tally.discount_word.Goals as goal

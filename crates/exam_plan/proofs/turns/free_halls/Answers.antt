@@ -1,8 +1,5 @@
+use Rattle.exam_plan.proofs.Words.{occupants, HasFreeDesk, plan_at, seating_of, count_at}
 use Rattle.std.proofs.Common.{◌≡◌, ◌<◌, length, get_or, ap, ◌∙◌, arith}
-use Rattle.exam_plan.specs.Matching.{occupants}
-use Rattle.exam_plan.specs.Chains.{HasFreeDesk}
-use Rattle.exam_plan.specs.Problems.{plan_at, seating_of}
-use Rattle.exam_plan.specs.Searches.{count_at}
 use Rattle.exam_plan.proofs.TurnLemmas.{count_is, marks_with, marks_skip}
 use Rattle.exam_plan.proofs.turns.free_halls.Goals as goal
 use Rattle.exam_plan.proofs.turns.free_halls.Goals.{then-counts-hall, else-counts-hall}

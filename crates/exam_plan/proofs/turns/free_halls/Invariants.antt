@@ -1,8 +1,5 @@
+use Rattle.exam_plan.proofs.Words.{holds, HasFreeDesk, plan_at, seating_of, MarksAll}
 use Rattle.std.proofs.Common.{◌<◌}
-use Rattle.exam_plan.specs.HallSets.{holds}
-use Rattle.exam_plan.specs.Chains.{HasFreeDesk}
-use Rattle.exam_plan.specs.Problems.{plan_at, seating_of}
-use Rattle.exam_plan.specs.Searches.{MarksAll}
 use Rattle.exam_plan.proofs.turns.free_halls.Given as goal
 
 abbrev pub invariant-loop-hall : goal.invariant-loop-hall

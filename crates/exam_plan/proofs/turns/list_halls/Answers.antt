@@ -1,8 +1,7 @@
 -- What was appended is the halls of the set below the hall at hand. The room that is asked for is enough, since each
 -- of them is appended once.
+use Rattle.exam_plan.proofs.Words.{length-append, holds, halls_below}
 use Rattle.std.proofs.Common.{◌≡◌, ◌+◌, length, ap, sym, ◌∙◌, rules}
-use Rattle.std.proofs.lemmas.List.{length-append}
-use Rattle.exam_plan.specs.HallSets.{holds, halls_below}
 use Rattle.exam_plan.proofs.Listing.{still_fewer, takes_more, leaves_same}
 use Rattle.exam_plan.proofs.turns.list_halls.Goals as goal
 use Rattle.exam_plan.proofs.turns.list_halls.Goals.{then-contains, else-contains}

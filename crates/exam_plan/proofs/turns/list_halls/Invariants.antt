@@ -1,6 +1,6 @@
+use Rattle.exam_plan.proofs.Words.{halls_below}
 use Rattle.std.proofs.Common.{◌≡◌, ◌++◌}
 use Rattle.std.specs.Prelude.{vec_capacity}
-use Rattle.exam_plan.specs.HallSets.{halls_below}
 use Rattle.exam_plan.proofs.turns.list_halls.Given as goal
 
 abbrev pub invariant-loop-hall : goal.invariant-loop-hall

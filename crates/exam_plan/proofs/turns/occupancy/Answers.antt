@@ -1,8 +1,6 @@
 -- The counts are those of the places that were read so far; none passes the number of places.
+use Rattle.exam_plan.proofs.Words.{length-set, get_or_default, plan_at, count_at}
 use Rattle.std.proofs.Common.{rules, ◌≡◌, ◌≤◌, ◌<◌, ◌∙◌, get_or, arith}
-use Rattle.std.proofs.lemmas.List.{length-set, get_or_default}
-use Rattle.exam_plan.specs.Problems.{plan_at}
-use Rattle.exam_plan.specs.Searches.{count_at}
 use Rattle.exam_plan.proofs.Steps.{plan_at-get_or, count_at-le, met_some, met_none, place_below}
 use Rattle.exam_plan.proofs.turns.occupancy.Goals as goal
 use Rattle.exam_plan.proofs.turns.occupancy.Goals.{in-Some, in_default}

@@ -1,6 +1,5 @@
+use Rattle.exam_plan.proofs.Words.{plan_at, count_at}
 use Rattle.std.proofs.Common.{◌≡◌, ℕ, ◌<◌, length, get_or}
-use Rattle.exam_plan.specs.Problems.{plan_at}
-use Rattle.exam_plan.specs.Searches.{count_at}
 use Rattle.exam_plan.proofs.turns.occupancy.Given as goal
 
 abbrev pub invariant-loop-place : goal.invariant-loop-place

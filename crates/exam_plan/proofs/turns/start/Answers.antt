@@ -1,9 +1,5 @@
+use Rattle.exam_plan.proofs.Words.{length-replicate, holds, HasFreeDesk, plan_at, seating_of, MarksAll, count_at}
 use Rattle.std.proofs.Common.{◌≡◌, ◌+◌, ℕ, List, Option, length, get_or, false, true, ap, sym, ◌∙◌, arith, subst}
-use Rattle.std.proofs.lemmas.List.{length-replicate}
-use Rattle.exam_plan.specs.HallSets.{holds}
-use Rattle.exam_plan.specs.Chains.{HasFreeDesk}
-use Rattle.exam_plan.specs.Problems.{plan_at, seating_of}
-use Rattle.exam_plan.specs.Searches.{MarksAll, count_at}
 use Rattle.exam_plan.proofs.Listing.{none_below, none_distinct, nothing_listed}
 use Rattle.exam_plan.proofs.TurnLemmas.{none_closed}
 use Rattle.exam_plan.proofs.turns.start.Goals as goal

@@ -1,12 +1,10 @@
 -- Whoever sits, or can only sit in dead halls, has no chain. Where a search finds one, it moves everybody along it and
 -- its last hall has one occupant more; where it finds none, all halls that the candidate leads to are dead from now
 -- on.
+use Rattle.exam_plan.proofs.Words.{length-set, get_or_default, holds, halls_below, plan_at, IsMarked, IsSettled}
+use Rattle.exam_plan.proofs.Words.{AreOnward, count_at}
 use Rattle.std.proofs.Common.{◌≡◌, ◌+◌, ◌<◌, ◌≤◌, ◌++◌, ℕ, List, None, is_some, length, get_or, set, refl, sym, ap, ◌∙◌}
 use Rattle.std.proofs.Common.{inl, inr, subst, arith, rules}
-use Rattle.std.proofs.lemmas.List.{length-set, get_or_default}
-use Rattle.exam_plan.specs.HallSets.{holds, halls_below}
-use Rattle.exam_plan.specs.Problems.{plan_at}
-use Rattle.exam_plan.specs.Searches.{IsMarked, IsSettled, AreOnward, count_at}
 use Rattle.exam_plan.proofs.Steps.{count_at-le, within_other, leads_below}
 use Rattle.exam_plan.proofs.Tables.{onward_of}
 use Rattle.exam_plan.proofs.Listing.{room_left, after_lists, after_once, after_many}

@@ -1,6 +1,5 @@
+use Rattle.exam_rules.proofs.Words.{Appeal, Code, code_cmp, leading, is_row_of, same_code}
 use Rattle.std.proofs.Common.{◌≡◌, ◌&&◌, ap, map, filter, ℕ, List, ◌∙◌}
-use Rattle.exam_rules.specs.declared.rows.Appeal.{Appeal}
-use Rattle.exam_rules.specs.Relations.{Code, code_cmp, leading, is_row_of, same_code}
 use Rattle.exam_rules.specs.Sessions.{granted_subjects, is_granted}
 use Rattle.exam_rules.proofs.Together.{rows_from, filter_and}
 use Rattle.exam_rules.proofs.appeals.appeals_of.Goals as goal

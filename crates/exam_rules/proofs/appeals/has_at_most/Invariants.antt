@@ -1,5 +1,5 @@
+use Rattle.exam_rules.proofs.Words.{relations_of}
 use Rattle.std.proofs.Common.{◌≡◌, ◌≤◌, ◌+◌, length}
-use Rattle.exam_rules.specs.Relations.{relations_of}
 use Rattle.exam_rules.specs.Sessions.{appeal_count}
 use Rattle.exam_rules.proofs.appeals.has_at_most.Given as goal
 

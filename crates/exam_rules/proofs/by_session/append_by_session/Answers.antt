@@ -1,7 +1,5 @@
+use Rattle.exam_rules.proofs.Words.{option_copied_mut, is_at, code_cmp, row_at}
 use Rattle.std.proofs.Common.{◌≡◌, ◌++◌, ◌∷◌, [], Some, None, IsSome, List, cond, refl, ap, sym, subst, ◌∙◌}
-use Rattle.std.specs.Option.{option_copied_mut}
-use Rattle.std.specs.BTreeMap.{is_at}
-use Rattle.exam_rules.specs.Relations.{code_cmp, row_at}
 use Rattle.exam_rules.proofs.Listed.{changed, items_at}
 use Rattle.exam_rules.proofs.by_session.append_by_session.Goals as goal
 

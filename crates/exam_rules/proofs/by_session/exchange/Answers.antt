@@ -1,8 +1,5 @@
+use Rattle.exam_rules.proofs.Words.{Global, option_copied_mut, code_cmp, same_code, row_at, listed}
 use Rattle.std.proofs.Common.{◌≡◌, Some, Vec, IsSome, refl, cond, ap, sym, subst, ◌∙◌}
-use Rattle.std.specs.Global.{Global}
-use Rattle.std.specs.Option.{option_copied_mut}
-use Rattle.exam_rules.specs.Relations.{code_cmp, same_code, row_at}
-use Rattle.exam_rules.specs.Lists.{listed}
 use Rattle.exam_rules.proofs.Relisting.{exchanged}
 use Rattle.exam_rules.proofs.by_session.exchange.Goals as goal
 

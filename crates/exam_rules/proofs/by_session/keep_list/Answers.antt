@@ -1,6 +1,5 @@
+use Rattle.exam_rules.proofs.Words.{same_code, listed}
 use Rattle.std.proofs.Common.{List, cond, ap, sym, ◌∙◌}
-use Rattle.exam_rules.specs.Relations.{same_code}
-use Rattle.exam_rules.specs.Lists.{listed}
 use Rattle.exam_rules.proofs.Relisting.{exchanged, empty_unseen}
 use Rattle.exam_rules.proofs.by_session.keep_list.Goals as goal
 

@@ -1,8 +1,5 @@
+use Rattle.exam_rules.proofs.Words.{flat_map, Entrant, relations_of, clashes_of, members}
 use Rattle.std.proofs.Common.{◌≡◌, ℕ, List, IfOk, map, ap, subst, ◌∙◌}
-use Rattle.std.specs.List.{flat_map}
-use Rattle.exam_rules.specs.declared.listing.Entrant.{Entrant}
-use Rattle.exam_rules.specs.Relations.{relations_of}
-use Rattle.exam_rules.specs.Sessions.{clashes_of, members}
 use Rattle.exam_rules.proofs.clashing.clashes.Goals as goal
 
 pub returns-clause-ok : goal.returns-clause-ok

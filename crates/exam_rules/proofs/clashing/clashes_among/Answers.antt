@@ -1,5 +1,4 @@
-use Rattle.exam_rules.specs.Relations.{relations_of}
-use Rattle.exam_rules.specs.Sessions.{clashes_of}
+use Rattle.exam_rules.proofs.Words.{relations_of, clashes_of}
 use Rattle.exam_rules.proofs.Turns.{flat_step}
 use Rattle.std.proofs.Common.{◌≡◌, ◌++◌, get_or}
 use Rattle.exam_rules.proofs.clashing.clashes_among.Goals as goal

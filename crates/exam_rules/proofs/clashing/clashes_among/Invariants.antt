@@ -1,7 +1,5 @@
+use Rattle.exam_rules.proofs.Words.{flat_map, relations_of, clashes_of}
 use Rattle.std.proofs.Common.{◌≡◌, ◌++◌, drop}
-use Rattle.std.specs.List.{flat_map}
-use Rattle.exam_rules.specs.Relations.{relations_of}
-use Rattle.exam_rules.specs.Sessions.{clashes_of}
 use Rattle.exam_rules.proofs.clashing.clashes_among.Given as goal
 
 -- what is left makes of the list so far the whole

@@ -1,7 +1,5 @@
+use Rattle.exam_rules.proofs.Words.{nat_tests, relations_of, is_paper_of, is_clash}
 use Rattle.std.proofs.Common.{◌≡◌, ◌++◌, true, nat_eq, ap, sym, ◌∙◌, arith, rules}
-use Rattle.std.proofs.lemmas.Bool.Decides.{nat_tests}
-use Rattle.exam_rules.specs.Relations.{relations_of}
-use Rattle.exam_rules.specs.Sessions.{is_paper_of, is_clash}
 use Rattle.exam_rules.proofs.Turns.{clashes_left, clash_turn, push_step}
 use Rattle.exam_rules.proofs.clashing.push_clashes.Goals as goal
 

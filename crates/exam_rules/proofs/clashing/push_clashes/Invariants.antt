@@ -1,6 +1,6 @@
+use Rattle.exam_rules.proofs.Words.{relations_of, is_clash, live_papers_in}
 use Rattle.std.proofs.Common.{◌≡◌, ◌++◌, map, filter}
-use Rattle.exam_rules.specs.Relations.{relations_of}
-use Rattle.exam_rules.specs.Sessions.{is_clash, live_papers, live_papers_in}
+use Rattle.exam_rules.specs.Sessions.{live_papers}
 use Rattle.exam_rules.proofs.clashing.push_clashes.Given as goal
 
 -- what is left answers as the whole

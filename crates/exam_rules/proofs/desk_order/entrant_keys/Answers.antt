@@ -1,9 +1,5 @@
+use Rattle.exam_rules.proofs.Words.{map-map, Entrant, relations_of, least_live_paper, desk_key}
 use Rattle.std.proofs.Common.{◌≡◌, ◌++◌, ◌∷◌, [], All, Some, ap, sym, subst, ◌∙◌}
-use Rattle.std.proofs.lemmas.Simd.{map-map}
-use Rattle.exam_rules.specs.declared.listing.Entrant.{Entrant}
-use Rattle.exam_rules.specs.Relations.{relations_of}
-use Rattle.exam_rules.specs.Sessions.{least_live_paper}
-use Rattle.exam_rules.specs.Seatings.{desk_key}
 use Rattle.exam_rules.proofs.Listed.{entrants_sit}
 use Rattle.exam_rules.proofs.Ranking.{map_step, map_end}
 use Rattle.exam_rules.proofs.desk_order.entrant_keys.Goals as goal

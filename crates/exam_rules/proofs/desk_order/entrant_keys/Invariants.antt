@@ -1,7 +1,5 @@
+use Rattle.exam_rules.proofs.Words.{Entrant, relations_of, desk_key}
 use Rattle.std.proofs.Common.{◌≡◌, ◌++◌, map, drop}
-use Rattle.exam_rules.specs.declared.listing.Entrant.{Entrant}
-use Rattle.exam_rules.specs.Relations.{relations_of}
-use Rattle.exam_rules.specs.Seatings.{desk_key}
 use Rattle.exam_rules.proofs.desk_order.entrant_keys.Given as goal
 
 -- a key for each member so far

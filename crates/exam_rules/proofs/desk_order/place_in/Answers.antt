@@ -1,7 +1,6 @@
+use Rattle.exam_rules.proofs.Words.{is_lt, desk_cmp}
 use Rattle.std.proofs.Common.{rules, arith}
-use Rattle.std.specs.Ordering.{is_lt}
 use Rattle.std.proofs.lemmas.List.Sorted.{IsPartitionPoint-from_clause}
-use Rattle.exam_rules.specs.Seatings.{desk_cmp}
 use Rattle.exam_rules.proofs.Ranking.{count_at_point, lesser_first}
 use Rattle.exam_rules.proofs.desk_order.place_in.Goals as goal
 

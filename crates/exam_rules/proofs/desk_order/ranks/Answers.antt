@@ -1,7 +1,6 @@
+use Rattle.exam_rules.proofs.Words.{is_lt, desk_cmp}
 use Rattle.std.proofs.Common.{◌++◌, ◌∷◌, [], count_by, ap, subst, ◌∙◌}
 use Rattle.std.specs.List.Sorted.{IsPermutation}
-use Rattle.std.specs.Ordering.{is_lt}
-use Rattle.exam_rules.specs.Seatings.{desk_cmp}
 use Rattle.exam_rules.proofs.Ranking.{map_step, map_end, ranks_sorted}
 use Rattle.exam_rules.proofs.desk_order.ranks.Goals as goal
 

@@ -1,6 +1,5 @@
+use Rattle.exam_rules.proofs.Words.{is_lt, desk_cmp}
 use Rattle.std.proofs.Common.{◌≡◌, ◌++◌, map, count_by, drop}
-use Rattle.std.specs.Ordering.{is_lt}
-use Rattle.exam_rules.specs.Seatings.{desk_cmp}
 use Rattle.exam_rules.proofs.desk_order.ranks.Given as goal
 
 -- a rank for each key so far

@@ -1,12 +1,10 @@
 -- The place is that of the first number that is not less. Who is there already has the number, and keeps the lesser
 -- paper; else the candidate goes in before them, and the numbers still rise.
+use Rattle.exam_rules.proofs.Words.{IsNonDecreasingBy, Entrant, Code, entered, entrant}
 use Rattle.std.proofs.Common.{◌≡◌, ◌<◌, ◌≤◌, ℕ, List, length, get_or, nat_eq, false, set, refl, ap, sym, subst, ◌∙◌}
 use Rattle.std.proofs.Common.{rules}
 use Rattle.std.specs.List.{insert}
-use Rattle.std.specs.List.Sorted.{IsNonDecreasingBy}
-use Rattle.exam_rules.specs.declared.listing.Entrant.{Entrant}
-use Rattle.exam_rules.specs.Relations.{Code}
-use Rattle.exam_rules.specs.Lists.{entered, entrant, lesser_paper}
+use Rattle.exam_rules.specs.Lists.{lesser_paper}
 use Rattle.exam_rules.proofs.Entered.{IsPlace, entered_new, entered_there}
 use Rattle.exam_rules.proofs.entering.enter_among.Goals as goal
 

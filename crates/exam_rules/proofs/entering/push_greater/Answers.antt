@@ -1,8 +1,8 @@
+use Rattle.exam_rules.proofs.Words.{Entrant}
 use Rattle.std.proofs.Common.{nat_lt, rules}
 use Rattle.std.proofs.lemmas.Iterator.{YieldsList-from_slice}
 use Rattle.std.proofs.lemmas.Iterator.Adapters.{items_from_extend}
 use Rattle.std.proofs.lemmas.Iterator.Consumers.{YieldsList-from_copied, YieldsList-from_filter}
-use Rattle.exam_rules.specs.declared.listing.Entrant.{Entrant}
 use Rattle.exam_rules.proofs.entering.push_greater.Goals as goal
 
 pub returns-clause-ok : goal.returns-clause-ok

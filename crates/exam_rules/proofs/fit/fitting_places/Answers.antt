@@ -1,10 +1,8 @@
 -- Who sits no paper is no member, and fits nowhere. Of a member the terms and the barred halls are those of the rules,
 -- so the places that suit are those that fit.
+use Rattle.exam_rules.proofs.Words.{Room, Code, relations_of, has_live_entry, barred_halls, positions, is_suiting}
+use Rattle.exam_rules.proofs.Words.{sitting_terms}
 use Rattle.std.proofs.Common.{◌≡◌, map, is_some, true, false, length, Option, ap, sym, ◌∙◌, arith}
-use Rattle.exam_rules.specs.declared.fit.Room.{Room}
-use Rattle.exam_rules.specs.Relations.{Code, relations_of}
-use Rattle.exam_rules.specs.Sessions.{has_live_entry, barred_halls}
-use Rattle.exam_rules.specs.Seatings.{positions, is_suiting, sitting_terms}
 use Rattle.exam_rules.proofs.Places.{fits_nowhere, fits_by_rooms}
 use Rattle.exam_rules.proofs.HallMasks.{no_places}
 use Rattle.exam_rules.proofs.Sitters.{members_sit}

@@ -1,5 +1,5 @@
+use Rattle.exam_rules.proofs.Words.{is_suiting}
 use Rattle.std.proofs.Common.{add-one, sym, ◌∙◌, ap}
-use Rattle.exam_rules.specs.Seatings.{is_suiting}
 use Rattle.exam_rules.proofs.HallMasks.{places_begin, places_more, places_same, places_end}
 use Rattle.exam_rules.proofs.fit.suiting_places.Goals as goal
 use Rattle.exam_rules.proofs.fit.suiting_places.Goals.{then-is_suiting, else-is_suiting}

@@ -1,4 +1,4 @@
-use Rattle.exam_rules.specs.Seatings.{is_suiting}
+use Rattle.exam_rules.proofs.Words.{is_suiting}
 use Rattle.exam_rules.proofs.HallMasks.{ArePlaces}
 use Rattle.exam_rules.proofs.fit.suiting_places.Given as goal
 

@@ -1,6 +1,6 @@
+use Rattle.exam_rules.proofs.Words.{naming}
 use Rattle.exam_rules.proofs.Naming.{renames, numbers_rise, codes_rise}
 use Rattle.exam_plan.proofs.Carrying.{IsCertificate-named}
-use Rattle.exam_rules.specs.Names.{naming}
 use Rattle.exam_rules.proofs.laws.certificates_by_name.Goals as goal
 
 pub returns : goal.returns

@@ -1,6 +1,6 @@
+use Rattle.exam_rules.proofs.Words.{naming}
 use Rattle.exam_plan.proofs.Renaming.{IsLawful-named, size-named, IsBest-named}
 use Rattle.exam_plan.proofs.Carrying.{unseated-named}
-use Rattle.exam_rules.specs.Names.{naming}
 use Rattle.exam_rules.proofs.Naming.{renames}
 use Rattle.exam_rules.proofs.Following.{follows, lawful_seats}
 use Rattle.exam_plan.proofs.KeptNames.{index_of_name}

@@ -1,5 +1,4 @@
-use Rattle.std.specs.Cmp.{nat_cmp_total}
-use Rattle.std.specs.Cmp.Lexicographic.{nat_list_cmp_total}
+use Rattle.exam_rules.proofs.Words.{nat_cmp_total, nat_list_cmp_total}
 use Rattle.std.specs.FinMap.{nat_cmp-IsAntisymmetric, slice_cmp-IsAntisymmetric}
 use Rattle.exam_rules.specs.Seatings.{seating}
 use Rattle.exam_plan.proofs.OneRepair.{one_repair}

@@ -1,9 +1,6 @@
+use Rattle.exam_rules.proofs.Words.{is_at, option_copied_mut, code_cmp, row_at, with_last}
 use Rattle.std.proofs.Common.{◌≡◌, None, Some, IsSome, cond, refl, ap, sym, subst, ◌∙◌}
-use Rattle.std.specs.BTreeMap.{is_at}
-use Rattle.std.specs.Option.{option_copied_mut}
 use Rattle.std.proofs.lemmas.Result.{on_ok_weaker}
-use Rattle.exam_rules.specs.Relations.{code_cmp, row_at}
-use Rattle.exam_rules.specs.Lists.{with_last}
 use Rattle.exam_rules.proofs.Listed.{changed, items_at}
 use Rattle.exam_rules.proofs.listing.append_last.Goals as goal
 

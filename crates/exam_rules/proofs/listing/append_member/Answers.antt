@@ -1,12 +1,9 @@
 -- The entries of a candidate are walked by paper, rising. The first live one of a session has the least paper, and
 -- appends the candidate; a later one of that session finds them last and changes nothing.
+use Rattle.exam_rules.proofs.Words.{nat_tests, Entrant, Entry, Code, relations_of, same_code, head_of, listed}
+use Rattle.exam_rules.proofs.Words.{with_last, with_member, entrant}
 use Rattle.std.proofs.Common.{◌≡◌, ℕ, cond, nat_eq, true, None, Some, List, Bool, false, ap, sym, ◌∙◌, arith, rules}
-use Rattle.std.proofs.lemmas.Bool.Decides.{nat_tests}
-use Rattle.exam_rules.specs.declared.listing.Entrant.{Entrant}
-use Rattle.exam_rules.specs.declared.rows.Entry.{Entry}
-use Rattle.exam_rules.specs.Relations.{Code, relations_of, same_code}
-use Rattle.exam_rules.specs.Sessions.{head_of}
-use Rattle.exam_rules.specs.Lists.{listed, with_last, with_member, entrant, entered_session}
+use Rattle.exam_rules.specs.Lists.{entered_session}
 use Rattle.exam_rules.proofs.Listed.{first_in, first_in_row, marked_once}
 use Rattle.exam_rules.proofs.listing.append_member.Goals as goal
 

@@ -1,7 +1,5 @@
+use Rattle.exam_rules.proofs.Words.{Code, relations_of, least_live_paper, listed, with_member}
 use Rattle.std.proofs.Common.{◌≡◌}
-use Rattle.exam_rules.specs.Relations.{Code, relations_of}
-use Rattle.exam_rules.specs.Sessions.{least_live_paper}
-use Rattle.exam_rules.specs.Lists.{listed, with_member}
 use Rattle.exam_rules.proofs.Listed.{first_in}
 use Rattle.exam_rules.proofs.listing.append_member.Given as goal
 

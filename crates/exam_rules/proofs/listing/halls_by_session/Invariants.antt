@@ -1,8 +1,5 @@
+use Rattle.exam_rules.proofs.Words.{Opening, Code, relations_of, same_code, open_halls, listed}
 use Rattle.std.proofs.Common.{◌≡◌, ◌++◌, map, filter}
-use Rattle.exam_rules.specs.declared.rows.Opening.{Opening}
-use Rattle.exam_rules.specs.Relations.{Code, relations_of, same_code}
-use Rattle.exam_rules.specs.Seatings.{open_halls}
-use Rattle.exam_rules.specs.Lists.{listed}
 use Rattle.exam_rules.proofs.listing.halls_by_session.Given as goal
 
 -- with what is left each list is the whole

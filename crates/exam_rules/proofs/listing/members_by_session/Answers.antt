@@ -1,14 +1,9 @@
 -- The lists are those of the candidates walked so far. Numbers rise in the table, so each list is in order.
+use Rattle.exam_rules.proofs.Words.{nat_cmp, IsStrictlySortedBy, keys_of, IsStrictlySortedBy-filter, relations_of}
+use Rattle.exam_rules.proofs.Words.{has_live_entry, least_live_paper, listed}
 use Rattle.std.proofs.Common.{◌≡◌, ◌++◌, ◌∷◌, [], List, ℕ, ap, sym, subst, ◌∙◌, append_assoc}
-use Rattle.std.specs.Ordering.{nat_cmp}
-use Rattle.std.specs.List.Sorted.{IsStrictlySortedBy}
-use Rattle.std.specs.Map.{keys_of}
 use Rattle.std.specs.Map.Iter.{deref_pair}
-use Rattle.std.proofs.lemmas.List.Kept.{IsStrictlySortedBy-filter}
 use Rattle.std.proofs.lemmas.Map.Iter.{rest_more}
-use Rattle.exam_rules.specs.Relations.{relations_of}
-use Rattle.exam_rules.specs.Sessions.{has_live_entry, least_live_paper}
-use Rattle.exam_rules.specs.Lists.{listed}
 use Rattle.exam_rules.proofs.Listed.{members_more}
 use Rattle.exam_rules.proofs.listing.members_by_session.Goals as goal
 

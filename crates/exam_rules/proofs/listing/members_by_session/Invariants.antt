@@ -1,8 +1,5 @@
+use Rattle.exam_rules.proofs.Words.{keys_of, Code, relations_of, least_live_paper, listed}
 use Rattle.std.proofs.Common.{◌≡◌, ◌++◌, List, ℕ}
-use Rattle.std.specs.Map.{keys_of}
-use Rattle.exam_rules.specs.Relations.{Code, relations_of}
-use Rattle.exam_rules.specs.Sessions.{least_live_paper}
-use Rattle.exam_rules.specs.Lists.{listed}
 use Rattle.exam_rules.proofs.Listed.{listed_with}
 use Rattle.exam_rules.proofs.listing.members_by_session.Given as goal
 

@@ -1,11 +1,10 @@
 -- The place is that of the first number that is not less. If the candidate is not there, all before are less and all
 -- behind are greater, so the candidate is nowhere.
+use Rattle.exam_rules.proofs.Words.{All, IsNonDecreasingBy, Entrant}
 use Rattle.std.proofs.Common.{◌≡◌, ◌≢◌, ◌<◌, ℕ, List, Bool, true, false, nat_lt, length, get_or, eq-eqb, refl, arith}
-use Rattle.std.specs.List.{All}
-use Rattle.std.specs.List.Sorted.{IsNonDecreasingBy, IsPartitionPoint}
+use Rattle.std.specs.List.Sorted.{IsPartitionPoint}
 use Rattle.std.proofs.lemmas.Bool.{both_ways, ltb-true, ltb-false}
 use Rattle.std.proofs.lemmas.Option.{IfSome_then}
-use Rattle.exam_rules.specs.declared.listing.Entrant.{Entrant}
 use Rattle.exam_rules.proofs.listing.paper_among.Goals as goal
 
 -- nobody has the number, if the first whose number is no smaller does not have it

@@ -1,6 +1,6 @@
+use Rattle.exam_rules.proofs.Words.{Entrant}
 use Rattle.std.proofs.Common.{nat_lt, rules}
 use Rattle.std.proofs.lemmas.List.Sorted.{IsPartitionPoint-from_clause, IsPartitionedBy-ltb}
-use Rattle.exam_rules.specs.declared.listing.Entrant.{Entrant}
 use Rattle.exam_rules.proofs.listing.place_of.Goals as goal
 
 pub returns-clause-place : goal.returns-clause-place

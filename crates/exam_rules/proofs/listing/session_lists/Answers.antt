@@ -1,4 +1,4 @@
-use Rattle.exam_rules.specs.Relations.{relations_of}
+use Rattle.exam_rules.proofs.Words.{relations_of}
 use Rattle.exam_rules.proofs.Listed.{entrants_are_members}
 use Rattle.exam_rules.proofs.listing.session_lists.Goals as goal
 

@@ -1,9 +1,6 @@
+use Rattle.exam_rules.proofs.Words.{Entrant, relations_of, least_live_paper, entrant, entrants}
 use Rattle.std.proofs.Common.{◌≡◌, Contains, Some, subst}
 use Rattle.std.proofs.lemmas.List.Elements.{All-contains}
-use Rattle.exam_rules.specs.declared.listing.Entrant.{Entrant}
-use Rattle.exam_rules.specs.Relations.{relations_of}
-use Rattle.exam_rules.specs.Sessions.{least_live_paper}
-use Rattle.exam_rules.specs.Lists.{entrant, entrants}
 use Rattle.exam_rules.proofs.Listed.{entrants_sit}
 use Rattle.exam_rules.proofs.listing.sitting_among.Goals as goal
 

@@ -1,5 +1,5 @@
+use Rattle.exam_rules.proofs.Words.{plan_of}
 use Rattle.std.proofs.Common.{cond, Some, ap, ◌∙◌}
-use Rattle.exam_rules.specs.Seatings.{plan_of}
 use Rattle.exam_rules.proofs.Writing.{seat_at}
 use Rattle.exam_rules.proofs.plans.add_seat.Goals as goal
 

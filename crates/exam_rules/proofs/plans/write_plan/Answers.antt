@@ -1,13 +1,9 @@
 -- The seats of the session are those of the members walked so far. Each number stands once among them, so no seat is
 -- put twice.
+use Rattle.exam_rules.proofs.Words.{option_map, Code, same_code, members, plan_of, number_at, hall_at}
 use Rattle.std.proofs.Common.{◌≡◌, ◌∙◌, ℕ, ◌<◌, [], List, Option, length, get_or, nat_eq, None, ap, sym, arith}
-use Rattle.std.specs.Option.{option_map}
 use Rattle.std.proofs.lemmas.List.{get_or_default}
 use Rattle.exam_plan.proofs.Steps.{plan_at-get_or}
-use Rattle.exam_rules.specs.Relations.{Code, same_code}
-use Rattle.exam_rules.specs.Sessions.{members}
-use Rattle.exam_rules.specs.Seatings.{plan_of}
-use Rattle.exam_rules.specs.Names.{number_at, hall_at}
 use Rattle.exam_rules.proofs.Naming.{same_code_itself}
 use Rattle.exam_rules.proofs.Writing.{written_more, written_all, seat_taken, seat_other, seat_of_other}
 use Rattle.exam_rules.proofs.plans.write_plan.Goals as goal

@@ -1,8 +1,5 @@
+use Rattle.exam_rules.proofs.Words.{Code, Relations, same_code, members, open_halls, plan_of, ListsRise}
 use Rattle.std.proofs.Common.{◌≡◌, ℕ, false}
-use Rattle.exam_rules.specs.Relations.{Code, Relations, same_code}
-use Rattle.exam_rules.specs.Sessions.{members}
-use Rattle.exam_rules.specs.Seatings.{open_halls, plan_of}
-use Rattle.exam_rules.specs.Names.{ListsRise}
 use Rattle.exam_rules.proofs.Writing.{written}
 use Rattle.exam_rules.proofs.plans.write_plan.Given as goal
 

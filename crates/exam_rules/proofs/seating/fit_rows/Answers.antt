@@ -1,8 +1,5 @@
+use Rattle.exam_rules.proofs.Words.{holds, halls_below, Code, relations_of, Room, fitting_places}
 use Rattle.std.proofs.Common.{ℕ, Option, map, length, ap, sym, ◌∙◌}
-use Rattle.exam_plan.specs.HallSets.{holds, halls_below}
-use Rattle.exam_rules.specs.Relations.{Code, relations_of}
-use Rattle.exam_rules.specs.declared.fit.Room.{Room}
-use Rattle.exam_rules.specs.Seatings.{fitting_places}
 use Rattle.exam_rules.proofs.HallMasks.{masks_begin, masks_more, masks_end}
 use Rattle.exam_rules.proofs.seating.fit_rows.Goals as goal
 

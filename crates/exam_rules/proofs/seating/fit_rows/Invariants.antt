@@ -1,6 +1,5 @@
+use Rattle.exam_rules.proofs.Words.{relations_of, fitting_places}
 use Rattle.std.proofs.Common.{map, length}
-use Rattle.exam_rules.specs.Relations.{relations_of}
-use Rattle.exam_rules.specs.Seatings.{fitting_places}
 use Rattle.exam_rules.proofs.HallMasks.{AreMasksOf}
 use Rattle.exam_rules.proofs.seating.fit_rows.Given as goal
 

@@ -1,13 +1,11 @@
 -- The rooms are those of the halls that were given, so the rows are those of the rules.
+use Rattle.exam_rules.proofs.Words.{length-map, map-map, holds, halls_below, sets_of, Code, relations_of, members}
+use Rattle.exam_rules.proofs.Words.{sitting, opened_room, fitting_places, desk_key}
 use Rattle.std.proofs.Common.{◌≡◌, ◌≤◌, ◌<◌, ℕ, true, List, Option, length, map, IfOk, refl, ap, sym, subst, ◌∙◌}
 use Rattle.std.specs.Prelude.{All}
-use Rattle.std.proofs.lemmas.List.{length-map}
 use Rattle.std.proofs.lemmas.List.Elements.{All-map}
-use Rattle.std.proofs.lemmas.Simd.{map-map}
-use Rattle.exam_plan.specs.HallSets.{most_halls, holds, halls_below, sets_of}
-use Rattle.exam_rules.specs.Relations.{Code, relations_of}
-use Rattle.exam_rules.specs.Sessions.{members, sitting}
-use Rattle.exam_rules.specs.Seatings.{with_rooms, opened_room, fitting_places, desk_key}
+use Rattle.exam_plan.specs.HallSets.{most_halls}
+use Rattle.exam_rules.specs.Seatings.{with_rooms}
 use Rattle.exam_rules.proofs.Places.{rooms_named}
 use Rattle.exam_rules.proofs.seating.fit_table.Goals as goal
 

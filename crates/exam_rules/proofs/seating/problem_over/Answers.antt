@@ -1,14 +1,12 @@
 -- Desks, fits and ranks are made of the same members and halls, so they have one length each; put together they are
 -- the seating problem of the rules.
+use Rattle.exam_rules.proofs.Words.{length-map, holds, halls_below, sets_of, most_members, Code, Relations}
+use Rattle.exam_rules.proofs.Words.{relations_of, members, desks, open_halls, fitting_places, desk_key, rank}
 use Rattle.std.proofs.Common.{◌≡◌, ◌≤◌, ◌<◌, nat_eq, true, ℕ, List, Option, length, map, ap, sym, subst, ◌∙◌, arith}
 use Rattle.std.specs.Prelude.{All}
 use Rattle.std.specs.List.{IsDistinct}
-use Rattle.std.proofs.lemmas.List.{length-map}
-use Rattle.exam_plan.specs.HallSets.{most_halls, holds, halls_below, set_of_mask, sets_of}
-use Rattle.exam_plan.specs.Problems.{most_members}
-use Rattle.exam_rules.specs.Relations.{Code, Relations, relations_of}
-use Rattle.exam_rules.specs.Sessions.{members}
-use Rattle.exam_rules.specs.Seatings.{desks, open_halls, fitting_places, desk_key, rank, ranks_of}
+use Rattle.exam_plan.specs.HallSets.{most_halls, set_of_mask}
+use Rattle.exam_rules.specs.Seatings.{ranks_of}
 use Rattle.exam_rules.proofs.Ranking.{ranks_distinct, parts_are, ranks_of_members}
 use Rattle.exam_rules.proofs.seating.problem_over.Goals as goal
 

@@ -1,7 +1,6 @@
+use Rattle.exam_rules.proofs.Words.{Entry, Code, code_cmp, leading, is_row_of, relations_of, live_papers_in}
+use Rattle.exam_rules.proofs.Words.{is_paper_of}
 use Rattle.std.proofs.Common.{◌≡◌, ◌&&◌, ap, map, filter, ℕ, List, ◌∙◌}
-use Rattle.exam_rules.specs.declared.rows.Entry.{Entry}
-use Rattle.exam_rules.specs.Relations.{Code, code_cmp, leading, is_row_of, relations_of}
-use Rattle.exam_rules.specs.Sessions.{live_papers_in, is_paper_of}
 use Rattle.exam_rules.proofs.Together.{rows_from, filter_and}
 use Rattle.exam_rules.proofs.sessions.entries_of.Goals as goal
 

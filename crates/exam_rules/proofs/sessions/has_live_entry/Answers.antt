@@ -1,7 +1,5 @@
+use Rattle.exam_rules.proofs.Words.{Entry, Code, relations_of, is_live_entry}
 use Rattle.std.proofs.Common.{ap, is_some, sym, ◌∙◌, ℕ}
-use Rattle.exam_rules.specs.declared.rows.Entry.{Entry}
-use Rattle.exam_rules.specs.Relations.{Code, relations_of}
-use Rattle.exam_rules.specs.Sessions.{is_live_entry}
 use Rattle.exam_rules.proofs.Together.{any_is}
 use Rattle.exam_rules.proofs.sessions.has_live_entry.Goals as goal
 

@@ -1,4 +1,4 @@
-use Rattle.exam_rules.specs.Relations.{relations_of}
+use Rattle.exam_rules.proofs.Words.{relations_of}
 use Rattle.exam_rules.proofs.Sitters.{known_listed, unknown_listed}
 use Rattle.exam_rules.proofs.sessions.is_member.Goals as goal
 

@@ -1,6 +1,6 @@
+use Rattle.exam_rules.proofs.Words.{relations_of, head_of, live_papers_in}
 use Rattle.std.proofs.Common.{◌≡◌}
-use Rattle.exam_rules.specs.Relations.{relations_of}
-use Rattle.exam_rules.specs.Sessions.{head_of, live_papers, live_papers_in}
+use Rattle.exam_rules.specs.Sessions.{live_papers}
 use Rattle.exam_rules.proofs.sessions.least_live_paper.Given as goal
 
 -- what is left answers as the whole

@@ -1,5 +1,5 @@
+use Rattle.exam_rules.proofs.Words.{code_cmp}
 use Rattle.exam_types.specs.Codes.{is_dashed}
-use Rattle.exam_rules.specs.Relations.{code_cmp}
 use Rattle.exam_rules.proofs.Together.{none_before, no_code_less, dash_is_least}
 use Rattle.exam_rules.proofs.sessions.no_entry_before.Goals as goal
 

@@ -1,8 +1,7 @@
+use Rattle.exam_rules.proofs.Words.{Appeal, Code, is_row_of, relations_of, later_of}
 use Rattle.std.proofs.Common.{◌≡◌, ◌&&◌, ap, filter, ℕ, List, ◌∙◌, None}
 use Rattle.std.specs.Prelude.{fold, nat_le, filter_map}
-use Rattle.exam_rules.specs.declared.rows.Appeal.{Appeal}
-use Rattle.exam_rules.specs.Relations.{Code, is_row_of, relations_of}
-use Rattle.exam_rules.specs.Sessions.{is_granted, is_marked, later_of, standing_grant, standing_grants_in}
+use Rattle.exam_rules.specs.Sessions.{is_granted, is_marked, standing_grant, standing_grants_in}
 use Rattle.exam_rules.proofs.Together.{filter_and}
 use Rattle.exam_rules.proofs.standing.last_until.Goals as goal
 

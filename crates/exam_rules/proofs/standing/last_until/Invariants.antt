@@ -1,7 +1,7 @@
+use Rattle.exam_rules.proofs.Words.{relations_of, later_of}
 use Rattle.std.proofs.Common.{◌≡◌, filter}
 use Rattle.std.specs.Prelude.{fold, nat_le}
-use Rattle.exam_rules.specs.Relations.{relations_of}
-use Rattle.exam_rules.specs.Sessions.{later_of, last_until, standing_grants, standing_grants_in}
+use Rattle.exam_rules.specs.Sessions.{last_until, standing_grants, standing_grants_in}
 use Rattle.exam_rules.proofs.standing.last_until.Given as goal
 
 -- the last so far and those left answer as the whole

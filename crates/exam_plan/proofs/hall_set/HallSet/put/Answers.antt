@@ -1,5 +1,5 @@
+use Rattle.exam_plan.proofs.Words.{holds}
 use Rattle.std.proofs.Common.{nat_eq, cond, ◌||◌, ◌&&◌, not, sym, ap, ◌∙◌}
-use Rattle.exam_plan.specs.HallSets.{holds}
 use Rattle.exam_plan.proofs.HallBits.{put_in, put_out}
 use Rattle.exam_plan.proofs.hall_set.HallSet.put.Goals as goal
 

@@ -1,12 +1,9 @@
 -- The tallies of the hall rise where the newcomer's halls are, so exactly these halls are added to its set, and the
 -- hall to the sets that go inward.
+use Rattle.exam_plan.proofs.Words.{get_or_default, Tally, holds, one_if, tally_of, no_digits, tally_at}
 use Rattle.std.proofs.Common.{◌≡◌, ◌+◌, ◌<◌, ◌≤◌, ◌||◌, ◌&&◌, not, true, ℕ, length, get_or, refl, sym, ap, subst, ◌∙◌}
 use Rattle.std.proofs.Common.{arith}
-use Rattle.std.proofs.lemmas.List.{get_or_default}
-use Rattle.exam_plan.specs.declared.tally.Tally.{Tally}
-use Rattle.exam_plan.specs.HallSets.{holds}
-use Rattle.exam_plan.specs.Tallies.{IsWhole, one_if, tally_of}
-use Rattle.exam_plan.specs.Searches.{no_digits, tally_at}
+use Rattle.exam_plan.specs.Tallies.{IsWhole}
 use Rattle.exam_plan.proofs.Steps.{beyond}
 use Rattle.exam_plan.proofs.Tables.{entered, union_counted, changes_in}
 use Rattle.exam_plan.proofs.onward.Onward.enter.Goals as goal

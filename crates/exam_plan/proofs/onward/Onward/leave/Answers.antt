@@ -1,12 +1,8 @@
 -- The tallies of the hall fall where the leaver's halls are. A hall whose tally falls to nothing leaves the set, and
 -- only such ones are taken out of the sets that go inward.
+use Rattle.exam_plan.proofs.Words.{get_or-set_same, get_or_default, Tally, holds, one_if, tally_of, seating_of}
+use Rattle.exam_plan.proofs.Words.{IsMarked, no_digits, tally_at}
 use Rattle.std.proofs.Common.{◌≡◌, ◌+◌, ◌<◌, ◌↔◌, false, ℕ, length, get_or, refl, sym, ap, ◌∙◌, arith}
-use Rattle.std.proofs.lemmas.List.{get_or-set_same, get_or_default}
-use Rattle.exam_plan.specs.declared.tally.Tally.{Tally}
-use Rattle.exam_plan.specs.HallSets.{holds}
-use Rattle.exam_plan.specs.Tallies.{one_if, tally_of}
-use Rattle.exam_plan.specs.Problems.{seating_of}
-use Rattle.exam_plan.specs.Searches.{IsMarked, no_digits, tally_at}
 use Rattle.exam_plan.proofs.Steps.{beyond}
 use Rattle.exam_plan.proofs.Tables.{left_out, changes_out}
 use Rattle.exam_plan.proofs.onward.Onward.leave.Goals as goal

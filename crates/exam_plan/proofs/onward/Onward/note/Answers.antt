@@ -1,6 +1,6 @@
 -- Below the candidate at hand all who sit are in the table. A tally never passes the number of candidates.
+use Rattle.exam_plan.proofs.Words.{plan_at}
 use Rattle.std.proofs.Common.{◌∙◌, arith}
-use Rattle.exam_plan.specs.Problems.{plan_at}
 use Rattle.exam_plan.proofs.Steps.{sits_below}
 use Rattle.exam_plan.proofs.TurnLemmas.{seated_at}
 use Rattle.exam_plan.proofs.Tables.{one_in, none_in, fitting_count-le}

@@ -1,4 +1,4 @@
-use Rattle.exam_plan.specs.Problems.{plan_at}
+use Rattle.exam_plan.proofs.Words.{plan_at}
 use Rattle.exam_plan.specs.Searches.{IsTable}
 use Rattle.exam_plan.proofs.onward.Onward.note.Given as goal
 

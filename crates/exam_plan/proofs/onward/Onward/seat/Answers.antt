@@ -1,7 +1,7 @@
 -- With a table that is noted, a candidate who sat leaves it and then enters it anew: it is the table of the plan with
 -- that one place changed. Without one nothing has to agree.
+use Rattle.exam_plan.proofs.Words.{plan_at}
 use Rattle.std.proofs.Common.{◌<◌, length, set, Some, ap, ◌∙◌, arith}
-use Rattle.exam_plan.specs.Problems.{plan_at}
 use Rattle.exam_plan.proofs.Steps.{sits_below}
 use Rattle.exam_plan.specs.declared.onward.Onward.{Onward}
 use Rattle.exam_plan.proofs.TurnLemmas.{seated_at}

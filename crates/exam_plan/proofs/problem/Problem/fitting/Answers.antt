@@ -1,7 +1,5 @@
+use Rattle.exam_plan.proofs.Words.{list_any, holds, Problem}
 use Rattle.std.proofs.Common.{◌≡◌, ◌<◌, [], length, get_or, nat_eq, subst}
-use Rattle.std.specs.List.{list_any}
-use Rattle.exam_plan.specs.HallSets.{holds}
-use Rattle.exam_plan.specs.Problems.{Problem}
 use Rattle.exam_plan.proofs.HallRows.{row_read}
 use Rattle.exam_plan.proofs.problem.Problem.fitting.Goals as goal
 

@@ -1,7 +1,6 @@
+use Rattle.exam_plan.proofs.Words.{length-map, AreMasks}
 use Rattle.std.proofs.Common.{arith, sym, ap, ◌∙◌, subst, ◌≡◌, length}
-use Rattle.std.proofs.lemmas.List.{length-map}
 use Rattle.exam_plan.specs.HallSets.{set_of_mask, sets_of}
-use Rattle.exam_plan.specs.Problems.{AreMasks}
 use Rattle.exam_plan.proofs.HallRows.{are_masks}
 use Rattle.exam_plan.proofs.problem.Problem.from_masks.Goals as goal
 

@@ -1,12 +1,8 @@
 -- Each row that was read so far is the set of its halls, since each hall is below the most halls that a set can hold.
 -- So what the sets represent is the rows again.
+use Rattle.exam_plan.proofs.Words.{IsStrictlySortedBy, nat_cmp, most_halls, holds, halls_below, list_any, AreMasks}
 use Rattle.std.proofs.Common.{◌≡◌, ◌+◌, ◌<◌, ℕ, nat_eq, List, Vec, Global, length, take, map, sym, ap, subst, arith}
 use Rattle.std.specs.Prelude.{All}
-use Rattle.std.specs.List.Sorted.{IsStrictlySortedBy}
-use Rattle.std.specs.Ordering.{nat_cmp}
-use Rattle.exam_plan.specs.HallSets.{most_halls, holds, halls_below}
-use Rattle.std.specs.List.{list_any}
-use Rattle.exam_plan.specs.Problems.{AreMasks}
 use Rattle.exam_plan.proofs.HallRows.{AreSets, row_known, sets_more, sets_done}
 use Rattle.exam_plan.proofs.problem.Problem.new.Goals as goal
 

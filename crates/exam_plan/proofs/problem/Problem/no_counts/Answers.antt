@@ -1,6 +1,5 @@
+use Rattle.exam_plan.proofs.Words.{get_or-replicate, Problem}
 use Rattle.std.proofs.Common.{◌≤◌, length, arith, subst}
-use Rattle.std.proofs.lemmas.List.{get_or-replicate}
-use Rattle.exam_plan.specs.Problems.{Problem}
 use Rattle.exam_plan.proofs.problem.Problem.no_counts.Goals as goal
 
 pub returns-clause-none : goal.returns-clause-none

@@ -1,5 +1,5 @@
+use Rattle.exam_rules.proofs.Words.{Code, same_code}
 use Rattle.std.proofs.Common.{List, cond, refl, ap, ◌∙◌}
-use Rattle.exam_rules.specs.Relations.{Code, same_code}
 use Rattle.exam_rules.specs.Lists.{without_hall}
 use Rattle.exam_rules.proofs.Closing.{closed_all}
 use Rattle.exam_rules.proofs.listing.SessionLists.close.Goals as goal

@@ -1,9 +1,5 @@
+use Rattle.exam_rules.proofs.Words.{Global, IsStrictlySortedBy, Entrant, Code, listed}
 use Rattle.std.proofs.Common.{ap, refl, List, Vec}
-use Rattle.std.specs.Global.{Global}
-use Rattle.std.specs.List.Sorted.{IsStrictlySortedBy}
-use Rattle.exam_rules.specs.declared.listing.Entrant.{Entrant}
-use Rattle.exam_rules.specs.Relations.{Code}
-use Rattle.exam_rules.specs.Lists.{listed}
 use Rattle.exam_rules.proofs.listing.SessionLists.empty.Goals as goal
 
 pub returns : goal.returns

@@ -1,12 +1,8 @@
 -- Only the list of that session is changed, or made if there is none; the lists of all others are as they were.
+use Rattle.exam_rules.proofs.Words.{Global, IsNonDecreasingBy, option_copied_mut, Entrant, code_cmp, row_at, same_code}
+use Rattle.exam_rules.proofs.Words.{entered, listed}
 use Rattle.std.proofs.Common.{◌≡◌, Bool, true, false, List, Some, IsSome, Vec, cond, refl, ap, sym, subst, ◌∙◌}
-use Rattle.std.specs.Global.{Global}
-use Rattle.std.specs.List.Sorted.{IsNonDecreasingBy}
-use Rattle.std.specs.Option.{option_copied_mut}
 use Rattle.std.proofs.lemmas.Result.{on_err_weaker, on_ok_weaker}
-use Rattle.exam_rules.specs.declared.listing.Entrant.{Entrant}
-use Rattle.exam_rules.specs.Relations.{code_cmp, row_at, same_code}
-use Rattle.exam_rules.specs.Lists.{entered, listed}
 use Rattle.exam_rules.proofs.Entered.{entered_all, numbers_rise}
 use Rattle.exam_rules.proofs.Listed.{changed, items_at}
 use Rattle.exam_rules.proofs.Relisting.{exchanged}

@@ -1,6 +1,5 @@
+use Rattle.exam_rules.proofs.Words.{Entrant, relations_of, same_code}
 use Rattle.std.proofs.Common.{List, cond, refl, ap, ◌∙◌}
-use Rattle.exam_rules.specs.declared.listing.Entrant.{Entrant}
-use Rattle.exam_rules.specs.Relations.{relations_of, same_code}
 use Rattle.exam_rules.specs.Lists.{placed, listed_paper}
 use Rattle.exam_rules.proofs.Relisting.{relisted_lists}
 use Rattle.exam_rules.proofs.listing.SessionLists.relist.Goals as goal

@@ -1,8 +1,6 @@
+use Rattle.exam_rules.proofs.Words.{Global, Code, relations_of, listed}
 use Rattle.std.proofs.Common.{Vec, refl, ap, ◌∙◌}
 use Rattle.std.specs.BTreeMap.{BTreeMap}
-use Rattle.std.specs.Global.{Global}
-use Rattle.exam_rules.specs.Relations.{Code, relations_of}
-use Rattle.exam_rules.specs.Lists.{listed}
 use Rattle.exam_rules.proofs.Closing.{halls_anew}
 use Rattle.exam_rules.proofs.listing.SessionLists.relist_halls.Goals as goal
 
