@@ -11,7 +11,7 @@ ghost use Rattle.exam_commands.specs.Parts as spec;
 use crate::office::Office;
 use exam_commands::granting::is_grant;
 use exam_commands::{Command, Decision};
-use exam_judging::touched;
+use exam_repair::touched;
 use exam_rules::{Facts, Seats, SessionLists, add_seat};
 use exam_types::{Number, Refusal, SessionCode};
 use std::alloc::Global;

@@ -17,7 +17,7 @@ pub use exam_commands::{
     AppealState, Command, Decision, Import, Kind, Lodging, Outcome, Own, OwnAppeal, OwnSession,
     Reply, Row, Table, kind_word, state_of, state_word, status_word, write_subject,
 };
-pub use exam_judging::{first_bad_table, touched};
+pub use exam_repair::{first_bad_table, touched};
 pub use exam_laws::{
     good_office_is_seated, import_repeated_later_changes_nothing,
     lodging_and_retracting_move_nobody, lodging_and_retracting_show_others_nothing,

@@ -18,7 +18,7 @@ ghost use Rattle.exam_views.specs.Desks.{rows_without_desks};
 ghost use Rattle.exam_views.specs.Views.{IsViewOf};
 
 use exam_commands::Own;
-use exam_judging::{first_bad_listed, limits};
+use exam_repair::{first_bad_listed, limits};
 use exam_rules::{Facts, Seats, SessionLists, session_lists};
 use exam_types::{Number, Refusal, SessionCode};
 use exam_views::{SessionView, own_source, view_source};

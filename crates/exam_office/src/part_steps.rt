@@ -26,7 +26,7 @@ use exam_changes::{
     withdraw,
 };
 use exam_commands::{Command, Decision, Outcome, Reply, stored_state};
-use exam_judging::repaired_among;
+use exam_repair::repaired_among;
 use exam_rules::{Facts, Seats, SessionLists};
 use exam_types::{Day, Refusal, SessionCode};
 use std::alloc::Global;

@@ -7,7 +7,7 @@ ghost use Rattle.exam_commands.specs.FactsMade.{WasMade};
 ghost use Rattle.exam_commands.specs.Limits as spec;
 
 use exam_commands::Command;
-use exam_judging::limits::{MOST_APPEALS, is_within_limits};
+use exam_repair::limits::{MOST_APPEALS, is_within_limits};
 use exam_rules::{Facts, SessionLists, has_at_most};
 
 /// Whether the facts that the command made of good ones are within every limit. Looks only at what the command may have
