@@ -102,7 +102,7 @@ connection_fault_text number = codes "fault " ++ decimal number ++ codes "\n"
 
 -- the version of the program, and that of its tables
 abbrev pub version_text : List ℕ
-version_text = codes "examoffice 1.0.1, tables of version " ++ decimal version ++ codes "\n"
+version_text = codes "examoffice 1.1.0, tables of version " ++ decimal version ++ codes "\n"
 
 -- the line for words that are not understood
 abbrev pub not_understood_text : List ℕ

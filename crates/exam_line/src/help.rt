@@ -1,7 +1,7 @@
 //! What `--help` and `COMMAND --help` say. `{n}` is the end of a line.
 
 /// The version of the program.
-pub const VERSION: &str = "1.0.1";
+pub const VERSION: &str = "1.1.0";
 
 pub const PROGRAM: &str =
     "Seats candidates for exams: imports CSV files, finds a desk for each, prints door lists, keeps appeals.";

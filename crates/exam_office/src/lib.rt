@@ -17,7 +17,6 @@ pub use exam_commands::{
     AppealState, Command, Decision, Import, Kind, Lodging, Outcome, Own, OwnAppeal, OwnSession,
     Reply, Row, Table, kind_word, state_of, state_word, status_word, write_subject,
 };
-pub use exam_repair::{first_bad_table, touched};
 pub use exam_laws::{
     good_office_is_seated, import_repeated_later_changes_nothing,
     lodging_and_retracting_move_nobody, lodging_and_retracting_show_others_nothing,
@@ -27,6 +26,7 @@ pub use exam_laws::{
     repeated_import_makes_the_same_facts, repeated_lodging_changes_nothing,
     repeated_retraction_changes_nothing, untouched_session_stays,
 };
+pub use exam_repair::{first_bad_table, touched};
 pub use exam_rules::Seats;
 pub use exam_views::{
     AppealRow, AppealSource, Clash, ListedAppeals, Seat, SessionShortage, SessionView,

@@ -25,7 +25,7 @@ fn words_that_are_no_line_are_answered(rt: HostRuntime) -> Result<(), Fail> {
     let alloc = rt.alloc();
     let help = LineFault::Help(String::from_str(alloc, "how to use it\n")?);
     expect_printed(alloc, &help, "0 out how to use it\n err ")?;
-    let version = "0 out examoffice 1.0.1, tables of version 3\n err ";
+    let version = "0 out examoffice 1.1.0, tables of version 3\n err ";
     expect_printed(alloc, &LineFault::Version, version)?;
     expect_printed(alloc, &LineFault::NoMemory, "1 out  err refused 22\n")?;
     let told = "2 out  err line not understood\n";
