@@ -1,5 +1,5 @@
--- The office that a database has, in whichever version; what a stop leaves of it; what a call opens, and what its refusal
--- leaves.
+-- The office that a database has, in whichever version; what a stop leaves of it; what a call opens, and what its
+-- refusal leaves.
 use Rattle.std.specs.Prelude.{◌≡◌, ◌⊎◌, ℕ, false, IsTrue, Ok}
 use Rattle.sqlite_trees.specs.declared.store.Store.{Ghosts}
 use Rattle.sqlite_trees.specs.Tree.{Trees}
