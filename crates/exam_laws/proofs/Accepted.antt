@@ -1,15 +1,8 @@
 -- An accepted command passed the checks on the facts as they were, and its change is what it makes of them.
+use Rattle.exam_laws.proofs.Words.{option_or, Refusal, Relations, Command, unless, early_refusal, facts_made, State}
+use Rattle.exam_laws.proofs.Words.{change, neither}
 use Rattle.std.proofs.Common.{◌≡◌, ℕ, Option, None, Some, Ok, refl, sym}
-use Rattle.std.specs.Option.{option_or}
-use Rattle.exam_types.specs.declared.refusal.Refusal.{Refusal}
-use Rattle.exam_rules.specs.Relations.{Relations}
-use Rattle.exam_commands.specs.declared.command.Command.{Command}
 use Rattle.exam_commands.specs.declared.command.Command.TheVariants as command
-use Rattle.exam_commands.specs.Changes.{unless}
-use Rattle.exam_commands.specs.FactsMade.{early_refusal, facts_made}
-use Rattle.exam_commands.specs.State.{State}
-use Rattle.exam_commands.specs.Steps.{change}
-use Rattle.exam_commands.proofs.Referring.{neither}
 
 pub made : (o : Option Refusal) (r t : Relations) → unless o r ≡ Ok t → r ≡ t
 made None r t is = cc

@@ -1,48 +1,36 @@
 -- Good facts stay good after a lodging and after a retraction, and everybody keeps their seat.
+use Rattle.exam_laws.proofs.Words.{list_all, list_any, filter_map, keys_of, option_and_then, option_map_or, option_or}
+use Rattle.exam_laws.proofs.Words.{nat_cmp, fun_ext, and_parts, and_from, not-false, Refusal, IsBest, Appeal, Paper}
+use Rattle.exam_laws.proofs.Words.{Session, Status, Subject, AreInOrder, Code, Relations, appeal_cmp, code_cmp, has_row}
+use Rattle.exam_laws.proofs.Words.{put_row, row_at, same_code, appeal_count, asked_arrangement, has_live_entry}
+use Rattle.exam_laws.proofs.Words.{is_granted, is_live_paper, is_member, is_paper_of, fits, opened_room, plan_of}
+use Rattle.exam_laws.proofs.Words.{seating, suits_opened, same_code_exact, all_at_row, appeals_exact, appeals_total}
+use Rattle.exam_laws.proofs.Words.{Lodging, appeal_at, is_open, is_retracted, first_refusal, IsGood, appeal_refers}
+use Rattle.exam_laws.proofs.Words.{marks_were_granted, refers, most_appeals, within_limits, sessions_within}
+use Rattle.exam_laws.proofs.Words.{papers_within, halls_within, openings_within, candidates_within, members_within}
+use Rattle.exam_laws.proofs.Words.{AreSingle, SingleKey, same_single_key, single_key, State, SameSeating, unborne}
+use Rattle.exam_laws.proofs.Words.{passed, there}
 use Rattle.std.proofs.Common.{◌≡◌, ℕ, ◌==◌, ◌&&◌, not, Bool, true, false, cond, [], ◌∷◌, ◌++◌, length, nat_le, Option}
 use Rattle.std.proofs.Common.{None, Some, is_some, is_none, IsSome, IfSome, IsTrue, refl, ap, sym, subst, ◌∙◌}
-use Rattle.std.specs.List.{list_all, list_any, filter_map}
-use Rattle.std.specs.Map.{keys_of}
-use Rattle.std.specs.Option.{option_and_then, option_map_or, option_or}
-use Rattle.std.specs.Ordering.{nat_cmp}
-use Rattle.std.proofs.Math.Path.{fun_ext}
-use Rattle.std.proofs.lemmas.Bool.{and_parts, and_from, not-false}
-use Rattle.exam_types.specs.declared.refusal.Refusal.{Refusal}
 use Rattle.exam_types.specs.declared.refusal.Refusal.TheVariants as refusal
-use Rattle.exam_plan.specs.Matching.{IsBest, Keeps}
+use Rattle.exam_plan.specs.Matching.{Keeps}
 use Rattle.exam_rules.specs.declared.fit.Room.{Room}
 use Rattle.exam_rules.specs.declared.fit.Terms.{Terms}
-use Rattle.exam_rules.specs.declared.rows.Appeal.{Appeal}
-use Rattle.exam_rules.specs.declared.rows.Paper.{Paper}
-use Rattle.exam_rules.specs.declared.rows.Session.{Session}
-use Rattle.exam_rules.specs.declared.rows.Status.{Status}
 use Rattle.exam_rules.specs.declared.rows.Status.TheVariants as status
-use Rattle.exam_rules.specs.declared.rows.Subject.{Subject}
 use Rattle.exam_rules.specs.declared.rows.Subject.TheVariants as subject
-use Rattle.exam_rules.specs.Orders.{AreInOrder}
-use Rattle.exam_rules.specs.Relations.{Code, Relations, appeal_cmp, code_cmp, has_row, put_row, row_at, same_code}
-use Rattle.exam_rules.specs.Sessions.{appeal_count, asked_arrangement, barred_halls, clash_papers, has_live_entry}
-use Rattle.exam_rules.specs.Sessions.{is_granted, is_live, is_live_paper, is_member, is_paper_of, sitting}
-use Rattle.exam_rules.specs.Seatings.{fits, opened_room, plan_of, seating, sitting_terms, suits_opened}
-use Rattle.exam_rules.proofs.Naming.{same_code_exact}
+use Rattle.exam_rules.specs.Sessions.{barred_halls, clash_papers, is_live, sitting}
+use Rattle.exam_rules.specs.Seatings.{sitting_terms}
 use Rattle.exam_rules.specs.Tables as table
-use Rattle.exam_commands.proofs.KeyedRows.{all_at_row, all_put, appeals_exact, appeals_total, count_replaced}
-use Rattle.exam_commands.specs.declared.command.Lodging.{Lodging}
-use Rattle.exam_commands.specs.Appeals.{appeal_at, has_open_appeal, is_open, is_retracted}
-use Rattle.exam_commands.specs.Changes.{first_refusal}
-use Rattle.exam_commands.specs.Good.{IsGood, appeal_refers, marks_were_granted, may_bear, refers, subject_refers}
-use Rattle.exam_commands.specs.Limits.{most_appeals, within_limits, sessions_within, papers_within, halls_within}
-use Rattle.exam_commands.specs.Limits.{openings_within, candidates_within, members_within}
+use Rattle.exam_commands.proofs.KeyedRows.{all_put, count_replaced}
+use Rattle.exam_commands.specs.Appeals.{has_open_appeal}
+use Rattle.exam_commands.specs.Good.{may_bear, subject_refers}
 use Rattle.exam_commands.specs.Lodgings as spec
-use Rattle.exam_commands.specs.Singles.{AreSingle, SingleKey, same_single_key, single_key}
-use Rattle.exam_commands.specs.State.{State}
-use Rattle.exam_commands.specs.Steps.{SameSeating}
 use Rattle.exam_laws.proofs.Appealing.{apart_from_all, open_as, open_key, put_seating_same, single_flips, with_appeals}
-use Rattle.exam_commands.proofs.Borne.{closed_unborne, put_borne, unborne}
+use Rattle.exam_commands.proofs.Borne.{closed_unborne, put_borne}
 use Rattle.exam_laws.proofs.Commanding.{ArePlansRepaired, DoListsRise}
 use Rattle.exam_commands.proofs.LodgingChecks.{both_passed}
 use Rattle.exam_commands.proofs.PutRows.{IsApartFrom, put_distinct}
-use Rattle.exam_commands.proofs.Referring.{appeals_refer_so, passed, stored_refer, there}
+use Rattle.exam_commands.proofs.Referring.{appeals_refer_so, stored_refer}
 use Rattle.exam_commands.proofs.Staying.{best_stays}
 use Rattle.exam_laws.proofs.Stepping.{same_seating}
 

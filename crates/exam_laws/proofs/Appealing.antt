@@ -1,30 +1,23 @@
 -- What a lodging and a retraction change: no seating, and what each appeal refers to is there.
+use Rattle.exam_laws.proofs.Words.{list_any, cons_option, filter_map, AllByRecursion, option_map, option_map_or}
+use Rattle.exam_laws.proofs.Words.{option_and_then, option_or, nat_cmp, Appeal, Arrangement, Paper, Session, Status}
+use Rattle.exam_laws.proofs.Words.{Subject, Code, Relations, appeal_cmp, code_cmp, put_row, row_at, same_code}
+use Rattle.exam_laws.proofs.Words.{arrangement_by, asked_arrangement, granted_subjects, has_live_entry, is_granted}
+use Rattle.exam_laws.proofs.Words.{is_granted_appeal, is_live_paper, is_marked, is_standing, option_filter, session_day}
+use Rattle.exam_laws.proofs.Words.{standing_grant, standing_grants, fits, opened_room, seating, suits_opened}
+use Rattle.exam_laws.proofs.Words.{appeals_exact, put_passed_over, is_open, SingleKey, same_single_key, single_key}
+use Rattle.exam_laws.proofs.Words.{SameSeating}
 use Rattle.std.proofs.Common.{◌≡◌, ℕ, ◌&&◌, ◌||◌, not, Bool, true, false, List, [], ◌∷◌, map, nat_eq, Option, None}
 use Rattle.std.proofs.Common.{Some, refl, ap, sym, ◌∙◌}
-use Rattle.std.specs.List.{list_any, cons_option, filter_map, AllByRecursion}
-use Rattle.std.specs.Option.{option_map, option_map_or, option_and_then, option_or}
-use Rattle.std.specs.Ordering.{nat_cmp}
-use Rattle.exam_rules.specs.declared.rows.Appeal.{Appeal}
-use Rattle.exam_rules.specs.declared.rows.Arrangement.{Arrangement}
-use Rattle.exam_rules.specs.declared.rows.Paper.{Paper}
-use Rattle.exam_rules.specs.declared.rows.Session.{Session}
-use Rattle.exam_rules.specs.declared.rows.Status.{Status}
 use Rattle.exam_rules.specs.declared.rows.Status.TheVariants as status
-use Rattle.exam_rules.specs.declared.rows.Subject.{Subject}
 use Rattle.exam_rules.specs.declared.rows.Subject.TheVariants as subject
-use Rattle.exam_rules.specs.Relations.{Code, Relations, appeal_cmp, code_cmp, put_row, row_at, same_code}
 use Rattle.exam_rules.specs.declared.standing.StandingGrant.{StandingGrant}
-use Rattle.exam_rules.specs.Sessions.{arrangement_by, asked_arrangement, asked_hall, asked_paper, granted_subjects}
-use Rattle.exam_rules.specs.Sessions.{has_live_entry, head_of, is_granted, is_granted_appeal, is_live_paper, is_marked}
-use Rattle.exam_rules.specs.Sessions.{is_standing, least_live_paper, option_filter, session_day, standing_grant}
-use Rattle.exam_rules.specs.Sessions.{standing_grants}
-use Rattle.exam_rules.specs.Seatings.{fits, opened_room, seating, suits_opened, terms_of}
-use Rattle.exam_commands.proofs.KeyedRows.{appeals_exact, put_passed_over}
+use Rattle.exam_rules.specs.Sessions.{asked_hall, asked_paper, head_of, least_live_paper}
+use Rattle.exam_rules.specs.Seatings.{terms_of}
 use Rattle.exam_commands.specs.declared.single.Single.{Single}
 use Rattle.exam_commands.specs.declared.single.Single.TheVariants as single
-use Rattle.exam_commands.specs.Appeals.{is_open, is_open_appeal, same_kind}
-use Rattle.exam_commands.specs.Singles.{SingleKey, same_single, same_single_key, single_as, single_key}
-use Rattle.exam_commands.specs.Steps.{SameSeating}
+use Rattle.exam_commands.specs.Appeals.{is_open_appeal, same_kind}
+use Rattle.exam_commands.specs.Singles.{same_single, single_as}
 use Rattle.exam_commands.proofs.ImportKeys.{code_flips, number_flips}
 
 -- ---- the seating of a session knows of appeals what the granted ones ask

@@ -1,17 +1,14 @@
 -- What the closing of a hall changes: no member and no reference, and it passes no limit.
+use Rattle.exam_laws.proofs.Words.{keys_of, is_at, and_parts, length-map, Opening, Code, Relations, same_code}
+use Rattle.exam_laws.proofs.Words.{opening_cmp, without_opening, within_limits, sessions_within, papers_within}
+use Rattle.exam_laws.proofs.Words.{halls_within, openings_within, candidates_within, members_within, appeals_within}
 use Rattle.std.proofs.Common.{◌≡◌, ◌≤◌, ◌&&◌, Bool, true, false, cond, List, [], ◌∷◌, filter, length, nat_le, ap, sym}
 use Rattle.std.proofs.Common.{◌∙◌, arith}
-use Rattle.std.specs.Map.{keys_of, remove_entry}
-use Rattle.std.specs.BTreeMap.{is_at}
-use Rattle.std.proofs.lemmas.Bool.{and_parts, le-leb, leb-true}
-use Rattle.std.proofs.lemmas.List.{length-map}
+use Rattle.std.specs.Map.{remove_entry}
+use Rattle.std.proofs.lemmas.Bool.{le-leb, leb-true}
 use Rattle.exam_plan.specs.HallSets.{most_halls}
-use Rattle.exam_rules.specs.declared.rows.Opening.{Opening}
-use Rattle.exam_rules.specs.Relations.{Code, Relations, same_code, opening_cmp, remove_row}
+use Rattle.exam_rules.specs.Relations.{remove_row}
 use Rattle.exam_rules.specs.Seatings.{open_halls}
-use Rattle.exam_commands.specs.Changes.{without_opening}
-use Rattle.exam_commands.specs.Limits.{within_limits, sessions_within, papers_within, halls_within, openings_within}
-use Rattle.exam_commands.specs.Limits.{candidates_within, members_within, appeals_within}
 use Rattle.exam_commands.proofs.Referring.{all_more}
 
 -- ---- a row that is removed

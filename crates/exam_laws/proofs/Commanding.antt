@@ -1,20 +1,12 @@
 -- A withdrawal, a reinstatement and the closing of a hall leave facts that refer to what is there. A withdrawal and a
 -- reinstatement unseat nobody else.
+use Rattle.exam_laws.proofs.Words.{option_or, Code, Relations, seating, plan_of, ListsRise, with_live, without_opening}
+use Rattle.exam_laws.proofs.Words.{IsGood, refers, within_limits, IsRepaired, State, SeatsOn}
 use Rattle.std.proofs.Common.{◌≡◌, ℕ, not, Bool, true, false, cond, [], ◌∷◌, None, Some, refl, ap, ◌∙◌}
-use Rattle.std.specs.Option.{option_or}
 use Rattle.exam_types.specs.declared.refusal.Refusal.TheVariants as refusal
-use Rattle.exam_rules.specs.Relations.{Code, Relations}
 use Rattle.exam_rules.specs.Sessions.{is_live}
-use Rattle.exam_rules.specs.Seatings.{seating, plan_of}
-use Rattle.exam_rules.specs.Names.{ListsRise}
 use Rattle.exam_commands.specs.declared.command.Command.TheVariants as command
-use Rattle.exam_commands.specs.Changes.{no_entry, with_live, withdrawal_refusal, revival_refusal, reinstatement_refusal}
-use Rattle.exam_commands.specs.Changes.{without_opening}
-use Rattle.exam_commands.specs.Good.{IsGood, refers}
-use Rattle.exam_commands.specs.Limits.{within_limits}
-use Rattle.exam_commands.specs.Repairs.{IsRepaired}
-use Rattle.exam_commands.specs.State.{State}
-use Rattle.exam_commands.specs.Steps.{SeatsOn}
+use Rattle.exam_commands.specs.Changes.{no_entry, withdrawal_refusal, revival_refusal, reinstatement_refusal}
 use Rattle.exam_commands.proofs.Keeping.{others_stay}
 use Rattle.exam_commands.proofs.LiveMarks.{fits_same}
 use Rattle.exam_commands.proofs.Referring.{live_refers, closing_refers}

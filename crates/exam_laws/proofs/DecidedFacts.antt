@@ -1,49 +1,38 @@
 -- What a decision leaves: references, limits, the appeals that a candidate may have only once, and the halls that fit
 -- everybody else.
+use Rattle.exam_laws.proofs.Words.{fun_ext, filter_map, list_all, keys_of, is_at, option_map, option_map_or, Ordering}
+use Rattle.exam_laws.proofs.Words.{nat_cmp, and_parts, not-false, Appeal, Arrangement, Status, Subject, KeysRise, Code}
+use Rattle.exam_laws.proofs.Words.{Relations, appeal_cmp, has_row, is_row_of, put_row, row_at, same_code, appeal_count}
+use Rattle.exam_laws.proofs.Words.{asked_arrangement, is_granted, is_granted_appeal, is_marked, is_standing}
+use Rattle.exam_laws.proofs.Words.{standing_grant, standing_grants, fits, all_at_row, appeals_exact, appeals_total}
+use Rattle.exam_laws.proofs.Words.{put_found, Decision, Outcome, appeal_at, bears_mark, decided, is_open, superseded}
+use Rattle.exam_laws.proofs.Words.{first_refusal, decision_checks, decision_refusal, gives_way, giving_way}
+use Rattle.exam_laws.proofs.Words.{grant_checks, is_made, is_too_late, not_arrangement, open_checks, with_decision}
+use Rattle.exam_laws.proofs.Words.{with_decided, with_outcome, with_superseded, most_appeals, within_limits}
+use Rattle.exam_laws.proofs.Words.{sessions_within, papers_within, halls_within, openings_within, candidates_within}
+use Rattle.exam_laws.proofs.Words.{members_within, AreSingle, SingleKey, same_single_key, single_key, unborne, passed}
 use Rattle.std.proofs.Common.{◌≡◌, ℕ, ◌==◌, ◌&&◌, arith, Bool, true, false, cond, List, [], ◌∷◌, map, filter, length}
 use Rattle.std.proofs.Common.{nat_eq, nat_le, not, is_some, Option, None, Some, refl, ap, sym, subst, ◌∙◌}
-use Rattle.std.proofs.Math.Path.{fun_ext}
-use Rattle.std.specs.List.{IsDistinct, filter_map, list_all}
+use Rattle.std.specs.List.{IsDistinct}
 use Rattle.std.specs.List.Sorted.{IsStrictlySortedBy}
-use Rattle.std.specs.Map.{keys_of}
-use Rattle.std.specs.BTreeMap.{is_at}
 use Rattle.std.specs.Prelude.{is_none}
-use Rattle.std.specs.Option.{option_map, option_map_or}
-use Rattle.std.specs.declared.cmp.Ordering.{Ordering}
-use Rattle.std.specs.Ordering.{nat_cmp}
-use Rattle.std.proofs.lemmas.Bool.{and_parts, eqb-true, not-false}
-use Rattle.exam_rules.specs.declared.rows.Appeal.{Appeal}
-use Rattle.exam_rules.specs.declared.rows.Arrangement.{Arrangement}
-use Rattle.exam_rules.specs.declared.rows.Status.{Status}
+use Rattle.std.proofs.lemmas.Bool.{eqb-true}
 use Rattle.exam_rules.specs.declared.rows.Status.TheVariants as status
-use Rattle.exam_rules.specs.declared.rows.Subject.{Subject}
 use Rattle.exam_types.specs.declared.refusal.Refusal.TheVariants as refusal
-use Rattle.exam_rules.specs.Orders.{KeysRise}
-use Rattle.exam_rules.specs.Relations.{Code, Relations, appeal_cmp, has_row, is_row_of, put_row, row_at, same_code}
-use Rattle.exam_rules.specs.Sessions.{appeal_count, asked_arrangement, is_granted, is_granted_appeal, is_marked}
-use Rattle.exam_rules.specs.Sessions.{is_standing, standing_grant, standing_grants}
-use Rattle.exam_rules.specs.Seatings.{desks, fits}
+use Rattle.exam_rules.specs.Seatings.{desks}
 use Rattle.exam_rules.proofs.Relisting.{put_filtered}
-use Rattle.exam_commands.proofs.KeyedRows.{all_at_row, all_put, appeals_exact, appeals_total, put_elsewhere, put_found}
+use Rattle.exam_commands.proofs.KeyedRows.{all_put, put_elsewhere}
 use Rattle.exam_commands.proofs.KeyedRows.{put_keys}
-use Rattle.exam_commands.specs.declared.command.Decision.{Decision}
-use Rattle.exam_commands.specs.declared.command.Outcome.{Outcome}
 use Rattle.exam_commands.specs.declared.command.Outcome.TheVariants as outcome
 use Rattle.exam_commands.specs.declared.single.Single.{Single}
-use Rattle.exam_commands.specs.Appeals.{appeal_at, bears_mark, decided, is_open, superseded, supersedes}
-use Rattle.exam_commands.specs.Changes.{first_refusal}
-use Rattle.exam_commands.specs.Decisions.{decision_checks, decision_refusal, gives_way, giving_way, grant_checks}
-use Rattle.exam_commands.specs.Decisions.{is_made, is_too_late, not_arrangement, open_checks, with_decision}
-use Rattle.exam_commands.specs.Decisions.{with_decided, with_mark, with_outcome, with_superseded, without_mark}
+use Rattle.exam_commands.specs.Appeals.{supersedes}
+use Rattle.exam_commands.specs.Decisions.{with_mark, without_mark}
 use Rattle.exam_commands.specs.Good as good
-use Rattle.exam_commands.specs.Limits.{most_appeals, within_limits, sessions_within, papers_within, halls_within}
-use Rattle.exam_commands.specs.Limits.{openings_within, candidates_within, members_within}
-use Rattle.exam_commands.specs.Singles.{AreSingle, SingleKey, same_single_key, single_as, single_key}
+use Rattle.exam_commands.specs.Singles.{single_as}
 use Rattle.exam_laws.proofs.Appealing.{fits_same, single_flips}
 use Rattle.exam_commands.proofs.Borne.{borne_in, key_elsewhere, mark_gone, open_unborne, other_mark_kept, put_borne}
-use Rattle.exam_commands.proofs.Borne.{unborne, unmarked_same}
+use Rattle.exam_commands.proofs.Borne.{unmarked_same}
 use Rattle.exam_commands.proofs.PutRows.{IsApartFrom, IsFresh, mapped_filtered, mapped_keys, put_distinct}
-use Rattle.exam_commands.proofs.Referring.{passed}
 use Rattle.exam_commands.proofs.Superseding.{given_distinct, places_apart}
 
 -- ---- rows

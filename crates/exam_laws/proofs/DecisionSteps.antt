@@ -1,13 +1,9 @@
 -- A decision unseats nobody but its appellant.
+use Rattle.exam_laws.proofs.Words.{Code, Relations, seating, plan_of, Decision, with_decision, IsGood, IsRepaired}
+use Rattle.exam_laws.proofs.Words.{State}
 use Rattle.std.proofs.Common.{◌≡◌}
 use Rattle.exam_plan.specs.Matching.{Keeps}
-use Rattle.exam_rules.specs.Relations.{Code, Relations}
-use Rattle.exam_rules.specs.Seatings.{seating, plan_of}
-use Rattle.exam_commands.specs.declared.command.Decision.{Decision}
-use Rattle.exam_commands.specs.Decisions.{granted_number, with_decision}
-use Rattle.exam_commands.specs.Good.{IsGood}
-use Rattle.exam_commands.specs.Repairs.{IsRepaired}
-use Rattle.exam_commands.specs.State.{State}
+use Rattle.exam_commands.specs.Decisions.{granted_number}
 use Rattle.exam_laws.proofs.DecidedFacts.{decision_candidates, decision_desks, decision_fits}
 use Rattle.exam_commands.proofs.Keeping.{others_stay}
 

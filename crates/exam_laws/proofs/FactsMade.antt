@@ -1,23 +1,15 @@
 -- The facts that a command makes are its change, if they pass no limit; and they are good again.
+use Rattle.exam_laws.proofs.Words.{option_or, filter_map, list_all, Refusal, AreInOrder, Relations, Command}
+use Rattle.exam_laws.proofs.Words.{first_refusal, too_many, unless, with_live, with_rows, without_opening}
+use Rattle.exam_laws.proofs.Words.{with_decision, early_refusal, facts_made, IsGood, marks_were_granted, refers}
+use Rattle.exam_laws.proofs.Words.{within_limits, AreSingle, same_single_key, single_key, State, change}
 use Rattle.std.proofs.Common.{◌≡◌, ℕ, true, false, [], ◌∷◌, None, Some, Ok, Err, refl, ap, sym, subst, ◌∙◌}
-use Rattle.std.specs.Option.{option_or}
-use Rattle.std.specs.List.{filter_map, list_all, IsDistinct}
-use Rattle.exam_types.specs.declared.refusal.Refusal.{Refusal}
+use Rattle.std.specs.List.{IsDistinct}
 use Rattle.exam_types.specs.declared.refusal.Refusal.TheVariants as refusal
-use Rattle.exam_rules.specs.Orders.{AreInOrder}
-use Rattle.exam_rules.specs.Relations.{Relations}
 use Rattle.exam_rules.specs.Tables as table
-use Rattle.exam_commands.specs.declared.command.Command.{Command}
 use Rattle.exam_commands.specs.declared.command.Command.TheVariants as command
-use Rattle.exam_commands.specs.Changes.{first_refusal, too_many, unless, with_live, with_rows, without_opening}
-use Rattle.exam_commands.specs.Decisions.{with_decision}
-use Rattle.exam_commands.specs.FactsMade.{early_refusal, facts_made, may_pass_limit}
-use Rattle.exam_commands.specs.Good.{IsGood, marks_were_granted, refers}
-use Rattle.exam_commands.specs.Limits.{within_limits}
+use Rattle.exam_commands.specs.FactsMade.{may_pass_limit}
 use Rattle.exam_commands.specs.Lodgings as lodgings
-use Rattle.exam_commands.specs.Singles.{AreSingle, same_single_key, single_key}
-use Rattle.exam_commands.specs.State.{State}
-use Rattle.exam_commands.specs.Steps.{change}
 use Rattle.exam_laws.proofs.AppealSteps.{limit_refusal, lodging_settled, retraction_within, within_as}
 use Rattle.exam_commands.proofs.Borne.{borne_in}
 use Rattle.exam_laws.proofs.ClosedHalls.{closing_within}

@@ -1,37 +1,24 @@
 -- No command takes a row away from the facts, but that the closing of a hall takes its opening.
+use Rattle.exam_laws.proofs.Words.{is_at, not-false, Appeal, Subject, Code, Relations, appeal_cmp, entry_cmp}
+use Rattle.exam_laws.proofs.Words.{opening_cmp, has_row, put_row, row_at, appeals_total, entries_total, openings_exact}
+use Rattle.exam_laws.proofs.Words.{Command, Decision, Lodging, Outcome, Reply, appeal_at, is_open, is_retracted}
+use Rattle.exam_laws.proofs.Words.{superseded, first_refusal, with_live, with_rows, decision_checks, decision_refusal}
+use Rattle.exam_laws.proofs.Words.{gives_way, giving_way, grant_checks, is_made, is_too_late, not_arrangement}
+use Rattle.exam_laws.proofs.Words.{open_checks, with_decided, with_decision, with_outcome, with_superseded}
+use Rattle.exam_laws.proofs.Words.{early_refusal, facts_made, IsGood, State, Step, passed}
 use Rattle.std.proofs.Common.{◌≡◌, ℕ, Bool, true, false, not, cond, List, [], ◌∷◌, map, Option, None, Some, Ok, is_none}
 use Rattle.std.proofs.Common.{is_some, refl, ap, sym, subst, ◌∙◌}
-use Rattle.std.specs.BTreeMap.{is_at}
-use Rattle.std.proofs.lemmas.Bool.{not-false}
 use Rattle.exam_types.specs.declared.refusal.Refusal.TheVariants as refusal
-use Rattle.exam_rules.specs.declared.rows.Appeal.{Appeal}
-use Rattle.exam_rules.specs.declared.rows.Subject.{Subject}
-use Rattle.exam_rules.specs.Relations.{Code, Relations, appeal_cmp, entry_cmp, opening_cmp, has_row, put_row, row_at}
 use Rattle.exam_rules.specs.Tables as table
-use Rattle.exam_commands.proofs.KeyedRows.{appeals_total, entries_total, has_put, key_apart, openings_exact}
+use Rattle.exam_commands.proofs.KeyedRows.{has_put, key_apart}
 use Rattle.exam_commands.proofs.KeyedRows.{removed_elsewhere}
-use Rattle.exam_commands.specs.declared.command.Command.{Command}
 use Rattle.exam_commands.specs.declared.command.Command.TheVariants as command
-use Rattle.exam_commands.specs.declared.command.Decision.{Decision}
-use Rattle.exam_commands.specs.declared.command.Lodging.{Lodging}
-use Rattle.exam_commands.specs.declared.command.Outcome.{Outcome}
 use Rattle.exam_commands.specs.declared.command.Outcome.TheVariants as outcome
-use Rattle.exam_commands.specs.declared.command.Reply.{Reply}
-use Rattle.exam_commands.specs.Appeals.{appeal_at, is_open, is_retracted, superseded}
-use Rattle.exam_commands.specs.Changes.{first_refusal, with_live, with_rows}
-use Rattle.exam_commands.specs.Decisions.{decision_checks, decision_refusal, gives_way, giving_way, grant_checks}
-use Rattle.exam_commands.specs.Decisions.{is_made, is_too_late, not_arrangement, open_checks, with_decided}
-use Rattle.exam_commands.specs.Decisions.{with_decision, with_outcome, with_superseded}
-use Rattle.exam_commands.specs.FactsMade.{early_refusal, facts_made}
 use Rattle.exam_commands.specs.Good as good
-use Rattle.exam_commands.specs.Good.{IsGood}
 use Rattle.exam_commands.specs.KeptRows.{KeepsKeys, KeepsOpenings, KeepsRows}
 use Rattle.exam_commands.specs.Lodgings as spec
-use Rattle.exam_commands.specs.State.{State}
-use Rattle.exam_commands.specs.Steps.{Step}
 use Rattle.exam_laws.proofs.DecidedFacts.{marked_still, unmarked_open}
 use Rattle.exam_laws.proofs.Lasting.{step_made}
-use Rattle.exam_commands.proofs.Referring.{passed}
 use Rattle.exam_commands.proofs.Entering.{Keeps, keeps_rows}
 
 keeps_itself : (r : Relations) → Keeps r r

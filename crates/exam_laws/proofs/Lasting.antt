@@ -1,56 +1,35 @@
 -- An appeal that was stored stays stored, and asks for the same. One that was retracted stays retracted, and one that
 -- was decided stays decided, unless a later grant supersedes it. So whatever comes after, the same lodging, retraction
 -- and decision change nothing. And the first two move nobody.
+use Rattle.exam_laws.proofs.Words.{is_at, Equal-is, option_map_or, option_or, nat_cmp, and_from, not-false, Refusal}
+use Rattle.exam_laws.proofs.Words.{Appeal, Status, Subject, Code, Relations, appeal_cmp, has_row, put_row, row_at}
+use Rattle.exam_laws.proofs.Words.{same_code, seat_cmp, is_marked, plan_of, seating, same_code_itself, appeals_exact}
+use Rattle.exam_laws.proofs.Words.{appeals_total, put_found, same_rows, seats_exact, seats_total, Command, Decision}
+use Rattle.exam_laws.proofs.Words.{Lodging, Outcome, Reply, appeal_at, bears_mark, decided, is_open, is_retracted}
+use Rattle.exam_laws.proofs.Words.{stored_state, superseded, moved, reply_to, decision_checks, decision_refusal}
+use Rattle.exam_laws.proofs.Words.{gives_way, giving_way, grant_checks, is_made, is_too_late, not_arrangement}
+use Rattle.exam_laws.proofs.Words.{open_checks, with_decided, with_decision, with_outcome, with_superseded}
+use Rattle.exam_laws.proofs.Words.{first_refusal, unless, with_live, with_rows, without_opening, early_refusal}
+use Rattle.exam_laws.proofs.Words.{facts_made, IsGood, within_limits, IsInOrder, State, MayStep, Run, SameSeating, Step}
+use Rattle.exam_laws.proofs.Words.{StepTo, change, passed}
 use Rattle.std.proofs.Common.{◌≡◌, ℕ, ◌&&◌, not, Bool, true, false, cond, List, [], ◌∷◌, map, Option, None, Some}
 use Rattle.std.proofs.Common.{Result, Ok, Err, is_none, eq-eqb, refl, ap, sym, subst, ◌∙◌, ◌⊎◌, inl, inr}
-use Rattle.std.specs.BTreeMap.{is_at}
-use Rattle.std.specs.Cmp.{Equal-is}
-use Rattle.std.specs.Option.{option_map_or, option_or}
-use Rattle.std.specs.Ordering.{nat_cmp}
-use Rattle.std.proofs.lemmas.Bool.{and_from, not-false}
 use Rattle.exam_types.proofs.FeatureFacts.{same_features-itself}
-use Rattle.exam_types.specs.declared.refusal.Refusal.{Refusal}
 use Rattle.exam_types.specs.declared.refusal.Refusal.TheVariants as refusal
-use Rattle.exam_rules.specs.declared.rows.Appeal.{Appeal}
-use Rattle.exam_rules.specs.declared.rows.Status.{Status}
 use Rattle.exam_rules.specs.declared.rows.Status.TheVariants as status
-use Rattle.exam_rules.specs.declared.rows.Subject.{Subject}
 use Rattle.exam_rules.specs.declared.rows.Subject.TheVariants as subject
-use Rattle.exam_rules.specs.Relations.{Code, Relations, appeal_cmp, has_row, put_row, row_at, same_code, seat_cmp}
-use Rattle.exam_rules.specs.Sessions.{is_marked}
-use Rattle.exam_rules.specs.Seatings.{plan_of, seating}
-use Rattle.exam_rules.proofs.Naming.{same_code_itself}
-use Rattle.exam_commands.proofs.KeyedRows.{appeals_exact, appeals_total, put_found, put_stays, same_rows, seats_exact}
-use Rattle.exam_commands.proofs.KeyedRows.{seats_total}
-use Rattle.exam_commands.specs.declared.command.Command.{Command}
+use Rattle.exam_commands.proofs.KeyedRows.{put_stays}
 use Rattle.exam_commands.specs.declared.command.Command.TheVariants as command
-use Rattle.exam_commands.specs.declared.command.Decision.{Decision}
-use Rattle.exam_commands.specs.declared.command.Lodging.{Lodging}
-use Rattle.exam_commands.specs.declared.command.Outcome.{Outcome}
 use Rattle.exam_commands.specs.declared.command.Outcome.TheVariants as outcome
-use Rattle.exam_commands.specs.declared.command.Reply.{Reply}
 use Rattle.exam_commands.specs.declared.command.Reply.TheVariants as reply
-use Rattle.exam_commands.specs.Appeals.{appeal_at, bears_mark, decided, is_decided, is_open, is_retracted, same_subject}
-use Rattle.exam_commands.specs.Appeals.{state_of, stored_state, superseded}
-use Rattle.exam_commands.specs.Moves.{moved}
-use Rattle.exam_commands.specs.Replies.{reply_to}
+use Rattle.exam_commands.specs.Appeals.{is_decided, same_subject, state_of}
 use Rattle.exam_commands.specs.declared.command.AppealState.TheVariants as state
-use Rattle.exam_commands.specs.Decisions.{decision_checks, decision_refusal, gives_way, giving_way, grant_checks}
-use Rattle.exam_commands.specs.Decisions.{is_made, is_too_late, not_arrangement, open_checks, with_decided}
-use Rattle.exam_commands.specs.Decisions.{with_decision, with_outcome, with_superseded}
-use Rattle.exam_commands.specs.Changes.{first_refusal, unless, with_live, with_rows, without_opening}
-use Rattle.exam_commands.specs.FactsMade.{early_refusal, facts_made}
-use Rattle.exam_commands.specs.Good.{IsGood}
-use Rattle.exam_commands.specs.Limits.{within_limits}
 use Rattle.exam_commands.specs.Lodgings as spec
-use Rattle.exam_commands.specs.Orders.{IsInOrder}
-use Rattle.exam_commands.specs.State.{State}
-use Rattle.exam_commands.specs.Steps.{MayStep, Run, SameSeating, Step, StepTo, change}
 pub use Rattle.exam_laws.proofs.Accepted.{made}
 use Rattle.exam_laws.proofs.Accepted.{change_made}
 use Rattle.exam_laws.proofs.AppealSteps.{lodging_settled, retraction_settled}
 use Rattle.exam_laws.proofs.DecidedFacts.{marked_as_made, marked_still}
-use Rattle.exam_commands.proofs.Referring.{import_appeals, import_candidates, import_standing, passed}
+use Rattle.exam_commands.proofs.Referring.{import_appeals, import_candidates, import_standing}
 
 -- ---- the later states of an appeal
 

@@ -1,34 +1,20 @@
 -- An accepted import repeated later, if no import came between and no hall was closed: its rows are still stored, so it
 -- is accepted, changes nothing, and finds every row the same.
+use Rattle.exam_laws.proofs.Words.{AllByRecursion, nat_cmp, Refusal, Appeal, Code, Relations, code_cmp, entry_cmp}
+use Rattle.exam_laws.proofs.Words.{row_at, entries_total, Command, Decision, Lodging, Reply, Row, appeal_at}
+use Rattle.exam_laws.proofs.Words.{is_retracted, imported, rows_refusal, with_live, with_rows, is_made, with_decided}
+use Rattle.exam_laws.proofs.Words.{with_decision, with_outcome, facts_made, IsGood, within_limits, IsInOrder, State}
+use Rattle.exam_laws.proofs.Words.{MayStep, Run, Step, StepTo, change}
 use Rattle.std.proofs.Common.{Bool, Err, List, None, Ok, Option, Result, Some, [], ap, cond, false, inl, inr, is_none}
 use Rattle.std.proofs.Common.{is_some, length, refl, subst, sym, true, ℕ, ◌∙◌, ◌∷◌, ◌≡◌}
-use Rattle.std.specs.List.{AllByRecursion}
-use Rattle.std.specs.Ordering.{nat_cmp}
 use Rattle.std.proofs.lemmas.List.Elements.{All-head, All-tail}
-use Rattle.exam_types.specs.declared.refusal.Refusal.{Refusal}
-use Rattle.exam_rules.specs.declared.rows.Appeal.{Appeal}
-use Rattle.exam_rules.specs.Relations.{Code, Relations, code_cmp, entry_cmp, row_at}
-use Rattle.exam_commands.proofs.KeyedRows.{entries_total, has_put}
-use Rattle.exam_commands.specs.declared.command.Command.{Command}
+use Rattle.exam_commands.proofs.KeyedRows.{has_put}
 use Rattle.exam_commands.specs.declared.command.Command.TheVariants as command
-use Rattle.exam_commands.specs.declared.command.Decision.{Decision}
-use Rattle.exam_commands.specs.declared.command.Lodging.{Lodging}
-use Rattle.exam_commands.specs.declared.command.Reply.{Reply}
 use Rattle.exam_commands.specs.declared.command.Reply.TheVariants as reply
-use Rattle.exam_commands.specs.declared.import_row.Row.{Row}
 use Rattle.exam_commands.specs.declared.import_row.Row.TheVariants as row
-use Rattle.exam_commands.specs.Appeals.{appeal_at, is_retracted}
 use Rattle.exam_commands.specs.Between.{NoneImportsOrCloses, imports_or_closes}
-use Rattle.exam_commands.specs.Changes.{imported, rows_refusal, with_live, with_rows}
-use Rattle.exam_commands.specs.Decisions.{is_made, with_decided, with_decision, with_outcome}
-use Rattle.exam_commands.specs.FactsMade.{facts_made}
-use Rattle.exam_commands.specs.Good.{IsGood}
 use Rattle.exam_commands.specs.Imports.{ImportRows, distinct_rows, is_consistent}
-use Rattle.exam_commands.specs.Limits.{within_limits}
 use Rattle.exam_commands.specs.Lodgings as spec
-use Rattle.exam_commands.specs.Orders.{IsInOrder}
-use Rattle.exam_commands.specs.State.{State}
-use Rattle.exam_commands.specs.Steps.{MayStep, Run, Step, StepTo, change}
 use Rattle.exam_laws.proofs.Accepted.{change_made}
 use Rattle.exam_laws.proofs.Lasting.{same_office, step_made}
 use Rattle.exam_commands.proofs.Referring.{Grows, import_refers_still, rows_refer_still}

@@ -23,3 +23,4 @@ pub mod Making
 pub mod LodgingLimits
 pub mod MadeWithin
 pub mod KeptRows
+pub mod Words

@@ -1,25 +1,14 @@
 -- After a lodging the limits hold exactly if the candidate has not too many appeals.
+use Rattle.exam_laws.proofs.Words.{list_all, keys_of, nat_cmp, fun_ext, and_parts, not-false, exact_unsigned_eq, Appeal}
+use Rattle.exam_laws.proofs.Words.{Relations, has_row, appeal_count, Lodging, appeal_at, most_appeals, appeals_within}
+use Rattle.exam_laws.proofs.Words.{candidates_within, halls_within, members_within, openings_within, papers_within}
+use Rattle.exam_laws.proofs.Words.{sessions_within, within_limits, Seats, passed}
 use Rattle.std.proofs.Common.{◌≡◌, ℕ, ◌&&◌, not, Bool, true, false, cond, Option, None, Some, refl, ap, sym, ◌∙◌}
 use Rattle.std.specs.Prelude.{nat_eq, nat_le, is_none}
-use Rattle.std.specs.List.{list_all}
-use Rattle.std.specs.Map.{keys_of}
-use Rattle.std.specs.Ordering.{nat_cmp}
-use Rattle.std.proofs.Math.Path.{fun_ext}
-use Rattle.std.proofs.lemmas.Bool.{and_parts, not-false}
-use Rattle.std.proofs.lemmas.Map.Views.{exact_unsigned_eq}
 use Rattle.exam_types.specs.declared.refusal.Refusal.TheVariants as refusal
-use Rattle.exam_rules.specs.declared.rows.Appeal.{Appeal}
-use Rattle.exam_rules.specs.Relations.{Relations, has_row}
-use Rattle.exam_rules.specs.Sessions.{appeal_count}
-use Rattle.exam_commands.specs.declared.command.Lodging.{Lodging}
-use Rattle.exam_commands.specs.Appeals.{appeal_at}
-use Rattle.exam_commands.specs.Limits.{most_appeals, appeals_within, candidates_within, halls_within, members_within}
-use Rattle.exam_commands.specs.Limits.{openings_within, papers_within, sessions_within, within_limits}
 use Rattle.exam_commands.specs.Lodgings as lodgings
-use Rattle.exam_commands.specs.State.{Seats}
 use Rattle.exam_laws.proofs.OwnFacts.{all_but_one}
 use Rattle.exam_laws.proofs.OwnLodging.{own_more, within_told}
-use Rattle.exam_commands.proofs.Referring.{passed}
 
 module _ (r : Relations) (within : within_limits r ≡ true) where
   own_appeals : appeals_within r ≡ true

@@ -1,14 +1,9 @@
 -- Which limits the facts that a command has made can pass.
+use Rattle.exam_laws.proofs.Words.{AreInOrder, Relations, appeal_count, Command, Lodging, most_appeals, within_limits}
 use Rattle.std.proofs.Common.{◌≡◌, Bool, true, false, refl, ap, sym, subst, ◌∙◌}
 use Rattle.std.specs.Prelude.{nat_le}
-use Rattle.exam_rules.specs.Orders.{AreInOrder}
-use Rattle.exam_rules.specs.Relations.{Relations}
-use Rattle.exam_rules.specs.Sessions.{appeal_count}
-use Rattle.exam_commands.specs.declared.command.Command.{Command}
 use Rattle.exam_commands.specs.declared.command.Command.TheVariants as command
-use Rattle.exam_commands.specs.declared.command.Lodging.{Lodging}
 use Rattle.exam_commands.specs.FactsMade.{WasMade, may_pass_limit}
-use Rattle.exam_commands.specs.Limits.{most_appeals, within_limits}
 use Rattle.exam_laws.proofs.FactsMade.{within_still}
 use Rattle.exam_laws.proofs.LodgingLimits.{lodging_within}
 

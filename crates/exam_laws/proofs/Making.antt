@@ -1,45 +1,29 @@
 -- What a command makes of a part, step by step, is what an accepted command makes of it.
+use Rattle.exam_laws.proofs.Words.{option_and_then, option_map_or, Refusal, Appeal, AreInOrder, Code, Relations}
+use Rattle.exam_laws.proofs.Words.{code_cmp, has_row, same_code, is_member, plan_of, Command, Decision, Outcome}
+use Rattle.exam_laws.proofs.Words.{appeal_at, bears_mark, is_grant, stored_state, rows_refusal, with_live, with_rows}
+use Rattle.exam_laws.proofs.Words.{without_opening, decision_refusal, with_decision, early_refusal, facts_made, IsGood}
+use Rattle.exam_laws.proofs.Words.{within_limits, moved, IsInOrder, IsRepaired, reply_of, reply_to, Seats, State, Step}
+use Rattle.exam_laws.proofs.Words.{change, first_seated, ends_standing, grant_reaches, is_appeal_for, touches}
+use Rattle.exam_laws.proofs.Words.{same_code_itself}
 use Rattle.std.proofs.Common.{◌≡◌, ◌↔◌, ◌⊎◌, ◌&&◌, ◌||◌, ℕ, Bool, true, false, cond, IsTrue, List, Contains, Option}
 use Rattle.std.proofs.Common.{None, Some, Ok, Err, refl, ap, sym, subst, ◌∙◌, inl, inr}
-use Rattle.std.specs.Option.{option_and_then, option_map_or}
-use Rattle.exam_types.specs.declared.refusal.Refusal.{Refusal}
 use Rattle.exam_types.specs.declared.refusal.Refusal.TheVariants.{NoMemory}
-use Rattle.exam_rules.specs.declared.rows.Appeal.{Appeal}
-use Rattle.exam_rules.specs.Orders.{AreInOrder}
-use Rattle.exam_rules.specs.Relations.{Code, Relations, code_cmp, has_row, same_code}
-use Rattle.exam_rules.specs.Sessions.{is_member}
-use Rattle.exam_rules.specs.Seatings.{plan_of}
-use Rattle.exam_commands.specs.declared.command.Command.{Command}
 use Rattle.exam_commands.specs.declared.command.Command.TheVariants as command
-use Rattle.exam_commands.specs.declared.command.Decision.{Decision}
-use Rattle.exam_commands.specs.declared.command.Outcome.{Outcome}
 use Rattle.exam_commands.specs.declared.command.Outcome.TheVariants as outcome
 use Rattle.exam_commands.specs.declared.command.Reply.TheVariants as reply
-use Rattle.exam_commands.specs.Appeals.{appeal_at, bears_mark, is_grant, stored_state}
-use Rattle.exam_commands.specs.Changes.{closing_refusal, revival_refusal, rows_refusal, with_live, with_rows}
-use Rattle.exam_commands.specs.Changes.{without_opening, withdrawal_refusal}
-use Rattle.exam_commands.specs.Decisions.{decision_refusal, with_decision}
+use Rattle.exam_commands.specs.Changes.{closing_refusal, revival_refusal, withdrawal_refusal}
 use Rattle.exam_commands.specs.Decisions as decisions
-use Rattle.exam_commands.specs.FactsMade.{WasMade, early_refusal, facts_made}
-use Rattle.exam_commands.specs.Good.{IsGood}
-use Rattle.exam_commands.specs.Limits.{within_limits}
+use Rattle.exam_commands.specs.FactsMade.{WasMade}
 use Rattle.exam_commands.specs.Lodgings as lodgings
-use Rattle.exam_commands.specs.Moves.{moved}
 use Rattle.exam_commands.specs.NextPlans.{AreNext, ArePut, IsLimitRefusal, Plans, PlansBack, after_plans}
 use Rattle.exam_commands.specs.NextPlans.{decided_session, first_reply, keeps_plans, last_reply, newly_decided, refuses}
 use Rattle.exam_commands.specs.NextPlans.{reply_unless_repeated}
-use Rattle.exam_commands.specs.Orders.{IsInOrder}
 use Rattle.exam_commands.specs.Parts.{Agrees, IsMadeIn, IsRefusedIn, reads}
-use Rattle.exam_commands.specs.Repairs.{IsRepaired}
-use Rattle.exam_commands.specs.Replies.{reply_of, reply_to}
-use Rattle.exam_commands.specs.State.{Seats, State}
-use Rattle.exam_commands.specs.Steps.{Step, change, first_seated}
-use Rattle.exam_commands.specs.Touched.{ends_standing, grant_reaches, is_appeal_for, touches}
 use Rattle.exam_laws.proofs.FactsMade.{early_is_change, made_is_change, past_limit}
 use Rattle.exam_laws.proofs.Reaching.{and_none}
 use Rattle.exam_laws.proofs.Parting.{change_same, lodging_refusal_same}
 use Rattle.exam_laws.proofs.Stepping.{refused_step}
-use Rattle.exam_rules.proofs.Naming.{same_code_itself}
 
 -- ---- the part and the office
 

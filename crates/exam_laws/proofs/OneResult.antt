@@ -1,22 +1,14 @@
 -- A command on a day has one result, and so has a list of commands.
+use Rattle.exam_laws.proofs.Words.{nat_cmp_total, nat_list_cmp_total, Refusal, SamePlan, Code, Relations, seat_cmp}
+use Rattle.exam_laws.proofs.Words.{plan_of, seating, same_rows, seats_exact, seats_total, Command, Reply, reply_of}
+use Rattle.exam_laws.proofs.Words.{State, MayStep, Run, Step, StepTo, change, first_seated}
 use Rattle.std.proofs.Common.{◌≡◌, ◌≢◌, ℕ, List, [], ◌∷◌, Result, Ok, Err, refl, ap, sym, subst, ◌∙◌, inl, inr}
-use Rattle.std.specs.Cmp.{nat_cmp_total}
-use Rattle.std.specs.Cmp.Lexicographic.{nat_list_cmp_total}
 use Rattle.std.specs.FinMap.{nat_cmp-IsAntisymmetric, slice_cmp-IsAntisymmetric}
 use Rattle.std.proofs.lemmas.List.Elements.{All-head, All-tail}
-use Rattle.exam_types.specs.declared.refusal.Refusal.{Refusal}
 use Rattle.exam_types.specs.declared.refusal.Refusal.TheVariants.{NoMemory}
-use Rattle.exam_plan.specs.Matching.{SamePlan}
 use Rattle.exam_plan.specs.Repair.{IsRepair}
 use Rattle.exam_plan.proofs.OneRepair.{one_repair}
-use Rattle.exam_rules.specs.Relations.{Code, Relations, seat_cmp}
-use Rattle.exam_rules.specs.Seatings.{plan_of, seating}
-use Rattle.exam_commands.proofs.KeyedRows.{same_rows, seats_exact, seats_total}
-use Rattle.exam_commands.specs.declared.command.Command.{Command}
-use Rattle.exam_commands.specs.declared.command.Reply.{Reply}
-use Rattle.exam_commands.specs.Replies.{reply_of}
-use Rattle.exam_commands.specs.State.{State}
-use Rattle.exam_commands.specs.Steps.{MayStep, NoneLacksMemory, Run, Step, StepTo, change, first_seated}
+use Rattle.exam_commands.specs.Steps.{NoneLacksMemory}
 
 -- a plan of the session has one repair
 one_plan : (r : Relations) (done : Command) (before one other : State) (s : Code)

@@ -1,33 +1,22 @@
 -- What a candidate sees of themselves determines what the office looks up about them: their appeal with a reference,
 -- their session, their live papers, whether one of their appeals is open, and how many they have.
+use Rattle.exam_laws.proofs.Words.{list_all, list_any, cons_option, filter_map, is_at, Equal-is, nat_cmp_total}
+use Rattle.exam_laws.proofs.Words.{nat_list_cmp_total, keys_of, option_and_then, option_map_or, nat_cmp, Ordering, Less}
+use Rattle.exam_laws.proofs.Words.{and_parts, sorted_head, sorted_tail, exact_bytes, exact_unsigned, exact_unsigned_eq}
+use Rattle.exam_laws.proofs.Words.{Appeal, Entry, Session, Subject, KeysRise, Code, Relations, appeal_cmp, code_cmp}
+use Rattle.exam_laws.proofs.Words.{entry_cmp, has_row, is_row_of, row_at, same_code, is_live_entry, is_paper_of}
+use Rattle.exam_laws.proofs.Words.{entries_total, is_open, OwnSessionRow}
 use Rattle.std.proofs.Common.{◌≡◌, ℕ, ◌&&◌, ◌||◌, Bool, true, false, cond, List, [], ◌∷◌, filter, map, nat_eq, Option}
 use Rattle.std.proofs.Common.{None, Some, is_some, eq-eqb, refl, ap, sym, ◌∙◌}
-use Rattle.std.specs.List.{list_all, list_any, cons_option, filter_map}
-use Rattle.std.specs.BTreeMap.{is_at}
-use Rattle.std.specs.Cmp.{Equal-is, nat_cmp_total}
-use Rattle.std.specs.Cmp.Lexicographic.{nat_list_cmp_total, texts_ties}
-use Rattle.std.specs.Map.{keys_of}
-use Rattle.std.specs.Option.{option_and_then, option_map_or}
-use Rattle.std.specs.Ordering.{nat_cmp, is_eq, ordering_then}
-use Rattle.std.specs.declared.cmp.Ordering.{Ordering}
-use Rattle.std.specs.declared.cmp.Ordering.TheVariants.{Less, Equal, Greater}
+use Rattle.std.specs.Cmp.Lexicographic.{texts_ties}
+use Rattle.std.specs.Ordering.{is_eq, ordering_then}
+use Rattle.std.specs.declared.cmp.Ordering.TheVariants.{Equal, Greater}
 use Rattle.std.proofs.lemmas.Cmp.{tied_itself}
-use Rattle.std.proofs.lemmas.Bool.{and_parts}
-use Rattle.std.proofs.lemmas.Map.Keys.{sorted_head, sorted_tail}
-use Rattle.std.proofs.lemmas.Map.Lookups.{exact_bytes, exact_unsigned}
-use Rattle.std.proofs.lemmas.Map.Views.{exact_unsigned_eq}
-use Rattle.exam_rules.specs.declared.rows.Appeal.{Appeal}
-use Rattle.exam_rules.specs.declared.rows.Entry.{Entry}
-use Rattle.exam_rules.specs.declared.rows.Session.{Session}
-use Rattle.exam_rules.specs.declared.rows.Subject.{Subject}
-use Rattle.exam_rules.specs.Orders.{KeysRise}
-use Rattle.exam_rules.specs.Relations.{Code, Relations, appeal_cmp, code_cmp, entry_cmp, has_row, is_row_of, row_at}
-use Rattle.exam_rules.specs.Relations.{same_code}
-use Rattle.exam_rules.specs.Sessions.{is_live_entry, is_paper_of, live_papers_in}
-use Rattle.exam_commands.proofs.KeyedRows.{entries_total, past_all}
-use Rattle.exam_commands.specs.Appeals.{is_open, is_open_appeal, same_kind}
+use Rattle.exam_rules.specs.Sessions.{live_papers_in}
+use Rattle.exam_commands.proofs.KeyedRows.{past_all}
+use Rattle.exam_commands.specs.Appeals.{is_open_appeal, same_kind}
 use Rattle.exam_commands.specs.declared.own.OwnAppeal.{OwnAppeal}
-use Rattle.exam_commands.specs.Own.{OwnSessionRow, own_appeal, own_appeals}
+use Rattle.exam_commands.specs.Own.{own_appeal, own_appeals}
 
 -- ---- looking up
 

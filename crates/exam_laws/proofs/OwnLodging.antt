@@ -1,44 +1,31 @@
 -- The candidate's own rows and the day decide what a lodging is answered.
+use Rattle.exam_laws.proofs.Words.{list_all, list_any, keys_of, option_and_then, option_map, option_map_or, option_or}
+use Rattle.exam_laws.proofs.Words.{nat_cmp, fun_ext, length-map, exact_unsigned_eq, Refusal, Appeal, Candidate, Session}
+use Rattle.exam_laws.proofs.Words.{Subject, Code, Relations, appeal_cmp, code_cmp, has_row, is_row_of, row_at}
+use Rattle.exam_laws.proofs.Words.{same_code, appeal_count, has_live_entry, is_member, appeals_exact, appeals_total}
+use Rattle.exam_laws.proofs.Words.{put_found, put_passed_over, Lodging, Reply, appeal_at, stored_state, first_refusal}
+use Rattle.exam_laws.proofs.Words.{unless, IsGood, most_appeals, within_limits, appeals_within, sessions_within}
+use Rattle.exam_laws.proofs.Words.{papers_within, halls_within, openings_within, candidates_within, members_within}
+use Rattle.exam_laws.proofs.Words.{IsInOrder, OwnRows, OwnSessionRow, own_of, own_rows, own_sessions, State, Step}
+use Rattle.exam_laws.proofs.Words.{StepTo}
 use Rattle.std.proofs.Common.{◌≡◌, ℕ, suc, ◌-◌, ◌==◌, ◌&&◌, not, Bool, true, false, cond, List, [], ◌∷◌, ◌++◌, filter}
 use Rattle.std.proofs.Common.{length, map, nat_eq, nat_le, nat_lt, Option, None, Some, Result, Ok, IsSome, is_none}
 use Rattle.std.proofs.Common.{is_some, eq-eqb, refl, ap, sym, ◌∙◌}
-use Rattle.std.specs.List.{list_all, list_any}
-use Rattle.std.specs.Map.{keys_of}
-use Rattle.std.specs.Option.{option_and_then, option_map, option_map_or, option_or}
-use Rattle.std.specs.Ordering.{nat_cmp}
-use Rattle.std.proofs.Math.Path.{fun_ext}
-use Rattle.std.proofs.lemmas.List.{length-map}
-use Rattle.std.proofs.lemmas.Map.Views.{exact_unsigned_eq}
-use Rattle.exam_types.specs.declared.refusal.Refusal.{Refusal}
 use Rattle.exam_types.specs.declared.refusal.Refusal.TheVariants as refusal
-use Rattle.exam_rules.specs.declared.rows.Appeal.{Appeal}
-use Rattle.exam_rules.specs.declared.rows.Candidate.{Candidate}
-use Rattle.exam_rules.specs.declared.rows.Session.{Session}
-use Rattle.exam_rules.specs.declared.rows.Subject.{Subject}
 use Rattle.exam_rules.specs.declared.rows.Subject.TheVariants as subject
-use Rattle.exam_rules.specs.Relations.{Code, Relations, appeal_cmp, code_cmp, has_row, is_row_of, row_at, same_code}
-use Rattle.exam_rules.specs.Sessions.{appeal_count, clash_papers, finish, has_live_entry, is_member, live_papers}
+use Rattle.exam_rules.specs.Sessions.{clash_papers, finish, live_papers}
 use Rattle.exam_rules.specs.Sessions.{sitting}
 use Rattle.exam_rules.proofs.Sitters.{known_listed}
 use Rattle.exam_rules.specs.Tables as table
-use Rattle.exam_commands.proofs.KeyedRows.{appeals_exact, appeals_total, one_more, put_found, put_passed_over}
+use Rattle.exam_commands.proofs.KeyedRows.{one_more}
 use Rattle.exam_commands.specs.declared.command.AppealState.{AppealState}
 use Rattle.exam_commands.specs.declared.command.AppealState.TheVariants as state
 use Rattle.exam_commands.specs.declared.command.Command.TheVariants as command
-use Rattle.exam_commands.specs.declared.command.Lodging.{Lodging}
-use Rattle.exam_commands.specs.declared.command.Reply.{Reply}
 use Rattle.exam_commands.specs.declared.command.Reply.TheVariants as reply
-use Rattle.exam_commands.specs.Appeals.{appeal_at, notice_days, state_of, stored_state}
-use Rattle.exam_commands.specs.Changes.{first_refusal, unless}
-use Rattle.exam_commands.specs.Good.{IsGood}
-use Rattle.exam_commands.specs.Limits.{most_appeals, within_limits, appeals_within, sessions_within, papers_within}
-use Rattle.exam_commands.specs.Limits.{halls_within, openings_within, candidates_within, members_within}
+use Rattle.exam_commands.specs.Appeals.{notice_days, state_of}
 use Rattle.exam_commands.specs.Lodgings as spec
-use Rattle.exam_commands.specs.Orders.{IsInOrder}
-use Rattle.exam_commands.specs.Own.{OwnRows, OwnSessionRow, own_of, own_rows, own_session, own_sessions, session_row}
+use Rattle.exam_commands.specs.Own.{own_session, session_row}
 use Rattle.exam_commands.specs.SameRows.{same_arrangement}
-use Rattle.exam_commands.specs.State.{State}
-use Rattle.exam_commands.specs.Steps.{Step, StepTo}
 use Rattle.exam_commands.proofs.Members.{member_ends, member_sits}
 use Rattle.exam_laws.proofs.OwnFacts.{all_but_one, appeal_found, is_own_open, live_found, open_found, own_among}
 use Rattle.exam_laws.proofs.OwnFacts.{pair_of, pairs_own, session_at, session_found}

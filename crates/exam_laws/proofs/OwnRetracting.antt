@@ -1,24 +1,13 @@
 -- The candidate's own rows decide what a retraction is answered.
+use Rattle.exam_laws.proofs.Words.{option_and_then, option_map, nat_cmp, and_parts, Refusal, Appeal, Candidate, Code}
+use Rattle.exam_laws.proofs.Words.{appeal_cmp, code_cmp, has_row, row_at, all_at_row, appeals_exact, Reply, appeal_at}
+use Rattle.exam_laws.proofs.Words.{first_refusal, unless, IsGood, appeal_refers, OwnRows, own_of, own_rows, State, Step}
+use Rattle.exam_laws.proofs.Words.{StepTo}
 use Rattle.std.proofs.Common.{◌≡◌, ℕ, ◌&&◌, true, false, map, Option, None, Some, Result, Ok, Err, is_some, refl, ap}
 use Rattle.std.proofs.Common.{sym, ◌∙◌}
-use Rattle.std.specs.Option.{option_and_then, option_map}
-use Rattle.std.specs.Ordering.{nat_cmp}
-use Rattle.std.proofs.lemmas.Bool.{and_parts}
-use Rattle.exam_types.specs.declared.refusal.Refusal.{Refusal}
-use Rattle.exam_rules.specs.declared.rows.Appeal.{Appeal}
-use Rattle.exam_rules.specs.declared.rows.Candidate.{Candidate}
-use Rattle.exam_rules.specs.Relations.{Code, appeal_cmp, code_cmp, has_row, row_at}
-use Rattle.exam_commands.proofs.KeyedRows.{all_at_row, appeals_exact}
 use Rattle.exam_commands.specs.declared.command.Command.TheVariants as command
-use Rattle.exam_commands.specs.declared.command.Reply.{Reply}
 use Rattle.exam_commands.specs.declared.command.Reply.TheVariants as reply
-use Rattle.exam_commands.specs.Appeals.{appeal_at}
-use Rattle.exam_commands.specs.Changes.{first_refusal, unless}
-use Rattle.exam_commands.specs.Good.{IsGood, appeal_refers}
 use Rattle.exam_commands.specs.Lodgings.{retraction_checks, retraction_refusal, with_retraction}
-use Rattle.exam_commands.specs.Own.{OwnRows, own_of, own_rows}
-use Rattle.exam_commands.specs.State.{State}
-use Rattle.exam_commands.specs.Steps.{Step, StepTo}
 use Rattle.exam_laws.proofs.OwnFacts.{appeal_found, pair_of, pairs_own}
 use Rattle.exam_commands.proofs.Referring.{stored_refer}
 

@@ -1,26 +1,16 @@
 -- A candidate's own rows leave out no session of theirs.
+use Rattle.exam_laws.proofs.Words.{is_at, Equal-is, nat_list_cmp_total, cons_option, filter_map, keys_of, option_map}
+use Rattle.exam_laws.proofs.Words.{nat_cmp, and_parts, length-map, exact_bytes, Candidate, Session, Code, Relations}
+use Rattle.exam_laws.proofs.Words.{code_cmp, has_row, row_at, has_live_entry, is_member, IsGood, OwnRows, OwnSessionRow}
+use Rattle.exam_laws.proofs.Words.{own_of, own_rows, own_sessions, State}
 use Rattle.std.proofs.Common.{◌≡◌, ◌↔◌, ℕ, Bool, true, false, cond, List, [], ◌∷◌, map, filter, length, Contains}
 use Rattle.std.proofs.Common.{Option, None, Some, is_some, refl, ap, sym, subst, ◌∙◌}
-use Rattle.std.specs.BTreeMap.{is_at}
-use Rattle.std.specs.Cmp.{Equal-is, tied_itself}
-use Rattle.std.specs.Cmp.Lexicographic.{nat_list_cmp_total}
-use Rattle.std.specs.List.{cons_option, filter_map}
-use Rattle.std.specs.Map.{keys_of}
-use Rattle.std.specs.Option.{option_map}
-use Rattle.std.specs.Ordering.{is_eq, nat_cmp}
-use Rattle.std.proofs.lemmas.Bool.{and_parts}
+use Rattle.std.specs.Cmp.{tied_itself}
+use Rattle.std.specs.Ordering.{is_eq}
 use Rattle.std.proofs.lemmas.Cmp.{eq_by_cmp_equiv}
-use Rattle.std.proofs.lemmas.List.{length-map}
 use Rattle.std.proofs.lemmas.Map.Entries.{lookup-filter-keys}
-use Rattle.std.proofs.lemmas.Map.Lookups.{exact_bytes}
 use Rattle.std.proofs.lemmas.Map.Views.{Contains-keys_from_lookup, IsSome-lookup_from_Contains, tells_apart}
-use Rattle.exam_rules.specs.declared.rows.Candidate.{Candidate}
-use Rattle.exam_rules.specs.declared.rows.Session.{Session}
-use Rattle.exam_rules.specs.Relations.{Code, Relations, code_cmp, has_row, row_at}
-use Rattle.exam_rules.specs.Sessions.{has_live_entry, is_member}
-use Rattle.exam_commands.specs.Good.{IsGood}
-use Rattle.exam_commands.specs.Own.{OwnRows, OwnSessionRow, own_of, own_rows, own_session, own_sessions}
-use Rattle.exam_commands.specs.State.{State}
+use Rattle.exam_commands.specs.Own.{own_session}
 use Rattle.exam_laws.proofs.OwnLodging.{member_sees}
 use Rattle.exam_laws.proofs.Reaching.{of_member}
 

@@ -1,58 +1,40 @@
 -- What a candidate sees after a lodging or a retraction: if the appeal is their own, it is put among theirs; otherwise
 -- all is as it was.
+use Rattle.exam_laws.proofs.Words.{filter_map, AllByRecursion, keys_of, option_and_then, option_map, option_map_or}
+use Rattle.exam_laws.proofs.Words.{option_or, nat_cmp, Ordering, Less, fun_ext, sorted_head, sorted_tail}
+use Rattle.exam_laws.proofs.Words.{exact_unsigned, exact_unsigned_eq, Refusal, Appeal, Arrangement, Candidate, Paper}
+use Rattle.exam_laws.proofs.Words.{Session, Subject, KeysRise, Code, Relations, appeal_cmp, code_cmp, is_row_of}
+use Rattle.exam_laws.proofs.Words.{put_row, row_at, same_code, arrangement_by, asked_arrangement, granted_subjects}
+use Rattle.exam_laws.proofs.Words.{is_granted, is_granted_appeal, is_live_paper, is_marked, is_member, option_filter}
+use Rattle.exam_laws.proofs.Words.{session_day, standing_grants, plan_of, seating, appeals_exact, put_passed_over}
+use Rattle.exam_laws.proofs.Words.{Lodging, Reply, appeal_at, is_open, is_retracted, first_refusal, unless, IsGood}
+use Rattle.exam_laws.proofs.Words.{IsInOrder, OwnRows, OwnSessionRow, own_of, own_rows, own_sessions, Seats, State}
+use Rattle.exam_laws.proofs.Words.{Step, StepTo, unborne, passed}
 use Rattle.std.proofs.Common.{◌≡◌, ℕ, ◌+◌, ◌<◌, ◌&&◌, not, Bool, true, false, cond, List, [], ◌∷◌, count_by, filter}
 use Rattle.std.proofs.Common.{map, nat_eq, Option, None, Some, Result, is_none, is_some, eq-eqb, refl, ap, sym, subst}
 use Rattle.std.proofs.Common.{◌∙◌, arith}
-use Rattle.std.specs.List.{filter_map, AllByRecursion}
 use Rattle.std.specs.BTreeMap.{insert_entry}
-use Rattle.std.specs.Map.{keys_of}
-use Rattle.std.specs.Option.{option_and_then, option_map, option_map_or, option_or}
-use Rattle.std.specs.Ordering.{nat_cmp, is_lt, match_ordering, ordering_then}
-use Rattle.std.specs.declared.cmp.Ordering.{Ordering}
-use Rattle.std.specs.declared.cmp.Ordering.TheVariants.{Less, Equal, Greater}
-use Rattle.std.proofs.Math.Path.{fun_ext}
+use Rattle.std.specs.Ordering.{is_lt, match_ordering, ordering_then}
+use Rattle.std.specs.declared.cmp.Ordering.TheVariants.{Equal, Greater}
 use Rattle.std.proofs.lemmas.Cmp.{ranked}
-use Rattle.std.proofs.lemmas.Map.Keys.{sorted_head, sorted_tail}
-use Rattle.std.proofs.lemmas.Map.Lookups.{exact_unsigned}
-use Rattle.std.proofs.lemmas.Map.Views.{exact_unsigned_eq}
-use Rattle.exam_types.specs.declared.refusal.Refusal.{Refusal}
 use Rattle.exam_types.specs.declared.refusal.Refusal.TheVariants as refusal
 use Rattle.exam_plan.specs.Matching.{occupants}
-use Rattle.exam_rules.specs.declared.rows.Appeal.{Appeal}
-use Rattle.exam_rules.specs.declared.rows.Arrangement.{Arrangement}
-use Rattle.exam_rules.specs.declared.rows.Candidate.{Candidate}
-use Rattle.exam_rules.specs.declared.rows.Paper.{Paper}
-use Rattle.exam_rules.specs.declared.rows.Session.{Session}
 use Rattle.exam_rules.specs.declared.rows.Status.TheVariants as status
-use Rattle.exam_rules.specs.declared.rows.Subject.{Subject}
-use Rattle.exam_rules.specs.Orders.{KeysRise}
-use Rattle.exam_rules.specs.Relations.{Code, Relations, appeal_cmp, code_cmp, is_row_of, put_row, row_at, same_code}
 use Rattle.exam_rules.specs.declared.standing.StandingGrant.{StandingGrant}
-use Rattle.exam_rules.specs.Sessions.{arrangement_by, asked_arrangement, asked_paper, end_of, granted_subjects, head_of}
-use Rattle.exam_rules.specs.Sessions.{is_clash, is_granted, is_granted_appeal, is_live_paper, is_marked, is_member}
-use Rattle.exam_rules.specs.Sessions.{least_live_paper, live_papers, option_filter, session_day, standing_grants}
-use Rattle.exam_rules.specs.Seatings.{desk_cmp, plan_of, seating}
+use Rattle.exam_rules.specs.Sessions.{asked_paper, end_of, head_of, is_clash, least_live_paper, live_papers}
+use Rattle.exam_rules.specs.Seatings.{desk_cmp}
 use Rattle.exam_rules.specs.Tables as table
-use Rattle.exam_commands.proofs.KeyedRows.{appeals_exact, put_passed_over}
 use Rattle.exam_commands.specs.declared.command.Command.TheVariants as command
-use Rattle.exam_commands.specs.declared.command.Lodging.{Lodging}
-use Rattle.exam_commands.specs.declared.command.Reply.{Reply}
-use Rattle.exam_commands.specs.Appeals.{appeal_at, is_open, is_retracted}
-use Rattle.exam_commands.specs.Changes.{first_refusal, unless}
-use Rattle.exam_commands.specs.Good.{IsGood, may_bear}
+use Rattle.exam_commands.specs.Good.{may_bear}
 use Rattle.exam_commands.specs.Lodgings as spec
-use Rattle.exam_commands.specs.Orders.{IsInOrder}
 use Rattle.exam_commands.specs.declared.own.OwnAppeal.{OwnAppeal}
-use Rattle.exam_commands.specs.Own.{OwnRows, OwnSessionRow, own_appeal, own_of, own_rows, own_sessions}
-use Rattle.exam_commands.specs.State.{Seats, State}
-use Rattle.exam_commands.specs.Steps.{Step, StepTo}
+use Rattle.exam_commands.specs.Own.{own_appeal}
 use Rattle.exam_laws.proofs.Appealing.{not_granted, put_standing_same, with_appeals}
-use Rattle.exam_commands.proofs.Borne.{closed_unborne, unborne}
+use Rattle.exam_commands.proofs.Borne.{closed_unborne}
 use Rattle.exam_laws.proofs.Lasting.{lodging_moves_nobody, retraction_moves_nobody}
 use Rattle.exam_laws.proofs.OwnFacts.{AppealRows, map_twice}
 use Rattle.exam_laws.proofs.OwnLodging.{same_lodging_refusal}
 use Rattle.exam_laws.proofs.OwnRetracting.{same_appeal, same_retraction_refusal}
-use Rattle.exam_commands.proofs.Referring.{passed}
 use Rattle.exam_laws.proofs.AppealSteps.{closed_granted}
 use Rattle.std.proofs.lemmas.Bool.{ne_eqb}
 

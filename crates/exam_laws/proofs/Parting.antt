@@ -1,52 +1,33 @@
 -- A command over a part, put back, is the command over the office.
+use Rattle.exam_laws.proofs.Words.{option_map_or, option_or, keys_of, is_at, Equal-is, AllByRecursion, Less, Ordering}
+use Rattle.exam_laws.proofs.Words.{fun_ext, sorted_head, sorted_tail, Refusal, IsBest, SamePlan, Appeal, Subject}
+use Rattle.exam_laws.proofs.Words.{KeysRise, Code, Relations, code_cmp, has_row, row_at, same_code, seat_cmp, ListsRise}
+use Rattle.exam_laws.proofs.Words.{plan_of, seating, option_filter, same_code_itself, same_rows, seats_exact}
+use Rattle.exam_laws.proofs.Words.{seats_total, Command, Lodging, Reply, appeal_at, stored_state, first_refusal}
+use Rattle.exam_laws.proofs.Words.{imported, unless, with_live, is_made, with_decision, IsGood, moved, IsInOrder}
+use Rattle.exam_laws.proofs.Words.{IsRepaired, reply_of, reply_to, Seats, State, MayStep, SeatsOn, Step, change}
+use Rattle.exam_laws.proofs.Words.{first_seated, is_appeal_for, touches}
 use Rattle.std.proofs.Common.{◌≡◌, ℕ, ◌==◌, ◌&&◌, ◌||◌, not, Bool, true, false, cond, List, [], ◌∷◌, ◌++◌, filter}
 use Rattle.std.proofs.Common.{length, Option, None, Some, Ok, Err, refl, ap, sym, subst, ◌∙◌, inl, inr}
-use Rattle.std.specs.Option.{option_map_or, option_or}
-use Rattle.std.specs.Map.{keys_of}
-use Rattle.std.specs.BTreeMap.{is_at}
-use Rattle.std.specs.Cmp.{Equal-is, IsTotalOrder}
-use Rattle.std.specs.List.{AllByRecursion}
-use Rattle.std.specs.declared.cmp.Ordering.TheVariants.{Less}
-use Rattle.std.specs.declared.cmp.Ordering.{Ordering}
-use Rattle.std.proofs.Math.Path.{fun_ext}
+use Rattle.std.specs.Cmp.{IsTotalOrder}
 use Rattle.std.proofs.lemmas.List.Sums.{length-filter}
-use Rattle.std.proofs.lemmas.Map.Keys.{sorted_head, sorted_tail}
 use Rattle.std.proofs.lemmas.Map.Lookups.{CmpEqualImpliesEq}
-use Rattle.exam_types.specs.declared.refusal.Refusal.{Refusal}
 use Rattle.exam_types.specs.declared.refusal.Refusal.TheVariants as refusal
-use Rattle.exam_plan.specs.Matching.{IsBest, Plan, SamePlan}
+use Rattle.exam_plan.specs.Matching.{Plan}
 use Rattle.exam_plan.specs.Repair.{IsRepair}
-use Rattle.exam_rules.specs.declared.rows.Appeal.{Appeal}
-use Rattle.exam_rules.specs.declared.rows.Subject.{Subject}
 use Rattle.exam_rules.specs.declared.rows.Subject.TheVariants as subject
-use Rattle.exam_rules.specs.Orders.{KeysRise}
-use Rattle.exam_rules.specs.Relations.{Code, Relations, code_cmp, has_row, row_at, same_code, seat_cmp}
-use Rattle.exam_rules.specs.Names.{ListsRise}
-use Rattle.exam_rules.specs.Seatings.{plan_of, seating}
-use Rattle.exam_rules.specs.Sessions.{option_filter}
 use Rattle.exam_rules.proofs.InOrder.{lists_rise}
-use Rattle.exam_rules.proofs.Naming.{same_code_itself}
-use Rattle.exam_commands.proofs.KeyedRows.{past_all, same_rows, seats_exact, seats_total, sorted_from}
-use Rattle.exam_commands.specs.declared.command.Command.{Command}
+use Rattle.exam_commands.proofs.KeyedRows.{past_all, sorted_from}
 use Rattle.exam_commands.specs.declared.command.Command.TheVariants as command
-use Rattle.exam_commands.specs.declared.command.Lodging.{Lodging}
-use Rattle.exam_commands.specs.declared.command.Reply.{Reply}
 use Rattle.exam_commands.specs.declared.command.Reply.TheVariants as reply
-use Rattle.exam_commands.specs.Appeals.{appeal_at, stored_state}
-use Rattle.exam_commands.specs.Changes.{closed, first_refusal, imported, no_candidate, reinstated, unless, with_live}
+use Rattle.exam_commands.specs.Changes.{closed, no_candidate, reinstated}
 use Rattle.exam_commands.specs.Changes.{withdrawn}
-use Rattle.exam_commands.specs.Decisions.{decision_made, granted_number, is_made, with_decision}
-use Rattle.exam_commands.specs.Good.{IsGood}
+use Rattle.exam_commands.specs.Decisions.{decision_made, granted_number}
 use Rattle.exam_commands.specs.Lodgings as lodgings
-use Rattle.exam_commands.specs.Moves.{is_elsewhere, is_move, moved}
-use Rattle.exam_commands.specs.Orders.{IsInOrder}
+use Rattle.exam_commands.specs.Moves.{is_elsewhere, is_move}
 use Rattle.exam_commands.specs.Parts.{Agrees, IsMadeIn, IsPutBack, IsRefusedIn, reads}
-use Rattle.exam_commands.specs.Repairs.{IsRepaired}
-use Rattle.exam_commands.specs.Replies.{import_reply, reply_of, reply_to}
-use Rattle.exam_commands.specs.State.{Seats, State}
-use Rattle.exam_commands.specs.Steps.{MayStep, SeatsOn, Step, change, first_seated}
+use Rattle.exam_commands.specs.Replies.{import_reply}
 use Rattle.exam_laws.proofs.Reaching.{and_none, appeal_is_for}
-use Rattle.exam_commands.specs.Touched.{is_appeal_for, touches}
 use Rattle.exam_laws.proofs.AppealSteps.{all_stay}
 use Rattle.exam_laws.proofs.Commanding.{ArePlansRepaired, DoListsRise, others_seated}
 use Rattle.exam_laws.proofs.DecisionSteps as decisions

@@ -1,28 +1,19 @@
 -- Where references hold, whatever a command reaches exists.
+use Rattle.exam_laws.proofs.Words.{list_any, option_map_or, nat_cmp, and_from, and_parts, exact_bytes, Appeal, Entry}
+use Rattle.exam_laws.proofs.Words.{Opening, Paper, Code, Relations, appeal_cmp, code_cmp, has_row, opening_cmp, row_at}
+use Rattle.exam_laws.proofs.Words.{same_code, has_live_entry, is_granted, is_live_entry, is_marked, is_member}
+use Rattle.exam_laws.proofs.Words.{is_paper_of, same_code_exact, all_at_row, appeals_exact, openings_exact, appeal_at}
+use Rattle.exam_laws.proofs.Words.{bears_mark, is_grant, appeal_refers, refers, Command, Row, ends_standing}
+use Rattle.exam_laws.proofs.Words.{grant_reaches, is_appeal_for, touches}
 use Rattle.std.proofs.Common.{◌≡◌, ℕ, ◌&&◌, ◌||◌, Bool, true, false, List, [], ◌∷◌, nat_eq, Option, None, Some, is_some}
 use Rattle.std.proofs.Common.{inl, inr, refl, ap, sym, ◌∙◌}
-use Rattle.std.specs.List.{list_any}
-use Rattle.std.specs.Option.{option_map_or}
-use Rattle.std.specs.Ordering.{nat_cmp}
-use Rattle.std.proofs.lemmas.Bool.{and_from, and_parts, or_cases}
-use Rattle.std.proofs.lemmas.Map.Lookups.{exact_bytes}
-use Rattle.exam_rules.specs.declared.rows.Appeal.{Appeal}
-use Rattle.exam_rules.specs.declared.rows.Entry.{Entry}
-use Rattle.exam_rules.specs.declared.rows.Opening.{Opening}
-use Rattle.exam_rules.specs.declared.rows.Paper.{Paper}
+use Rattle.std.proofs.lemmas.Bool.{or_cases}
 use Rattle.exam_rules.specs.Tables as table
-use Rattle.exam_rules.specs.Relations.{Code, Relations, appeal_cmp, code_cmp, has_row, opening_cmp, row_at, same_code}
-use Rattle.exam_rules.specs.Sessions.{has_live_entry, is_granted, is_live_entry, is_marked, is_member, is_paper_of}
-use Rattle.exam_rules.proofs.Naming.{same_code_exact}
-use Rattle.exam_commands.proofs.KeyedRows.{all_at_row, appeals_exact, openings_exact}
-use Rattle.exam_commands.specs.Appeals.{appeal_at, bears_mark, is_grant}
-use Rattle.exam_commands.specs.Good.{appeal_refers, refers, subject_refers}
-use Rattle.exam_commands.specs.declared.command.Command.{Command}
+use Rattle.exam_commands.specs.Good.{subject_refers}
 use Rattle.exam_commands.specs.declared.command.Command.TheVariants as command
-use Rattle.exam_commands.specs.declared.import_row.Row.{Row}
 use Rattle.exam_commands.specs.declared.import_row.Row.TheVariants as row
-use Rattle.exam_commands.specs.Touched.{ends_standing, grant_reaches, has_standing_member, is_appeal_for}
-use Rattle.exam_commands.specs.Touched.{is_of_sessions, is_set_by, names, reaches, row_reaches, stands_in, touches}
+use Rattle.exam_commands.specs.Touched.{has_standing_member, is_of_sessions, is_set_by, names, reaches, row_reaches}
+use Rattle.exam_commands.specs.Touched.{stands_in}
 use Rattle.exam_commands.proofs.Referring.{parted}
 
 pub and_none : (b : Bool) → (b && false) ≡ false

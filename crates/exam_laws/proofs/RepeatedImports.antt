@@ -1,38 +1,23 @@
 -- An accepted import repeated at once is accepted, changes nothing, and finds every row the same.
+use Rattle.exam_laws.proofs.Words.{AllByRecursion, option_map, option_map_or, and_from, Refusal, Arrangement, Candidate}
+use Rattle.exam_laws.proofs.Words.{Entry, Opening, Paper, Session, AreInOrder, Relations, entry_cmp, row_at}
+use Rattle.exam_laws.proofs.Words.{same_code_itself, Reply, Row, first_refusal, imported, rows_refusal, too_many}
+use Rattle.exam_laws.proofs.Words.{with_rows, within_limits, IsInOrder, State, Step, StepTo, neither, there}
 use Rattle.std.proofs.Common.{◌≡◌, ℕ, not, Bool, true, false, cond, List, [], ◌∷◌, length, filter, nat_eq, Option, None}
 use Rattle.std.proofs.Common.{Some, Result, Ok, is_some, is_none, eq-eqb, refl, ap, sym, subst, ◌∙◌}
 use Rattle.std.specs.Bool.{beq}
-use Rattle.std.specs.List.{AllByRecursion}
-use Rattle.std.specs.Option.{option_map, option_map_or}
-use Rattle.std.proofs.lemmas.Bool.{and_from}
 use Rattle.exam_types.proofs.FeatureFacts.{same_features-itself}
-use Rattle.exam_types.specs.declared.refusal.Refusal.{Refusal}
 use Rattle.exam_types.specs.declared.refusal.Refusal.TheVariants.{TooMany}
-use Rattle.exam_rules.specs.declared.rows.Arrangement.{Arrangement}
-use Rattle.exam_rules.specs.declared.rows.Candidate.{Candidate}
-use Rattle.exam_rules.specs.declared.rows.Entry.{Entry}
 use Rattle.exam_rules.specs.declared.rows.Hall.{Hall}
-use Rattle.exam_rules.specs.declared.rows.Opening.{Opening}
-use Rattle.exam_rules.specs.declared.rows.Paper.{Paper}
-use Rattle.exam_rules.specs.declared.rows.Session.{Session}
-use Rattle.exam_rules.specs.Orders.{AreInOrder}
-use Rattle.exam_rules.specs.Relations.{Relations, entry_cmp, row_at}
-use Rattle.exam_rules.proofs.Naming.{same_code_itself}
 use Rattle.exam_commands.specs.declared.command.Command.TheVariants as command
-use Rattle.exam_commands.specs.declared.command.Reply.{Reply}
 use Rattle.exam_commands.specs.declared.command.Reply.TheVariants as reply
-use Rattle.exam_commands.specs.declared.import_row.Row.{Row}
 use Rattle.exam_commands.specs.declared.import_row.Row.TheVariants as row
-use Rattle.exam_commands.specs.Changes.{first_refusal, import_refusal, imported, rows_refusal, too_many, with_rows}
+use Rattle.exam_commands.specs.Changes.{import_refusal}
 use Rattle.exam_commands.specs.Imports.{ImportRows, distinct_rows, has_key, is_consistent, key_of}
 use Rattle.exam_commands.specs.SameRows as contents
-use Rattle.exam_commands.specs.Limits.{within_limits}
-use Rattle.exam_commands.specs.Orders.{IsInOrder}
 use Rattle.exam_commands.specs.Replies as replies
 use Rattle.exam_commands.specs.Replies.{import_reply, is_changed, is_new, is_same}
-use Rattle.exam_commands.specs.State.{State}
-use Rattle.exam_commands.specs.Steps.{Step, StepTo}
-use Rattle.exam_commands.proofs.Referring.{import_refers_still, neither, there}
+use Rattle.exam_commands.proofs.Referring.{import_refers_still}
 use Rattle.exam_laws.proofs.Accepted.{unrefused}
 use Rattle.exam_laws.proofs.Lasting.{new_facts, same_office}
 use Rattle.exam_laws.proofs.Stepping.{import_accepted}

@@ -1,26 +1,15 @@
 -- An accepted command is a step, and a refused one too.
+use Rattle.exam_laws.proofs.Words.{option_or, fun_ext, Refusal, IsBest, Code, Relations, same_code, code_cmp, nat_cmp}
+use Rattle.exam_laws.proofs.Words.{seating, plan_of, fits, ListsRise, Row, Command, imported, unless, first_refusal}
+use Rattle.exam_laws.proofs.Words.{rows_refusal, with_rows, too_many, within_limits, IsInOrder, IsRepaired, State}
+use Rattle.exam_laws.proofs.Words.{Seats, change, SameSeating, SeatsOn, StepTo, Step, first_seated, IsGood, reply_of}
 use Rattle.std.proofs.Common.{◌≡◌, ℕ, nat_eq, not, Bool, true, cond, List, [], ◌∷◌, None, Some, Ok, Err, refl, ap, sym}
 use Rattle.std.proofs.Common.{subst, ◌∙◌}
-use Rattle.std.specs.Option.{option_or}
-use Rattle.std.proofs.Math.Path.{fun_ext}
-use Rattle.exam_types.specs.declared.refusal.Refusal.{Refusal}
 use Rattle.exam_types.specs.declared.refusal.Refusal.TheVariants as refusal
-use Rattle.exam_plan.specs.Matching.{Seating, IsBest}
-use Rattle.exam_rules.specs.Relations.{Code, Relations, same_code, code_cmp}
-use Rattle.std.specs.Ordering.{nat_cmp}
+use Rattle.exam_plan.specs.Matching.{Seating}
 use Rattle.exam_rules.specs.Sessions.{members}
-use Rattle.exam_rules.specs.Seatings.{seating, plan_of, fits, desks}
-use Rattle.exam_rules.specs.Names.{ListsRise}
-use Rattle.exam_commands.specs.declared.import_row.Row.{Row}
-use Rattle.exam_commands.specs.declared.command.Command.{Command}
-use Rattle.exam_commands.specs.Changes.{imported, unless, first_refusal, rows_refusal, with_rows, too_many}
-use Rattle.exam_commands.specs.Limits.{within_limits}
-use Rattle.exam_commands.specs.Orders.{IsInOrder}
-use Rattle.exam_commands.specs.Repairs.{IsRepaired}
-use Rattle.exam_commands.specs.State.{State, Seats}
-use Rattle.exam_commands.specs.Steps.{change, SameSeating, SeatsOn, IsNextPlan, StepTo, Step, first_seated}
-use Rattle.exam_commands.specs.Good.{IsGood}
-use Rattle.exam_commands.specs.Replies.{reply_of}
+use Rattle.exam_rules.specs.Seatings.{desks}
+use Rattle.exam_commands.specs.Steps.{IsNextPlan}
 use Rattle.exam_commands.proofs.Staying.{best_stays}
 
 -- ---- the change

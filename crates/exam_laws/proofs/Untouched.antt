@@ -1,60 +1,40 @@
 -- A session that a command does not touch keeps its seating.
+use Rattle.exam_laws.proofs.Words.{filter_map, list_all, list_any, keys_of, option_map, option_map_or, is_at, Equal-is}
+use Rattle.exam_laws.proofs.Words.{nat_cmp_total, nat_list_cmp_total, nat_cmp, and_parts, not-false, exact_bytes}
+use Rattle.exam_laws.proofs.Words.{exact_unsigned, SamePlan, Appeal, Entry, Paper, Session, Status, Subject, KeysRise}
+use Rattle.exam_laws.proofs.Words.{Code, Relations, appeal_cmp, code_cmp, entry_cmp, opening_cmp, has_row, put_row}
+use Rattle.exam_laws.proofs.Words.{row_at, same_code, arrangement_by, granted_subjects, has_live_entry, is_granted}
+use Rattle.exam_laws.proofs.Words.{is_granted_appeal, is_live_entry, is_marked, is_member, is_paper_of, is_standing}
+use Rattle.exam_laws.proofs.Words.{session_day, standing_grant, standing_grants, fits, opened_room, plan_of, seating}
+use Rattle.exam_laws.proofs.Words.{suits_opened, same_code_exact, same_code_itself, appeals_exact, openings_exact}
+use Rattle.exam_laws.proofs.Words.{put_found, put_passed_over, Command, Decision, Outcome, Reply, Row, appeal_at}
+use Rattle.exam_laws.proofs.Words.{bears_mark, decided, is_grant, is_open, superseded, first_refusal, rows_refusal}
+use Rattle.exam_laws.proofs.Words.{with_live, with_rows, without_opening, decision_checks, decision_refusal, gives_way}
+use Rattle.exam_laws.proofs.Words.{giving_way, grant_checks, is_made, is_too_late, not_arrangement, open_checks}
+use Rattle.exam_laws.proofs.Words.{with_decided, with_decision, with_outcome, with_superseded, early_refusal}
+use Rattle.exam_laws.proofs.Words.{facts_made, IsGood, marks_were_granted, refers, IsInOrder, State, SameSeating, Step}
+use Rattle.exam_laws.proofs.Words.{StepTo, change, ends_standing, grant_reaches, touches, neither, passed, there}
 use Rattle.std.proofs.Common.{◌≡◌, ℕ, ◌==◌, ◌&&◌, ◌||◌, not, Bool, true, false, cond, List, [], ◌∷◌, map, filter}
 use Rattle.std.proofs.Common.{nat_eq, Option, None, Some, Ok, is_some, refl, ap, sym, subst, ◌∙◌}
-use Rattle.std.specs.List.{filter_map, list_all, list_any}
-use Rattle.std.specs.Map.{keys_of}
-use Rattle.std.specs.Option.{option_map, option_map_or}
-use Rattle.std.specs.BTreeMap.{is_at}
-use Rattle.std.specs.Cmp.{Equal-is, nat_cmp_total}
-use Rattle.std.specs.Cmp.Lexicographic.{nat_list_cmp_total}
-use Rattle.std.specs.Ordering.{nat_cmp}
-use Rattle.std.proofs.lemmas.Bool.{and_parts, eqb-true, not-false}
-use Rattle.std.proofs.lemmas.Map.Lookups.{exact_bytes, exact_unsigned}
+use Rattle.std.proofs.lemmas.Bool.{eqb-true}
 use Rattle.exam_types.specs.declared.refusal.Refusal.TheVariants as refusal
-use Rattle.exam_plan.specs.Matching.{SamePlan}
-use Rattle.exam_rules.specs.declared.rows.Appeal.{Appeal}
-use Rattle.exam_rules.specs.declared.rows.Entry.{Entry}
-use Rattle.exam_rules.specs.declared.rows.Paper.{Paper}
-use Rattle.exam_rules.specs.declared.rows.Session.{Session}
-use Rattle.exam_rules.specs.declared.rows.Status.{Status}
 use Rattle.exam_rules.specs.declared.rows.Status.TheVariants as status
-use Rattle.exam_rules.specs.declared.rows.Subject.{Subject}
-use Rattle.exam_rules.specs.Orders.{KeysRise}
-use Rattle.exam_rules.specs.Relations.{Code, Relations, appeal_cmp, code_cmp, entry_cmp, opening_cmp, has_row, put_row}
-use Rattle.exam_rules.specs.Relations.{row_at, same_code}
-use Rattle.exam_rules.specs.Sessions.{arrangement_by, barred_halls, granted_arrangement, granted_subjects}
-use Rattle.exam_rules.specs.Sessions.{has_live_entry, is_granted, is_granted_appeal, is_live_entry, is_marked}
-use Rattle.exam_rules.specs.Sessions.{is_member, is_paper_of, is_standing, session_day, standing_grant, standing_grants}
-use Rattle.exam_rules.specs.Seatings.{fits, opened_room, plan_of, seating, sitting_terms, suits_opened}
+use Rattle.exam_rules.specs.Sessions.{barred_halls, granted_arrangement}
+use Rattle.exam_rules.specs.Seatings.{sitting_terms}
 use Rattle.exam_laws.proofs.Reaching.{untouched_is_unreached, untouched_is_unset}
-use Rattle.exam_rules.proofs.Naming.{same_code_exact, same_code_itself}
 use Rattle.exam_rules.specs.Tables as table
 use Rattle.exam_rules.proofs.Relisting.{entries_exact, put_filtered}
-use Rattle.exam_commands.proofs.KeyedRows.{appeals_exact, key_apart, openings_exact, openings_total, put_by}
-use Rattle.exam_commands.proofs.KeyedRows.{put_elsewhere, put_found, put_keys, put_passed_over, removed_elsewhere}
-use Rattle.exam_commands.specs.declared.command.Command.{Command}
+use Rattle.exam_commands.proofs.KeyedRows.{key_apart, openings_total, put_by, put_elsewhere, put_keys}
+use Rattle.exam_commands.proofs.KeyedRows.{removed_elsewhere}
 use Rattle.exam_commands.specs.declared.command.Command.TheVariants as command
-use Rattle.exam_commands.specs.declared.command.Decision.{Decision}
-use Rattle.exam_commands.specs.declared.command.Outcome.{Outcome}
 use Rattle.exam_commands.specs.declared.command.Outcome.TheVariants as outcome
-use Rattle.exam_commands.specs.declared.command.Reply.{Reply}
-use Rattle.exam_commands.specs.declared.import_row.Row.{Row}
 use Rattle.exam_commands.specs.declared.import_row.Row.TheVariants as row
-use Rattle.exam_commands.specs.Appeals.{appeal_at, bears_mark, decided, is_grant, is_open, superseded, supersedes}
-use Rattle.exam_commands.specs.Changes.{first_refusal, no_hall, not_opened, row_checks, rows_refusal, with_live}
-use Rattle.exam_commands.specs.Changes.{with_row, with_rows, without_opening}
-use Rattle.exam_commands.specs.Decisions.{decision_checks, decision_refusal, gives_way, giving_way, grant_checks}
-use Rattle.exam_commands.specs.Decisions.{is_earlier, is_made, is_too_late, not_arrangement, open_checks, with_decided}
-use Rattle.exam_commands.specs.Decisions.{with_decision, with_mark, with_outcome, with_superseded, without_mark}
-use Rattle.exam_commands.specs.FactsMade.{early_refusal, facts_made}
-use Rattle.exam_commands.specs.Good.{IsGood, marks_were_granted, refers}
+use Rattle.exam_commands.specs.Appeals.{supersedes}
+use Rattle.exam_commands.specs.Changes.{no_hall, not_opened, row_checks, with_row}
+use Rattle.exam_commands.specs.Decisions.{is_earlier, with_mark, without_mark}
 use Rattle.exam_commands.specs.Lodgings as lodgings
-use Rattle.exam_commands.specs.Orders.{IsInOrder}
-use Rattle.exam_commands.specs.State.{State}
-use Rattle.exam_commands.specs.Steps.{SameSeating, Step, StepTo, change}
-use Rattle.exam_commands.specs.Touched.{decision_reaches, ends_standing, grant_reaches, has_standing_member, is_ended}
+use Rattle.exam_commands.specs.Touched.{decision_reaches, has_standing_member, is_ended}
 use Rattle.exam_commands.specs.Touched.{is_of_sessions, is_set_by, names, reaches, row_reaches, sets_session, stands_in}
-use Rattle.exam_commands.specs.Touched.{touches}
 use Rattle.exam_commands.proofs.Alike.{SpeakAlike, alike_itself, alike_seating}
 use Rattle.exam_laws.proofs.Appealing.{fits_same, never_marked, not_granted, put_seating_same, seating_by, with_appeals}
 use Rattle.exam_laws.proofs.Appealing.{with_decisions}
@@ -64,8 +44,7 @@ use Rattle.exam_laws.proofs.DecidedFacts.{others_standing_grants, unmarked_open}
 use Rattle.exam_laws.proofs.Accepted.{change_made}
 use Rattle.exam_laws.proofs.Lasting.{new_facts}
 use Rattle.exam_commands.proofs.PutRows.{mapped_filtered}
-use Rattle.exam_commands.proofs.Referring.{Grows, appeals_row, grows_both, grows_none, grows_row, neither, parted}
-use Rattle.exam_commands.proofs.Referring.{passed, standing_row, there}
+use Rattle.exam_commands.proofs.Referring.{Grows, appeals_row, grows_both, grows_none, grows_row, parted, standing_row}
 use Rattle.exam_commands.proofs.Superseding.{superseded_ungranted}
 use Rattle.exam_commands.proofs.Entering.{rows_with_by, table_in_order}
 

@@ -1,15 +1,10 @@
 -- A database that is refused before it is asked anything.
+use Rattle.exam_tables.proofs.Words.{both_ways, Trees, Database, State, FailsToQuery, IsNotRun, Refusal, BadStore}
+use Rattle.exam_tables.proofs.Words.{refusal_of, IsLeft}
 use Rattle.std.proofs.Common.{◌≡◌, ℕ, List, Bool, true, false, Result, Ok, Err, OnOk, IfErr, inl, inr, ap, sym, ◌∙◌}
-use Rattle.std.proofs.lemmas.Bool.{both_ways}
-use Rattle.sqlite_trees.specs.Tree.{Trees}
-use Rattle.sqlite.specs.Effect.{Database}
-use Rattle.sqlite.specs.State.{State, FailsToQuery, IsNotRun}
-use Rattle.exam_types.specs.declared.refusal.Refusal.{Refusal}
-use Rattle.exam_types.specs.declared.refusal.Refusal.TheVariants.{BadStore}
 use Rattle.exam_sql.specs.Made.{ContainsMade, lists_tables}
 use Rattle.exam_sql.proofs.Listed.{tables_listed}
-use Rattle.exam_tables.specs.Faults.{refusal_of}
-use Rattle.exam_tables.specs.Loaded.{FailsToLoad, IsLeft}
+use Rattle.exam_tables.specs.Loaded.{FailsToLoad}
 use Rattle.exam_tables.specs.Unasked.{FailsToAsk}
 use Rattle.exam_tables.proofs.Leaving.{no_disk}
 

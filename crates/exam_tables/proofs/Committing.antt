@@ -1,16 +1,10 @@
 -- What a transaction that was begun, has written and was ended leaves.
+use Rattle.exam_tables.proofs.Words.{Trees, Error, Database, State, HasCleanDisk, Survives, IsUnchanged, survives_then}
+use Rattle.exam_tables.proofs.Words.{survives_weaker, Refusal, refusal_of, IsLeft, Commits}
 use Rattle.std.proofs.Common.{◌≡◌, inl, inr, false, Result, Ok, Err, OnOk, OnErr, IfErr, IsTrue, sym, subst, ◌∙◌, arith}
 use Rattle.std.proofs.Common.{true≢false}
-use Rattle.sqlite_trees.specs.Tree.{Trees}
-use Rattle.sqlite.specs.declared.error.Error.{Error}
-use Rattle.sqlite.specs.Effect.{Database}
-use Rattle.sqlite.specs.State.{State, HasCleanDisk, Shows, Survives, IsRolledBack, IsUnchanged, KeepsCommit}
+use Rattle.sqlite.specs.State.{Shows, IsRolledBack, KeepsCommit}
 use Rattle.sqlite.specs.Steps.{FailsToCommit}
-use Rattle.sqlite.proofs.StateLemmas.{survives_then, survives_weaker}
-use Rattle.exam_types.specs.declared.refusal.Refusal.{Refusal}
-use Rattle.exam_tables.specs.Faults.{refusal_of}
-use Rattle.exam_tables.specs.Loaded.{IsLeft}
-use Rattle.exam_tables.specs.Transactions.{Commits}
 
 -- where the last commit was what was seen, a rollback goes back to that
 rolled_back : (old last end : State) → IsTrue end.is_open → (IsTrue old.is_open → old.now ≡ old.committed)

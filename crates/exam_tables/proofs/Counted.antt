@@ -1,12 +1,9 @@
 -- The appeals of a session, counted one by one.
+use Rattle.exam_tables.proofs.Words.{AllByRecursion, deref_pair, Appeal, Code, same_code, KeyedAppeal}
 use Rattle.std.proofs.Common.{◌≡◌, ℕ, ◌+◌, ◌≤◌, ◌∷◌, [], List, Bool, true, false, cond, if◌then◌else◌, length, Bor, ap}
 use Rattle.std.proofs.Common.{arith}
-use Rattle.std.specs.List.{AllByRecursion}
-use Rattle.std.specs.Map.Iter.{deref_pair}
-use Rattle.exam_rules.specs.declared.rows.Appeal.{Appeal}
-use Rattle.exam_rules.specs.Relations.{Code, same_code}
 use Rattle.exam_tables.specs.Rows.{IsAppeal}
-use Rattle.exam_tables.specs.Appeals.{KeyedAppeal, appeals_in}
+use Rattle.exam_tables.specs.Appeals.{appeals_in}
 
 abbrev pub HaveForms : List KeyedAppeal → Type 0
 HaveForms = AllByRecursion (λ (a : KeyedAppeal). IsAppeal a.0 a.1)

@@ -1,37 +1,31 @@
 -- The tables are made one after another.
+use Rattle.exam_tables.proofs.Words.{Bor, IsPermutation, both_ways, cases_Bool, IsPermutation-refl, Row, Trees, Held}
+use Rattle.exam_tables.proofs.Words.{state, Database, Error, State, HasCleanDisk, Survives, survives_then, Refusal}
+use Rattle.exam_tables.proofs.Words.{NoMemory, made, HasFirst, HasNoRows, HasRuled, IsBlank, Leads, FailsToMake}
 use Rattle.std.proofs.Common.{◌≡◌, ◌==◌, ◌≤◌, ◌<◌, IsSome, false, inl, inr, ℕ, get_or, length, map, pos, List, [], ◌∷◌}
 use Rattle.std.proofs.Common.{Ok, Err, Result, IfErr, refl, subst, sym, ap, arith, ◌∙◌}
-use Rattle.std.specs.Borrow.{Bor}
-use Rattle.std.specs.List.Sorted.{IsPermutation}
-use Rattle.std.proofs.lemmas.Bool.{both_ways, cases_Bool, eqb-true}
+use Rattle.std.proofs.lemmas.Bool.{eqb-true}
 use Rattle.std.proofs.lemmas.List.{get_or-map, length-map}
-use Rattle.std.proofs.lemmas.List.Sorted.{IsPermutation-refl}
 use Rattle.sqlite_value.specs.declared.value.Value.TheVariants.{Int}
-use Rattle.sqlite_value.specs.Order.{Row}
-use Rattle.sqlite_trees.specs.Tree.{Trees, with_tree}
+use Rattle.sqlite_trees.specs.Tree.{with_tree}
 use Rattle.sqlite_trees.proofs.ListLemmas.{all_of}
 use Rattle.sqlite_schema.specs.declared.schema.Schema.{Schema}
 use Rattle.sqlite_trees.specs.declared.memory.MemStore.{MemStore}
-use Rattle.sqlite.specs.Held.{Held, IsNew, state}
+use Rattle.sqlite.specs.Held.{IsNew}
 use Rattle.sqlite.specs.Steps.{over_memory, IsEmpty}
-use Rattle.sqlite.specs.Effect.{Database}
-use Rattle.sqlite.specs.declared.error.Error.{Error}
-use Rattle.sqlite.specs.State.{State, HasCleanDisk, Survives, Executes, ExecutesInside}
-use Rattle.sqlite.proofs.StateLemmas.{survives_then}
+use Rattle.sqlite.specs.State.{Executes, ExecutesInside}
 use Rattle.sqlite.proofs.InsideLemmas.{keeps_then}
-use Rattle.exam_types.specs.declared.refusal.Refusal.{Refusal}
-use Rattle.exam_types.specs.declared.refusal.Refusal.TheVariants.{NoMemory}
 use Rattle.exam_sql.specs.Content.{ContainsIn}
 use Rattle.exam_sql.specs.Refusals.{Fails}
 use Rattle.exam_sql.specs.Tables as tables
-use Rattle.exam_sql.specs.Tables.{Described, first_tables, made, store_schema}
+use Rattle.exam_sql.specs.Tables.{Described, first_tables, store_schema}
 use Rattle.exam_sql.proofs.Changes.{contains_same}
 use Rattle.exam_sql.proofs.AllTables.{first_is}
 use Rattle.exam_sql.proofs.Making.{AddsTable, adding_fails, adds_table}
 use Rattle.exam_sql.proofs.OfOffice as office
 use Rattle.exam_sql.proofs.VersionFails.{version_fails}
 use Rattle.exam_tables.specs.Inside.{Runs}
-use Rattle.exam_tables.specs.Versions.{HasFirst, HasNoRows, HasRuled, IsBlank, Leads, FailsToMake, FailsToCreate}
+use Rattle.exam_tables.specs.Versions.{FailsToCreate}
 use Rattle.exam_tables.specs.Versions.{version}
 use Rattle.exam_tables.proofs.RowByRow.{survives_itself}
 use Rattle.exam_tables.proofs.Steps.{down_later, fails_for}

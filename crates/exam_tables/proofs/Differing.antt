@@ -1,16 +1,11 @@
 -- One walk over two tables in the order of their keys finds what differs.
+use Rattle.exam_tables.proofs.Words.{IsTotalOrder, AllByRecursion, filter, IsStrictlySortedBy, keys_of, deref_pair}
+use Rattle.exam_tables.proofs.Words.{is_eq, ordering_reverse, take_all, map-append, KeysRise, has_key}
 use Rattle.std.proofs.Common.{◌≡◌, ◌<◌, ◌-◌, ◌&&◌, ◌||◌, Bool, true, false, not, cond, List, [], ◌∷◌, ◌++◌, map, length}
 use Rattle.std.proofs.Common.{get_or, take, drop, Bor, arith, Ordering, Less, Equal, Greater, refl, sym, ap, ap₂, subst}
 use Rattle.std.proofs.Common.{◌∙◌, append_assoc}
-use Rattle.std.specs.Cmp.{IsTotalOrder, tied_back}
-use Rattle.std.specs.List.{AllByRecursion, filter}
-use Rattle.std.specs.List.Sorted.{IsStrictlySortedBy}
-use Rattle.std.specs.Map.{keys_of}
-use Rattle.std.specs.Map.Iter.{deref_pair}
-use Rattle.std.specs.Ordering.{is_eq, ordering_reverse}
-use Rattle.std.proofs.lemmas.List.{take_all, map-append}
-use Rattle.exam_rules.specs.Orders.{KeysRise}
-use Rattle.exam_tables.specs.Differences.{first_cmp, has_key, has_entry, to_put, to_delete}
+use Rattle.std.specs.Cmp.{tied_back}
+use Rattle.exam_tables.specs.Differences.{first_cmp, has_entry, to_put, to_delete}
 use Rattle.std.proofs.lemmas.Bool.{not-false, not-true}
 
 or_false : (b : Bool) → (b || false) ≡ b

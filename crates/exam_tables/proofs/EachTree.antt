@@ -1,18 +1,17 @@
 -- What the writes of a save make of each tree.
+use Rattle.exam_tables.proofs.Words.{Bor, cases_Bool, Null, Row, Trees, Write, delete_of, Form, standing, opening_key}
+use Rattle.exam_tables.proofs.Words.{seat_key, all_saved}
 use Rattle.std.proofs.Common.{◌≡◌, ℕ, ◌==◌, if◌then◌else◌, List, [], ◌∷◌, ◌++◌, inl, inr, map, refl, sym, ap, ◌∙◌}
-use Rattle.std.specs.Borrow.{Bor}
-use Rattle.std.proofs.lemmas.Bool.{cases_Bool, eqb-true}
-use Rattle.sqlite_value.specs.declared.value.Value.TheVariants.{Null}
-use Rattle.sqlite_value.specs.Order.{Row}
-use Rattle.sqlite_trees.specs.Tree.{Trees, with_tree}
+use Rattle.std.proofs.lemmas.Bool.{eqb-true}
+use Rattle.sqlite_trees.specs.Tree.{with_tree}
 use Rattle.exam_sql.specs.Changes.{put_all, delete_all, with_puts, with_deletes}
 use Rattle.exam_sql.proofs.Changes.{with_puts_is, with_deletes_is}
 use Rattle.exam_sql.specs.Texts.{delete_opening, delete_seat}
 use Rattle.exam_tables.specs.declared.writing.Changes.{Changes}
-use Rattle.exam_tables.specs.Inside.{Write, put_of, delete_of, written}
-use Rattle.exam_tables.specs.Forms.{Form, sessions, papers, halls, candidates, openings, entries, arrangements, appeals}
-use Rattle.exam_tables.specs.Forms.{standing, seats, opening_key, seat_key, with_put}
-use Rattle.exam_tables.specs.Writes.{with_deleted, all_put, all_deleted, all_saved}
+use Rattle.exam_tables.specs.Inside.{put_of, written}
+use Rattle.exam_tables.specs.Forms.{sessions, papers, halls, candidates, openings, entries, arrangements, appeals}
+use Rattle.exam_tables.specs.Forms.{seats, with_put}
+use Rattle.exam_tables.specs.Writes.{with_deleted, all_put, all_deleted}
 use Rattle.exam_tables.proofs.Steps.{written_append}
 
 -- the rows that are put, and the keys that are deleted, as rows read by columns

@@ -1,4 +1,5 @@
 -- Rows are the same where `==` says so, and so are keys that compare as equal.
+use Rattle.exam_tables.proofs.Words.{appeal_cmp, Appeal, Subject, Status}
 use Rattle.std.proofs.Common.{◌≡◌, ℕ, Bool, true, List, Ordering, refl, ap}
 use Rattle.std.specs.Cmp.{booleans_Decides}
 use Rattle.std.specs.Cmp.Lexicographic.{pointwise}
@@ -10,7 +11,7 @@ use Rattle.std.proofs.lemmas.Bool.Decides.{Decides-eqb}
 use Rattle.std.proofs.lemmas.Map.Lookups.{CmpEqualImpliesEq, exact_unsigned, exact_bytes, exact_pairs}
 use Rattle.std.proofs.lemmas.Slice.Eq.{slice_eq-Decides}
 use Rattle.exam_types.proofs.FeatureFacts.{same_features-is}
-use Rattle.exam_rules.specs.Relations.{code_cmp, pair_cmp, opening_cmp, entry_cmp, appeal_cmp, seat_cmp}
+use Rattle.exam_rules.specs.Relations.{code_cmp, pair_cmp, opening_cmp, entry_cmp, seat_cmp}
 use Rattle.exam_rules.specs.declared.rows.Session.{Session}
 use Rattle.exam_rules.specs.declared.rows.Paper.{Paper}
 use Rattle.exam_rules.specs.declared.rows.Hall.{Hall}
@@ -18,10 +19,7 @@ use Rattle.exam_rules.specs.declared.rows.Opening.{Opening}
 use Rattle.exam_rules.specs.declared.rows.Candidate.{Candidate}
 use Rattle.exam_rules.specs.declared.rows.Entry.{Entry}
 use Rattle.exam_rules.specs.declared.rows.Arrangement.{Arrangement}
-use Rattle.exam_rules.specs.declared.rows.Appeal.{Appeal}
-use Rattle.exam_rules.specs.declared.rows.Subject.{Subject}
 use Rattle.exam_rules.specs.declared.rows.Subject.TheVariants as subject
-use Rattle.exam_rules.specs.declared.rows.Status.{Status}
 use Rattle.exam_rules.specs.declared.rows.Status.TheVariants as status
 use Rattle.exam_tables.specs.Differences.{AreExact}
 use Rattle.exam_rules.specs.contracts.rows.SessionPartialEq.TheImpl as session_eq

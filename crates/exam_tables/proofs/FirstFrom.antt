@@ -1,22 +1,17 @@
 -- The appeals of a session from a key on: the first of them, and those after it.
+use Rattle.exam_tables.proofs.Words.{IsTotalOrder, AllByRecursion, IsStrictlySortedBy, keys_of, deref_pair}
+use Rattle.exam_tables.proofs.Words.{ordering_reverse, Appeal, KeysRise, Code, appeal_cmp, same_code, KeyedAppeal}
 use Rattle.std.proofs.Common.{◌≡◌, ◌⊎◌, ℕ, Bool, true, false, cond, ◌&&◌, List, [], ◌∷◌, ◌++◌, filter, Bor, inl, inr}
 use Rattle.std.proofs.Common.{Ordering, Less, Equal, Greater, refl, sym, ap, subst, ◌∙◌, append_assoc}
-use Rattle.std.specs.Cmp.{IsTotalOrder, nat_cmp_total, then_total, on_total}
+use Rattle.std.specs.Cmp.{nat_cmp_total, then_total, on_total}
 use Rattle.std.specs.Cmp.Lexicographic.{nat_list_cmp_total}
 use Rattle.std.specs.BTreeMap.Range.{entries_between, range_contains}
-use Rattle.std.specs.List.{AllByRecursion}
-use Rattle.std.specs.List.Sorted.{IsStrictlySortedBy}
-use Rattle.std.specs.Map.{keys_of}
-use Rattle.std.specs.Map.Iter.{deref_pair}
-use Rattle.std.specs.Ordering.{is_le, is_lt, ordering_reverse}
+use Rattle.std.specs.Ordering.{is_le, is_lt}
 use Rattle.std.specs.declared.ops.Bound.{Bound}
 use Rattle.std.specs.declared.ops.Bound.TheVariants.{Included, Excluded, Unbounded}
 use Rattle.std.proofs.lemmas.Cmp.{tied_itself}
 use Rattle.std.proofs.lemmas.List.Elements.{filter-append}
-use Rattle.exam_rules.specs.declared.rows.Appeal.{Appeal}
-use Rattle.exam_rules.specs.Orders.{KeysRise}
-use Rattle.exam_rules.specs.Relations.{Code, appeal_cmp, same_code}
-use Rattle.exam_tables.specs.Appeals.{KeyedAppeal, appeals_from, appeals_in}
+use Rattle.exam_tables.specs.Appeals.{appeals_from, appeals_in}
 
 abbrev Key : Type 0
 Key = ℕ × Code

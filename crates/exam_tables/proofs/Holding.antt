@@ -1,5 +1,5 @@
 -- What tables hold whose keys rise and whose values have their forms.
-use Rattle.sqlite_trees.specs.Tree.{Trees}
+use Rattle.exam_tables.proofs.Words.{Trees}
 use Rattle.exam_rules.specs.Relations.{Relations}
 use Rattle.exam_tables.specs.Held.{HoldsFacts, HoldsRelations}
 

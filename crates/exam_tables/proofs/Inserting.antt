@@ -1,15 +1,11 @@
 -- A new key in an ordered table is one more entry.
+use Rattle.exam_tables.proofs.Words.{IsPermutation, is_eq, lookup, is_at, IsPermutation-refl, IsPermutation-cons}
+use Rattle.exam_tables.proofs.Words.{IsPermutation-trans, IsPermutation-map, Null, Row, map-map}
 use Rattle.std.proofs.Common.{◌≡◌, List, [], ◌∷◌, ◌++◌, map, sym, subst, Some, None, Ordering, Less, Equal, Greater}
 use Rattle.std.proofs.Common.{cond}
-use Rattle.std.specs.List.Sorted.{IsPermutation}
-use Rattle.std.specs.Ordering.{match_ordering, is_eq}
-use Rattle.std.specs.Map.{lookup}
-use Rattle.std.specs.BTreeMap.{is_at, insert_entry}
-use Rattle.std.proofs.lemmas.List.Sorted.{IsPermutation-refl, IsPermutation-cons, IsPermutation-trans}
-use Rattle.std.proofs.lemmas.List.Sorted.{IsPermutation-map, IsPermutation-append_comm}
-use Rattle.sqlite_value.specs.declared.value.Value.TheVariants.{Null}
-use Rattle.sqlite_value.specs.Order.{Row}
-use Rattle.sqlite_trees.proofs.ListLemmas.{map-map}
+use Rattle.std.specs.Ordering.{match_ordering}
+use Rattle.std.specs.BTreeMap.{insert_entry}
+use Rattle.std.proofs.lemmas.List.Sorted.{IsPermutation-append_comm}
 use Rattle.exam_sql.proofs.RowLemmas.{swapped}
 
 pub inserted : {K X : Type 0} (cmp : K → K → Ordering) (k : K) (v : X) (es : List (K × X))

@@ -1,25 +1,19 @@
 -- What calls that only read leave.
+use Rattle.exam_tables.proofs.Words.{Row, Error, SqliteFailure, OutOfMemory, State, Shown, FailsToQuery, IsNotRun}
+use Rattle.exam_tables.proofs.Words.{IsUnchanged, Survives, unchanged_then, survives_then, survives_weaker, Refusal}
+use Rattle.exam_tables.proofs.Words.{NoMemory, Store, BadStore, refusal_of, IsLeft}
 use Rattle.std.proofs.Common.{◌≡◌, ◌⊎◌, arith, Bool, ℕ, List, [], Option, None, Some, inl, inr, Result, Ok, Err, OnOk}
 use Rattle.std.proofs.Common.{IsTrue, refl, sym, ap, subst, ◌∙◌}
-use Rattle.sqlite_value.specs.Order.{Row}
 use Rattle.sqlite_schema.specs.declared.command.Returning.{Returning}
 use Rattle.sqlite_trees.specs.declared.error.StoreError.{StoreError}
 use Rattle.sqlite_trees.specs.declared.error.StoreError.TheVariants as cause
 use Rattle.sqlite.specs.Clock.{timed}
-use Rattle.sqlite.specs.declared.error.Error.{Error}
-use Rattle.sqlite.specs.declared.error.Error.TheVariants.{SqliteFailure}
-use Rattle.sqlite.specs.declared.error.ErrorCode.TheVariants.{OutOfMemory}
-use Rattle.sqlite.specs.State.{State, CommitsShowing, Shown, FailsToQuery, FailsToShow, IsNotRun, IsUnchanged, Survives}
+use Rattle.sqlite.specs.State.{CommitsShowing, FailsToShow}
 use Rattle.sqlite.specs.State.{store_error}
-use Rattle.sqlite.proofs.Callers.{unchanged_then}
-use Rattle.sqlite.proofs.StateLemmas.{survives_then, survives_weaker}
-use Rattle.exam_types.specs.declared.refusal.Refusal.{Refusal}
-use Rattle.exam_types.specs.declared.refusal.Refusal.TheVariants.{NoMemory, Store, BadStore}
 use Rattle.exam_sql.specs.Refusals.{is_failure}
 use Rattle.exam_sql.specs.Made.{made_schema}
 use Rattle.exam_sql.proofs.Quiet.{IsQuery, commits_nothing}
-use Rattle.exam_tables.specs.Faults.{refusal_of}
-use Rattle.exam_tables.specs.Loaded.{FailsToLoad, IsLeft, IsStill, IsUnderstood, OnlyReads, Told}
+use Rattle.exam_tables.specs.Loaded.{FailsToLoad, IsStill, IsUnderstood, OnlyReads, Told}
 use Rattle.exam_tables.proofs.Steps.{failure}
 
 pub left_then : (old mid new : State) → IsUnchanged old mid → IsLeft mid new → IsLeft old new

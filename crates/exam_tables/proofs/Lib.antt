@@ -23,3 +23,4 @@ pub mod Steps
 pub mod Turning
 pub mod Undoing
 pub mod Versioned
+pub mod Words

@@ -1,26 +1,16 @@
 -- The table of marks, where there is one, and where there is none.
+use Rattle.exam_tables.proofs.Words.{Held, state, State, IsStrictlySortedBy, IsPermutation-refl, Ghosts, Trees}
+use Rattle.exam_tables.proofs.Words.{Database, lists_marks, KeysRise, Refusal, Code, appeal_cmp, standing, Contains}
+use Rattle.exam_tables.proofs.Words.{HoldsTable, table_part, HasOlder}
 use Rattle.std.proofs.Common.{◌≡◌, ℕ, Bool, true, false, [], Result, Ok, Err, sym, ap, subst, ◌∙◌}
 use Rattle.std.specs.BTreeMap.{BTreeMap}
-use Rattle.sqlite.specs.Held.{Held, state}
-use Rattle.sqlite.specs.State.{State, IsLive}
+use Rattle.sqlite.specs.State.{IsLive}
 use Rattle.exam_sql.proofs.VersionFails.{sound_rules}
-use Rattle.std.specs.List.Sorted.{IsStrictlySortedBy}
-use Rattle.std.proofs.lemmas.List.Sorted.{IsPermutation-refl}
-use Rattle.sqlite_trees.specs.declared.store.Store.{Ghosts}
-use Rattle.sqlite_trees.specs.Tree.{Trees}
-use Rattle.sqlite.specs.Effect.{Database}
 use Rattle.exam_sql.specs.Content.{ContainsIn}
-use Rattle.exam_sql.specs.Made.{ContainsMade, lists_marks, made_schema}
+use Rattle.exam_sql.specs.Made.{ContainsMade, made_schema}
 use Rattle.exam_sql.proofs.AllTables.{marks_listed}
-use Rattle.exam_rules.specs.Orders.{KeysRise}
-use Rattle.exam_types.specs.declared.refusal.Refusal.{Refusal}
-use Rattle.exam_rules.specs.Relations.{Code, appeal_cmp}
-use Rattle.exam_tables.specs.Forms.{standing}
-use Rattle.exam_tables.specs.Inside.{Contains}
-use Rattle.exam_tables.specs.Loaded.{HoldsTable}
-use Rattle.exam_tables.specs.Parts.{Loading, marks_part, table_part}
+use Rattle.exam_tables.specs.Parts.{Loading, marks_part}
 use Rattle.exam_tables.specs.Rows.{IsStanding, standing_row}
-use Rattle.exam_tables.specs.Versions.{HasOlder}
 use Rattle.exam_tables.proofs.PartByPart.{loaded_as, not_loaded}
 
 listed : (has_marks : Bool) → lists_marks (made_schema has_marks) ≡ has_marks

@@ -1,21 +1,17 @@
 -- A statement that no foreign key refuses.
+use Rattle.exam_tables.proofs.Words.{Bor, AllByRecursion, Trees, Database, put_edits, Form, opening_key, seat_key}
+use Rattle.exam_tables.proofs.Words.{row_put, Contains, Write, delete_of, appeals_ours, standing_ours, all_saved}
 use Rattle.std.proofs.Common.{pos, ℕ, Option, Ordering, List, [], ◌∷◌, ◌++◌, map}
-use Rattle.std.specs.Borrow.{Bor}
-use Rattle.std.specs.List.{AllByRecursion}
-use Rattle.sqlite_trees.specs.Tree.{Trees}
-use Rattle.sqlite.specs.Effect.{Database}
 use Rattle.exam_sql.specs.Refusals.{Refuses, RefusesRows}
 use Rattle.exam_sql.specs.Texts.{delete_opening, delete_seat}
-use Rattle.exam_sql.proofs.Edits.{put_edits}
 use Rattle.exam_sql.proofs.OfOpening as opening
 use Rattle.exam_sql.proofs.OfSeat as seat
 use Rattle.exam_sql.proofs.References.{AllRefer}
 use Rattle.exam_tables.specs.declared.writing.Changes.{Changes}
-use Rattle.exam_tables.specs.Forms.{Form, IsOurTable, openings, seats, opening_key, seat_key, row_put, with_put}
-use Rattle.exam_tables.specs.Inside.{Contains, Write, delete_of}
+use Rattle.exam_tables.specs.Forms.{IsOurTable, openings, seats, with_put}
 use Rattle.exam_tables.specs.OurTables.{sessions_ours, papers_ours, halls_ours, openings_ours, candidates_ours}
-use Rattle.exam_tables.specs.OurTables.{entries_ours, arrangements_ours, appeals_ours, standing_ours, seats_ours}
-use Rattle.exam_tables.specs.Writes.{openings_deleted, seats_deleted, all_put, all_deleted, all_saved}
+use Rattle.exam_tables.specs.OurTables.{entries_ours, arrangements_ours, seats_ours}
+use Rattle.exam_tables.specs.Writes.{openings_deleted, seats_deleted, all_put, all_deleted}
 
 -- where after the write each row has what it refers to, no foreign key refuses it
 abbrev pub Narrows : Write → Type 0

@@ -1,4 +1,9 @@
 -- The query for the key of an appeal that the table holds shows its row.
+use Rattle.exam_tables.proofs.Words.{AllByRecursion, IsPermutation, IsStrictlySortedBy, keys_of, is_eq}
+use Rattle.exam_tables.proofs.Words.{ordering_reverse, IsPermutation-sym, IsPermutation-trans, length_permutation, Null}
+use Rattle.exam_tables.proofs.Words.{Row, IsPermutation-filter, Error, State, FailsToQuery, Shown, shown_unchanged}
+use Rattle.exam_tables.proofs.Words.{Refusal, BadStore, NoMemory, Store, Appeal, KeysRise, Code, appeal_cmp, same_code}
+use Rattle.exam_tables.proofs.Words.{KeyedAppeal, refusal_of, appeals_ours}
 use Rattle.std.proofs.Common.{◌≡◌, ◌⊎◌, ℕ, Bool, true, false, cond, Result, Ok, Err, List, [], ◌∷◌, length, map, filter}
 use Rattle.std.proofs.Common.{Ordering, Less, Equal, Greater, inl, inr, refl, sym, ap, subst, ◌∙◌, arith}
 use Rattle.std.proofs.Common.{◌&&◌}
@@ -6,36 +11,20 @@ use Rattle.std.specs.Prelude.{IfErr, OnOk, nat_eq}
 use Rattle.std.specs.Bool.{Decides}
 use Rattle.std.specs.Cmp.{nat_cmp_total, then_total, on_total}
 use Rattle.std.specs.Cmp.Lexicographic.{nat_list_cmp_total}
-use Rattle.std.specs.List.{AllByRecursion, Contains as IsAmong}
-use Rattle.std.specs.List.Sorted.{IsPermutation, IsStrictlySortedBy}
-use Rattle.std.specs.Map.{keys_of}
-use Rattle.std.specs.Ordering.{is_eq, ordering_reverse}
+use Rattle.std.specs.List.{Contains as IsAmong}
 use Rattle.std.proofs.lemmas.Bool.{and_parts, and_from, eq-eqb}
 use Rattle.std.proofs.lemmas.Map.Views.{exact_unsigned_eq}
-use Rattle.std.proofs.lemmas.List.Sorted.{IsPermutation-sym, IsPermutation-trans, length_permutation}
-use Rattle.sqlite_value.specs.declared.value.Value.TheVariants.{Null}
-use Rattle.sqlite_value.specs.Order.{Row}
-use Rattle.sqlite_trees.proofs.ListLemmas.{filter-map, IsPermutation-filter}
+use Rattle.sqlite_trees.proofs.ListLemmas.{filter-map}
 use Rattle.sqlite_rules.specs.Lists.{Has}
 use Rattle.sqlite_rules.proofs.ListLemmas.{all_has, has_contained}
 use Rattle.sqlite_rules.proofs.ProbeLemmas.{mapped_has}
-use Rattle.sqlite.specs.declared.error.Error.{Error}
-use Rattle.sqlite.specs.State.{State, FailsToQuery, Shown}
 use Rattle.exam_sql.specs.Texts.{find_appeal}
 use Rattle.exam_sql.proofs.OneAppeal.{find_fails, find_is_query, has_key, shows_key}
 use Rattle.exam_sql.proofs.Queries.{has_permuted}
-use Rattle.exam_sql.proofs.Quiet.{shown_unchanged}
-use Rattle.exam_types.specs.declared.refusal.Refusal.{Refusal}
-use Rattle.exam_types.specs.declared.refusal.Refusal.TheVariants.{BadStore, NoMemory, Store}
-use Rattle.exam_rules.specs.declared.rows.Appeal.{Appeal}
-use Rattle.exam_rules.specs.Orders.{KeysRise}
-use Rattle.exam_rules.specs.Relations.{Code, appeal_cmp, same_code}
 use Rattle.exam_rules.specs.contracts.rows.AppealPartialEq.TheImpl as appeal_eq
 use Rattle.exam_rules.specs.contracts.rows.AppealEq.TheImpl.Laws as laws
 use Rattle.exam_rules.proofs.Naming.{same_code_exact, same_code_itself}
-use Rattle.exam_tables.specs.Appeals.{FailsToConfirm, HasAppealRows, KeyedAppeal, ShowsAppeal, appeal_key, same_appeal}
-use Rattle.exam_tables.specs.Faults.{refusal_of}
-use Rattle.exam_tables.specs.OurTables.{appeals_ours}
+use Rattle.exam_tables.specs.Appeals.{FailsToConfirm, HasAppealRows, ShowsAppeal, appeal_key, same_appeal}
 use Rattle.exam_tables.specs.Reading.{MayRead}
 use Rattle.exam_tables.specs.Rows.{IsAppeal, appeal_row}
 use Rattle.exam_tables.proofs.Exact.{appeals_exact}

@@ -1,34 +1,28 @@
 -- Tables hold one list of facts, and one of seats.
+use Rattle.exam_tables.proofs.Words.{IsPermutation, IsStrictlySortedBy, keys_of, ordering_reverse, IsPermutation-sym}
+use Rattle.exam_tables.proofs.Words.{IsPermutation-trans, Null, Row, Trees, features_sum, KeysRise, Code, Subject}
+use Rattle.exam_tables.proofs.Words.{Status, HoldsTable, kind_number, state_number}
 use Rattle.std.proofs.Common.{◌≡◌, ◌⊎◌, ◌==◌, if◌then◌else◌, ℕ, pos, Bool, true, false, Option, Some, None, List, []}
 use Rattle.std.proofs.Common.{◌∷◌, map, inl, inr, Ordering, Less, Equal, Greater, refl, sym, ap, subst, ◌∙◌, arith}
-use Rattle.std.specs.List.Sorted.{IsPermutation, IsStrictlySortedBy}
-use Rattle.std.specs.Map.{keys_of}
-use Rattle.std.specs.Ordering.{nat_cmp, ordering_reverse, ordering_then}
+use Rattle.std.specs.Ordering.{nat_cmp, ordering_then}
 use Rattle.std.proofs.lemmas.Cmp.{nat_cmp_total, nat_list_cmp_total}
-use Rattle.std.proofs.lemmas.List.Sorted.{Contains-permutation, IsPermutation-sym, IsPermutation-trans}
-use Rattle.sqlite_value.specs.declared.value.Value.TheVariants.{Null}
-use Rattle.sqlite_value.specs.Order.{Row}
-use Rattle.sqlite_trees.specs.Tree.{Trees}
+use Rattle.std.proofs.lemmas.List.Sorted.{Contains-permutation}
 use Rattle.sqlite_rules.specs.Lists.{Has}
 use Rattle.sqlite_rules.proofs.ListLemmas.{all_has, has_contained, contains_had}
 use Rattle.sqlite_rules.proofs.ProbeLemmas.{mapped_has, has_mapped}
 use Rattle.exam_types.specs.Days.{IsDay, IsSessionDay, day_text, year_of, month_of, month_day_of}
-use Rattle.exam_types.specs.Features.{Features, features_sum, summed_features}
+use Rattle.exam_types.specs.Features.{Features, summed_features}
 use Rattle.exam_types.proofs.DayFacts.{number_of_civil}
 use Rattle.exam_types.proofs.DayTexts.{day_text-is, parts_small, parts_of_text, only_parts}
 use Rattle.exam_types.proofs.FeatureFacts.{set_of_sum}
-use Rattle.exam_rules.specs.Orders.{KeysRise}
-use Rattle.exam_rules.specs.Relations.{Code, Relations, code_cmp, pair_cmp}
-use Rattle.exam_rules.specs.declared.rows.Subject.{Subject}
+use Rattle.exam_rules.specs.Relations.{Relations, code_cmp, pair_cmp}
 use Rattle.exam_rules.specs.declared.rows.Subject.TheVariants as subject
-use Rattle.exam_rules.specs.declared.rows.Status.{Status}
 use Rattle.exam_rules.specs.declared.rows.Status.TheVariants as status
 use Rattle.exam_rules.specs.Tables as table
 use Rattle.exam_tables.specs.Held.{HoldsRelations, HoldsSeats}
-use Rattle.exam_tables.specs.Loaded.{HoldsTable}
 use Rattle.exam_tables.specs.Rows.{session_row, paper_row, hall_row, candidate_row, opening_row, entry_row}
 use Rattle.exam_tables.specs.Rows.{arrangement_row, appeal_row, standing_row, seat_row}
-use Rattle.exam_tables.specs.Stored.{kind_number, target_of, needs_of, extra_of, state_number, answer_of, text_or_null}
+use Rattle.exam_tables.specs.Stored.{target_of, needs_of, extra_of, answer_of, text_or_null}
 
 -- ---- tables with the same rows
 

@@ -1,15 +1,8 @@
 -- Calls that only read, one after the other, and what is made of what they load.
+use Rattle.exam_tables.proofs.Words.{IfErr-weaker, Ghosts, Trees, Database, Held, state, HasCleanDisk, unchanged_then}
+use Rattle.exam_tables.proofs.Words.{Refusal, NoMemory, BadStore}
 use Rattle.std.proofs.Common.{◌≡◌, ◌⊎◌, ℕ, List, inl, inr, Result, Ok, Err, IfOk, IfErr, IsTrue, refl, sym, subst}
-use Rattle.std.proofs.lemmas.Result.{IfErr-weaker}
 use Rattle.std.specs.List.{Contains}
-use Rattle.sqlite_trees.specs.declared.store.Store.{Ghosts}
-use Rattle.sqlite_trees.specs.Tree.{Trees}
-use Rattle.sqlite.specs.Effect.{Database}
-use Rattle.sqlite.specs.Held.{Held, state}
-use Rattle.sqlite.specs.State.{HasCleanDisk}
-use Rattle.sqlite.proofs.Callers.{unchanged_then}
-use Rattle.exam_types.specs.declared.refusal.Refusal.{Refusal}
-use Rattle.exam_types.specs.declared.refusal.Refusal.TheVariants.{NoMemory, BadStore}
 use Rattle.exam_sql.specs.Texts.{load_texts}
 use Rattle.exam_tables.specs.Loaded.{FailsThenFrom}
 use Rattle.exam_tables.specs.Parts.{Loading, LoadingBy, Part, then_part}

@@ -1,23 +1,17 @@
 -- Rows that are those of no table.
+use Rattle.exam_tables.proofs.Words.{IsTotalOrder, AllByRecursion, IsPermutation, IsStrictlySortedBy, keys_of, lookup}
+use Rattle.exam_tables.proofs.Words.{is_at, is_eq, ordering_reverse, IsPermutation-map, IsPermutation-sym}
+use Rattle.exam_tables.proofs.Words.{IsPermutation-trans, length_permutation, Null, Row, IsPermutation-filter, map-map}
+use Rattle.exam_tables.proofs.Words.{Refusal, KeysRise, HoldsTable, KeysMatch}
 use Rattle.std.proofs.Common.{◌≡◌, ◌+◌, ◌<◌, ◌≤◌, ℕ, zero, suc, Bool, true, false, cond, List, [], ◌∷◌, ◌++◌, map}
 use Rattle.std.proofs.Common.{filter, length, get_or, drop, Some, IsSome, inl, inr, Ordering, Less, Equal, Greater}
 use Rattle.std.proofs.Common.{refl, sym, ap, subst, ◌∙◌, arith, length-append}
-use Rattle.std.specs.Cmp.{IsTotalOrder, tied_itself}
-use Rattle.std.specs.List.{All, AllByRecursion}
-use Rattle.std.specs.List.Sorted.{IsPermutation, IsStrictlySortedBy}
-use Rattle.std.specs.Map.{keys_of, lookup}
-use Rattle.std.specs.BTreeMap.{is_at}
-use Rattle.std.specs.Ordering.{is_eq, ordering_reverse}
+use Rattle.std.specs.Cmp.{tied_itself}
+use Rattle.std.specs.List.{All}
 use Rattle.std.proofs.lemmas.List.Elements.{filter-append}
-use Rattle.std.proofs.lemmas.List.Sorted.{All-permutation, IsPermutation-map, IsPermutation-sym, IsPermutation-trans}
-use Rattle.std.proofs.lemmas.List.Sorted.{length_permutation}
-use Rattle.sqlite_value.specs.declared.value.Value.TheVariants.{Null}
-use Rattle.sqlite_value.specs.Order.{Row}
-use Rattle.sqlite_trees.proofs.ListLemmas.{IsPermutation-filter, map-map}
-use Rattle.exam_types.specs.declared.refusal.Refusal.{Refusal}
+use Rattle.std.proofs.lemmas.List.Sorted.{All-permutation}
 use Rattle.exam_sql.specs.Content.{same_key}
-use Rattle.exam_rules.specs.Orders.{KeysRise}
-use Rattle.exam_tables.specs.Loaded.{AreRowsOf, HoldsTable, IsLoadRefusal, KeysMatch}
+use Rattle.exam_tables.specs.Loaded.{AreRowsOf, IsLoadRefusal}
 use Rattle.exam_tables.proofs.Inserting.{shown_entries}
 
 module _ {E R : Type 0} (f : E → R) (IsOne : E → Type 0) where

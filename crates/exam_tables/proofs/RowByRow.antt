@@ -1,40 +1,30 @@
 -- A table that is read a row at a time: what each step finds, and what the scan answers.
+use Rattle.exam_tables.proofs.Words.{is_at, lookup, IsTotalOrder, IsPermutation, IsStrictlySortedBy, IsPermutation-refl}
+use Rattle.exam_tables.proofs.Words.{Row, Ghosts, Database, Held, state, State, FailsToQuery, HasCleanDisk, IsNotRun}
+use Rattle.exam_tables.proofs.Words.{IsUnchanged, Survives, Error, unchanged_then, Refusal, BadStore, NoMemory}
+use Rattle.exam_tables.proofs.Words.{failed_unchanged, KeysRise, refusal_of, Form, KeysMatch, table_part}
 use Rattle.std.proofs.Common.{◌≡◌, ◌⊎◌, ℕ, List, [], ◌∷◌, ◌++◌, Option, Some, None, Result, Ok, Err, inl, inr}
 use Rattle.std.proofs.Common.{refl, sym, ap, subst, ◌∙◌, ◌<◌, length, length-append, get_or, OnErr, OnOk, IsSome}
 use Rattle.std.proofs.Common.{IsTrue, arith}
 use Rattle.std.specs.Option.{ok_or}
-use Rattle.std.specs.BTreeMap.{is_at}
-use Rattle.std.specs.Map.{lookup}
 use Rattle.std.specs.declared.cmp.Ordering.{Ordering}
 use Rattle.std.specs.BTreeMap.{BTreeMap}
-use Rattle.std.specs.Cmp.{IsTotalOrder}
-use Rattle.std.specs.List.Sorted.{IsPermutation, IsStrictlySortedBy}
-use Rattle.std.proofs.lemmas.List.Sorted.{IsPermutation-refl}
-use Rattle.sqlite_value.specs.Order.{Row}
-use Rattle.sqlite_trees.specs.declared.store.Store.{Ghosts}
 use Rattle.sqlite_trees.proofs.ListLemmas.{all-permutation}
 use Rattle.sqlite_schema.specs.declared.schema.Schema.{Schema}
 use Rattle.sqlite_resolve.specs.declared.compiled.Compiled.{Compiled}
 use Rattle.sqlite.specs.Clock.{timed}
-use Rattle.sqlite.specs.Effect.{Database, RefusesToRead}
+use Rattle.sqlite.specs.Effect.{RefusesToRead}
 use Rattle.sqlite.specs.Given.{Advances, GivesOn, HasGiven, IsRefused}
-use Rattle.sqlite.specs.Held.{Held, state}
 use Rattle.sqlite.specs.Listing.{understood, reads_listing, IsSourceOf}
-use Rattle.sqlite.specs.State.{State, Begins, FailsToQuery, FailsToShow, HasCleanDisk, IsNotRun, IsStatement}
-use Rattle.sqlite.specs.State.{IsUnchanged, Survives}
-use Rattle.sqlite.specs.declared.error.Error.{Error}
-use Rattle.sqlite.proofs.Callers.{EndsIn, begins_shown, command_of, given_begin, unchanged_then}
+use Rattle.sqlite.specs.State.{Begins, FailsToShow, IsStatement}
+use Rattle.sqlite.proofs.Callers.{EndsIn, begins_shown, command_of, given_begin}
 use Rattle.sqlite.proofs.StreamLemmas.{fails_since, given_plain}
-use Rattle.exam_types.specs.declared.refusal.Refusal.{Refusal}
-use Rattle.exam_types.specs.declared.refusal.Refusal.TheVariants.{BadStore, NoMemory}
 use Rattle.exam_sql.specs.Loads.{IsLoad}
 use Rattle.exam_sql.proofs.Loads.{load_fails, shown_by}
-use Rattle.exam_sql.proofs.Quiet.{failed_unchanged}
-use Rattle.exam_rules.specs.Orders.{KeysRise}
-use Rattle.exam_tables.specs.Faults.{is_store_refusal, refusal_of}
-use Rattle.exam_tables.specs.Forms.{Form, IsOurTable}
-use Rattle.exam_tables.specs.Loaded.{AreRowsOf, FailsToLoadFrom, IsUnderstood, KeysMatch}
-use Rattle.exam_tables.specs.Parts.{LoadingBy, table_part}
+use Rattle.exam_tables.specs.Faults.{is_store_refusal}
+use Rattle.exam_tables.specs.Forms.{IsOurTable}
+use Rattle.exam_tables.specs.Loaded.{AreRowsOf, FailsToLoadFrom, IsUnderstood}
+use Rattle.exam_tables.specs.Parts.{LoadingBy}
 use Rattle.exam_tables.specs.declared.scanning.Next.TheVariants as next
 use Rattle.exam_tables.specs.Scanned.{BeginNone, Goes, Scans}
 use Rattle.exam_tables.proofs.Inserting.{one_read}

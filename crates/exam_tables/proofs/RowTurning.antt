@@ -1,18 +1,13 @@
 -- No change leaves a table as it is, and one row that is put turns it into the table that has the row.
+use Rattle.exam_tables.proofs.Words.{IsTotalOrder, AllByRecursion, filter, IsPermutation, IsStrictlySortedBy, keys_of}
+use Rattle.exam_tables.proofs.Words.{is_eq, ordering_reverse, IsPermutation-refl, IsPermutation-sym, IsPermutation-cons}
+use Rattle.exam_tables.proofs.Words.{IsPermutation-trans, KeysRise, has_key, is_one_of, Turns}
 use Rattle.std.proofs.Common.{◌≡◌, ◌||◌, Bool, false, not, cond, List, [], ◌∷◌, None, Some, Ordering, Less, Equal}
 use Rattle.std.proofs.Common.{Greater, refl, sym, ap, ap₂, subst, ◌∙◌}
-use Rattle.std.specs.Cmp.{IsTotalOrder}
-use Rattle.std.specs.List.{AllByRecursion, filter}
-use Rattle.std.specs.List.Sorted.{IsPermutation, IsStrictlySortedBy}
-use Rattle.std.specs.Map.{keys_of}
-use Rattle.std.specs.Ordering.{is_eq, ordering_reverse}
-use Rattle.std.proofs.lemmas.List.Sorted.{IsPermutation-refl, IsPermutation-sym, IsPermutation-cons}
-use Rattle.std.proofs.lemmas.List.Sorted.{IsPermutation-trans, IsPermutation-middle}
+use Rattle.std.proofs.lemmas.List.Sorted.{IsPermutation-middle}
 use Rattle.std.proofs.lemmas.Map.Keys.{sorted_head, sorted_tail}
 use Rattle.std.proofs.lemmas.Map.Lookups.{CmpEqualImpliesEq}
-use Rattle.exam_rules.specs.Orders.{KeysRise}
 use Rattle.exam_rules.specs.Relations.{row_at, remove_row}
-use Rattle.exam_tables.specs.Differences.{has_key, is_one_of, Turns}
 
 none_rise : {K : Type 0} (cmp : K → K → Ordering) → IsStrictlySortedBy cmp []
 unfolding IsStrictlySortedBy

@@ -1,24 +1,15 @@
 -- The rows of a table after what differs was put and deleted.
+use Rattle.exam_tables.proofs.Words.{AllByRecursion, IsPermutation, IsStrictlySortedBy, deref_pair, is_eq, map-append}
+use Rattle.exam_tables.proofs.Words.{IsPermutation-map, IsPermutation-trans, Null, Row, IsPermutation-filter, map-map}
+use Rattle.exam_tables.proofs.Words.{KeysRise, has_key, is_one_of, Turns, KeysMatch, opening_key, seat_key}
 use Rattle.std.proofs.Common.{◌≡◌, ◌||◌, ℕ, Bool, true, false, not, cond, List, [], ◌∷◌, ◌++◌, map, filter, Bor}
 use Rattle.std.proofs.Common.{Ordering, refl, ap, ap₂, subst, subst₂, ◌∙◌}
-use Rattle.std.specs.List.{AllByRecursion}
-use Rattle.std.specs.List.Sorted.{IsPermutation, IsStrictlySortedBy}
-use Rattle.std.specs.Map.Iter.{deref_pair}
-use Rattle.std.specs.Ordering.{is_eq}
-use Rattle.std.proofs.lemmas.List.{map-append}
-use Rattle.std.proofs.lemmas.List.Sorted.{IsPermutation-map, IsPermutation-trans, IsPermutation-append_right}
-use Rattle.sqlite_value.specs.declared.value.Value.TheVariants.{Null}
-use Rattle.sqlite_value.specs.Order.{Row}
-use Rattle.sqlite_trees.proofs.ListLemmas.{IsPermutation-filter, map-map}
+use Rattle.std.proofs.lemmas.List.Sorted.{IsPermutation-append_right}
 use Rattle.exam_sql.specs.Content.{same_key}
 use Rattle.exam_sql.specs.Changes.{put_all, delete_all, is_among, AreApart}
 use Rattle.exam_sql.proofs.Changes.{differs_by}
-use Rattle.exam_rules.specs.Orders.{KeysRise}
 use Rattle.exam_rules.specs.Relations.{opening_cmp, seat_cmp}
-use Rattle.exam_tables.specs.Differences.{has_key, is_one_of, Turns}
 use Rattle.exam_tables.specs.Held.{HoldsRows}
-use Rattle.exam_tables.specs.Loaded.{KeysMatch}
-use Rattle.exam_tables.specs.Forms.{opening_key, seat_key}
 use Rattle.exam_tables.specs.Rows.{opening_row, seat_row}
 use Rattle.exam_tables.proofs.Differing.{absent_key}
 use Rattle.exam_tables.specs.OurTables.{text_key, two_parts, whole_key}

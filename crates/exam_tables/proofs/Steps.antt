@@ -1,33 +1,23 @@
 -- One step inside a transaction, and one after another.
+use Rattle.exam_tables.proofs.Words.{map-append, Row, Trees, State, HasCleanDisk, Survives, survives_then, Refusal}
+use Rattle.exam_tables.proofs.Words.{Subject, Status, kind_number, state_number, refusal_of, Contains, Becomes, Makes}
+use Rattle.exam_tables.proofs.Words.{Write, FailsToWrite, Database, Error, SqliteFailure, OutOfMemory, Store, both_ways}
+use Rattle.exam_tables.proofs.Words.{cases_Bool}
 use Rattle.std.proofs.Common.{Option, Some, None, Bool, true, false, if◌then◌else◌, lit<, ◌≡◌, ◌<◌, ◌^◌, pos, to_z}
 use Rattle.std.proofs.Common.{of_z, w64, ℕ, List, [], ◌∷◌, ◌++◌, Ok, Err, Result, IsTrue, refl, sym, ap}
 use Rattle.std.proofs.Common.{subst, ◌∙◌, ◌≤◌, inl, inr, append_assoc, arith, ◌+◌, drop, map, take}
 use Rattle.std.proofs.lemmas.Int.{to_z_pos}
-use Rattle.std.proofs.lemmas.List.{map-append, take-append-drop}
+use Rattle.std.proofs.lemmas.List.{take-append-drop}
 use Rattle.sqlite_value.specs.declared.value.Value.TheVariants.{Text}
-use Rattle.sqlite_value.specs.Order.{Row}
 use Rattle.sqlite.specs.Values.{bound_value, or_null}
-use Rattle.sqlite_trees.specs.Tree.{Trees}
-use Rattle.sqlite.specs.State.{State, HasCleanDisk, Survives}
-use Rattle.sqlite.proofs.StateLemmas.{survives_then}
 use Rattle.sqlite.proofs.InsideLemmas.{keeps_then}
-use Rattle.exam_types.specs.declared.refusal.Refusal.{Refusal}
-use Rattle.exam_rules.specs.declared.rows.Subject.{Subject}
 use Rattle.exam_rules.specs.declared.rows.Subject.TheVariants.{Hall, Clash, Arrangement}
-use Rattle.exam_rules.specs.declared.rows.Status.{Status}
 use Rattle.exam_rules.specs.declared.rows.Status.TheVariants.{Pending, Granted, Refused, Retracted, Superseded}
-use Rattle.exam_tables.specs.Stored.{kind_number, state_number}
-use Rattle.exam_tables.specs.Faults.{refusal_of}
-use Rattle.exam_tables.specs.Inside.{AreRun, Contains, Becomes, Makes, Runs, Write, written, FailsFor, FailsToWrite}
+use Rattle.exam_tables.specs.Inside.{AreRun, Runs, written, FailsFor}
 use Rattle.exam_sql.specs.Refusals.{Fails, Refuses, IsDown, is_failure}
 use Rattle.exam_sql.proofs.Edits.{Edits}
-use Rattle.sqlite.specs.Effect.{Database}
 use Rattle.sqlite_disk.specs.Disk.{MoreFaults}
-use Rattle.sqlite.specs.declared.error.Error.{Error}
-use Rattle.sqlite.specs.declared.error.Error.TheVariants.{SqliteFailure, SqlInputError}
-use Rattle.sqlite.specs.declared.error.ErrorCode.TheVariants.{OutOfMemory}
-use Rattle.exam_types.specs.declared.refusal.Refusal.TheVariants.{Store}
-use Rattle.std.proofs.lemmas.Bool.{both_ways, cases_Bool}
+use Rattle.sqlite.specs.declared.error.Error.TheVariants.{SqlInputError}
 
 -- the writes of a list and then those of another
 pub written_append : (first next : List Write) (all : Trees)

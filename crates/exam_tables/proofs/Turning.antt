@@ -1,15 +1,12 @@
 -- What differs turns the old table into the new one.
+use Rattle.exam_tables.proofs.Words.{IsTotalOrder, AllByRecursion, filter, IsPermutation, IsStrictlySortedBy, keys_of}
+use Rattle.exam_tables.proofs.Words.{is_eq, IsPermutation-refl, IsPermutation-cons, IsPermutation-trans, KeysRise}
+use Rattle.exam_tables.proofs.Words.{has_key, is_one_of, Turns}
 use Rattle.std.proofs.Common.{◌≡◌, ◌||◌, Bool, true, false, not, cond, List, [], ◌∷◌, ◌++◌, Ordering, Less, Equal}
 use Rattle.std.proofs.Common.{Greater, refl, sym, ap, ap₂, subst, subst₂}
-use Rattle.std.specs.Cmp.{IsTotalOrder, tied_back, tied_itself}
-use Rattle.std.specs.List.{AllByRecursion, filter}
-use Rattle.std.specs.List.Sorted.{IsPermutation, IsStrictlySortedBy}
-use Rattle.std.specs.Map.{keys_of}
-use Rattle.std.specs.Ordering.{is_eq}
-use Rattle.std.proofs.lemmas.List.Sorted.{IsPermutation-refl, IsPermutation-cons, IsPermutation-trans}
+use Rattle.std.specs.Cmp.{tied_back, tied_itself}
 use Rattle.std.proofs.lemmas.List.Sorted.{IsPermutation-middle}
-use Rattle.exam_rules.specs.Orders.{KeysRise}
-use Rattle.exam_tables.specs.Differences.{first_cmp, has_key, is_one_of, to_put, to_delete, Differs, AreExact, Turns}
+use Rattle.exam_tables.specs.Differences.{first_cmp, to_put, to_delete, Differs, AreExact}
 use Rattle.exam_tables.proofs.Differing.{filter_alike, flipped, alike_all, absent_key, old_first, new_first, rest_rises}
 use Rattle.exam_tables.proofs.Differing.{first_below, deleted, added, same_puts, same_deletes, both_deletes, both_puts}
 

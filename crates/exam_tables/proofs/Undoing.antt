@@ -1,15 +1,10 @@
 -- Why what was written is not committed.
+use Rattle.exam_tables.proofs.Words.{both_ways, Trees, Error, State, HasCleanDisk, IsUnchanged, Survives, Refusal}
+use Rattle.exam_tables.proofs.Words.{BadStore, NoMemory, Store, refusal_of, FailsToWrite, Write}
 use Rattle.std.proofs.Common.{◌≡◌, ◌≤◌, List, inl, inr, ap, sym, subst, ◌∙◌, Result, Ok, Err, IfErr, IsTrue}
-use Rattle.std.proofs.lemmas.Bool.{both_ways}
-use Rattle.sqlite_trees.specs.Tree.{Trees}
 use Rattle.sqlite_trees.specs.declared.error.StoreError.TheVariants.{OutOfMemory, Io, Corrupt, Full, Broken, Unstorable}
-use Rattle.sqlite.specs.declared.error.Error.{Error}
-use Rattle.sqlite.specs.State.{State, HasCleanDisk, IsUnchanged, Survives}
 use Rattle.sqlite.specs.Steps.{FailsToCommit}
-use Rattle.exam_types.specs.declared.refusal.Refusal.{Refusal}
-use Rattle.exam_types.specs.declared.refusal.Refusal.TheVariants.{BadStore, NoMemory, Store}
-use Rattle.exam_tables.specs.Faults.{refusal_of}
-use Rattle.exam_tables.specs.Inside.{FailsFor, FailsToWrite, IsOurs, RefusesOne, Write}
+use Rattle.exam_tables.specs.Inside.{FailsFor, IsOurs, RefusesOne}
 use Rattle.exam_tables.specs.Unasked.{FailsToAsk}
 use Rattle.exam_tables.proofs.Steps.{down_later, down_longer}
 

@@ -1,10 +1,8 @@
 -- The one row of the version, as a query shows it.
+use Rattle.exam_tables.proofs.Words.{IsPermutation, IsPermutation-sym, length_permutation, Null, Row}
 use Rattle.std.proofs.Common.{◌≡◌, ℕ, zero, suc, List, [], ◌∷◌, map, refl, ap, subst, arith, lit<}
 use Rattle.std.specs.List.{All}
-use Rattle.std.specs.List.Sorted.{IsPermutation}
-use Rattle.std.proofs.lemmas.List.Sorted.{All-permutation, IsPermutation-sym, length_permutation}
-use Rattle.sqlite_value.specs.declared.value.Value.TheVariants.{Null}
-use Rattle.sqlite_value.specs.Order.{Row}
+use Rattle.std.proofs.lemmas.List.Sorted.{All-permutation}
 use Rattle.exam_tables.specs.Versions.{version_row}
 
 -- a list of one in another order is that list

@@ -1,31 +1,25 @@
 -- A database that holds a good office of its version is refused only because memory ran out or it could not be used.
+use Rattle.exam_theorem.proofs.Words.{Ghosts, Trees, Database, Held, state, HasCleanDisk, Survives, Refusal}
+use Rattle.exam_theorem.proofs.Words.{ContainsMade, IsVersion, version, FailsToFind, HoldsGood, Keeps, Commits}
+use Rattle.exam_theorem.proofs.Words.{OfficeIn, made_of, BringsOver, IsAccepted}
 use Rattle.std.proofs.Common.{◌≡◌, ◌≢◌, ◌∙◌, ℕ, inl, inr, arith, refl, sym, subst}
 use Rattle.std.specs.Prelude.{IfErr, Result, Ok, Err}
-use Rattle.sqlite_trees.specs.declared.store.Store.{Ghosts}
-use Rattle.sqlite_trees.specs.Tree.{Trees}
-use Rattle.sqlite.specs.Effect.{Database}
-use Rattle.sqlite.specs.Held.{Held, state}
-use Rattle.sqlite.specs.State.{State, HasCleanDisk, Survives}
+use Rattle.sqlite.specs.State.{State}
 use Rattle.sqlite.specs.declared.error.Error.{Error}
 use Rattle.sqlite.specs.declared.error.Error.TheVariants.{SqliteFailure, SqlInputError}
 use Rattle.sqlite.specs.declared.error.ErrorCode.TheVariants.{OutOfMemory}
 use Rattle.sqlite_resolve.specs.declared.error.CompileError.TheVariants.{NoSuchTable, NoSuchColumn}
-use Rattle.exam_types.specs.declared.refusal.Refusal.{Refusal}
 use Rattle.exam_types.specs.declared.refusal.Refusal.TheVariants as refusal
-use Rattle.exam_sql.specs.Made.{ContainsMade}
 use Rattle.exam_sql.specs.Texts.{load_office}
 use Rattle.exam_commands.specs.State.{State as Office}
 use Rattle.exam_tables.specs.Faults.{refusal_of}
 use Rattle.exam_tables.specs.Loaded.{FailsThen, FailsToLoad, IsLoadRefusal}
-use Rattle.exam_tables.specs.Versions.{IsVersion, version}
-use Rattle.exam_store.specs.Found.{FailsToFind, FailsToMigrate, FailsToOpen, HoldsGood}
-use Rattle.exam_store.specs.Kept.{HoldsOffice, Keeps}
-use Rattle.exam_tables.specs.Transactions.{Commits}
-use Rattle.exam_store.specs.Stores.{OfficeIn}
+use Rattle.exam_store.specs.Found.{FailsToMigrate, FailsToOpen}
+use Rattle.exam_store.specs.Kept.{HoldsOffice}
 use Rattle.exam_store.specs.Refused.{HoldsFormed, HoldsNone, IsGoodIn}
-use Rattle.exam_store.proofs.Marking.{made_of, no_older, of_newest, one_version}
+use Rattle.exam_store.proofs.Marking.{no_older, of_newest, one_version}
 use Rattle.exam_store.proofs.Unique.{one_office}
-use Rattle.exam_theorem.specs.Resting.{BringsOver, IsAccepted, IsFailing}
+use Rattle.exam_theorem.specs.Resting.{IsFailing}
 use Rattle.exam_theorem.proofs.Having.{formed_has}
 
 error_is : (error : Error) → refusal_of error ≢ refusal.BadStore → IsFailing (refusal_of error)

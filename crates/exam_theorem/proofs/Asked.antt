@@ -1,18 +1,11 @@
 -- The sheet that words ask for.
+use Rattle.exam_theorem.proofs.Words.{Text, Ghosts, Code, Answers, Said, job_shown, Line, Sheet, OfficeIn, LineEnd}
+use Rattle.exam_theorem.proofs.Words.{line_of, sheet_of, PrintsAsked}
 use Rattle.std.proofs.Common.{◌≡◌, ◌⊎◌, ℕ, List, Option, None, Some, refl, sym, ap, subst, inl, inr}
 use Rattle.std.specs.Prelude.{Ok, Err, option_and_then}
-use Rattle.clap.specs.Words.{Text}
-use Rattle.sqlite_trees.specs.declared.store.Store.{Ghosts}
-use Rattle.exam_rules.specs.Relations.{Code}
-use Rattle.exam_line.specs.Lines.{Answers, Said, job_shown}
-use Rattle.exam_line.specs.declared.line.Line.{Line}
 use Rattle.exam_line.specs.declared.line.LineFault.{LineFault}
 use Rattle.exam_line.specs.declared.line.LineFault.TheVariants.{NoMemory}
-use Rattle.exam_line.specs.declared.line.Sheet.{Sheet}
-use Rattle.exam_store.specs.Stores.{OfficeIn}
-use Rattle.exam_theorem.specs.Following.{LineEnd}
-use Rattle.exam_theorem.specs.Orders.{line_of, sheet_asked, sheet_of}
-use Rattle.exam_theorem.specs.Printing.{PrintsAsked}
+use Rattle.exam_theorem.specs.Orders.{sheet_asked}
 use Rattle.exam_theorem.specs.declared.orders.LineStop.TheVariants as stop
 use Rattle.exam_theorem.proofs.Reading.{line_is, no_line}
 

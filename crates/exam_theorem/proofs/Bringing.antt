@@ -1,30 +1,18 @@
 -- An office that is brought to the newest version and opened.
+use Rattle.exam_theorem.proofs.Words.{Ghosts, Trees, Database, Held, state, HasCleanDisk, Survives, Refusal}
+use Rattle.exam_theorem.proofs.Words.{ContainsMade, IsGood, IsInOrder, IsLeft, Commits, HasVersion, IsVersion, version}
+use Rattle.exam_theorem.proofs.Words.{HoldsGood, HasDays, OfficeIn, made_of, KeepsIt, BringsOver, HasOffice, IsAtRest}
+use Rattle.exam_theorem.proofs.Words.{IsVersioned, RestsOn, StopsWith}
 use Rattle.std.proofs.Common.{◌≡◌, ◌≢◌, ◌⊎◌, ◌∙◌, ℕ, inl, inr, arith, refl, sym, ap, subst}
 use Rattle.std.specs.Prelude.{Result, Ok, Err, IsTrue, IfOk, IfErr}
-use Rattle.sqlite_trees.specs.declared.store.Store.{Ghosts}
-use Rattle.sqlite_trees.specs.Tree.{Trees}
-use Rattle.sqlite.specs.Effect.{Database}
-use Rattle.sqlite.specs.Held.{Held, state}
-use Rattle.sqlite.specs.State.{State, HasCleanDisk, IsUnchanged, Survives}
+use Rattle.sqlite.specs.State.{State, IsUnchanged}
 use Rattle.sqlite.proofs.StateLemmas.{survives_weaker}
-use Rattle.exam_types.specs.declared.refusal.Refusal.{Refusal}
-use Rattle.exam_sql.specs.Made.{ContainsMade}
-use Rattle.exam_commands.specs.Good.{IsGood}
-use Rattle.exam_commands.specs.Orders.{IsInOrder}
 use Rattle.exam_commands.specs.State.{State as Office}
 use Rattle.exam_tables.specs.Inside.{IsOurs}
-use Rattle.exam_tables.specs.Loaded.{IsLeft}
-use Rattle.exam_tables.specs.Transactions.{Commits}
-use Rattle.exam_tables.specs.Versions.{HasVersion, IsVersion, version}
 use Rattle.exam_tables.proofs.Committing.{commits_at, then_commits}
 use Rattle.exam_tables.proofs.RowByRow.{survives_itself}
-use Rattle.exam_store.specs.Found.{Finds, HoldsGood, Migrates}
-use Rattle.exam_store.specs.Stops.{HasDays}
-use Rattle.exam_store.specs.Stores.{OfficeIn}
-use Rattle.exam_store.proofs.Marking.{made_of, still_made}
-use Rattle.exam_theorem.specs.Keeping.{KeepsIt}
-use Rattle.exam_theorem.specs.Resting.{BringsOver, HasOffice, IsAtRest, IsVersioned, RestsOn}
-use Rattle.exam_theorem.specs.Resting.{StopsWith}
+use Rattle.exam_store.specs.Found.{Finds, Migrates}
+use Rattle.exam_store.proofs.Marking.{still_made}
 use Rattle.exam_theorem.proofs.Having.{committed_found, good_has, keeps_found, keeps_has}
 use Rattle.exam_theorem.proofs.Having.{old_had, older_brings, same_found}
 

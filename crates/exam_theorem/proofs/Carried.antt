@@ -1,24 +1,15 @@
 -- What a line does to an office in a store is what its order asks of the office.
+use Rattle.exam_theorem.proofs.Words.{Ghosts, Refusal, Command, Reply, Kind, ImportRows, import_of, Job, OfficeIn, Does}
+use Rattle.exam_theorem.proofs.Words.{JobFault, FollowsCommand, LineEnd, is_failure, told, command_of, import_command}
+use Rattle.exam_theorem.proofs.Words.{KeepsOn}
 use Rattle.std.proofs.Common.{◌≡◌, ℕ, List, Option, Some, refl, sym, ap, subst, inl, inr}
 use Rattle.std.specs.Prelude.{Result, Ok, Err, IsTrue}
-use Rattle.sqlite_trees.specs.declared.store.Store.{Ghosts}
-use Rattle.exam_types.specs.declared.refusal.Refusal.{Refusal}
 use Rattle.exam_types.specs.declared.refusal.Refusal.TheVariants.{NoMemory}
-use Rattle.exam_commands.specs.declared.command.Command.{Command}
 use Rattle.exam_commands.specs.declared.command.Command.TheVariants as command
-use Rattle.exam_commands.specs.declared.command.Reply.{Reply}
-use Rattle.exam_commands.specs.declared.import_row.Kind.{Kind}
-use Rattle.exam_commands.specs.Imports.{ImportRows}
-use Rattle.exam_files.specs.ImportFiles.{import_of}
-use Rattle.exam_line.specs.Lines.{Job}
 use Rattle.exam_line.specs.Lines as line
-use Rattle.exam_store.specs.Stores.{OfficeIn}
-use Rattle.exam_job.specs.Jobs.{Commands, Does, Imports, ImportsFile, Stops, TellsReply, denoted, unread, short}
-use Rattle.exam_job.specs.declared.report.JobFault.{JobFault}
+use Rattle.exam_job.specs.Jobs.{Commands, Imports, ImportsFile, Stops, TellsReply, denoted, unread, short}
 use Rattle.exam_job.specs.declared.report.JobFault.TheVariants.{File, Net, Refused, Write}
-use Rattle.exam_theorem.specs.Following.{Fails, FollowsCommand, IsDone, LineEnd, TellsAnswer, is_failure, told}
-use Rattle.exam_theorem.specs.Orders.{command_of, import_command}
-use Rattle.exam_theorem.specs.Keeping.{KeepsOn}
+use Rattle.exam_theorem.specs.Following.{Fails, IsDone, TellsAnswer}
 use Rattle.exam_theorem.proofs.KeptOffice.{committed, unchanged}
 use Rattle.exam_theorem.proofs.Sheets.{sheet_keeps}
 

@@ -1,24 +1,20 @@
 -- The office that a database has: in the newest version, and once it was brought there and opened.
+use Rattle.exam_theorem.proofs.Words.{Trees, Database, HasCleanDisk, ContainsMade, IsInOrder, HasVersion, IsVersion}
+use Rattle.exam_theorem.proofs.Words.{version, HoldsGood, Keeps, HasDays, made_of, BringsOver, HasOffice, IsVersioned}
 use Rattle.std.proofs.Common.{◌≡◌, ◌≢◌, ◌⊎◌, ◌∙◌, ℕ, inl, inr, refl, sym, subst}
 use Rattle.exam_rules.specs.Orders.{AreInOrder}
 use Rattle.exam_rules.specs.Tables as table
-use Rattle.sqlite_trees.specs.Tree.{Trees}
-use Rattle.sqlite.specs.Effect.{Database}
-use Rattle.sqlite.specs.State.{State, HasCleanDisk}
-use Rattle.exam_sql.specs.Made.{ContainsMade}
-use Rattle.exam_commands.specs.Orders.{IsInOrder}
+use Rattle.sqlite.specs.State.{State}
 use Rattle.exam_commands.specs.State.{State as Office}
 use Rattle.exam_tables.specs.Inside.{IsOurs}
-use Rattle.exam_tables.specs.Versions.{ContainsOf, HasVersion, IsVersion, version}
-use Rattle.exam_store.specs.Found.{Finds, HoldsGood, Migrates}
-use Rattle.exam_store.specs.Kept.{Keeps, KeepsIn}
+use Rattle.exam_tables.specs.Versions.{ContainsOf}
+use Rattle.exam_store.specs.Found.{Finds, Migrates}
+use Rattle.exam_store.specs.Kept.{KeepsIn}
 use Rattle.exam_store.specs.Refused.{HoldsFormed}
-use Rattle.exam_store.specs.Stops.{HasDays}
 use Rattle.exam_store.proofs.DaysKept.{formed_days}
 use Rattle.exam_store.proofs.FormedRows.{same_office}
-use Rattle.exam_store.proofs.Marking.{made_of, no_older, of_newest, one_version}
+use Rattle.exam_store.proofs.Marking.{no_older, of_newest, one_version}
 use Rattle.exam_store.proofs.Rekeeping.{held_office}
-use Rattle.exam_theorem.specs.Resting.{BringsOver, HasOffice, IsVersioned}
 
 -- ---- the office of tables
 

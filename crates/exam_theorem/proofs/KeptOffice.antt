@@ -1,17 +1,10 @@
 -- The tables keep the office from one step to the next.
+use Rattle.exam_theorem.proofs.Words.{Database, state, HasCleanDisk, Ghosts, State, IsLeft, Commits, IsSound, Keeps}
+use Rattle.exam_theorem.proofs.Words.{OfficeIn, KeepsIt, KeepsOn}
 use Rattle.std.proofs.Common.{◌≡◌, ◌≤◌, ◌∙◌, ◌⊎◌, Result, Ok, Err, sym, subst, inl, inr, arith}
-use Rattle.sqlite.specs.Effect.{Database}
-use Rattle.sqlite.specs.Held.{state}
-use Rattle.sqlite.specs.State.{HasCleanDisk}
 use Rattle.sqlite_trees.specs.View.{doubt}
-use Rattle.sqlite_trees.specs.declared.store.Store.{Ghosts}
-use Rattle.exam_commands.specs.State.{State}
-use Rattle.exam_tables.specs.Loaded.{IsLeft}
-use Rattle.exam_tables.specs.Transactions.{Commits, IsSound}
-use Rattle.exam_store.specs.Kept.{Keeps, Rekeeps}
+use Rattle.exam_store.specs.Kept.{Rekeeps}
 use Rattle.exam_store.specs.OnlyRead.{OnlyIsRead}
-use Rattle.exam_store.specs.Stores.{OfficeIn}
-use Rattle.exam_theorem.specs.Keeping.{KeepsIt, KeepsOn}
 
 module _ {S : Type 0} (g : Ghosts S) where
   pub unchanged : (old new : OfficeIn S) → new ≡ old → KeepsOn g old new

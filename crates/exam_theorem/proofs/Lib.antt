@@ -18,3 +18,4 @@ mod Bringing
 mod Living
 mod Accepting
 mod Refused
+pub mod Words

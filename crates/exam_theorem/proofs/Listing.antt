@@ -1,11 +1,9 @@
 -- One more order after others.
+use Rattle.exam_theorem.proofs.Words.{State, Given, shown, Outcome}
 use Rattle.std.proofs.Common.{◌≡◌, ◌∙◌, List, [], ◌∷◌, ◌++◌, refl, sym, ap, subst}
 use Rattle.std.specs.Prelude.{map}
-use Rattle.exam_commands.specs.State.{State}
 use Rattle.exam_theorem.specs.Following.{AreEach}
-use Rattle.exam_theorem.specs.Orders.{Given, shown}
 use Rattle.exam_theorem.specs.declared.orders.Order.{Order}
-use Rattle.exam_theorem.specs.declared.orders.Outcome.{Outcome}
 
 pub shown_more : (orders : List Order) (x : Order) → map shown (orders ++ x ∷ []) ≡ map shown orders ++ shown x ∷ []
 shown_more [] x = refl

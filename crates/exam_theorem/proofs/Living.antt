@@ -1,22 +1,13 @@
 -- From the office that was opened to what it became.
+use Rattle.exam_theorem.proofs.Words.{Ghosts, Database, state, HasCleanDisk, Code, IsGood, State, IsSound, Sheet, Keeps}
+use Rattle.exam_theorem.proofs.Words.{OfficeIn, AreFollowed, EndsInOne, KeepsIt, Given, HasOffice, IsAtRest}
+use Rattle.exam_theorem.proofs.Words.{IsVersioned, RestsOn, StopsWith}
 use Rattle.std.proofs.Common.{◌≡◌, ℕ, List, Option, subst}
-use Rattle.sqlite_trees.specs.declared.store.Store.{Ghosts}
-use Rattle.sqlite.specs.Effect.{Database}
-use Rattle.sqlite.specs.Held.{state}
-use Rattle.sqlite.specs.State.{State as Shown, HasCleanDisk}
-use Rattle.exam_rules.specs.Relations.{Code}
-use Rattle.exam_commands.specs.Good.{IsGood}
-use Rattle.exam_commands.specs.State.{State}
-use Rattle.exam_tables.specs.Transactions.{IsSound}
-use Rattle.exam_line.specs.declared.line.Sheet.{Sheet}
-use Rattle.exam_store.specs.Kept.{HaveSameTables, Keeps}
-use Rattle.exam_store.specs.Stores.{OfficeIn}
+use Rattle.sqlite.specs.State.{State as Shown}
+use Rattle.exam_store.specs.Kept.{HaveSameTables}
 use Rattle.exam_store.proofs.SameTables.{same_tables}
-use Rattle.exam_theorem.specs.Following.{AreFollowed, EndsInOne}
-use Rattle.exam_theorem.specs.Keeping.{KeepsIt}
 use Rattle.exam_theorem.specs.Life.{Lives, PassesDay}
-use Rattle.exam_theorem.specs.Orders.{Given}
-use Rattle.exam_theorem.specs.Resting.{HasOffice, IsAtRest, IsVersioned, Rests, RestsOn, StopsWith}
+use Rattle.exam_theorem.specs.Resting.{Rests}
 use Rattle.exam_theorem.specs.declared.printing.EndOfDay.{EndOfDay}
 use Rattle.exam_theorem.proofs.Passing.{passed_clean, passed_rests}
 use Rattle.exam_theorem.proofs.Settling.{at_rest}

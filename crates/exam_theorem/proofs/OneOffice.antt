@@ -1,32 +1,20 @@
 -- One list of orders ends in one office, where none meets a failure.
+use Rattle.exam_theorem.proofs.Words.{Text, Refusal, Command, Reply, State, Step, Said, Told, refusal_told, Asks}
+use Rattle.exam_theorem.proofs.Words.{Request, Choice, Fault, MayApply, is_store_refusal, choice_in, HttpFault}
+use Rattle.exam_theorem.proofs.Words.{AreFollowed, EndsInOne, Follows, FollowsCommand, FollowsLine, IsFailureOf}
+use Rattle.exam_theorem.proofs.Words.{LineEnd, is_failure, Given, command_of, line_of, of_line, of_request}
+use Rattle.exam_theorem.proofs.Words.{AnswersAsked, DoesCommand, Serves, Outcome}
 use Rattle.std.proofs.Common.{◌≡◌, ◌∙◌, ℕ, List, [], ◌∷◌, Option, None, Some, true, false, refl, sym, ap, subst, inl}
 use Rattle.std.proofs.Common.{inr}
 use Rattle.std.specs.Prelude.{Result, Ok, Err, IsTrue}
 use Rattle.std.proofs.lemmas.List.Elements.{All-head, All-tail}
-use Rattle.clap.specs.Words.{Text}
-use Rattle.exam_types.specs.declared.refusal.Refusal.{Refusal}
 use Rattle.exam_types.specs.declared.refusal.Refusal.TheVariants as refusal
-use Rattle.exam_commands.specs.declared.command.Command.{Command}
 use Rattle.exam_commands.specs.declared.command.Command.TheVariants as command
-use Rattle.exam_commands.specs.declared.command.Reply.{Reply}
-use Rattle.exam_commands.specs.State.{State}
-use Rattle.exam_commands.specs.Steps.{Step}
-use Rattle.exam_line.specs.Lines.{Said}
-use Rattle.exam_request.specs.Answer.{Told, refusal_told}
-use Rattle.exam_request.specs.Asked.{Asks, Request}
-use Rattle.exam_request.specs.declared.choice.Choice.{Choice}
 use Rattle.exam_request.specs.declared.choice.Choice.TheVariants as choice
-use Rattle.exam_request.specs.declared.fault.Fault.{Fault}
-use Rattle.exam_store.specs.Applied.{MayApply}
-use Rattle.exam_tables.specs.Faults.{is_store_refusal}
 use Rattle.exam_http.specs.Alike.{IsFailure as IsFailureTold}
-use Rattle.exam_http.specs.Answering.{TellsReply, choice_in}
-use Rattle.exam_http.specs.declared.serving.HttpFault.{HttpFault}
-use Rattle.exam_theorem.specs.Following.{AreFollowed, EndsInOne, Follows, FollowsCommand, FollowsLine, IsDone}
-use Rattle.exam_theorem.specs.Following.{IsFailure, IsFailureOf, IsRefused, LineEnd, NoneFails, TellsAnswer, is_failure}
-use Rattle.exam_theorem.specs.Orders.{Given, command_of, line_of, of_line, of_request}
-use Rattle.exam_theorem.specs.Requests.{AnswersAsked, Does, DoesCommand, Serves}
-use Rattle.exam_theorem.specs.declared.orders.Outcome.{Outcome}
+use Rattle.exam_http.specs.Answering.{TellsReply}
+use Rattle.exam_theorem.specs.Following.{IsDone, IsFailure, IsRefused, NoneFails, TellsAnswer}
+use Rattle.exam_theorem.specs.Requests.{Does}
 use Rattle.exam_theorem.specs.declared.orders.Outcome.TheVariants as outcome
 
 -- a command on a day has one result

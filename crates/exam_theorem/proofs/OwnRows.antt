@@ -1,38 +1,27 @@
 -- A candidate's own rows decide what a request is answered.
+use Rattle.exam_theorem.proofs.Words.{Refusal, Command, Reply, IsGood, IsInOrder, State, Step, MayApply}
+use Rattle.exam_theorem.proofs.Words.{is_store_refusal, Told, answer_text, refusal_told, Asks, Request, Choice, Fault}
+use Rattle.exam_theorem.proofs.Words.{choice_in, HttpFault, Follows, IsFailureOf, of_request, AnswersAsked, DoesCommand}
+use Rattle.exam_theorem.proofs.Words.{Serves, Tells, Outcome}
 use Rattle.std.proofs.Common.{◌≡◌, ◌⊎◌, ◌∙◌, ℕ, List, Option, None, Some, refl, sym, ap, subst, inl, inr}
 use Rattle.std.specs.Prelude.{Result, Ok, Err, IsTrue, IsSomeAnd, option_and_then}
 use Rattle.std.specs.Option.{option_map}
-use Rattle.exam_types.specs.declared.refusal.Refusal.{Refusal}
 use Rattle.exam_types.specs.declared.refusal.Refusal.TheVariants as refusal
-use Rattle.exam_commands.specs.declared.command.Command.{Command}
 use Rattle.exam_commands.specs.declared.command.Command.TheVariants as command
-use Rattle.exam_commands.specs.declared.command.Reply.{Reply}
-use Rattle.exam_commands.specs.Good.{IsGood}
-use Rattle.exam_commands.specs.Orders.{IsInOrder}
 use Rattle.exam_commands.specs.Own.{OwnRows, own_of, own_rows}
-use Rattle.exam_commands.specs.State.{State}
-use Rattle.exam_commands.specs.Steps.{Step}
 use Rattle.exam_laws.proofs.OwnLodging.{same_lodging_answer}
 use Rattle.exam_laws.proofs.OwnRetracting.{same_retraction_answer}
-use Rattle.exam_store.specs.Applied.{MayApply}
-use Rattle.exam_tables.specs.Faults.{is_store_refusal}
-use Rattle.exam_request.specs.Answer.{Told, answer_text, ok_told, refusal_told}
-use Rattle.exam_request.specs.Asked.{Asks, Request}
+use Rattle.exam_request.specs.Answer.{ok_told}
 use Rattle.exam_request.specs.Bodies.{page_body}
 use Rattle.exam_request.specs.Choices.{IsBy, IsIdle, IsOwnChoice, candidate_named, choice_of}
-use Rattle.exam_request.specs.declared.choice.Choice.{Choice}
 use Rattle.exam_request.specs.declared.choice.Choice.TheVariants as choice
 use Rattle.exam_request.specs.declared.choice.Named.{Named}
-use Rattle.exam_request.specs.declared.fault.Fault.{Fault}
 use Rattle.exam_http.specs.Alike.{AreAlike, IsFailure as IsFailureTold}
-use Rattle.exam_http.specs.Answering.{TellsReply, choice_in, named_as, named_in, own_named}
-use Rattle.exam_http.specs.declared.serving.HttpFault.{HttpFault}
-use Rattle.exam_theorem.specs.Following.{Follows, IsFailure, IsFailureOf}
+use Rattle.exam_http.specs.Answering.{TellsReply, named_as, named_in, own_named}
+use Rattle.exam_theorem.specs.Following.{IsFailure}
 use Rattle.exam_theorem.specs.Life.{OwnRowsDecide, ShowSame, answer_of}
-use Rattle.exam_theorem.specs.Orders.{of_request}
-use Rattle.exam_theorem.specs.Requests.{AnswersAsked, Does, DoesCommand, Serves, Tells}
+use Rattle.exam_theorem.specs.Requests.{Does}
 use Rattle.exam_theorem.specs.declared.orders.Answered.{Answered}
-use Rattle.exam_theorem.specs.declared.orders.Outcome.{Outcome}
 use Rattle.exam_theorem.specs.declared.orders.Outcome.TheVariants as outcome
 use Rattle.exam_theorem.proofs.OneOffice.{OneAsked}
 

@@ -1,16 +1,9 @@
 -- Orders that pass in turn.
+use Rattle.exam_theorem.proofs.Words.{Ghosts, state, HasCleanDisk, IsSound, OfficeIn, Given, shown, IsAtRest, Outcome}
 use Rattle.std.proofs.Common.{◌≡◌, ◌∙◌, List, [], ◌∷◌, ◌++◌, refl, sym, ap, subst}
 use Rattle.std.specs.Prelude.{map}
-use Rattle.sqlite_trees.specs.declared.store.Store.{Ghosts}
-use Rattle.sqlite.specs.Held.{state}
-use Rattle.sqlite.specs.State.{HasCleanDisk}
-use Rattle.exam_tables.specs.Transactions.{IsSound}
-use Rattle.exam_store.specs.Stores.{OfficeIn}
 use Rattle.exam_theorem.specs.Life.{ArePassed, Passes}
-use Rattle.exam_theorem.specs.Orders.{Given, shown}
-use Rattle.exam_theorem.specs.Resting.{IsAtRest}
 use Rattle.exam_theorem.specs.declared.orders.Order.{Order}
-use Rattle.exam_theorem.specs.declared.orders.Outcome.{Outcome}
 use Rattle.exam_theorem.proofs.Listing.{shown_more}
 
 module _ {S : Type 0} (g : Ghosts S) where

@@ -1,19 +1,17 @@
 -- The line that a call reads, or none.
+use Rattle.exam_theorem.proofs.Words.{Text, Refusal, Command, State, Answers, Said, Line, FollowsCommand, FollowsLine}
+use Rattle.exam_theorem.proofs.Words.{LineEnd, command_of, line_of}
 use Rattle.std.proofs.Common.{◌≡◌, ◌⊎◌, ◌∙◌, ℕ, List, [], ◌∷◌, Option, None, Some, refl, ap, subst, sym, inl, inr}
 use Rattle.std.specs.Prelude.{Result, Ok, Err}
-use Rattle.clap.specs.Words.{IsAmong, Text, fault_of}
+use Rattle.clap.specs.Words.{IsAmong, fault_of}
 use Rattle.clap.specs.declared.error.kind.ErrorKind.{ErrorKind}
-use Rattle.exam_types.specs.declared.refusal.Refusal.{Refusal}
-use Rattle.exam_commands.specs.declared.command.Command.{Command}
-use Rattle.exam_commands.specs.State.{State}
 use Rattle.exam_line.specs.Grammar.{grammar}
 use Rattle.exam_line.specs.Lines as lines
-use Rattle.exam_line.specs.Lines.{Answers, Said, said}
-use Rattle.exam_line.specs.declared.line.Line.{Line}
+use Rattle.exam_line.specs.Lines.{said}
 use Rattle.exam_line.specs.declared.line.LineFault.{LineFault}
 use Rattle.exam_line.specs.declared.line.LineFault.TheVariants.{Help, NoMemory, NotUnderstood, Version}
-use Rattle.exam_theorem.specs.Following.{FollowsCommand, FollowsLine, FollowsWords, LineEnd}
-use Rattle.exam_theorem.specs.Orders.{command_of, line_of, said_unless}
+use Rattle.exam_theorem.specs.Following.{FollowsWords}
+use Rattle.exam_theorem.specs.Orders.{said_unless}
 use Rattle.exam_theorem.specs.declared.orders.LineStop.TheVariants as stop
 
 pub line_is : (words : List Text) (l : Line) → Answers (Ok l) words → line_of words ≡ Some (lines.shown l)

@@ -1,25 +1,19 @@
 -- Why no office is brought to the newest version, or opened then.
+use Rattle.exam_theorem.proofs.Words.{Ghosts, Trees, Database, Held, state, HasCleanDisk, Survives, Refusal}
+use Rattle.exam_theorem.proofs.Words.{ContainsMade, Commits, HasVersion, IsVersion, FailsToFind, OfficeIn, made_of}
+use Rattle.exam_theorem.proofs.Words.{BringsOver}
 use Rattle.std.proofs.Common.{◌≤◌, ◌∷◌, ℕ, IsTrue, inl, inr, subst}
 use Rattle.std.specs.Prelude.{IfErr, Result, Ok, Err}
-use Rattle.sqlite_trees.specs.declared.store.Store.{Ghosts}
-use Rattle.sqlite_trees.specs.Tree.{Trees}
-use Rattle.sqlite.specs.Effect.{Database}
-use Rattle.sqlite.specs.Held.{Held, state}
-use Rattle.sqlite.specs.State.{HasCleanDisk, IsUnchanged, Survives}
-use Rattle.exam_types.specs.declared.refusal.Refusal.{Refusal}
-use Rattle.exam_sql.specs.Made.{ContainsMade}
+use Rattle.sqlite.specs.State.{IsUnchanged}
 use Rattle.exam_sql.specs.Texts.{held_texts, load_office}
 use Rattle.exam_tables.specs.Loaded.{AreUnderstood, FailsThen, FailsToLoad, IsLoadRefusal}
 use Rattle.exam_tables.specs.OurTables.{office_loads}
-use Rattle.exam_tables.specs.Transactions.{Commits}
-use Rattle.exam_tables.specs.Versions.{HasVersion, IsVersion}
 use Rattle.exam_tables.proofs.Creating.{made_later}
 use Rattle.exam_tables.proofs.Leaving.{still_itself, still_then}
 use Rattle.exam_tables.proofs.Refusing.{part_failed}
-use Rattle.exam_store.specs.Found.{FailsToFind, FailsToMigrate}
-use Rattle.exam_store.specs.Stores.{OfficeIn}
-use Rattle.exam_store.proofs.Marking.{made_of, still_made, still_of}
-use Rattle.exam_theorem.specs.Resting.{BringsOver, FailsToCarry}
+use Rattle.exam_store.specs.Found.{FailsToMigrate}
+use Rattle.exam_store.proofs.Marking.{still_made, still_of}
+use Rattle.exam_theorem.specs.Resting.{FailsToCarry}
 
 module _ {S : Type 0} (g : Ghosts S) where
   -- no version was read

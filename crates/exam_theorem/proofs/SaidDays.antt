@@ -1,35 +1,30 @@
 -- The days that a command line and an import file say lie between 2000-01-01 and 2199-12-31.
+use Rattle.exam_theorem.proofs.Words.{Text, IsDay, Refusal, Code, Command, Kind, ImportRows, import_of, Answers, Line}
+use Rattle.exam_theorem.proofs.Words.{HasRowDays, command_of, import_command}
 use Rattle.std.proofs.Common.{◌≡◌, ◌+◌, ◌&&◌, ◌++◌, ◌==◌, All, ℕ, Bool, true, false, if◌then◌else◌, List, []}
 use Rattle.std.proofs.Common.{◌∷◌, Option, None, Some, nat_le, length, arith, refl, subst}
 use Rattle.std.specs.Prelude.{Result, Ok, Err, bytes_eq, codes, option_and_then}
 use Rattle.std.specs.Option.{option_map}
 use Rattle.std.proofs.lemmas.List.Elements.{All-nil, All-push}
-use Rattle.clap.specs.Words.{Text, Row as WordRow, first_of, matches_of, subcommand_of}
+use Rattle.clap.specs.Words.{Row as WordRow, first_of, matches_of, subcommand_of}
 use Rattle.csv.specs.Reading.{default_config, records, strip_bom}
 use Rattle.exam_types.specs.Codes.{is_access_code, is_hall_code, is_paper_code, is_session_code}
-use Rattle.exam_types.specs.Days.{IsDay, day_of, day_text, is_day, session_day_in, spelled_day}
+use Rattle.exam_types.specs.Days.{day_of, day_text, is_day, session_day_in, spelled_day}
 use Rattle.exam_types.specs.Features.{features_in}
 use Rattle.exam_types.specs.Numbers.{desks_in, extra_in, minutes_in, number_in, start_in, until_in}
 use Rattle.exam_types.specs.Texts.{is_name}
-use Rattle.exam_types.specs.declared.refusal.Refusal.{Refusal}
 use Rattle.exam_types.specs.declared.refusal.Refusal.TheVariants.{BadHeader, BadRow, RowConflict, TooMany}
-use Rattle.exam_rules.specs.Relations.{Code}
-use Rattle.exam_commands.specs.declared.command.Command.{Command}
 use Rattle.exam_commands.specs.declared.command.Command.TheVariants as command
-use Rattle.exam_commands.specs.declared.import_row.Kind.{Kind}
 use Rattle.exam_commands.specs.declared.import_row.Kind.TheVariants as kind
 use Rattle.exam_commands.specs.declared.import_row.Row.{Row}
 use Rattle.exam_commands.specs.declared.import_row.Row.TheVariants as row
-use Rattle.exam_commands.specs.Imports.{ImportRows, conflicts}
-use Rattle.exam_files.specs.ImportFiles.{and_then, field, flag_in, header_of, import_of, is_header, is_too_long, row_of}
+use Rattle.exam_commands.specs.Imports.{conflicts}
+use Rattle.exam_files.specs.ImportFiles.{and_then, field, flag_in, header_of, is_header, is_too_long, row_of}
 use Rattle.exam_files.specs.ImportFiles.{row_of_kind, rows_from, rows_in, rows_of, text_in, value_at}
 use Rattle.exam_line.specs.Grammar.{grammar}
 use Rattle.exam_line.specs.Lines as line
-use Rattle.exam_line.specs.Lines.{Answers}
-use Rattle.exam_line.specs.declared.line.Line.{Line}
-use Rattle.exam_store.specs.Stops.{HasRowDay, HasRowDays}
+use Rattle.exam_store.specs.Stops.{HasRowDay}
 use Rattle.exam_theorem.specs.Life.{HasJobDays}
-use Rattle.exam_theorem.specs.Orders.{command_of, import_command}
 use Rattle.exam_theorem.proofs.SettledOrders.{GivesDays}
 
 -- ---- the text of a day

@@ -1,32 +1,18 @@
 -- A request that is served over the office in a store is followed.
+use Rattle.exam_theorem.proofs.Words.{Database, state, Ghosts, Refusal, Command, Reply, State, IsSound, Keeps, OfficeIn}
+use Rattle.exam_theorem.proofs.Words.{Told, answer_text, Request, Choice, Fault, choice_in, HttpFault, Read, Write}
+use Rattle.exam_theorem.proofs.Words.{KeepsOn, AnswersAsked, DoesCommand, Serves, Tells}
 use Rattle.std.proofs.Common.{◌≡◌, ◌∙◌, ℕ, List, [], ◌++◌, Option, Some, sym, ap, subst, inl, inr}
 use Rattle.std.specs.Prelude.{Result, Ok, Err}
 use Rattle.std.specs.Io.KnownBytes.{Appends}
-use Rattle.sqlite.specs.Effect.{Database}
-use Rattle.sqlite.specs.Held.{state}
-use Rattle.sqlite_trees.specs.declared.store.Store.{Ghosts}
-use Rattle.exam_types.specs.declared.refusal.Refusal.{Refusal}
-use Rattle.exam_commands.specs.declared.command.Command.{Command}
 use Rattle.exam_commands.specs.declared.command.Command.TheVariants as command
-use Rattle.exam_commands.specs.declared.command.Reply.{Reply}
-use Rattle.exam_commands.specs.State.{State}
-use Rattle.exam_tables.specs.Transactions.{IsSound}
 use Rattle.exam_store.specs.Applied.{IsApplied}
-use Rattle.exam_store.specs.Kept.{Keeps, Rekeeps}
-use Rattle.exam_store.specs.Stores.{OfficeIn}
+use Rattle.exam_store.specs.Kept.{Rekeeps}
 use Rattle.exam_send.specs.Sending.{AppendsPart}
-use Rattle.exam_request.specs.Answer.{Told, answer_text}
-use Rattle.exam_request.specs.Asked.{Request}
-use Rattle.exam_request.specs.declared.choice.Choice.{Choice}
 use Rattle.exam_request.specs.declared.choice.Choice.TheVariants as choice
-use Rattle.exam_request.specs.declared.fault.Fault.{Fault}
 use Rattle.exam_http.specs.Answering as http
-use Rattle.exam_http.specs.Answering.{choice_in}
 use Rattle.exam_http.specs.Serving as serving
-use Rattle.exam_http.specs.declared.serving.HttpFault.{HttpFault}
-use Rattle.exam_http.specs.declared.serving.HttpFault.TheVariants.{Read, Write}
-use Rattle.exam_theorem.specs.Keeping.{KeepsOn}
-use Rattle.exam_theorem.specs.Requests.{AnswersAsked, Does, DoesCommand, IsPart, Serves, Tells}
+use Rattle.exam_theorem.specs.Requests.{Does, IsPart}
 use Rattle.exam_theorem.proofs.KeptOffice.{committed, unchanged}
 use Rattle.exam_theorem.proofs.OneOffice.{OneResult}
 

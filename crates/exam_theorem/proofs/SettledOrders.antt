@@ -1,45 +1,25 @@
 -- What a line or a request makes of an office in a store that is at rest.
+use Rattle.exam_theorem.proofs.Words.{Ghosts, IsDay, Refusal, Code, Command, Reply, Kind, ImportRows, State, import_of}
+use Rattle.exam_theorem.proofs.Words.{Job, Sheet, is_store_refusal, HasRowDays, OfficeIn, Told, answer_text}
+use Rattle.exam_theorem.proofs.Words.{refusal_told, Asks, Request, Choice, Fault, choice_in, HttpFault, Read, Write}
+use Rattle.exam_theorem.proofs.Words.{Does, JobFault, FollowsCommand, IsFailureOf, LineEnd, is_failure, told, KeepsOn}
+use Rattle.exam_theorem.proofs.Words.{command_of, import_command, Tells, Settles}
 use Rattle.std.proofs.Common.{◌≡◌, ℕ, List, [], Option, None, Some, refl, sym, subst, inl, inr}
 use Rattle.std.specs.Prelude.{Result, Ok, Err, IsTrue}
 use Rattle.std.specs.Io.KnownBytes.{Appends}
-use Rattle.sqlite_trees.specs.declared.store.Store.{Ghosts}
-use Rattle.exam_types.specs.Days.{IsDay}
-use Rattle.exam_types.specs.declared.refusal.Refusal.{Refusal}
 use Rattle.exam_types.specs.declared.refusal.Refusal.TheVariants as refusal
-use Rattle.exam_rules.specs.Relations.{Code}
-use Rattle.exam_commands.specs.declared.command.Command.{Command}
 use Rattle.exam_commands.specs.declared.command.Command.TheVariants as command
-use Rattle.exam_commands.specs.declared.command.Reply.{Reply}
-use Rattle.exam_commands.specs.declared.import_row.Kind.{Kind}
-use Rattle.exam_commands.specs.Imports.{ImportRows}
-use Rattle.exam_commands.specs.State.{State}
-use Rattle.exam_files.specs.ImportFiles.{import_of}
-use Rattle.exam_line.specs.Lines.{Job}
 use Rattle.exam_line.specs.Lines as line
-use Rattle.exam_line.specs.declared.line.Sheet.{Sheet}
 use Rattle.exam_line.specs.declared.line.Sheet.TheVariants as sheet
-use Rattle.exam_tables.specs.Faults.{is_store_refusal}
-use Rattle.exam_store.specs.Stops.{HasRowDays}
-use Rattle.exam_store.specs.Stores.{OfficeIn}
-use Rattle.exam_request.specs.Answer.{Told, answer_text, refusal_told, state_told}
-use Rattle.exam_request.specs.Asked.{Asks, Request}
-use Rattle.exam_request.specs.declared.choice.Choice.{Choice}
+use Rattle.exam_request.specs.Answer.{state_told}
 use Rattle.exam_request.specs.declared.choice.Choice.TheVariants as choice
-use Rattle.exam_request.specs.declared.fault.Fault.{Fault}
 use Rattle.exam_http.specs.Alike.{IsFailure as IsFailureTold}
 use Rattle.exam_http.specs.Answering as http
-use Rattle.exam_http.specs.Answering.{choice_in, state_after}
+use Rattle.exam_http.specs.Answering.{state_after}
 use Rattle.exam_http.specs.Serving as serving
-use Rattle.exam_http.specs.declared.serving.HttpFault.{HttpFault}
-use Rattle.exam_http.specs.declared.serving.HttpFault.TheVariants.{Read, Write}
-use Rattle.exam_job.specs.Jobs.{Commands, Does, Imports, ImportsFile, TellsReply, denoted, unread, short}
-use Rattle.exam_job.specs.declared.report.JobFault.{JobFault}
+use Rattle.exam_job.specs.Jobs.{Commands, Imports, ImportsFile, TellsReply, denoted, unread, short}
 use Rattle.exam_job.specs.declared.report.JobFault.TheVariants.{Refused}
-use Rattle.exam_theorem.specs.Following.{FollowsCommand, IsFailureOf, LineEnd, is_failure, told}
-use Rattle.exam_theorem.specs.Keeping.{KeepsOn}
-use Rattle.exam_theorem.specs.Orders.{command_of, import_command}
-use Rattle.exam_theorem.specs.Requests.{Does as DoesIn, Tells}
-use Rattle.exam_theorem.specs.Resting.{Settles}
+use Rattle.exam_theorem.specs.Requests.{Does as DoesIn}
 use Rattle.exam_theorem.proofs.OneOffice.{OneResult}
 use Rattle.exam_theorem.proofs.Settling.{DaysStay, IsSettled, applied_settles, reading_settles, unchanged_settles}
 

@@ -1,18 +1,10 @@
 -- A sheet leaves an office in a store as it is.
+use Rattle.exam_theorem.proofs.Words.{Ghosts, Code, Job, Sheet, OfficeIn, Does, JobFault, KeepsOn, sheet_of}
 use Rattle.std.proofs.Common.{◌≡◌, ℕ, true, List, Option, Result}
 use Rattle.std.specs.Prelude.{is_some}
-use Rattle.sqlite_trees.specs.declared.store.Store.{Ghosts}
-use Rattle.exam_rules.specs.Relations.{Code}
-use Rattle.exam_line.specs.Lines.{Job}
 use Rattle.exam_line.specs.Lines as line
-use Rattle.exam_line.specs.declared.line.Sheet.{Sheet}
 use Rattle.exam_line.specs.declared.line.Sheet.TheVariants as sheet
-use Rattle.exam_store.specs.Stores.{OfficeIn}
-use Rattle.exam_job.specs.Jobs.{Does}
-use Rattle.exam_job.specs.declared.report.JobFault.{JobFault}
-use Rattle.exam_theorem.specs.Keeping.{KeepsOn}
 use Rattle.exam_theorem.specs.Life.{Stays}
-use Rattle.exam_theorem.specs.Orders.{sheet_of}
 use Rattle.exam_theorem.proofs.Settling.{IsSettled, reading_settles, unchanged_settles}
 use Rattle.exam_theorem.proofs.Sheets.{job_keeps}
 

@@ -1,27 +1,13 @@
 -- What calls make of an office in a store that is at rest.
+use Rattle.exam_theorem.proofs.Words.{Ghosts, Trees, Database, Held, state, HasCleanDisk, Survives, IsDay, Refusal}
+use Rattle.exam_theorem.proofs.Words.{Command, Reply, IsInOrder, State, Step, is_store_refusal, IsSound, Keeps, HasDays}
+use Rattle.exam_theorem.proofs.Words.{HasRowDays, OfficeIn, KeepsIt, KeepsOn, HasOffice, IsAtRest, Settles}
 use Rattle.std.proofs.Common.{◌≡◌, ◌⊎◌, ◌∙◌, ℕ, inl, inr, arith, refl, sym, ap, subst}
 use Rattle.std.specs.Prelude.{Result, Ok, Err, IsTrue}
-use Rattle.sqlite_trees.specs.declared.store.Store.{Ghosts}
-use Rattle.sqlite_trees.specs.Tree.{Trees}
-use Rattle.sqlite.specs.Effect.{Database}
-use Rattle.sqlite.specs.Held.{Held, state}
-use Rattle.sqlite.specs.State.{HasCleanDisk, Survives}
-use Rattle.exam_types.specs.Days.{IsDay}
-use Rattle.exam_types.specs.declared.refusal.Refusal.{Refusal}
 use Rattle.exam_rules.specs.Relations.{Relations}
-use Rattle.exam_commands.specs.declared.command.Command.{Command}
-use Rattle.exam_commands.specs.declared.command.Reply.{Reply}
-use Rattle.exam_commands.specs.Orders.{IsInOrder}
-use Rattle.exam_commands.specs.State.{State}
-use Rattle.exam_commands.specs.Steps.{Step, StepTo, change}
-use Rattle.exam_tables.specs.Faults.{is_store_refusal}
-use Rattle.exam_tables.specs.Transactions.{IsSound}
+use Rattle.exam_commands.specs.Steps.{StepTo, change}
 use Rattle.exam_store.specs.Applied.{IsApplied}
-use Rattle.exam_store.specs.Kept.{Keeps}
-use Rattle.exam_store.specs.Stops.{HasDays, HasRowDays}
-use Rattle.exam_store.specs.Stores.{OfficeIn}
-use Rattle.exam_theorem.specs.Keeping.{KeepsIt, KeepsOn}
-use Rattle.exam_theorem.specs.Resting.{HasOffice, IsAtRest, LeavesOffice, Rests, Settles}
+use Rattle.exam_theorem.specs.Resting.{LeavesOffice, Rests}
 use Rattle.exam_theorem.proofs.Having.{keeps_has}
 use Rattle.exam_theorem.proofs.OneOffice.{OneResult}
 

@@ -1,22 +1,12 @@
 -- A sheet is printed of an office, which is kept.
+use Rattle.exam_theorem.proofs.Words.{Ghosts, Code, State, Job, Sheet, OfficeIn, Does, JobFault, told, KeepsOn}
+use Rattle.exam_theorem.proofs.Words.{sheet_of, PrintsAsked}
 use Rattle.std.proofs.Common.{◌≡◌, ℕ, true, List, Option, Some, Result, refl, sym, ap, subst, inr}
 use Rattle.std.specs.Prelude.{is_some}
-use Rattle.sqlite_trees.specs.declared.store.Store.{Ghosts}
-use Rattle.exam_rules.specs.Relations.{Code}
-use Rattle.exam_commands.specs.State.{State}
 use Rattle.exam_files.specs.OfficeSheets.{register_of}
-use Rattle.exam_line.specs.Lines.{Job}
 use Rattle.exam_line.specs.Lines as line
-use Rattle.exam_line.specs.declared.line.Sheet.{Sheet}
 use Rattle.exam_line.specs.declared.line.Sheet.TheVariants as sheet
-use Rattle.exam_store.specs.Stores.{OfficeIn}
-use Rattle.exam_job.specs.Jobs.{Does}
 use Rattle.exam_job.specs.Sheets.{BreaksOff, PrintsAppeals, PrintsSheet, Streams}
-use Rattle.exam_job.specs.declared.report.JobFault.{JobFault}
-use Rattle.exam_theorem.specs.Following.{told}
-use Rattle.exam_theorem.specs.Keeping.{KeepsOn}
-use Rattle.exam_theorem.specs.Orders.{sheet_of}
-use Rattle.exam_theorem.specs.Printing.{PrintsAsked}
 use Rattle.exam_theorem.proofs.KeptOffice.{read_alone, unchanged}
 
 module _ {S W : Type 0} (g : Ghosts S) (contents : W → Option (List ℕ)) (today : ℕ) (input rest : Option (List ℕ))

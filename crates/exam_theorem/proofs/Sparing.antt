@@ -1,33 +1,20 @@
 -- Whom a line costs a seat, and that a request costs nobody one.
+use Rattle.exam_theorem.proofs.Words.{Text, Refusal, Code, Command, Reply, IsGood, IsInOrder, State, Step, Said, Told}
+use Rattle.exam_theorem.proofs.Words.{Request, Choice, Fault, MayApply, choice_in, HttpFault, Read, Write}
+use Rattle.exam_theorem.proofs.Words.{FollowsCommand, FollowsLine, LineEnd, command_of, line_of, of_line, of_request}
+use Rattle.exam_theorem.proofs.Words.{AnswersAsked, Serves}
 use Rattle.std.proofs.Common.{◌≡◌, ℕ, List, Option, None, Some, sym, ap, subst, inl, inr}
 use Rattle.std.specs.Prelude.{Result, Ok, Err, IsSome}
-use Rattle.clap.specs.Words.{Text}
-use Rattle.exam_types.specs.declared.refusal.Refusal.{Refusal}
 use Rattle.exam_plan.specs.Matching.{Keeps, Plan, Seating}
-use Rattle.exam_rules.specs.Relations.{Code, Relations}
+use Rattle.exam_rules.specs.Relations.{Relations}
 use Rattle.exam_rules.specs.Seatings.{plan_of, seating}
-use Rattle.exam_commands.specs.declared.command.Command.{Command}
 use Rattle.exam_commands.specs.declared.command.Command.TheVariants as command
 use Rattle.exam_commands.specs.declared.command.Lodging.{Lodging}
-use Rattle.exam_commands.specs.declared.command.Reply.{Reply}
-use Rattle.exam_commands.specs.Good.{IsGood}
-use Rattle.exam_commands.specs.Orders.{IsInOrder}
-use Rattle.exam_commands.specs.State.{State}
-use Rattle.exam_commands.specs.Steps.{SeatsOn, Step, StepTo, change}
-use Rattle.exam_line.specs.Lines.{Said}
-use Rattle.exam_request.specs.Answer.{Told}
-use Rattle.exam_request.specs.Asked.{Request}
-use Rattle.exam_request.specs.declared.choice.Choice.{Choice}
+use Rattle.exam_commands.specs.Steps.{SeatsOn, StepTo, change}
 use Rattle.exam_request.specs.declared.choice.Choice.TheVariants as choice
-use Rattle.exam_request.specs.declared.fault.Fault.{Fault}
-use Rattle.exam_store.specs.Applied.{MayApply}
-use Rattle.exam_http.specs.Answering.{choice_in}
-use Rattle.exam_http.specs.declared.serving.HttpFault.{HttpFault}
-use Rattle.exam_http.specs.declared.serving.HttpFault.TheVariants.{Read, Write}
-use Rattle.exam_theorem.specs.Following.{FollowsCommand, FollowsLine, FollowsWords, LineEnd, Spares}
-use Rattle.exam_theorem.specs.Orders.{CommandMayUnseat, GivenMayUnseat, LineMayUnseat, command_of, line_of, of_line}
-use Rattle.exam_theorem.specs.Orders.{of_request}
-use Rattle.exam_theorem.specs.Requests.{AnswersAsked, Does, Serves}
+use Rattle.exam_theorem.specs.Following.{FollowsWords, Spares}
+use Rattle.exam_theorem.specs.Orders.{CommandMayUnseat, GivenMayUnseat, LineMayUnseat}
+use Rattle.exam_theorem.specs.Requests.{Does}
 
 -- nobody leaves a seat where all plans stay
 seats_stay : (Excepted : ℕ → Type 0) (before after : State) → after.seats ≡ before.seats → (s : Code)

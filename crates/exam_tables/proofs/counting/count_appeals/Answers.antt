@@ -1,5 +1,5 @@
+use Rattle.exam_tables.proofs.Words.{deref_pair}
 use Rattle.std.proofs.Common.{arith}
-use Rattle.std.specs.Map.Iter.{deref_pair}
 use Rattle.std.proofs.lemmas.Map.Iter.{rest_more}
 use Rattle.exam_tables.proofs.Counted.{still_fits}
 use Rattle.exam_tables.proofs.counting.count_appeals.Goals as goal

@@ -1,5 +1,5 @@
+use Rattle.exam_tables.proofs.Words.{deref_pair}
 use Rattle.std.proofs.Common.{sym, ◌∙◌}
-use Rattle.std.specs.Map.Iter.{deref_pair}
 use Rattle.std.proofs.lemmas.Map.Iter.{rest_more}
 use Rattle.exam_tables.proofs.FirstFrom.{one_found, one_passed}
 use Rattle.exam_tables.proofs.counting.first_appeal.Goals as goal

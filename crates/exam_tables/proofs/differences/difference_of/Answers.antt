@@ -1,5 +1,5 @@
+use Rattle.exam_tables.proofs.Words.{deref_pair}
 use Rattle.std.proofs.Common.{ap, subst₂, map, ◌∙◌}
-use Rattle.std.specs.Map.Iter.{deref_pair}
 use Rattle.std.proofs.lemmas.Result.{IfOk-weaker}
 use Rattle.exam_tables.specs.Differences.{Differs}
 use Rattle.exam_tables.proofs.Turning.{differs_turns}

@@ -1,7 +1,7 @@
 -- Both lists rise, so the lesser of the two heads is gone or new, and equal heads differ or not. What was walked so
 -- far is differed; each turn shortens a list.
+use Rattle.exam_tables.proofs.Words.{deref_pair}
 use Rattle.std.proofs.Common.{map, sym, ap, ◌∙◌}
-use Rattle.std.specs.Map.Iter.{deref_pair}
 use Rattle.exam_tables.proofs.Differing.{refs_delete, refs_put, refs_pass, refs_change}
 use Rattle.exam_tables.proofs.differences.merge.Goals as goal
 use Rattle.exam_tables.proofs.differences.merge.Goals.{then-ne+in_ok-push-in-Equal, else-ne}

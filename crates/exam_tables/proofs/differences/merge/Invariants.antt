@@ -1,5 +1,5 @@
+use Rattle.exam_tables.proofs.Words.{deref_pair}
 use Rattle.std.proofs.Common.{◌+◌, length, map}
-use Rattle.std.specs.Map.Iter.{deref_pair}
 use Rattle.exam_tables.proofs.Differing.{IsWalked}
 use Rattle.exam_tables.proofs.differences.merge.Given as goal
 

@@ -1,12 +1,11 @@
 -- The key finds one row or none, since no two rows have it. Where the query fails, that is the reason.
+use Rattle.exam_tables.proofs.Words.{state, FailsToQuery, Shown, survives_weaker, failed_unchanged, shown_unchanged}
+use Rattle.exam_tables.proofs.Words.{KeyedAppeal}
 use Rattle.std.proofs.Common.{arith, ◌∙◌}
-use Rattle.sqlite.specs.Held.{state}
-use Rattle.sqlite.specs.State.{FailsToQuery, Shown}
-use Rattle.sqlite.proofs.StateLemmas.{survives_weaker}
 use Rattle.exam_sql.specs.Texts.{find_appeal}
 use Rattle.exam_sql.proofs.OneAppeal.{find_is_query}
-use Rattle.exam_sql.proofs.Quiet.{commits_nothing, failed_unchanged, shown_unchanged}
-use Rattle.exam_tables.specs.Appeals.{KeyedAppeal, appeal_key}
+use Rattle.exam_sql.proofs.Quiet.{commits_nothing}
+use Rattle.exam_tables.specs.Appeals.{appeal_key}
 use Rattle.exam_tables.proofs.OneByOne.{not_confirmed, query_failed, shown_alone}
 use Rattle.exam_tables.proofs.Leaving.{reads_only}
 use Rattle.exam_tables.proofs.Steps.{passed}

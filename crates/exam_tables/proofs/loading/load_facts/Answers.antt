@@ -1,10 +1,11 @@
 -- Each table is read of the rows that the one before found, since reading changes none. Once the first is read, the
 -- connection is open.
+use Rattle.exam_tables.proofs.Words.{table_part}
 use Rattle.std.proofs.Common.{◌≡◌, Ok, Err, inl, inr, rules}
 use Rattle.exam_rules.specs.Tables as table
 use Rattle.exam_tables.specs.Forms.{sessions}
 use Rattle.exam_tables.specs.OurTables.{sessions_ours}
-use Rattle.exam_tables.specs.Parts.{facts_part, table_part}
+use Rattle.exam_tables.specs.Parts.{facts_part}
 use Rattle.exam_tables.proofs.PartByPart.{all_load, by_queries, loaded_as, next_fails, not_loaded, opened}
 use Rattle.exam_tables.proofs.loading.load_facts.Goals as goal
 

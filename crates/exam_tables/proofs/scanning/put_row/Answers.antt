@@ -1,6 +1,6 @@
 -- A row that cannot be read belongs to no table; one that can is added, unless its key is there.
+use Rattle.exam_tables.proofs.Words.{IfErr-weaker}
 use Rattle.std.proofs.Common.{◌≡◌, Err, inl, inr, rules}
-use Rattle.std.proofs.lemmas.Result.{IfErr-weaker}
 use Rattle.exam_tables.proofs.Reading.{found}
 use Rattle.exam_tables.proofs.RowByRow.{no_form_begins, no_key_begins, on_ok, one_more_row}
 use Rattle.exam_tables.proofs.scanning.put_row.Goals as goal

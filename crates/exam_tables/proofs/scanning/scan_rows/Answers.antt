@@ -1,8 +1,7 @@
 -- The map holds the rows that were stepped over so far, and the query has the rest to come. It ends with all of them,
 -- or at the first row that no table has.
+use Rattle.exam_tables.proofs.Words.{state, HasCleanDisk}
 use Rattle.std.proofs.Common.{◌≡◌, Ok, Err, Some, None, refl, arith, rules}
-use Rattle.sqlite.specs.Held.{state}
-use Rattle.sqlite.specs.State.{HasCleanDisk}
 use Rattle.exam_tables.proofs.RowByRow.{end_scans, err_scans, none_scanned, none_scans, scans_since, survives_itself}
 use Rattle.exam_tables.proofs.scanning.scan_rows.Goals as goal
 

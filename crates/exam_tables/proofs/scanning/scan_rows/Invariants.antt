@@ -1,7 +1,6 @@
+use Rattle.exam_tables.proofs.Words.{state, HasCleanDisk, Survives}
 use Rattle.std.proofs.Common.{◌≡◌, []}
 use Rattle.sqlite.specs.Given.{HasGiven}
-use Rattle.sqlite.specs.Held.{state}
-use Rattle.sqlite.specs.State.{HasCleanDisk, Survives}
 use Rattle.exam_tables.proofs.RowByRow.{HasScanned}
 use Rattle.exam_tables.proofs.scanning.scan_rows.Given as goal
 

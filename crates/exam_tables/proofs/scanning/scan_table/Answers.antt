@@ -1,7 +1,7 @@
 -- The query gives the rows of the database as they are; what the scan makes of them is the table, or none.
+use Rattle.exam_tables.proofs.Words.{state, HasCleanDisk, Survives}
 use Rattle.std.proofs.Common.{◌≡◌, [], Err, arith, rules}
-use Rattle.sqlite.specs.Held.{state}
-use Rattle.sqlite.specs.State.{CommitsShowing, HasCleanDisk, Survives}
+use Rattle.sqlite.specs.State.{CommitsShowing}
 use Rattle.exam_sql.proofs.Quiet.{begun}
 use Rattle.exam_tables.specs.Scanned.{Scans}
 use Rattle.exam_tables.proofs.Leaving.{both_survive, query_survives}

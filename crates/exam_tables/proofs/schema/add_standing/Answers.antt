@@ -1,6 +1,5 @@
+use Rattle.exam_tables.proofs.Words.{state, HasOlder, HasRuled, Leads}
 use Rattle.std.proofs.Common.{Ok, sym, subst}
-use Rattle.sqlite.specs.Held.{state}
-use Rattle.exam_tables.specs.Versions.{HasOlder, HasRuled, Leads}
 use Rattle.exam_tables.proofs.Creating.{leads_itself}
 use Rattle.exam_tables.proofs.schema.add_standing.Goals as goal
 

@@ -1,5 +1,5 @@
+use Rattle.exam_tables.proofs.Words.{state}
 use Rattle.std.proofs.Common.{[]}
-use Rattle.sqlite.specs.Held.{state}
 use Rattle.exam_sql.proofs.Constant.{only_fails}
 use Rattle.exam_tables.proofs.schema.ask_nothing.Goals as goal
 

@@ -1,10 +1,9 @@
 -- The tables of the statements run so far are made, and have no rows. Each statement makes the next one.
+use Rattle.exam_tables.proofs.Words.{state, made, HasNoRows, Leads}
 use Rattle.std.proofs.Common.{◌≡◌, ◌<◌, ◌+◌, Ok, Err, arith, get_or, refl, subst, ◌∙◌, rules}
-use Rattle.sqlite.specs.Held.{state}
 use Rattle.exam_sql.specs.Tables as tables
-use Rattle.exam_sql.specs.Tables.{first_tables, made}
+use Rattle.exam_sql.specs.Tables.{first_tables}
 use Rattle.exam_sql.proofs.AllTables.{each_added}
-use Rattle.exam_tables.specs.Versions.{HasNoRows, Leads}
 use Rattle.exam_tables.proofs.Creating.{are_ten, each_text, leads_itself, leads_refused, leads_then, table_leads}
 use Rattle.exam_tables.proofs.schema.create_first.Goals as goal
 

@@ -1,7 +1,5 @@
+use Rattle.exam_tables.proofs.Words.{state, made, HasNoRows, Leads}
 use Rattle.std.proofs.Common.{◌≡◌, Ok}
-use Rattle.sqlite.specs.Held.{state}
-use Rattle.exam_sql.specs.Tables.{made}
-use Rattle.exam_tables.specs.Versions.{HasNoRows, Leads}
 use Rattle.exam_tables.proofs.schema.create_first.Given as goal
 
 abbrev pub invariant-texts : goal.invariant-texts

@@ -1,10 +1,9 @@
+use Rattle.exam_tables.proofs.Words.{state, HasFirst, HasRuled}
 use Rattle.std.proofs.Common.{Ok, []}
-use Rattle.sqlite.specs.Held.{state}
 use Rattle.exam_sql.specs.Tables as tables
 use Rattle.exam_sql.proofs.AllTables.{standing_added}
 use Rattle.exam_sql.proofs.Making.{adding_fails, adds_soundly, adds_table}
 use Rattle.exam_sql.proofs.VersionFails.{sound_rules}
-use Rattle.exam_tables.specs.Versions.{HasFirst, HasRuled}
 use Rattle.exam_tables.proofs.Creating.{leads_by, limited, no_marks}
 use Rattle.exam_tables.proofs.schema.create_standing.Goals as goal
 

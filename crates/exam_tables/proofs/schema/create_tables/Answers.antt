@@ -1,7 +1,6 @@
+use Rattle.exam_tables.proofs.Words.{state, made, HasFirst, HasNoRows, IsBlank}
 use Rattle.std.proofs.Common.{◌≡◌, [], Ok, Err, refl, rules}
-use Rattle.sqlite.specs.Held.{state}
-use Rattle.exam_sql.specs.Tables.{made}
-use Rattle.exam_tables.specs.Versions.{HasFirst, HasNoRows, IsBlank, IsMade}
+use Rattle.exam_tables.specs.Versions.{IsMade}
 use Rattle.exam_tables.proofs.Creating.{blank_is_empty, first_is_empty, leads_from, leads_then, leads_refused}
 use Rattle.exam_tables.proofs.schema.create_tables.Goals as goal
 

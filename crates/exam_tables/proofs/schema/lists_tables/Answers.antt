@@ -1,6 +1,7 @@
+use Rattle.exam_tables.proofs.Words.{lists_marks}
 use Rattle.std.proofs.Common.{◌≡◌, true, false, sym, ◌∙◌}
 use Rattle.std.specs.List.{list_all}
-use Rattle.exam_sql.specs.Made.{first_names, is_table, lists_marks}
+use Rattle.exam_sql.specs.Made.{first_names, is_table}
 use Rattle.exam_sql.proofs.Listed.{listed_if_free, listed_with_marks, not_listed}
 use Rattle.exam_tables.proofs.schema.lists_tables.Goals as goal
 

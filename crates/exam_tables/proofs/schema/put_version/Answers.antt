@@ -1,8 +1,8 @@
+use Rattle.exam_tables.proofs.Words.{state, HasRuled}
 use Rattle.std.proofs.Common.{pos, Ok, [], ◌∷◌, lit<}
 use Rattle.sqlite_value.specs.declared.value.Value.TheVariants.{Int}
-use Rattle.sqlite.specs.Held.{state}
 use Rattle.exam_sql.proofs.OfOffice as office
-use Rattle.exam_tables.specs.Versions.{HasNewest, HasRuled, version}
+use Rattle.exam_tables.specs.Versions.{HasNewest, version}
 use Rattle.exam_tables.proofs.Creating.{leads_by, version_refused}
 use Rattle.exam_tables.proofs.Steps.{passed}
 use Rattle.exam_tables.proofs.schema.put_version.Goals as goal

@@ -1,12 +1,11 @@
 -- The names are those of tables or no query is asked. Where they are, the one row of `office` has the version; a
 -- version that no record has is none.
+use Rattle.exam_tables.proofs.Words.{IfErr-weaker, state, shown_unchanged, failed_unchanged}
 use Rattle.std.proofs.Common.{◌≡◌, Err, [], arith, rules, inl, inr, refl, sym, ◌∙◌}
-use Rattle.std.proofs.lemmas.Result.{IfOk-weaker, IfErr-weaker}
-use Rattle.sqlite.specs.Held.{state}
+use Rattle.std.proofs.lemmas.Result.{IfOk-weaker}
 use Rattle.exam_sql.specs.Texts.{load_office}
 use Rattle.exam_sql.proofs.Loads.{load_fails, shown_by}
 use Rattle.exam_sql.proofs.OfOffice as office
-use Rattle.exam_sql.proofs.Quiet.{shown_unchanged, failed_unchanged}
 use Rattle.exam_tables.proofs.Asking.{asks_as_load, asks_left, asks_not_bad, never_unlisted, ok_listed, unlisted_none}
 use Rattle.exam_tables.proofs.Leaving.{bad_unchanged, query_survives, reads_only, shown_understood, understood_still}
 use Rattle.exam_tables.proofs.Leaving.{fails_to_load}

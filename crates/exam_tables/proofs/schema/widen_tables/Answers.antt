@@ -1,6 +1,6 @@
+use Rattle.exam_tables.proofs.Words.{state, HasOlder, HasRuled}
 use Rattle.std.proofs.Common.{◌≡◌, Err, rules}
-use Rattle.sqlite.specs.Held.{state}
-use Rattle.exam_tables.specs.Versions.{HasOlder, HasNewest, HasRuled}
+use Rattle.exam_tables.specs.Versions.{HasNewest}
 use Rattle.exam_tables.proofs.Creating.{leads_then, leads_refused}
 use Rattle.exam_tables.proofs.schema.widen_tables.Goals as goal
 

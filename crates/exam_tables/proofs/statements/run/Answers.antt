@@ -1,16 +1,13 @@
+use Rattle.exam_tables.proofs.Words.{cases_Bool, Ghosts, Row, Error, SqliteFailure, OutOfMemory, Held, state}
+use Rattle.exam_tables.proofs.Words.{refusal_of}
 use Rattle.std.proofs.Common.{◌≡◌, ℕ, false, List, Result, Err, inl, inr, refl, sym, subst}
 use Rattle.std.specs.Prelude.{IsTrue}
-use Rattle.std.proofs.lemmas.Bool.{cases_Bool}
-use Rattle.sqlite_trees.specs.declared.store.Store.{Ghosts}
 use Rattle.sqlite_resolve.specs.declared.error.CompileError.TheVariants.{NoSuchTable, NoSuchColumn}
-use Rattle.sqlite_value.specs.Order.{Row}
-use Rattle.sqlite.specs.declared.error.Error.{Error}
-use Rattle.sqlite.specs.declared.error.Error.TheVariants.{SqliteFailure, SqlInputError}
-use Rattle.sqlite.specs.declared.error.ErrorCode.TheVariants.{OutOfMemory, TransactionState}
-use Rattle.sqlite.specs.Held.{Held, state}
+use Rattle.sqlite.specs.declared.error.Error.TheVariants.{SqlInputError}
+use Rattle.sqlite.specs.declared.error.ErrorCode.TheVariants.{TransactionState}
 use Rattle.sqlite.specs.State.{ExecutesInside, KeepsCommit}
 use Rattle.sqlite.proofs.InsideLemmas.{inside_keeps}
-use Rattle.exam_tables.specs.Faults.{is_store_refusal, refusal_of}
+use Rattle.exam_tables.specs.Faults.{is_store_refusal}
 use Rattle.exam_tables.proofs.statements.run.Goals as goal
 
 -- inside a transaction a statement commits nothing, and outside it is not run

@@ -1,8 +1,7 @@
 -- The rows of the keys walked so far are deleted. Where one fails, the transaction says so, and it is what failed.
+use Rattle.exam_tables.proofs.Words.{take_all, state, Makes, delete_of}
 use Rattle.std.proofs.Common.{◌≡◌, ◌∷◌, [], ◌++◌, ◌+◌, Ok, Err, map, take, subst, ◌∙◌, rules}
-use Rattle.std.proofs.lemmas.List.{take_more, take_all}
-use Rattle.sqlite.specs.Held.{state}
-use Rattle.exam_tables.specs.Inside.{Makes, delete_of}
+use Rattle.std.proofs.lemmas.List.{take_more}
 use Rattle.exam_tables.proofs.Steps.{one_fails, one_more}
 use Rattle.exam_tables.proofs.table.delete_rows.Goals as goal
 

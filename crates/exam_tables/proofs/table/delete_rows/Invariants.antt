@@ -1,6 +1,5 @@
+use Rattle.exam_tables.proofs.Words.{state, Makes, delete_of}
 use Rattle.std.proofs.Common.{◌≡◌, Ok, map, take}
-use Rattle.sqlite.specs.Held.{state}
-use Rattle.exam_tables.specs.Inside.{Makes, delete_of}
 use Rattle.exam_tables.proofs.table.delete_rows.Given as goal
 
 abbrev pub invariant-keys : goal.invariant-keys

@@ -1,9 +1,7 @@
 -- The rows walked so far are put. Where one fails, the transaction says so, and it is what failed.
+use Rattle.exam_tables.proofs.Words.{take_all, state, row_put, Makes}
 use Rattle.std.proofs.Common.{◌≡◌, ◌∷◌, [], ◌++◌, ◌+◌, Ok, Err, map, take, subst, ◌∙◌, rules}
-use Rattle.std.proofs.lemmas.List.{take_more, take_all}
-use Rattle.sqlite.specs.Held.{state}
-use Rattle.exam_tables.specs.Forms.{row_put}
-use Rattle.exam_tables.specs.Inside.{Makes}
+use Rattle.std.proofs.lemmas.List.{take_more}
 use Rattle.exam_tables.proofs.Steps.{one_fails, one_more}
 use Rattle.exam_tables.proofs.table.put_rows.Goals as goal
 

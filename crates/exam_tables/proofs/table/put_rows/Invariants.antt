@@ -1,7 +1,5 @@
+use Rattle.exam_tables.proofs.Words.{state, Makes, row_put}
 use Rattle.std.proofs.Common.{◌≡◌, Ok, map, take}
-use Rattle.sqlite.specs.Held.{state}
-use Rattle.exam_tables.specs.Inside.{Makes}
-use Rattle.exam_tables.specs.Forms.{row_put}
 use Rattle.exam_tables.proofs.table.put_rows.Given as goal
 
 abbrev pub invariant-rows : goal.invariant-rows

@@ -1,13 +1,8 @@
 -- What was written in the transaction becomes what is committed, all of it or none. A write that fails ends the
 -- transaction without a commit.
+use Rattle.exam_tables.proofs.Words.{state, HasCleanDisk, survives_begin, Becomes, all_saved, Commits, FailsToWrite}
 use Rattle.std.proofs.Common.{◌≡◌, IsTrue, Err, IfErr, arith, refl, sym, subst, rules}
-use Rattle.sqlite.specs.Held.{state}
-use Rattle.sqlite.specs.State.{HasCleanDisk}
-use Rattle.sqlite.proofs.Callers.{survives_begin}
-use Rattle.exam_tables.specs.Inside.{Becomes}
-use Rattle.exam_tables.specs.Writes.{all_saved}
-use Rattle.exam_tables.specs.Transactions.{Commits}
-use Rattle.exam_tables.specs.Inside.{FailsToWrite, RefusesOne}
+use Rattle.exam_tables.specs.Inside.{RefusesOne}
 use Rattle.exam_tables.proofs.Committing.{committed_by}
 use Rattle.exam_tables.proofs.Undoing.{uncommitted, undone}
 use Rattle.exam_tables.proofs.writing.commit_changes.Goals as goal

@@ -1,11 +1,6 @@
 -- The connection is asked first, which changes nothing, so what is committed is committed from the state at the start.
+use Rattle.exam_tables.proofs.Words.{both_ways, state, HasCleanDisk, survives_then, Becomes, all_saved}
 use Rattle.std.proofs.Common.{◌≡◌, IsTrue, Err, arith, rules}
-use Rattle.std.proofs.lemmas.Bool.{both_ways}
-use Rattle.sqlite.specs.Held.{state}
-use Rattle.sqlite.specs.State.{HasCleanDisk}
-use Rattle.sqlite.proofs.StateLemmas.{survives_then}
-use Rattle.exam_tables.specs.Inside.{Becomes}
-use Rattle.exam_tables.specs.Writes.{all_saved}
 use Rattle.exam_tables.proofs.Asking.{asks_left}
 use Rattle.exam_tables.proofs.Committing.{reads_commit, then_commits}
 use Rattle.exam_tables.proofs.Undoing.{unasked, written_later}

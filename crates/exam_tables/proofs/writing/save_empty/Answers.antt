@@ -1,11 +1,7 @@
 -- The tables are made in one transaction over a blank database: they are there without rows, or it is blank as before.
+use Rattle.exam_tables.proofs.Words.{Database, HasCleanDisk, state, survives_begin, Commits, FailsToMake, IsBlank}
 use Rattle.std.proofs.Common.{◌≡◌, IsTrue, IsSome, Err, IfErr, arith, inl, refl, sym, subst, rules}
-use Rattle.sqlite.specs.Effect.{Database}
-use Rattle.sqlite.specs.State.{HasCleanDisk}
-use Rattle.sqlite.specs.Held.{state}
-use Rattle.sqlite.proofs.Callers.{survives_begin}
-use Rattle.exam_tables.specs.Transactions.{Commits}
-use Rattle.exam_tables.specs.Versions.{FailsToMake, IsBlank, IsMade}
+use Rattle.exam_tables.specs.Versions.{IsMade}
 use Rattle.exam_tables.proofs.Committing.{committed_by}
 use Rattle.exam_tables.proofs.Creating.{not_created}
 use Rattle.exam_tables.proofs.Undoing.{uncommitted, undone}

@@ -1,12 +1,8 @@
 -- What the version lacks is made and its number is set in one transaction. The rows of all other tables are not named
 -- in it.
+use Rattle.exam_tables.proofs.Words.{IfErr-weaker, HasCleanDisk, Survives, state, survives_begin, Commits, FailsToMake}
 use Rattle.std.proofs.Common.{◌≡◌, [], IsTrue, IsSome, Err, IfErr, arith, inl, refl, sym, subst, rules}
-use Rattle.std.proofs.lemmas.Result.{IfErr-weaker}
-use Rattle.sqlite.specs.State.{HasCleanDisk, Survives}
-use Rattle.sqlite.specs.Held.{state}
-use Rattle.sqlite.proofs.Callers.{survives_begin}
-use Rattle.exam_tables.specs.Transactions.{Commits}
-use Rattle.exam_tables.specs.Versions.{FailsToMake, Widens}
+use Rattle.exam_tables.specs.Versions.{Widens}
 use Rattle.exam_tables.proofs.Committing.{committed_by, undone_by}
 use Rattle.exam_tables.proofs.Creating.{not_created}
 use Rattle.exam_tables.proofs.Marked.{older_of}

@@ -1,14 +1,9 @@
 -- Where the version is the newest nothing is written; where it is an older one the migration commits, or leaves
 -- everything as it was.
+use Rattle.exam_theorem.proofs.Words.{Database, state, HasCleanDisk, version, made_of, BringsOver, IsAccepted}
 use Rattle.std.proofs.Common.{◌≡◌, ◌≢◌, IsTrue, Ok, Err, inl, inr, arith, sym, subst, rules}
-use Rattle.sqlite.specs.Effect.{Database}
-use Rattle.sqlite.specs.Held.{state}
-use Rattle.sqlite.specs.State.{HasCleanDisk}
 use Rattle.exam_types.specs.declared.refusal.Refusal.TheVariants.{Store}
-use Rattle.exam_tables.specs.Versions.{version}
 use Rattle.exam_tables.proofs.Committing.{commits_err, commits_ok, reads_commit, unchanged_commits}
-use Rattle.exam_store.proofs.Marking.{made_of}
-use Rattle.exam_theorem.specs.Resting.{BringsOver, IsAccepted}
 use Rattle.exam_theorem.proofs.Accepting.{migration_failed, version_failed}
 use Rattle.exam_theorem.proofs.Bringing.{migrated, migrated_had, nothing_commits}
 use Rattle.exam_theorem.proofs.Having.{newest_brings, newest_ours}

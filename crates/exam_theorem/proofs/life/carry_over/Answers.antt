@@ -1,15 +1,12 @@
 -- What is opened is what bringing over left: the office that was there, or the connection with the database as it was.
+use Rattle.exam_theorem.proofs.Words.{Ghosts, Held, state, HasCleanDisk, Survives, Refusal, IsLeft, FailsToFind}
+use Rattle.exam_theorem.proofs.Words.{IsAccepted, RestsOn, StopsWith}
 use Rattle.std.proofs.Common.{inl}
 use Rattle.std.specs.Prelude.{Result, Ok, Err, IfErr, IsTrue}
 use Rattle.std.proofs.lemmas.Result.{IfOk-weaker}
-use Rattle.sqlite_trees.specs.declared.store.Store.{Ghosts}
-use Rattle.sqlite.specs.Held.{Held, state}
-use Rattle.sqlite.specs.State.{HasCleanDisk, Survives}
-use Rattle.exam_types.specs.declared.refusal.Refusal.{Refusal}
-use Rattle.exam_tables.specs.Loaded.{IsLeft}
-use Rattle.exam_store.specs.Found.{FailsToFind, RefusesOpening, is_open_refusal}
+use Rattle.exam_store.specs.Found.{RefusesOpening, is_open_refusal}
 use Rattle.exam_store.proofs.Marking.{opens_as}
-use Rattle.exam_theorem.specs.Resting.{FailsToCarry, IsAccepted, IsFailing, RefusesCarrying, RestsOn, StopsWith}
+use Rattle.exam_theorem.specs.Resting.{FailsToCarry, IsFailing, RefusesCarrying}
 use Rattle.exam_theorem.proofs.Accepting.{refused_only}
 use Rattle.exam_theorem.proofs.Bringing.{brought_stops, opened_had, opened_same, opened_stopped, refused_left}
 use Rattle.exam_theorem.proofs.Bringing.{refused_rests, refused_stopped}

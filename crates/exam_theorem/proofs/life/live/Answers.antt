@@ -1,11 +1,9 @@
 -- The orders go on from the store that was opened, and the sheet is of the office that they leave. A refusal comes
 -- before the first order.
+use Rattle.exam_theorem.proofs.Words.{state, Refusal, shown}
 use Rattle.std.proofs.Common.{inl, inr, refl, subst, sym}
 use Rattle.std.specs.Prelude.{IsTrue, map}
-use Rattle.sqlite.specs.Held.{state}
-use Rattle.exam_types.specs.declared.refusal.Refusal.{Refusal}
 use Rattle.exam_store.specs.Found.{is_open_refusal}
-use Rattle.exam_theorem.specs.Orders.{shown}
 use Rattle.exam_theorem.proofs.Living.{ended_in_one, ends_at_rest, ends_in_tables, had_first, lived, opened_rests_on}
 use Rattle.exam_theorem.proofs.life.live.Goals as goal
 

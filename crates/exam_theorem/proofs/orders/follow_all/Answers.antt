@@ -1,7 +1,8 @@
 -- The orders followed so far have their outcomes, and the store is the one that they led to.
+use Rattle.exam_theorem.proofs.Words.{Follows}
 use Rattle.std.proofs.Common.{◌≡◌, ◌+◌, ◌∷◌, ◌++◌, [], take, ap, sym, ◌∙◌, arith}
 use Rattle.std.proofs.lemmas.List.{take_more}
-use Rattle.exam_theorem.specs.Following.{Follows, SparesOthers}
+use Rattle.exam_theorem.specs.Following.{SparesOthers}
 use Rattle.exam_theorem.proofs.KeptOffice.{then_on}
 use Rattle.exam_theorem.proofs.Listing.{next_of_each}
 use Rattle.exam_theorem.proofs.Passing.{next_passed}

@@ -1,10 +1,9 @@
+use Rattle.exam_theorem.proofs.Words.{AreFollowed, KeepsOn, shown}
 use Rattle.std.proofs.Common.{◌≡◌, ◌≤◌, length, take}
 use Rattle.std.specs.Prelude.{map, vec_len}
 use Rattle.std.specs.Vec.{vec_capacity}
-use Rattle.exam_theorem.specs.Following.{AreFollowed, EachSparesOthers}
-use Rattle.exam_theorem.specs.Keeping.{KeepsOn}
+use Rattle.exam_theorem.specs.Following.{EachSparesOthers}
 use Rattle.exam_theorem.specs.Life.{ArePassed}
-use Rattle.exam_theorem.specs.Orders.{shown}
 use Rattle.exam_theorem.proofs.orders.follow_all.Given as goal
 
 -- what became of the orders so far, and of the tables; and there is room for the other outcomes

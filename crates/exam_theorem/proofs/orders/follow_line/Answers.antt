@@ -1,11 +1,7 @@
 -- A line with its file means one command, which has one result. So what the store came to is what the definition says.
+use Rattle.exam_theorem.proofs.Words.{job_shown, FollowsCommand, LineEnd, is_failure, command_of, IsDay, Settles}
 use Rattle.std.proofs.Common.{None, Some, subst, sym}
 use Rattle.std.specs.Prelude.{IsTrue}
-use Rattle.exam_line.specs.Lines.{job_shown}
-use Rattle.exam_theorem.specs.Following.{FollowsCommand, LineEnd, is_failure}
-use Rattle.exam_theorem.specs.Orders.{command_of}
-use Rattle.exam_types.specs.Days.{IsDay}
-use Rattle.exam_theorem.specs.Resting.{Settles}
 use Rattle.exam_theorem.proofs.Carried.{follows}
 use Rattle.exam_theorem.proofs.SaidDays.{job_days}
 use Rattle.exam_theorem.proofs.SettledOrders.{line_settles}

@@ -1,7 +1,7 @@
 -- The bytes ask one thing, of the candidate whose code they show. To lodge or to retract moves nobody, so nobody
 -- else's seat is another.
+use Rattle.exam_theorem.proofs.Words.{IsDay}
 use Rattle.std.proofs.Common.{Some, ap, refl, subst}
-use Rattle.exam_types.specs.Days.{IsDay}
 use Rattle.exam_theorem.proofs.OwnRows.{own_decides}
 use Rattle.exam_theorem.proofs.Served.{served}
 use Rattle.exam_theorem.proofs.SettledOrders.{request_settles}

@@ -1,10 +1,8 @@
 -- Words that are no line change nothing and say so. Otherwise they are the line that they mean.
+use Rattle.exam_theorem.proofs.Words.{job_shown, FollowsCommand, LineEnd, is_failure, command_of, of_line}
 use Rattle.std.proofs.Common.{refl}
 use Rattle.std.specs.Prelude.{Err, IsTrue, map, string_bytes}
-use Rattle.exam_line.specs.Lines.{job_shown}
-use Rattle.exam_theorem.specs.Following.{FollowsCommand, LineEnd, is_failure}
 use Rattle.exam_theorem.specs.Life.{LeadsTo}
-use Rattle.exam_theorem.specs.Orders.{command_of, of_line}
 use Rattle.exam_theorem.specs.declared.orders.LineStop.TheVariants as stop
 use Rattle.exam_theorem.proofs.Reading.{followed, unread}
 use Rattle.exam_theorem.proofs.SaidDays.{line_days}

@@ -1,8 +1,6 @@
+use Rattle.exam_theorem.proofs.Words.{State, EndsInOne, shown}
 use Rattle.std.proofs.Common.{subst, sym}
 use Rattle.std.specs.Prelude.{map}
-use Rattle.exam_commands.specs.State.{State}
-use Rattle.exam_theorem.specs.Following.{EndsInOne}
-use Rattle.exam_theorem.specs.Orders.{shown}
 use Rattle.exam_theorem.proofs.KeptOffice.{then_on}
 use Rattle.exam_theorem.proofs.OneOffice.{ends_in_one}
 use Rattle.exam_theorem.proofs.printing.print_after.Goals as goal

@@ -1,10 +1,7 @@
 -- A line that asks for a sheet changes no office, and what it prints is that sheet. Any other line is not carried out.
+use Rattle.exam_theorem.proofs.Words.{job_shown, LineEnd, sheet_of, PrintsAsked}
 use Rattle.std.proofs.Common.{◌≡◌, ◌∙◌, [], Some, true, refl, subst, sym}
 use Rattle.std.specs.Prelude.{is_some}
-use Rattle.exam_line.specs.Lines.{job_shown}
-use Rattle.exam_theorem.specs.Following.{LineEnd}
-use Rattle.exam_theorem.specs.Orders.{sheet_of}
-use Rattle.exam_theorem.specs.Printing.{PrintsAsked}
 use Rattle.exam_theorem.proofs.Settling.{unchanged_settles}
 use Rattle.exam_theorem.proofs.Sheets.{job_keeps, job_printed}
 use Rattle.exam_theorem.proofs.SettledSheets.{job_stays}

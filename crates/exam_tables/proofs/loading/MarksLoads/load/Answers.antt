@@ -1,10 +1,6 @@
+use Rattle.exam_tables.proofs.Words.{state, lists_marks, standing, standing_ours, table_part}
 use Rattle.std.proofs.Common.{◌≡◌, true, false, sym, ◌∙◌, true≢false, rules}
-use Rattle.sqlite.specs.Held.{state}
 use Rattle.sqlite.proofs.StateLemmas.{unchanged}
-use Rattle.exam_sql.specs.Made.{lists_marks}
-use Rattle.exam_tables.specs.Forms.{standing}
-use Rattle.exam_tables.specs.OurTables.{standing_ours}
-use Rattle.exam_tables.specs.Parts.{table_part}
 use Rattle.exam_tables.proofs.PartByPart.{by_queries}
 use Rattle.exam_tables.proofs.Marked.{holds_no_marks, marks_load}
 use Rattle.exam_tables.proofs.loading.MarksLoads.load.Goals as goal

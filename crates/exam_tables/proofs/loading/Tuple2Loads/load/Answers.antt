@@ -1,5 +1,6 @@
+use Rattle.exam_tables.proofs.Words.{table_part}
 use Rattle.std.proofs.Common.{◌≡◌, Ok, Err, inl, rules}
-use Rattle.exam_tables.specs.Parts.{table_part, then_part}
+use Rattle.exam_tables.specs.Parts.{then_part}
 use Rattle.exam_tables.proofs.PartByPart.{all_load, by_queries, next_fails, not_loaded, opened}
 use Rattle.exam_tables.proofs.loading.Tuple2Loads.load.Goals as goal
 

@@ -1,9 +1,7 @@
 -- The parameters are the columns of the row, in the order of the text, so the text puts just that row.
+use Rattle.exam_tables.proofs.Words.{state, kind_number, state_number, appeals_ours, put_edits}
 use Rattle.std.proofs.Common.{arith}
-use Rattle.sqlite.specs.Held.{state}
-use Rattle.exam_tables.specs.Stored.{kind_number, needs_of, extra_of, state_number, answer_of}
-use Rattle.exam_tables.specs.OurTables.{appeals_ours}
-use Rattle.exam_sql.proofs.Edits.{put_edits}
+use Rattle.exam_tables.specs.Stored.{needs_of, extra_of, answer_of}
 use Rattle.exam_tables.proofs.Steps.{makes_by, passed, bound_answer, kind_small, state_small}
 use Rattle.exam_tables.proofs.tables.appeals.put_appeal.Goals as goal
 

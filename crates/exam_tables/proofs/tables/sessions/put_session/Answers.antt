@@ -1,7 +1,6 @@
+use Rattle.exam_tables.proofs.Words.{state, put_edits}
 use Rattle.std.proofs.Common.{pos, arith}
-use Rattle.sqlite.specs.Held.{state}
 use Rattle.exam_sql.proofs.OfSession as session
-use Rattle.exam_sql.proofs.Edits.{put_edits}
 use Rattle.exam_tables.proofs.Steps.{makes_by, passed}
 use Rattle.exam_tables.proofs.tables.sessions.put_session.Goals as goal
 

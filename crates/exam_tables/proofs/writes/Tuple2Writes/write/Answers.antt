@@ -1,6 +1,6 @@
 -- The first is refused, where the second was to follow; or the second comes after the first.
+use Rattle.exam_tables.proofs.Words.{state}
 use Rattle.std.proofs.Common.{◌≡◌, Err, rules}
-use Rattle.sqlite.specs.Held.{state}
 use Rattle.exam_tables.proofs.Steps.{makes_part, makes_then}
 use Rattle.exam_tables.proofs.writes.Tuple2Writes.write.Goals as goal
 

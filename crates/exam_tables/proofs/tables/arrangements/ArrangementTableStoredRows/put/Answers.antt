@@ -1,9 +1,7 @@
 -- The parameters are the columns of the row, in the order of the text, so the text puts just that row.
+use Rattle.exam_tables.proofs.Words.{state, features_sum, put_edits}
 use Rattle.std.proofs.Common.{arith}
-use Rattle.sqlite.specs.Held.{state}
-use Rattle.exam_types.specs.Features.{features_sum}
 use Rattle.exam_tables.specs.OurTables.{arrangements_ours}
-use Rattle.exam_sql.proofs.Edits.{put_edits}
 use Rattle.exam_tables.proofs.Steps.{makes_by, passed}
 use Rattle.exam_tables.proofs.tables.arrangements.ArrangementTableStoredRows.put.Goals as goal
 

@@ -1,7 +1,6 @@
+use Rattle.exam_tables.proofs.Words.{state, put_edits}
 use Rattle.std.proofs.Common.{arith, if◌then◌else◌}
-use Rattle.sqlite.specs.Held.{state}
 use Rattle.exam_tables.specs.OurTables.{entries_ours}
-use Rattle.exam_sql.proofs.Edits.{put_edits}
 use Rattle.exam_tables.proofs.Steps.{makes_by, passed, flag_small}
 use Rattle.exam_tables.proofs.tables.entries.EntryTableStoredRows.put.Goals as goal
 

@@ -1,8 +1,6 @@
+use Rattle.exam_tables.proofs.Words.{state, features_sum, put_edits}
 use Rattle.std.proofs.Common.{arith}
-use Rattle.sqlite.specs.Held.{state}
-use Rattle.exam_types.specs.Features.{features_sum}
 use Rattle.exam_tables.specs.OurTables.{halls_ours}
-use Rattle.exam_sql.proofs.Edits.{put_edits}
 use Rattle.exam_tables.proofs.Steps.{makes_by, passed}
 use Rattle.exam_tables.proofs.tables.halls.HallTableStoredRows.put.Goals as goal
 

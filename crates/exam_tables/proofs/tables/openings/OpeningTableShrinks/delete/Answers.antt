@@ -1,4 +1,4 @@
-use Rattle.sqlite.specs.Held.{state}
+use Rattle.exam_tables.proofs.Words.{state}
 use Rattle.exam_sql.proofs.OfOpening as opening
 use Rattle.exam_tables.proofs.Steps.{makes_by}
 use Rattle.exam_tables.proofs.tables.openings.OpeningTableShrinks.delete.Goals as goal

@@ -1,8 +1,7 @@
 -- The parameters are the columns of the row, in the order of the text, so the text puts just that row.
+use Rattle.exam_tables.proofs.Words.{state, put_edits}
 use Rattle.std.proofs.Common.{arith, if◌then◌else◌}
-use Rattle.sqlite.specs.Held.{state}
 use Rattle.exam_tables.specs.OurTables.{openings_ours}
-use Rattle.exam_sql.proofs.Edits.{put_edits}
 use Rattle.exam_tables.proofs.Steps.{makes_by, passed, flag_small}
 use Rattle.exam_tables.proofs.tables.openings.OpeningTableStoredRows.put.Goals as goal
 

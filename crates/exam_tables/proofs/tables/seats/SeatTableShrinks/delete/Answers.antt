@@ -1,5 +1,5 @@
+use Rattle.exam_tables.proofs.Words.{state}
 use Rattle.std.proofs.Common.{pos, arith}
-use Rattle.sqlite.specs.Held.{state}
 use Rattle.exam_sql.proofs.OfSeat as seat
 use Rattle.exam_tables.proofs.Steps.{makes_by, passed}
 use Rattle.exam_tables.proofs.tables.seats.SeatTableShrinks.delete.Goals as goal

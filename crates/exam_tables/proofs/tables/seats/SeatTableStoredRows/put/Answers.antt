@@ -1,7 +1,6 @@
+use Rattle.exam_tables.proofs.Words.{state, put_edits}
 use Rattle.std.proofs.Common.{arith}
-use Rattle.sqlite.specs.Held.{state}
 use Rattle.exam_tables.specs.OurTables.{seats_ours}
-use Rattle.exam_sql.proofs.Edits.{put_edits}
 use Rattle.exam_tables.proofs.Steps.{makes_by, passed}
 use Rattle.exam_tables.proofs.tables.seats.SeatTableStoredRows.put.Goals as goal
 
