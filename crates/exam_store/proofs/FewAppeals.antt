@@ -1,7 +1,7 @@
 -- A good office has so few appeals that their count fits into 32 bits.
-use Rattle.std.proofs.Common.{◌≡◌, ℕ, ◌+◌, ◌*◌, ◌^◌, ◌<◌, ◌≤◌, ◌&&◌, not, Bool, true, false, cond, List, [], ◌∷◌}
-use Rattle.std.proofs.Common.{length, map, filter, refl, sym, ap, subst, ◌∙◌, arith}
-use Rattle.std.specs.Prelude.{IsTrue, is_some, nat_eq, nat_le}
+use Rattle.std.proofs.Common.{◌≡◌, ℕ, ◌*◌, ◌^◌, ◌<◌, ◌≤◌, ◌&&◌, not, Bool, true, false, cond, List, [], ◌∷◌}
+use Rattle.std.proofs.Common.{length, filter, refl, sym, ap, ◌∙◌, arith}
+use Rattle.std.specs.Prelude.{nat_eq, nat_le}
 use Rattle.std.specs.List.{AllByRecursion, list_all}
 use Rattle.std.specs.Map.{keys_of}
 use Rattle.std.specs.Ordering.{is_eq, nat_cmp}
@@ -17,7 +17,7 @@ use Rattle.exam_rules.specs.Sessions.{appeal_count}
 use Rattle.exam_commands.specs.Good.{IsGood, appeal_refers, appeals_refer, arrangements_refer, entries_refer}
 use Rattle.exam_commands.specs.Good.{openings_refer, papers_refer}
 use Rattle.exam_commands.specs.Limits.{appeals_within, candidates_within, halls_within, members_within, most_appeals}
-use Rattle.exam_commands.specs.Limits.{most_candidates, openings_within, papers_within, sessions_within}
+use Rattle.exam_commands.specs.Limits.{openings_within, papers_within, sessions_within}
 use Rattle.exam_commands.specs.State.{State}
 use Rattle.exam_views.specs.Views.{appeal_row, appeals_of}
 use Rattle.exam_tables.specs.Appeals.{KeyedAppeal}

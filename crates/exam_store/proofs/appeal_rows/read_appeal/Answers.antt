@@ -1,6 +1,6 @@
 -- The first appeal of the session from there on heads the rows that are left. The database confirms it, or the reason
 -- is one of reading.
-use Rattle.std.proofs.Common.{◌≡◌, [], ◌∷◌, refl, ap, map, subst, ◌∙◌}
+use Rattle.std.proofs.Common.{◌≡◌, [], ◌∷◌, refl, ap, map, subst}
 use Rattle.std.specs.declared.ops.Bound.TheVariants.{Excluded}
 use Rattle.sqlite.specs.Held.{state}
 use Rattle.exam_rules.specs.Relations.{Relations}
