@@ -138,7 +138,7 @@ LivesFrom {S} g contents orders asked old before day new after =
     × (HasCleanDisk (state g new.database) → (first : State) → HasOffice (state g old).now first
     → Lives g orders (state g old) first start day.outcomes.items new)
 
--- from the office that was there the same orders lead to no other office
+-- followed again without a failure from the office that was there, the orders end in the same office
 abbrev pub EndsAlike : {S : Type 0} → Ghosts S → List Given → Held S → EndOfDay → OfficeIn S → Type 0
 EndsAlike g orders old day new =
     HasCleanDisk (state g new.database) → (first : State) → HasOffice (state g old).now first
