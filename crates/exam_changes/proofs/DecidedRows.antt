@@ -21,7 +21,8 @@ module _ (r : Relations) (d : Decision) (a : Appeal) where
   pub rows_of_outcome : (earlier : Option ((ℕ × Code) × Appeal))
       → undoing.with_earlier earlier r.appeals ≡ with_superseded d.number a d.outcome r.appeals
       → has_row appeal_cmp r.standing key ≡ false
-      → undoing.with_decided earlier key (record a { status = decided d.outcome d.answer }) (bears_mark d.outcome) r
+      → undoing.with_decided_rows earlier key (record a { status = decided d.outcome d.answer })
+      (bears_mark d.outcome) r
       ≡ with_outcome r d a
   rows_of_outcome earlier superseded unmarked = λ i. record r {
     appeals = put_row appeal_cmp (superseded i) key (record a { status = decided d.outcome d.answer });

@@ -19,7 +19,7 @@ use Rattle.exam_changes.specs.declared.undo.Undo.TheVariants as undo
 use Rattle.exam_commands.specs.Changes.{rows_with, target, with_row, with_rows, with_table}
 use Rattle.exam_commands.specs.Imports.{AreOfKind, kind_of}
 use Rattle.exam_changes.specs.declared.kept.KeptRows.{KeptRows}
-use Rattle.exam_commands.specs.Exchanges.{GoBack, put_back as put_rows_back}
+use Rattle.exam_commands.specs.Exchanges.{GoBack, put_back}
 use Rattle.exam_commands.proofs.Entering.{table_again, table_as_is, table_itself}
 use Rattle.exam_changes.specs.Undoing.{AreNone, RowsGoBack, TakesBack, kept_of}
 
@@ -27,9 +27,9 @@ use Rattle.exam_changes.specs.Undoing.{AreNone, RowsGoBack, TakesBack, kept_of}
 
 module _ {K X : Type 0} (cmp : K → K → Ordering) (o : IsTotalOrder cmp) where
   -- the row that was at the key is put back
-  pub put_back : (rows : List (K × X)) (k : K) (x y : X) → KeysRise cmp rows → row_at cmp rows k ≡ Some y
+  pub row_again : (rows : List (K × X)) (k : K) (x y : X) → KeysRise cmp rows → row_at cmp rows k ≡ Some y
       → put_row cmp (put_row cmp rows k x) k y ≡ rows
-  put_back rows k x y up at = put_again cmp o rows k x y ∙ put_same cmp o rows k y up at
+  row_again rows k x y up at = put_again cmp o rows k x y ∙ put_same cmp o rows k y up at
 
 -- ---- an entry or an appeal
 
@@ -39,7 +39,7 @@ pub entry_back : (r : Relations) (k : ℕ × Code) (x y : Entry) → KeysRise en
 entry_back r k x y up at = (
   ap is_some (put_found entry_cmp appeals_total r.entries k x),
   ap (λ (rows : List ((ℕ × Code) × Entry)). record r { entries = rows })
-      (put_back entry_cmp appeals_total r.entries k x y up at),
+      (row_again entry_cmp appeals_total r.entries k x y up at),
 )
 
 pub appeal_back : (r : Relations) (k : ℕ × Code) (x y : Appeal) → KeysRise appeal_cmp r.appeals
@@ -48,7 +48,7 @@ pub appeal_back : (r : Relations) (k : ℕ × Code) (x y : Appeal) → KeysRise 
 appeal_back r k x y up at = (
   ap is_some (put_found appeal_cmp appeals_total r.appeals k x),
   ap (λ (rows : List ((ℕ × Code) × Appeal)). record r { appeals = rows })
-      (put_back appeal_cmp appeals_total r.appeals k x y up at),
+      (row_again appeal_cmp appeals_total r.appeals k x y up at),
 )
 
 pub new_appeal_back : (r : Relations) (k : ℕ × Code) (x : Appeal) → row_at appeal_cmp r.appeals k ≡ None
@@ -65,7 +65,7 @@ none_goes_back : {K X : Type 0} (cmp : K → K → Ordering) (was : List (K × O
     → GoBack cmp was rows rows
 none_goes_back cmp was rows none = record {
   there = λ k has. absurd (let differ : false ≡ true = sym (ap (λ kept. has_row cmp kept k) none) ∙ has in cc);
-  back = ap (put_rows_back cmp rows) none;
+  back = ap (put_back cmp rows) none;
 }
 
 -- if nothing is kept yet, nothing has changed

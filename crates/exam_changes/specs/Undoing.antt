@@ -63,8 +63,8 @@ abbrev pub marks_with : Bool → ℕ × Code → List ((ℕ × Code) × Unit {0}
 marks_with mark key standing = if mark then put_row appeal_cmp standing key tt else standing
 
 -- with the rows that a decision of the appeal at the key changes
-abbrev pub with_decided : Option ((ℕ × Code) × Appeal) → ℕ × Code → Appeal → Bool → Relations → Relations
-with_decided earlier key appeal mark r = record r {
+abbrev pub with_decided_rows : Option ((ℕ × Code) × Appeal) → ℕ × Code → Appeal → Bool → Relations → Relations
+with_decided_rows earlier key appeal mark r = record r {
   appeals = put_row appeal_cmp (with_earlier earlier r.appeals) key appeal;
   standing = marks_with mark key r.standing;
 }

@@ -102,7 +102,7 @@ fn put_decided(
     mark: bool,
 ) -> Result<Undo, Refusal>
     ensures ok { OnOk result (relations_of facts.new
-        ≡ undoing.with_decided earlier key appeal mark (relations_of facts.old)) }
+        ≡ undoing.with_decided_rows earlier key appeal mark (relations_of facts.old)) }
     ensures back { IfOk result (λ undo.
         undoing.TakesBack undo (relations_of facts.new) (relations_of facts.old)) }
     ensures memory { OnlyMemory result }
@@ -128,7 +128,7 @@ fn put_rows(
     mark: bool,
 ) -> Result<(), Refusal>
     ensures ok { OnOk result (relations_of facts.new
-        ≡ undoing.with_decided earlier key appeal mark (relations_of facts.old)) }
+        ≡ undoing.with_decided_rows earlier key appeal mark (relations_of facts.old)) }
     ensures back { (first : Relations) → undoing.RowsGoBack kept.old (relations_of facts.old) first
         → undoing.RowsGoBack kept.new (relations_of facts.new) first }
     ensures memory { OnlyMemory result }

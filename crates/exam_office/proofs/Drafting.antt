@@ -187,7 +187,7 @@ old_stay None seats later has stays = tt
 old_stay (Some old) seats later has stays = λ k was. stays k (has k was)
 
 -- an accepted command leaves a good office
-good_after : (done : Command) (today : ℕ) (office after : State) (told : Reply) (old : Relations)
+pub good_after : (done : Command) (today : ℕ) (office after : State) (told : Reply) (old : Relations)
     → WasMade done old after.relations → IsTrue (within_limits after.relations)
     → Step done today office (Ok told) after → IsGood after
 good_after done today office after told old was within step = record {

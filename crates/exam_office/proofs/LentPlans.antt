@@ -15,7 +15,7 @@ use Rattle.exam_rules.specs.declared.listing.SessionLists.{SessionLists}
 use Rattle.exam_rules.specs.Lists.{AreListsOf, listed}
 use Rattle.exam_rules.specs.Relations.{Code, Relations, code_cmp, has_row, same_code}
 use Rattle.exam_rules.specs.Seatings.{plan_of}
-use Rattle.exam_rules.specs.Sessions.{is_member, members}
+use Rattle.exam_rules.specs.Sessions.{members}
 use Rattle.exam_rules.proofs.Naming.{same_code_exact}
 use Rattle.exam_commands.specs.declared.command.Command.{Command}
 use Rattle.exam_commands.specs.declared.command.Command.TheVariants as command

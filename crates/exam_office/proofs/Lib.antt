@@ -1,6 +1,7 @@
 pub mod Running
 pub mod WasBefore
 pub mod Drafting
+pub mod AppealDrafts
 pub mod LentPlans
 pub mod KeptLists
 pub mod KeptImports

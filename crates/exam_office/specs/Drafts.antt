@@ -1,9 +1,10 @@
 -- A command that is carried out on an office and may still be taken back.
-use Rattle.std.specs.Prelude.{◌≡◌, ⊤, ℕ, true, false, IsTrue, Option, None, Some, Ok}
+use Rattle.std.specs.Prelude.{◌≡◌, ⊤, ℕ, Bool, true, false, IsTrue, Option, None, Some, Ok}
 use Rattle.exam_rules.specs.declared.listing.SessionLists.{SessionLists}
 use Rattle.exam_rules.specs.Lists.{AreListsOf}
 use Rattle.exam_rules.specs.Relations.{Code, has_row, relations_of, row_at, seat_cmp}
 use Rattle.exam_commands.specs.declared.command.Command.{Command}
+use Rattle.exam_commands.specs.declared.command.Command.TheVariants as command
 use Rattle.exam_commands.specs.declared.command.Reply.{Reply}
 use Rattle.exam_commands.specs.Exchanges.{taken_back, without_old}
 use Rattle.exam_commands.specs.Good.{IsGood}
@@ -23,6 +24,16 @@ pub record DraftIn : Type 0 where
   pub reply : Reply
 
 -- ---- definitions that only the code uses
+
+-- the command lodges or retracts an appeal
+abbrev pub moves_nobody : Command → Bool
+moves_nobody (command.Import import) = false
+moves_nobody (command.Withdraw c p) = false
+moves_nobody (command.Reinstate c p) = false
+moves_nobody (command.CloseHall s h) = false
+moves_nobody (command.Lodge l) = true
+moves_nobody (command.Retract c reference) = true
+moves_nobody (command.Decide d) = false
 
 -- the seats before the command, from seats that have those of the new plans and still have those of the old ones
 abbrev pub seats_before : Option Plans → Seats → Seats → Seats

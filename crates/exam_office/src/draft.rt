@@ -1,5 +1,5 @@
 //! A command that is carried out on an office and may still be taken back.
-ghost use Rattle.std.specs.Prelude.{◌≡◌, ◌⊎◌, Ok, Err, IfOk, IfErr, OnErr};
+ghost use Rattle.std.specs.Prelude.{◌≡◌, ◌⊎◌, true, Ok, Err, IfOk, IfErr, OnErr};
 ghost use Rattle.exam_types.specs.declared.refusal.Refusal.TheVariants.{NoMemory};
 ghost use Rattle.exam_rules.specs.Relations.{relations_of};
 ghost use Rattle.exam_office.specs.Drafts as spec;
@@ -12,21 +12,23 @@ ghost use Rattle.exam_commands.specs.Steps.{Step};
 ghost use Rattle.exam_changes.specs.TablesBefore.{WerePlans, WereTables};
 
 use crate::office::Office;
-use crate::part::Part;
-use crate::part_steps::step_part;
+use crate::part::{Part, PartUndo};
+use crate::part_steps::{change_within, step_part};
+use crate::relisting::ListUndo;
 use crate::seat_changes::{drop_old_seats, put_seats, take_back_seats};
 use exam_changes::{PlansBefore, TablesBefore};
 use exam_commands::{Command, Reply};
 use exam_rules::{Facts, Seats};
 use exam_types::{Day, Refusal};
 use std::alloc::Global;
+use std::collections::BTreeMap;
 use std::marker::Model;
 
 /// A command that is carried out on an office and may still be taken back, so that a store can save it first. Finishing
 /// it and taking it back take no memory, so neither can fail.
 #[derive(Drop)]
 pub struct Draft {
-    /// The part of the office that the command reads, after the command.
+    /// The part of the office that the command reads, after the command. It has no plans if the command moves nobody.
     part: Part,
     /// The seats: those of the new plans are in, and those of the old plans are not yet taken away.
     seats: Seats,
@@ -50,6 +52,64 @@ impl Model for Draft {
 impl Draft {
     /// Carries out a command on a day, or refuses it. A refusal returns the office as it was.
     pub fn of(
+        alloc: Global,
+        office: Office,
+        command: &Command,
+        today: Day,
+    ) -> Result<Draft, (Refusal, Office)>
+        ensures before { IfOk result (λ draft. draft.before ≡ office) }
+        ensures step { IfOk result (λ draft. Step command.now today office (Ok draft.reply) draft.after) }
+        ensures refusal { IfErr result (λ e. (e.0 ≡ NoMemory)
+            ⊎ Step command.now today office (Err e.0) office) }
+        ensures same { IfErr result (λ e. e.1 ≡ office) }
+    {
+        if moves_nobody(command) {
+            Draft::of_office(alloc, office, command, today)
+        } else {
+            Draft::of_part(alloc, office, command, today)
+        }
+    }
+
+    /// Carries out a lodging or a retraction. It moves nobody and reads one seat, so no plan is copied.
+    fn of_office(
+        alloc: Global,
+        office: Office,
+        command: &Command,
+        today: Day,
+    ) -> Result<Draft, (Refusal, Office)>
+        requires { spec.moves_nobody command.now ≡ true }
+        ensures before { IfOk result (λ draft. draft.before ≡ office) }
+        ensures step { IfOk result (λ draft. Step command.now today office (Ok draft.reply) draft.after) }
+        ensures refusal { IfErr result (λ e. (e.0 ≡ NoMemory)
+            ⊎ Step command.now today office (Err e.0) office) }
+        ensures same { IfErr result (λ e. e.1 ≡ office) }
+    {
+        office.show_good();
+        office.show_order();
+        let (mut facts, lists, seats) = office.into_parts();
+        match change_within(alloc, &mut facts, &lists, &seats, command, today) {
+            Ok((undo, reply)) => {
+                facts.show_order();
+                let part = Part {
+                    facts,
+                    plans: BTreeMap::new(alloc),
+                    is_listed: true,
+                    lists,
+                    sessions: Vec::new(alloc),
+                    undo: PartUndo {
+                        facts: undo,
+                        lists: ListUndo::Nothing,
+                        plans: None,
+                    },
+                };
+                Ok(Draft { part, seats, reply })
+            }
+            Err(refusal) => Err((refusal, Office::holding(facts, lists, seats))),
+        }
+    }
+
+    /// Carries out a command over the part of the office that it reads.
+    fn of_part(
         alloc: Global,
         office: Office,
         command: &Command,
@@ -136,6 +196,13 @@ impl Draft {
         // Reading a field shows the type's invariant.
         let _ = &self.seats;
     }
+}
+
+/// Whether the command lodges or retracts an appeal.
+fn moves_nobody(command: &Command) -> bool
+    ensures { result ≡ spec.moves_nobody command.now }
+{
+    matches!(command, Command::Lodge(_) | Command::Retract(_, _))
 }
 
 /// Carries out a command on a day over the part of an office that it reads, and puts the new plans among the seats of

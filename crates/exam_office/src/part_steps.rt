@@ -11,6 +11,7 @@ ghost use Rattle.exam_commands.specs.NextPlans as planning;
 ghost use Rattle.exam_commands.specs.Orders.{IsInOrder};
 ghost use Rattle.exam_commands.specs.Parts as spec;
 ghost use Rattle.exam_office.specs.declared.part.Part.{Part as Held};
+ghost use Rattle.exam_office.specs.Drafts.{moves_nobody};
 ghost use Rattle.exam_office.specs.HeldParts as held;
 ghost use Rattle.exam_office.specs.Relisting as listing;
 ghost use Rattle.exam_commands.specs.Singles.{AreSingle};
@@ -159,6 +160,39 @@ fn change(
             Ok((decide(alloc, facts, decision, today)?, Reply::Unchanged))
         }
     }
+}
+
+/// Makes the change of a lodging or a retraction in the facts of a good office, if they stay within every limit. The
+/// lists of the facts stay those of the facts. After a refusal the facts are as before.
+pub(crate) fn change_within(
+    alloc: Global,
+    facts: &mut Facts,
+    lists: &SessionLists,
+    seats: &Seats,
+    command: &Command,
+    today: Day,
+) -> Result<(Undo, Reply), Refusal>
+    requires alone { moves_nobody command.now ≡ true }
+    requires good { IsGood (office_of facts.old seats.now) }
+    requires order { IsInOrder (office_of facts.old seats.now) }
+    requires lists { AreListsOf (relations_of facts.old) lists.now }
+    ensures ok { OnOk result (relations_of facts.new ≡ facts_made command.now today
+        (office_of facts.old seats.now)) }
+    ensures back { IfOk result (λ made. undoing.TakesBack made.0 (relations_of facts.new)
+        (relations_of facts.old)) }
+    ensures reply { IfOk result (λ made. made.1 ≡ planning.first_reply command.now (relations_of facts.old)
+        (relations_of facts.new)) }
+    ensures checked { OnOk result (early_refusal command.now today (office_of facts.old seats.now) ≡ None) }
+    ensures limits { OnOk result (IsTrue (within_limits (relations_of facts.new))) }
+    ensures refusal { IfErr result (spec.IsRefusedIn command.now today (office_of facts.old seats.now)) }
+    ensures same { OnErr result (relations_of facts.new ≡ relations_of facts.old) }
+{
+    let (undo, reply) = change(alloc, facts, seats, command, today)?;
+    if stays_within(facts, lists, command) {
+        return Ok((undo, reply));
+    }
+    undo.take_back(facts);
+    Err(Refusal::TooMany)
 }
 
 /// Brings the lists up to date with the changed facts, tests the limits, and repairs the plans of the sessions that the

@@ -26,9 +26,10 @@ returns-clause-ok c =
     (ap (λ (o : Option Appeal). option_map_or may_bear o false) at ∙ open_unborne a open_yet) in
     let row : c.in_ok-decided.decided ≡ record a { status = decided d.outcome d.answer } =
     c.in_ok-decided.ensures.ok ∙ ap (λ (status : Status). record a { status = status }) c.in_ok-status_of.ensures.ok in
-    let rows : undoing.with_decided c.in_ok-earlier.earlier key c.in_ok-decided.decided c.bears_mark.result r
+    let rows : undoing.with_decided_rows c.in_ok-earlier.earlier key c.in_ok-decided.decided c.bears_mark.result r
     ≡ with_outcome r d a =
-    ap₂ (λ (x : Appeal) (b : Bool). undoing.with_decided c.in_ok-earlier.earlier key x b r) row c.bears_mark.ensures
+    ap₂ (λ (x : Appeal) (b : Bool). undoing.with_decided_rows c.in_ok-earlier.earlier key x b r) row
+    c.bears_mark.ensures
     ∙ rows_of_outcome r d a c.in_ok-earlier.earlier c.in_ok-earlier.ensures.ok unmarked in
     let said : with_decision r d ≡ with_outcome r d a =
     ap (with_decided r d) at

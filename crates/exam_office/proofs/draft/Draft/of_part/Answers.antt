@@ -1,6 +1,6 @@
 use Rattle.exam_laws.proofs.Making.{refused_office}
 use Rattle.exam_office.specs.HeldParts.{part_state}
-use Rattle.exam_office.proofs.draft.Draft.of.Goals as goal
+use Rattle.exam_office.proofs.draft.Draft.of_part.Goals as goal
 
 pub returns-in-Err-clause-refusal : goal.returns-in-Err-clause-refusal
 returns-in-Err-clause-refusal c =
