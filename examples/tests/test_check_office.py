@@ -320,10 +320,11 @@ right: 3 sessions, 8 seats, 1 without a desk, 2 notes
         """Prints the sheets that were written by hand, and fails where two print from one file at one time."""
         fake = self.folder / "fake"
         fake.write_text(f"""#!/bin/sh
-mkdir "$2.used" || exit 1
+used="{self.folder}/${{2##*/}}.used"  # not beside the copy, which goes while a killed one still runs its mkdir
+mkdir "$used" || exit 1
 sleep 0.02
 cat "{self.sheets}/$7.$5${{8:+.$8}}"
-rmdir "$2.used"
+rmdir "$used"
 """)
         fake.chmod(0o700)
         return str(fake)
