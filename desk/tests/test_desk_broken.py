@@ -102,7 +102,6 @@ class AtAnyTime(Uploads):
             self.end()
             self.assertEqual(os.listdir(os.path.join(self.desk, "tmp")), [])
             self.start()
-        self.count()
 
     def test_in_a_change(self):
         chance, (_, length, after) = random.Random(1), self.measured()
@@ -111,7 +110,8 @@ class AtAnyTime(Uploads):
             self.kill(lambda: self.browser.post(proposal + "/do", proposal), chance.uniform(0, 1.1) * length)
             self.put_back(after)
             self.assertEqual((states.name_now(self.value), self.office("check")), (self.before, "good\n"))
-        self.count()
+        if "KILLS" in os.environ:
+            print(f"{2 * self.KILLS} kills, half of them in a rehearsal")
 
     def measured(self):
         """How long the rehearsal takes, and the change, and the state after it. The office is as before then."""
@@ -153,11 +153,6 @@ class AtAnyTime(Uploads):
             self.assertIn("A change was broken off: ", self.browser.words("/"))
             page = re.search(r'/office/copies/[0-9a-f]{16}(?=")', self.browser.get("/"))[0]
             self.browser.post(page + "/back", page)
-
-    def count(self):
-        if "KILLS" in os.environ:
-            print(f"{self.KILLS} kills")
-
 
 if __name__ == "__main__":
     unittest.main()
