@@ -8,6 +8,7 @@ import signal
 import socket
 import subprocess
 import sys
+import tempfile
 
 TOP = pathlib.Path(__file__).resolve().parent.parent
 EXAMPLES = TOP / "examples"  # the sample school
@@ -79,3 +80,30 @@ def serving(line, **streams):
             finally:
                 server.kill()
     sys.exit("the program does not serve")
+
+
+def ran(words, seconds, environment):
+    """The status and both outputs of a command, which ends with all that it started."""
+    with tempfile.TemporaryFile() as out:
+        process = subprocess.Popen(words, cwd=TOP, env=environment, stdin=subprocess.DEVNULL, stdout=out,
+                                   stderr=out, start_new_session=True)
+        try:
+            status = process.wait(seconds)
+        except subprocess.TimeoutExpired:
+            status = f"none after {seconds} seconds"
+        finally:
+            end(process)
+        out.seek(0)
+        return status, out.read().decode("utf-8", "replace")
+
+
+def end(process):
+    """Ends a script that goes on, and what it left running."""
+    with contextlib.suppress(ProcessLookupError, subprocess.TimeoutExpired):
+        if process.poll() is None:
+            os.killpg(process.pid, signal.SIGTERM)
+            process.wait(10)
+    with contextlib.suppress(ProcessLookupError):
+        os.killpg(process.pid, signal.SIGKILL)
+    with contextlib.suppress(ChildProcessError):
+        os.waitpid(process.pid, 0)  # an interrupted `process.wait` may keep its lock

@@ -22,10 +22,11 @@ class Browser:
 
     def __init__(self, link):
         port, self.prefix, self.token = re.match(LINK, link).groups()
-        self.port, self.cookie = int(port), ""
+        self.port, self.cookie, self.asked = int(port), "", 0
 
     def ask(self, method, path, body=None, headers=None, prefix=None):
         """The answer and its text. A header that is None is not sent."""
+        self.asked += 1
         connection = http.client.HTTPConnection("127.0.0.1", self.port, timeout=sample.PATIENCE)
         head = {"Host": f"127.0.0.1:{self.port}", "Cookie": self.cookie}
         if method == "POST":
@@ -67,6 +68,7 @@ class Browser:
 
 class DeskSchool(SampleSchool):
     """A desk over an office of examples/, and a browser that has come in."""
+    complaints = subprocess.PIPE  # where the desk complains
 
     def setUp(self):
         super().setUp()
@@ -77,7 +79,7 @@ class DeskSchool(SampleSchool):
     def start(self):
         self.process = subprocess.Popen([PYTHON, DESK / "desk", "--port", "0"], env=self.environment,
                                         stdout=subprocess.PIPE,
-                                        stderr=subprocess.PIPE, text=True, cwd=self.folder)
+                                        stderr=self.complaints, text=True, cwd=self.folder)
         self.addCleanup(self.end)
         said = ""
         while "#" not in said:

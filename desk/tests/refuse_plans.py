@@ -104,7 +104,7 @@ def main():
     browser = Browser(office)
     if missing := set(plans.PLANS) - set(FORMS):
         wrong.append(f"no form for {missing}")
-    numbers = [*refusals.SENTENCES] if "--all" in sys.argv else [1, 5, 8, 20, 22, 23, 24, 27]
+    numbers = [*refusals.SENTENCES] if "--all" in sys.argv else [1, 5, 7, 8, 20, 22, 23, 24, 25, 27]
     for what in FORMS:
         browser.client.get(FORMS[what][0])
         for number in numbers:

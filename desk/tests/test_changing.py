@@ -1,17 +1,15 @@
 """Changes of several steps: tried on a copy, carried out whole or not at all, and what is said after a kill."""
-import collections
 import contextlib
 import os
-import random
 import shutil
 import signal
 import sqlite3
 import subprocess
-import time
 import unittest
 from unittest import mock
 
 import sample
+from breaking import kill_often, kill_rehearsals
 from exam_desk import changing, copies, logbook, states
 from exam_desk.changing import Step
 from exam_desk.office import Office
@@ -263,45 +261,8 @@ class Killed(Changing):
     def test_at_any_time(self):
         self.assertEqual(kill_often(self, ["take", self.facts(), "--yes"], KILLS, SEED).total(), KILLS)
 
-
-def kill_often(school, words, count, seed):
-    """Kills a command so many times, at random; counts how often the office was as before, whole, or was put back."""
-    chance, before = random.Random(seed), school.state()
-    with begun(school, words) as process:
-        began = time.monotonic()
-        process.wait()
-        length, after = time.monotonic() - began, school.state()
-    school.office("back", "1", "--yes")
-    counts = collections.Counter()
-    for _ in range(count):
-        counts[what_a_kill_leaves(school, words, chance.uniform(0, 1.1) * length, before, after)] += 1
-    del counts["bad"]
-    return counts
-
-
-@contextlib.contextmanager
-def begun(school, words):
-    """A command from the moment in which the log has its first line."""
-    lines = len(school.log())
-    with subprocess.Popen([sample.DESK / "office", *words], env=school.environment,
-                          stdout=subprocess.DEVNULL, stderr=subprocess.DEVNULL) as process:
-        sample.until(lambda: len(school.log()) > lines)
-        yield process
-
-
-def what_a_kill_leaves(school, words, seconds, before, after):
-    """Kills a command some seconds after its first line in the log; what it left, in a word. The office is as before
-    then, and good."""
-    with begun(school, words) as process:
-        time.sleep(seconds)
-        process.kill()
-    said = school.run_office("reinstate", "0001000", "MA-1").stderr
-    state = school.state()
-    if state == before:
-        return "before"
-    school.office("back", "1", "--yes")
-    is_good = school.state() == before and school.office("check") == "good\n"
-    return "whole" if is_good and state == after else "put back" if is_good and "and puts it back" in said else "bad"
+    def test_in_a_rehearsal(self):
+        self.assertEqual(kill_rehearsals(self, ["take", self.facts()], KILLS, SEED), KILLS)
 
 
 class WhatIf(Changing):

@@ -1,11 +1,18 @@
-"""An import at the desk in a browser that is broken off between two steps: it is refused, the disk is full, or the desk
-is killed. Nothing of it is left, or the season says so, and leads to the copy that puts it back."""
+"""An import at the desk in a browser that is broken off: a step is refused, the disk is full, or the desk is killed.
+Nothing of it is left, or the season says so, and leads to the copy that puts it back."""
+import contextlib
+import http.client
 import os
+import pathlib
+import random
 import re
+import threading
+import time
 import unittest
 
 import sample
 import test_changing
+from exam_desk import states, turns
 from test_desk_files import Uploads
 
 HALLS = b"hall,title,features\nR20,Room 20,-\n"
@@ -74,6 +81,78 @@ class Broken(Uploads):
         self.assertEqual(self.state(), before)
         self.assertNotIn("A change was broken off", self.browser.words("/"))
 
+
+class AtAnyTime(Uploads):
+    """KILLS is how often the desk is killed in a rehearsal of seven imports, and how often while it carries them out."""
+    KILLS = int(os.environ.get("KILLS", "2"))
+    facts = test_changing.Changing.facts
+
+    def setUp(self):
+        super().setUp()
+        folder = self.facts()
+        self.files = [(name, pathlib.Path(folder, name).read_bytes()) for name in os.listdir(folder)]
+        self.before = states.name_now(self.value)
+
+    def test_in_a_rehearsal(self):
+        chance, (length, _, _) = random.Random(1), self.measured()
+        for _ in range(self.KILLS):
+            self.kill(self.propose, chance.uniform(0, length))
+            self.assertEqual(states.name_now(self.value), self.before)
+            self.assertNotIn("A change was broken off", self.browser.words("/"))
+            self.end()
+            self.assertEqual(os.listdir(os.path.join(self.desk, "tmp")), [])
+            self.start()
+
+    def test_in_a_change(self):
+        chance, (_, length, after) = random.Random(1), self.measured()
+        for _ in range(self.KILLS):
+            proposal = self.propose()
+            self.kill(lambda: self.browser.post(proposal + "/do", proposal), chance.uniform(0, 1.1) * length)
+            self.put_back(after)
+            self.assertEqual((states.name_now(self.value), self.office("check")), (self.before, "good\n"))
+        if "KILLS" in os.environ:
+            print(f"{2 * self.KILLS} kills, half of them in a rehearsal")
+
+    def measured(self):
+        """How long the rehearsal takes, and the change, and the state after it. The office is as before then."""
+        began = time.monotonic()
+        proposal = self.propose()
+        rehearsed = time.monotonic()
+        self.browser.post(proposal + "/do", proposal)
+        done, after = time.monotonic(), states.name_now(self.value)
+        self.office("back", "1", "--yes")
+        return rehearsed - began, done - rehearsed, after
+
+    def propose(self):
+        page = self.upload(*self.files)
+        proposal, _ = self.browser.post("/propose/files", page, upload=page.rsplit("/", 1)[1])
+        self.browser.get(proposal)
+        return proposal
+
+    def kill(self, task, seconds):
+        """Kills the desk some seconds after a task began, and starts it anew once its program has ended."""
+        def work():
+            with contextlib.suppress(OSError, http.client.HTTPException):
+                task()
+        thread = threading.Thread(target=work)
+        thread.start()
+        time.sleep(seconds)
+        self.process.kill()
+        thread.join()
+        self.process.communicate(timeout=sample.PATIENCE)
+        with turns.alone(self.value, ["look"]):
+            pass
+        self.start()
+
+    def put_back(self, after):
+        """Puts back what is there: whole, or broken off, which the season says."""
+        state = states.name_now(self.value)
+        if state == after:
+            self.office("back", "1", "--yes")
+        elif state != self.before:
+            self.assertIn("A change was broken off: ", self.browser.words("/"))
+            page = re.search(r'/office/copies/[0-9a-f]{16}(?=")', self.browser.get("/"))[0]
+            self.browser.post(page + "/back", page)
 
 if __name__ == "__main__":
     unittest.main()

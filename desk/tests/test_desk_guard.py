@@ -82,6 +82,8 @@ class TestRoutes(DeskSchool):
             for method in ("PUT", "DELETE", "PATCH", "OPTIONS", "TRACE"):
                 self.assertIn(self.browser.ask(method, path, body)[0].status, (403, 405, 501), (path, method))
         self.assertEqual(self.seats(), before)
+        if "ROUTES" in os.environ:
+            print(f"{self.browser.asked} requests at {len(found)} routes")
 
 
 class TestEntering(DeskSchool):

@@ -9,6 +9,7 @@ import sqlite3
 import subprocess
 import unittest
 
+import breaking
 import sample
 import test_changing
 from exam_desk import second_sitting
@@ -256,7 +257,7 @@ class Killed(SecondSitting):
             self.assertEqual(self.state(), self.before)
 
     def test_at_any_time(self):
-        self.assertEqual(test_changing.kill_often(self, ["second-sitting", *ONE, "--yes"], KILLS, SEED).total(), KILLS)
+        self.assertEqual(breaking.kill_often(self, ["second-sitting", *ONE, "--yes"], KILLS, SEED).total(), KILLS)
 
 
 if __name__ == "__main__":
