@@ -94,7 +94,7 @@ class Page:
         parts = [self.halls_part(), self.shortage_part(), self.seats_part(), self.clashes_part(), self.appeals_part()]
         sections = pages.joined((pages.html("<section id={}><h2>{}</h2>\n{}\n</section>", *each, part)
                                  for each, part in zip(SECTIONS.items(), parts)), "\n")
-        return str(pages.html(DOCUMENT, head, Markup(pages.PAPER + drawing.STYLE), self.title(), sections))
+        return str(pages.html(DOCUMENT, head, pages.style("page", "session"), self.title(), sections))
 
 
 def hall_label(opening: Opening, listed: bool) -> Markup:

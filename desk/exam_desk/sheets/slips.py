@@ -15,13 +15,6 @@ from exam_desk.sheets import beside, pages
 from exam_desk.trouble import Trouble
 from exam_desk.words import clock, short_day
 
-STYLE = """
-.slip { font-size: 9.5pt; break-inside: avoid; border: 0.8pt dashed #555; padding: 2mm 4mm 3mm; margin: 0 1mm 3mm 0 }
-.slip td:nth-child(1) { width: 23% } .slip td:nth-child(2) { width: 13% } .slip td:nth-child(3) { width: 30% }
-.slip th.top { padding-bottom: 0 } .slip th.top b { font-size: 12.5pt }
-.slip td { border: 0; padding-top: 0.8mm; padding-bottom: 0 }
-.slip th.top span { float: right; margin-left: 6mm } .slip th { padding-bottom: 0.3mm }
-"""
 HEADS = ["w:Day", "w:Time", "Paper", "Hall"]
 HEADER = ["number", "name", "session", "date", "start", "finish", "paper", "paper title", "hall", "hall title",
           "arrangement", "not sat", "note", "group", "desk", "code"]
@@ -63,7 +56,7 @@ def page(reading: Reading, choice: Choice) -> str:
         by_group.setdefault(each.group, []).append(slip(look, each))
     bodies = [pages.html(GROUP, pages.text(group or NO_GROUP), pages.joined(found)) if choice.groups
               else pages.joined(found) for group, found in by_group.items()]
-    return pages.document("Slips", pages.joined(bodies), STYLE)
+    return pages.document("Slips", pages.joined(bodies), "slips")
 
 
 def csv_text(reading: Reading, choice: Choice) -> str:
