@@ -126,12 +126,12 @@ The access code stays as it is, so a slip that is out still opens the web page. 
 """)
 def name(parser: ArgumentParser) -> int:
     from commands import programs
-    from exam_desk import changing, renaming
+    from exam_desk import changing, coding
     parser.add_argument("number", metavar="NUMBER")
     parser.add_argument("name", metavar="NAME")
     given = parser.parse_args()
     office = command.office()
-    step = renaming.step(office, given.number, given.name)
+    step = coding.renamed(office, given.number, given.name)
     carried = changing.carry_out(office, [step], title=f"name {given.number}")
     ran = carried.answers[0].ran
     command.say(ran.answer)

@@ -241,7 +241,7 @@ def take(parser: ArgumentParser) -> None:
         if not given.yes:
             command.ask("import all this?")
         carried = changing.carry_out(office, steps, rehearsal.made_from, rehearsal.promised,
-                                     taking.title_of(given.source), command.progress)
+                                     f"take {os.path.basename(os.path.abspath(given.source))}", command.progress)
     command.progress("")
     if refused := carried.refused:
         changes.refuse(office, refused, refused.step.words[-1])

@@ -101,13 +101,13 @@ These have fewer desks than there are candidates, so every plan leaves some of t
 many, and no more are without one now. `examples/check-office` in the repository trusts nothing that the program says.
 """)
 def check_shortage(parser: ArgumentParser) -> bool:
-    from exam_desk import checking_shortage, lists, shortage
+    from exam_desk import lists, reasons, shortage
     parser.add_argument("sheet")
     path = parser.parse_args().sheet
     with open(0 if path == "-" else path, "rb", closefd=path != "-") as file:
         sheet = shortage.read(file.read(MOST_BYTES).decode("utf-8", "replace"))
     with command.reading() as reading:
-        found = list(checking_shortage.faults(reading, sheet))
+        found = list(reasons.faults(reading, sheet))
     right = (f"right: {lists.count(sheet.candidate_count, 'candidate')} = {lists.count(sheet.desks, 'desk')}"
              f" + {sheet.unseated} unseated")
     command.say("\n".join([*(found or [right]), ""]))

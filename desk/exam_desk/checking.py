@@ -1,17 +1,21 @@
-"""The mistakes of the import files of a folder, before any import: what `office check-files` says, as values."""
+"""The mistakes of the import files of a folder, before any import, and what the files would do, tried by the program on a
+private copy of the office, or on an empty office: what `office check-files` says, as values."""
 from __future__ import annotations
 
 import contextlib
 import os
+import sqlite3
 from collections import Counter
-from collections.abc import Iterator
-from dataclasses import dataclass, field
+from collections.abc import Iterator, Mapping
+from dataclasses import dataclass, field, replace
 
-from exam_desk import files, mistakes, snapshot, trying
-from exam_desk.changing import Tell
+from exam_desk import changing, consequences, files, mistakes, overlaps, private, running, snapshot
+from exam_desk.changing import Rehearsal, Step, Tell
 from exam_desk.office import Office
+from exam_desk.reading import Reading
 from exam_desk.serving import Progress
 from exam_desk.trouble import Trouble
+from exam_desk.words import plain
 
 MOST_SHOWN = 5  # mistakes or notes on one column of a file
 WORKBOOKS = (".xlsx", ".xlsm", ".ods")
@@ -82,9 +86,43 @@ def check_folder(office: Office, folder: str, tell: Tell, progress: Progress) ->
     texts = texts_in(folder)
     found = check(texts, office_knows(office))
     if texts and not found.counts()["mistakes"]:
-        found.tried = trying.lines(office, texts, tell, progress)
+        found.tried = would_do(office, texts, tell, progress)
     found.others = [sentence for name in sorted(os.listdir(folder)) if (sentence := other(name))]
     return found
+
+
+def would_do(office: Office, texts: Mapping[str, bytes], tell: Tell, progress: Progress) -> list[str]:
+    """What the files would do to candidates, in short, and which sessions would be at one time then. Where it cannot be
+    tried, a line says why."""
+    steps = [Step(("import", kind, f"{kind}.csv"), text) for kind, text in texts.items()]
+    try:
+        with there_or_empty(office) as tried, changing.rehearse(tried, steps, tell) as rehearsal:
+            tell("")
+            if refused := rehearsal.refused:
+                raise Trouble(f"the program says {refused.first_line()} to {refused.step.words[-1]}")
+            return [f"once imported: {line}" for line in of_rehearsal(rehearsal, progress)]
+    except (Trouble, OSError, sqlite3.Error, MemoryError) as fault:
+        return [f"nobody can say what the files would do: {plain(fault) or 'there is no memory'}"]
+
+
+@contextlib.contextmanager
+def there_or_empty(office: Office) -> Iterator[Office]:
+    """The office; where there is none, an empty one in a private folder."""
+    if os.path.exists(office.path):
+        yield office
+        return
+    with private.own_folder(office.path) as folder:
+        empty = replace(office, path=os.path.join(folder, office.base_name()))
+        running.run_over(empty, empty.path, "init")
+        yield empty
+
+
+def of_rehearsal(rehearsal: Rehearsal, progress: Progress) -> list[str]:
+    with (Reading(rehearsal.office, rehearsal.before, progress) as before,
+          Reading(rehearsal.office, rehearsal.after, progress) as after):
+        met = [each for each in consequences.groups(before, after) if each.kind not in (consequences.TWICE, consequences.HALLS)]
+        return [*consequences.short_at_first(before, after), *consequences.brief(met),
+                *overlaps.lines(after, overlaps.found(after))]
 
 
 def other(name: str) -> str:

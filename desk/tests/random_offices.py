@@ -21,7 +21,7 @@ import sample
 from cells import Cells
 from moments import at_one_time
 
-from exam_desk import checking_shortage, overlaps, reasons, shortage, telling  # beside the tests' folder
+from exam_desk import overlaps, reasons, shortage, telling  # beside the tests' folder
 from exam_desk.names import fold, name_order
 from exam_desk.office import Office
 from exam_desk.reading import Reading
@@ -309,7 +309,7 @@ class RandomOffice:
               [line[:7] for line in text.split("\n") if line[:1].isdigit()],
               [number for number, seat in sorted(self.now[session].items()) if seat.hall == "-"], "why", text)
         assert "are free" not in text, text
-        equal((list(found.differences(sheet)), list(checking_shortage.faults(reading, sheet))), ([], []), "shortage",
+        equal((list(found.differences(sheet)), list(reasons.faults(reading, sheet))), ([], []), "shortage",
               text)
 
     def slips(self, reading):
