@@ -137,20 +137,15 @@ def rehearse(office: Office, steps: Sequence[Step], tell: Tell = ignore) -> Rehe
             after = stack.enter_context(private.private_copy(before, office.path))
         except OSError as fault:
             raise Trouble(fault.strerror or str(fault), fault.filename or office.path) from fault
-        answers = answered_over(office, after, steps, tell)
+        answers: list[Answered] = []
+        with placed(office, steps) as lines:
+            for step, line in zip(steps, lines):
+                tell(step.title())
+                answers.append(Answered(step, running.run_over(office, after, *line)))
+                if refused_of(answers):
+                    break
         kept = stack.pop_all()
     return Rehearsal(office, before, after, answers, kept)
-
-
-def answered_over(office: Office, path: str, steps: Sequence[Step], tell: Tell) -> list[Answered]:
-    answers: list[Answered] = []
-    with placed(office, steps) as lines:
-        for step, line in zip(steps, lines):
-            tell(step.title())
-            answers.append(Answered(step, running.run_over(office, path, *line)))
-            if answers[-1].ran.status:
-                break
-    return answers
 
 
 @contextlib.contextmanager

@@ -10,7 +10,7 @@ from collections.abc import Iterator, Mapping
 from dataclasses import dataclass, field, replace
 
 from exam_desk import changing, consequences, files, mistakes, overlaps, private, running, snapshot
-from exam_desk.changing import Rehearsal, Step, Tell
+from exam_desk.changing import Step, Tell
 from exam_desk.office import Office
 from exam_desk.reading import Reading
 from exam_desk.serving import Progress
@@ -100,7 +100,13 @@ def would_do(office: Office, texts: Mapping[str, bytes], tell: Tell, progress: P
             tell("")
             if refused := rehearsal.refused:
                 raise Trouble(f"the program says {refused.first_line()} to {refused.step.words[-1]}")
-            return [f"once imported: {line}" for line in of_rehearsal(rehearsal, progress)]
+            with (Reading(tried, rehearsal.before, progress) as before,
+                  Reading(tried, rehearsal.after, progress) as after):
+                met = [each for each in consequences.groups(before, after)
+                       if each.kind not in (consequences.TWICE, consequences.HALLS)]
+                found = [*consequences.short_at_first(before, after), *consequences.brief(met),
+                         *overlaps.lines(after, overlaps.found(after))]
+            return [f"once imported: {line}" for line in found]
     except (Trouble, OSError, sqlite3.Error, MemoryError) as fault:
         return [f"nobody can say what the files would do: {plain(fault) or 'there is no memory'}"]
 
@@ -115,14 +121,6 @@ def there_or_empty(office: Office) -> Iterator[Office]:
         empty = replace(office, path=os.path.join(folder, office.base_name()))
         running.run_over(empty, empty.path, "init")
         yield empty
-
-
-def of_rehearsal(rehearsal: Rehearsal, progress: Progress) -> list[str]:
-    with (Reading(rehearsal.office, rehearsal.before, progress) as before,
-          Reading(rehearsal.office, rehearsal.after, progress) as after):
-        met = [each for each in consequences.groups(before, after) if each.kind not in (consequences.TWICE, consequences.HALLS)]
-        return [*consequences.short_at_first(before, after), *consequences.brief(met),
-                *overlaps.lines(after, overlaps.found(after))]
 
 
 def other(name: str) -> str:

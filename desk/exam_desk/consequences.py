@@ -142,17 +142,12 @@ def short_at_first(before: Reading, after: Reading) -> list[str]:
 
 def grouped(changes: list[Change], people: dict[str, list[Met]]) -> list[Group]:
     """The changes, and besides those who are met in other ways, by kind."""
-    for change in one_for_each_name(changes):
-        met = candidate(change.session, change.number, change.name, change.what())
-        people.setdefault(change.kind(), []).append(met)
+    named: dict[str, Change] = {}
+    for change in changes:
+        if change.kind() != "name" or named.setdefault(change.number, change) is change:  # once, not in each session
+            met = candidate(change.session, change.number, change.name, change.what())
+            people.setdefault(change.kind(), []).append(met)
     return [Group(kind, people[kind]) for kind in KINDS if people.get(kind)]
-
-
-def one_for_each_name(changes: list[Change]) -> list[Change]:
-    """Without another name in a second session of its candidate."""
-    first: dict[str, Change] = {}
-    return [change for change in changes
-            if change.kind() != "name" or first.setdefault(change.number, change) is change]
 
 
 def lines(met: list[Group], at_most: int | None) -> list[str]:

@@ -64,7 +64,11 @@ def of_candidate(reading: Reading, number: str) -> list[Overlap]:
 def found(reading: Reading, asked: Collection[str] = ()) -> list[Overlap]:
     """The overlaps of these sessions with any others, otherwise all, by day and start."""
     reading.rows.index_entries()
-    return certain(reading, [(pair, in_both(reading, pair), seated(reading, pair)) for pair in pairs(reading, asked)])
+    doubtful = []
+    for pair in pairs(reading, asked):
+        in_both = reading.rows.execute(IN_BOTH, {**pair._asdict(), "longest": LONGEST})
+        doubtful.append((pair, [number for number, in in_both], seated(reading, pair)))
+    return certain(reading, doubtful)
 
 
 def certain(reading: Reading, doubtful: Collection[Doubtful]) -> list[Overlap]:
@@ -83,11 +87,6 @@ def pairs(reading: Reading, asked: Collection[str]) -> list[Pair]:
     return [Pair(early, late, then - now) for place, (early, now) in enumerate(sessions)
             for late, then in itertools.takewhile(lambda each: each[1] < now + LONGEST, sessions[place + 1:])
             if not asked or early in asked or late in asked]
-
-
-def in_both(reading: Reading, pair: Pair) -> list[str]:
-    """The candidates of both sessions who may still sit when the second begins."""
-    return [number for number, in reading.rows.execute(IN_BOTH, {**pair._asdict(), "longest": LONGEST})]
 
 
 def seated(reading: Reading, pair: Pair) -> dict[str, list[str]]:

@@ -158,9 +158,16 @@ class Reading:
         return self.begun().bodies(requests, self.progress) if requests else []
 
     def begun(self) -> Serve:
-        """The `serve` over the copy. Call it with the lock of those who ask."""
+        """The `serve`, over a second copy. Call it with the lock of those who ask."""
         if self.serve is None:
-            self.serve = serve = Serve(self.office, self.second_copy(), self.refuse_rows)
+            folder = os.path.join(os.path.dirname(self.copy), "served")
+            os.mkdir(folder, 0o700)
+            path = os.path.join(folder, os.path.basename(self.copy))  # while it is open nobody can print a sheet of it
+            with self.printing:
+                for ending in ("", "-wal"):
+                    with contextlib.suppress(FileNotFoundError):
+                        private.copy_file(self.copy + ending, path + ending)
+            self.serve = serve = Serve(self.office, path, self.refuse_rows)
             self.stack.callback(serve.close)
         return self.serve
 
@@ -169,17 +176,6 @@ class Reading:
         with self.asking:
             if self.kept is None:
                 self.begun().begin()
-
-    def second_copy(self) -> str:
-        """The path of the files for `serve`: while it has them open nobody else can print a sheet of them."""
-        folder = os.path.join(os.path.dirname(self.copy), "served")
-        os.mkdir(folder, 0o700)
-        path = os.path.join(folder, os.path.basename(self.copy))
-        with self.printing:
-            for ending in ("", "-wal"):
-                with contextlib.suppress(FileNotFoundError):
-                    private.copy_file(self.copy + ending, path + ending)
-        return path
 
     def sheet(self, name: str, *values: str) -> str:
         """A sheet as the program prints it. Raises `Trouble` where it refuses it.

@@ -112,12 +112,9 @@ def of_session(before: Reading, after: Reading, session: str, people: Collection
     pairs = {number: (old.get(number, none), new.get(number, none)) for number in {**old, **new}}
     found = [Change(session, number, after[0] or before[0], before[1], after[1], before[0] or after[0])
              for number, (before, after) in pairs.items()]
-    return sorted(filter(is_change, found), key=lambda change: name_order(change.name, change.number))
-
-
-def is_change(change: Change) -> bool:
-    return (change.old is None or change.new is None or shown(change.old) != shown(change.new)
-            or change.old_name != change.name)
+    return sorted((change for change in found if change.old is None or change.new is None
+                   or shown(change.old) != shown(change.new) or change.old_name != change.name),
+                  key=lambda change: name_order(change.name, change.number))
 
 
 def sittings(reading: Reading, session: str, people: Collection[int] | None) -> dict[str, tuple[str, Sitting]]:

@@ -360,8 +360,12 @@ class RandomOffice:
             equal([members, seated, short, desks, free, clashing, twice, waiting], [*map(str, wanted)], "summary", line)
 
     def persons(self, reading):
+        both = at_one_time(reading.rows, self.now)
         for number in self.chance.sample(sorted(self.codes), 3):
             text = "\n".join(person.lines(reading, person.find(reading.rows, number), True))
+            notes = [line[len("  NOTE: "):] for line in text.split("\n") if line.startswith("  NOTE: ")]
+            equal(notes, [overlaps.line(reading, each) for each in self.overlaps_of(number, both)], "overlaps", text)
+            self.compared["overlaps of one"] += len(notes)
             for session in self.sessions:
                 if seat := self.now[session].get(number):
                     place = "no desk" if seat.hall == "-" else f"{seat.hall} {self.titles[seat.hall]}, desk {seat.desk}"
@@ -369,6 +373,14 @@ class RandomOffice:
                     line = (f" {session}: {seat.paper} {self.titles[seat.paper]}: {place}, until {seat.finish}"
                             + (f", with {allowance}" if allowance else ""))
                     assert f"{line}\n" in f"{text}\n", (line, text)
+
+    def overlaps_of(self, number, both):
+        """Of the sessions at one time those in which somebody is, as far as they or their halls are in both."""
+        for pair, (candidates, halls) in both.items():
+            own = {self.now[session][number].hall for session in pair if number in self.now[session]}
+            shown = overlaps.Overlap(*pair, [number] * (number in candidates), [hall for hall in halls if hall in own])
+            if shown.candidates or shown.halls:
+                yield shown
 
     def changes(self, before, reading):
         old = {session: self.seats(before.copy, session) for session in self.sessions}

@@ -68,9 +68,6 @@ class Page:
         return (drawing.explanation(self.shortage) + drawing.balance(self.shortage) + picture
                 + drawing.why(self.reasons))
 
-    def seats_part(self) -> Markup:
-        return pages.html("<div class=columns>{}</div>", pages.joined(map(self.hall_part, self.openings)))
-
     def hall_part(self, opening: Opening) -> Markup:
         rows = [[each.sitting.desk, each.number, pages.text(each.name), each.sitting.paper, each.sitting.finish]
                 for each in self.seated[opening.hall]]
@@ -91,7 +88,8 @@ class Page:
 
     def document(self) -> str:
         head = f"Session {self.head['code']}, {self.head['day']} {clock(self.head['start'])}"
-        parts = [self.halls_part(), self.shortage_part(), self.seats_part(), self.clashes_part(), self.appeals_part()]
+        seats = pages.html("<div class=columns>{}</div>", pages.joined(map(self.hall_part, self.openings)))
+        parts = [self.halls_part(), self.shortage_part(), seats, self.clashes_part(), self.appeals_part()]
         sections = pages.joined((pages.html("<section id={}><h2>{}</h2>\n{}\n</section>", *each, part)
                                  for each, part in zip(SECTIONS.items(), parts)), "\n")
         return str(pages.html(DOCUMENT, head, pages.style("page", "session"), self.title(), sections))
