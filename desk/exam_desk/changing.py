@@ -319,7 +319,6 @@ def way_back(copy: str) -> str:
 
 
 def broken_off(office: Office, found: logbook.Unfinished) -> str:
-    """What is known of a change without an end."""
     what = f"`{found.command}` of {found.when}"
     if not found.copy:
         return f"{what} has no end in the log: it is there whole or not at all; look"

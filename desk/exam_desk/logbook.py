@@ -45,7 +45,6 @@ def shown(words: Sequence[str]) -> list[str]:
 
 
 def write(office: Office, words: Sequence[str], status: int | str, answer: str) -> None:
-    """Adds a line to the log."""
     now = datetime.datetime.now().isoformat(" ", "seconds")
     columns = [now, office.user, " ".join(shown(words)), str(status), answer]
     line = "\t".join(map(plain, columns)) + "\n"

@@ -258,7 +258,6 @@ class File:
         return True
 
     def is_whole(self, record: files.Record) -> bool:
-        """Whether a row has all its values."""
         count, wanted = len(record.fields), len(self.header)
         if count != wanted:
             self.wrong.add(record.line, "row", f"{count} fields in place of {wanted}; {count_cure(record, wanted)}")

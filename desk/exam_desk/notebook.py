@@ -64,13 +64,11 @@ def set_school_name(office: Office, name: str) -> None:
 
 
 def notes(office: Office) -> dict[str, str]:
-    """The note on each candidate who has one, by number."""
     nothing: dict[str, str] = {}
     return read(office, NOTES, nothing, lambda value: is_map(value, is_text))
 
 
 def take_notes(office: Office, new: Mapping[str, str]) -> Noted:
-    """Keeps notes by number; an empty text takes a note away."""
     with alone(office):
         before = notes(office)
         after = {number: text for number, text in sorted({**before, **new}.items()) if text}

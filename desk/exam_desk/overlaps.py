@@ -110,7 +110,6 @@ def of_day(clock: str) -> int:
 
 
 def line(reading: Reading, each: Overlap) -> str:
-    """An overlap in words."""
     parts = [f"{count(len(each.candidates), 'candidate')} in both: "
              + few([f"{number} {plain(reading.person(int(number)).name)}" for number in each.candidates])
              ] if each.candidates else []

@@ -102,7 +102,6 @@ class Reading:
         return sitting and Member(person.number, person.name, sitting)
 
     def all_of(self, number: str) -> dict[str, Sitting]:
-        """What a candidate sits, by session."""
         self.ask([self.person(int(number))])
         return self.sittings[int(number)]
 
@@ -121,7 +120,6 @@ class Reading:
         return {number: papers for number, papers in found.items() if papers}
 
     def appeals(self, number: str) -> list[Appeal]:
-        """The appeals of a candidate, by reference."""
         with self.asking:
             [body] = self.bodies([self.person(int(number))], "appeals")
         return answers.appeals(body)

@@ -124,7 +124,6 @@ def second_papers(rows: Rows, first: sqlite3.Row) -> list[sqlite3.Row]:
 
 
 def imported(kind: str, *values: object) -> Step:
-    """The import of a row."""
     return Step(("import", kind, f"{kind}.csv"), files.written([files.HEADERS[kind], values]).encode())
 
 

@@ -53,7 +53,6 @@ class Change(NamedTuple):
         return "time" if time(old) != time(new) else "name" if self.name != self.old_name else "desk"
 
     def what(self) -> str:
-        """The change in words."""
         if self.old is None or self.new is None:
             word, sitting = ("joined", self.new) if self.old is None else ("left", self.old)
             return f"{word}: {sitting.paper}, {time(sitting)}, {place(sitting)}" if sitting else ""

@@ -146,7 +146,6 @@ def alone(office: Office, words: Sequence[str]) -> Iterator[int]:
 
 
 def is_taken(office: Office) -> bool:
-    """Whether a command has the office now, or waits for it."""
     with opened(office, "want.lock") as want:
         return not is_free(want)
 

@@ -38,7 +38,6 @@ def name(change: Change) -> Markup:
 
 
 def sat(sitting: Sitting | None, titles: Mapping[str, str]) -> Markup:
-    """Where, what and when."""
     if sitting is None:
         return Markup("nothing")
     place = pages.html("{} ({}), desk {}", pages.text(titles.get(sitting.hall, "")), sitting.hall, sitting.desk

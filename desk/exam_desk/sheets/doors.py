@@ -65,7 +65,6 @@ def arrangement(also: Beside, member: Member) -> Sequence[str]:
 
 
 def height(also: Beside, member: Member) -> float:
-    """What a row takes, in millimetres."""
     texts = paging.lines([member.name], NAME), paging.lines(arrangement(also, member), ARRANGEMENT)
     return max(ROW, 1 + paging.LINE * max(texts))
 

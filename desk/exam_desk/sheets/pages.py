@@ -25,7 +25,6 @@ def html(form: str, *values: object) -> Markup:
 
 
 def safe(value: object) -> Markup:
-    """A value as HTML."""
     return value if isinstance(value, Markup) else escape(plain(value))
 
 
@@ -63,7 +62,6 @@ def table(heads: Sequence[str], rows: Iterable[Sequence[object]], above: Markup 
 
 
 def when(head: sqlite3.Row) -> Markup:
-    """Day, start and code of a session."""
     return html("{}, {} ({})", long_day(head["day"]), clock(head["start"]), head["code"])
 
 

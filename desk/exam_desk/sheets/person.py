@@ -64,7 +64,6 @@ def entries(reading: Reading, person: Person) -> Iterator[str]:
 
 
 def fate(row: sqlite3.Row, sitting: Sitting | None, halls: dict[str, str]) -> str:
-    """What became of an entry."""
     if not row["live"] or sitting is None:
         return "withdrawn"
     if row["paper"] != sitting.paper:

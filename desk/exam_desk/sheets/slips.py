@@ -94,7 +94,6 @@ def refuse_missing(asked: Collection[str], found: Collection[str]) -> None:
 
 
 def sittings_by_candidate(reading: Reading, choice: Choice) -> dict[tuple[str, str], list[Sat]]:
-    """What each candidate sits, by name and number."""
     heads = facts.sessions(reading.rows, choice.sessions)
     if not choice.only:
         reading.ask_sessions(head["code"] for head in heads)
