@@ -69,6 +69,7 @@ def notes(office: Office) -> dict[str, str]:
 
 
 def take_notes(office: Office, new: Mapping[str, str]) -> Noted:
+    """Keeps notes by number; an empty text takes a note away."""
     with alone(office):
         before = notes(office)
         after = {number: text for number, text in sorted({**before, **new}.items()) if text}

@@ -12,6 +12,7 @@ MARKS = {"Mn", "Me", "Cf"}  # stand over other letters, or nowhere
 
 
 def width(text: str) -> float:
+    """How wide a text of 10 points is."""
     return sum(0 if unicodedata.category(letter) in MARKS else
                3.6 if unicodedata.east_asian_width(letter) in WIDE else
                3.4 if letter in "WMwm%@" else 2.6 if letter.isupper() or not letter.isalnum() and letter != " " else 2
