@@ -92,7 +92,8 @@ def agreed(question: str, lines: list[str]) -> list[str]:
     return lines
 
 
-@command.named("""Lodges an appeal at the counter, for a candidate who is there: lodge NUMBER SESSION KIND VALUE .. REASON.
+@command.named("""\
+Lodges an appeal at the counter, for a candidate who is there: lodge NUMBER SESSION KIND VALUE .. REASON.
 
     office lodge 0001051 MON-AM hall PC1 'a draught'               not in this hall
     office lodge 0001051 MON-AM clash LAT 'needs Latin'            sit this paper of two at the same time

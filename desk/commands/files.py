@@ -105,7 +105,8 @@ def check_files(parser: ArgumentParser) -> bool:
     return bool(counts["mistakes"])
 
 
-@command.named("""Makes access codes at random for those who have none: codes [CANDIDATES.csv] [--new NUMBER ..] [--output FILE]
+@command.named("""\
+Makes access codes at random for those who have none: codes [CANDIDATES.csv] [--new NUMBER ..] [--output FILE]
 
     office codes                                   reads candidates.csv, writes candidates-with-codes.csv
     office codes new.csv --output new-coded.csv
@@ -134,7 +135,8 @@ def codes(parser: ArgumentParser) -> None:
     command.say(f"{plain(output)}: {made} made for {rows}{kept}\n")
 
 
-@command.named("""Writes the facts of the office as the seven CSV files, for the spreadsheet or the next year: dump FOLDER
+@command.named("""\
+Writes the facts of the office as the seven CSV files, for the spreadsheet or the next year: dump FOLDER
 
     office dump facts
     office dump --workbook facts.xlsx

@@ -18,7 +18,8 @@ if TYPE_CHECKING:
 MOST_BYTES = 1 << 20  # no printed shortage is as long
 
 
-@command.named("""Lists the open appeals of all sessions, the most urgent first, with names, reasons and the last day to decide.
+@command.named("""\
+Lists the open appeals of all sessions, the most urgent first, with names, reasons and the last day to decide.
 
     office appeals-open
     office appeals-open MON-AM      one session
@@ -141,7 +142,8 @@ def look(parser: ArgumentParser) -> None:
     command.say_lines(lines)
 
 
-@command.named("""Prints a line for each session: members, seated, short, desks, free, clashes, open appeals: summary [SESSION ..]
+@command.named("""\
+Prints a line for each session: members, seated, short, desks, free, clashes, open appeals: summary [SESSION ..]
 
     office summary
 
@@ -156,7 +158,8 @@ def summary(parser: ArgumentParser) -> None:
         command.say(summary.text(reading, given.session))
 
 
-@command.named("""Writes the titles of papers and halls and the days of sessions, for the candidates' page: titles [FILE].
+@command.named("""\
+Writes the titles of papers and halls and the days of sessions, for the candidates' page: titles [FILE].
 
     office titles                                     prints them
     office titles /var/www/examoffice/titles.json     puts them where the web server finds them, as one step

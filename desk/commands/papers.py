@@ -79,7 +79,8 @@ def counts(parser: ArgumentParser) -> None:
     print_page(parser, counts.page)
 
 
-@command.named("""Prints the invigilators' sheets of a session, each hall on a page of its own: doors SESSION [HALL ..] >doors.html
+@command.named("""\
+Prints the invigilators' sheets of a session, each hall on a page of its own: doors SESSION [HALL ..] >doors.html
 
     office doors MON-AM >doors.html
     office doors MON-AM GYM >gym.html
@@ -105,7 +106,8 @@ def poster(parser: ArgumentParser) -> None:
     print_page(parser, poster.page)
 
 
-@command.named("""Prints the door lists, the attendance sheets and the clash list of a session as text: print-session SESSION | lp
+@command.named("""\
+Prints the door lists, the attendance sheets and the clash list of a session as text: print-session SESSION | lp
 
     office print-session MON-AM | lp
     office print-session MON-AM --lines 66 --columns 80 | lp -o sides=two-sided-long-edge
@@ -127,7 +129,8 @@ def print_session(parser: ArgumentParser) -> None:
         command.say(printing.text(reading, given.session, given.lines, given.columns, command.progress))
 
 
-@command.named("""Writes one HTML page of a session: halls, shortage, who sits where, clashes and appeals: session-page SESSION
+@command.named("""\
+Writes one HTML page of a session: halls, shortage, who sits where, clashes and appeals: session-page SESSION
 
     office session-page MON-AM >mon-am.html
 
@@ -144,7 +147,8 @@ def session_page(parser: ArgumentParser) -> bool:
     return warned(page.differences)
 
 
-@command.named("""Prints a slip of paper for each candidate, to be cut out and handed over: slips [SESSION ..] >slips.html
+@command.named("""\
+Prints a slip of paper for each candidate, to be cut out and handed over: slips [SESSION ..] >slips.html
 
     office slips >slips.html                          everybody, all sessions
     office slips MON-AM MON-PM --codes >slips.html    the sessions of a day, with the access codes

@@ -50,7 +50,8 @@ def is_journal() -> bool:
     return os.environ.get("JOURNAL_STREAM") == f"{output.st_dev}:{output.st_ino}"
 
 
-@command.named("""Serves candidates day after day, and steps aside for each command of the office: keep start|run|stop|status [PLACE].
+@command.named("""\
+Serves candidates day after day, and steps aside for each command of the office: keep start|run|stop|status [PLACE].
 
     office keep start 8080     serves on 127.0.0.1, port 8080 (without PLACE: 8080), in the background, for a trial
     office keep status         says whether it serves, and where

@@ -1,5 +1,5 @@
-"""The mistakes of the import files of a folder, before any import, and what the files would do, tried by the program on a
-private copy of the office, or on an empty office: what `office check-files` says, as values."""
+"""The mistakes of the import files of a folder, before any import: what `office check-files` says, as values. What the
+files would do is tried by the program on a private copy of the office, or on an empty office."""
 from __future__ import annotations
 
 import contextlib

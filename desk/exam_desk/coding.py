@@ -98,8 +98,8 @@ def write(path: str, rows: list[list[str]]) -> None:
 
 
 def renamed(office: Office, number: str, name: str) -> Step:
-    """The import of a candidate's row with another name and the same code. Raises `Trouble` where there is no such candidate, or the
-    name has another form."""
+    """The import of a candidate's row with another name and the same code. Raises `Trouble` where there is no such
+    candidate, or the name has another form."""
     known = in_office(office)
     if not known:
         raise NoOffice(office.path)

@@ -56,8 +56,8 @@ def write(office: Office, words: Sequence[str], status: int | str, answer: str) 
 
 @contextlib.contextmanager
 def logged(office: Office, words: Sequence[str], status: str = BEGINS, answer: str = "") -> Iterator[Outcome]:
-    """A line in the log before a change, which waits until that is on the disk; and one with the outcome after it: where
-    that cannot be written, a warning has to do."""
+    """A line in the log before a change, which waits until that is on the disk; and one with the outcome after it. In
+    place of one that cannot be written a warning has to do."""
     write(office, words, status, answer)
     beside.sync(turns.inside(office, NAME))
     outcome = Outcome()

@@ -90,8 +90,8 @@ def pairs(reading: Reading, asked: Collection[str]) -> list[Pair]:
 
 
 def seated(reading: Reading, pair: Pair) -> dict[str, list[str]]:
-    """By hall those who sit there in the first session and may still sit when the second begins, where candidates of the
-    second have it too."""
+    """By hall those who sit there in the first session and may still sit when the second begins, where candidates of
+    the second have it too."""
     halls: dict[str, list[str]] = defaultdict(list)
     for hall, number in reading.rows.execute(SEATED, pair._asdict()):
         halls[hall].append(number)

@@ -20,7 +20,7 @@ def steps_of(reading: Reading) -> list[Step]:
                       "by `office read` or `office mend`, fill the codes by `office codes`, and take that folder")
     steps = [Step(("import", kind, f"{kind}.csv" if place == 1 else f"{kind}-{place}.csv"), text)
              for kind in KINDS if (rows := [record.fields for record in reading.records.get(kind, [])])
-             for place, (text, _) in enumerate(file_parts(kind, rows), 1)]  # more than one where an import takes no more
+             for place, (text, _) in enumerate(file_parts(kind, rows), 1)]  # several where they are too many for one
     if not steps:
         raise Trouble("there is no row to import")
     return steps

@@ -19,7 +19,7 @@ from typing import NamedTuple
 
 import sample
 from cells import Cells
-from moments import at_one_time
+from moments import at_one_time, of_candidate
 
 from exam_desk import overlaps, reasons, shortage, telling  # beside the tests' folder
 from exam_desk.names import fold, name_order
@@ -364,7 +364,9 @@ class RandomOffice:
         for number in self.chance.sample(sorted(self.codes), 3):
             text = "\n".join(person.lines(reading, person.find(reading.rows, number), True))
             notes = [line[len("  NOTE: "):] for line in text.split("\n") if line.startswith("  NOTE: ")]
-            equal(notes, [overlaps.line(reading, each) for each in self.overlaps_of(number, both)], "overlaps", text)
+            wanted = [overlaps.line(reading, overlaps.Overlap(*pair, *found))
+                      for pair, *found in of_candidate(both, self.now, number)]
+            equal(notes, wanted, "overlaps", text)
             self.compared["overlaps of one"] += len(notes)
             for session in self.sessions:
                 if seat := self.now[session].get(number):
@@ -373,14 +375,6 @@ class RandomOffice:
                     line = (f" {session}: {seat.paper} {self.titles[seat.paper]}: {place}, until {seat.finish}"
                             + (f", with {allowance}" if allowance else ""))
                     assert f"{line}\n" in f"{text}\n", (line, text)
-
-    def overlaps_of(self, number, both):
-        """Of the sessions at one time those in which somebody is, as far as they or their halls are in both."""
-        for pair, (candidates, halls) in both.items():
-            own = {self.now[session][number].hall for session in pair if number in self.now[session]}
-            shown = overlaps.Overlap(*pair, [number] * (number in candidates), [hall for hall in halls if hall in own])
-            if shown.candidates or shown.halls:
-                yield shown
 
     def changes(self, before, reading):
         old = {session: self.seats(before.copy, session) for session in self.sessions}

@@ -147,7 +147,8 @@ class SampleSchool(unittest.TestCase):
 
 class Titles(SampleSchool):
     def titles(self, *words):
-        return subprocess.run([OFFICE, "titles", *words], env=self.environment, capture_output=True, text=True, check=False)
+        return subprocess.run([OFFICE, "titles", *words], env=self.environment, capture_output=True, text=True,
+                              check=False)
 
     def kept(self):
         folder = pathlib.Path(self.folder.name)

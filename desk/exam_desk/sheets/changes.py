@@ -42,5 +42,6 @@ def sat(sitting: Sitting | None, titles: Mapping[str, str]) -> Markup:
         return Markup("nothing")
     place = pages.html("{} ({}), desk {}", pages.text(titles.get(sitting.hall, "")), sitting.hall, sitting.desk
                        ) if sitting.hall else Markup("<b>no desk</b>")
-    return pages.html("{}<br>{} ({})<br>{}, <span class=w>{}–{}</span>", place, pages.text(titles.get(sitting.paper, "")), sitting.paper,
-                      short_day(sitting.date), sitting.start, sitting.finish)
+    return pages.html("{}<br>{} ({})<br>{}, <span class=w>{}–{}</span>", place,
+                      pages.text(titles.get(sitting.paper, "")), sitting.paper, short_day(sitting.date), sitting.start,
+                      sitting.finish)
