@@ -96,13 +96,11 @@ def check_files(parser: ArgumentParser) -> bool:
     gc.disable()  # a file can have a million rows, and no row refers to itself
     parser.add_argument("folder")
     checked = checking.check_folder(command.office(), parser.parse_args().folder, command.progress, command.show_asked)
-    for line in checked.lines():
-        print(plain(line))
-    counts = checked.counts()
-    if not counts["files"]:
+    command.say_lines(checked.lines)
+    if not checked.counts["files"]:
         raise Trouble("none of the seven files is there")
-    print(f"{counts['files']} files, {counts['mistakes']} mistakes, {counts['notes']} notes")
-    return bool(counts["mistakes"])
+    print("{files} files, {mistakes} mistakes, {notes} notes".format_map(checked.counts))
+    return bool(checked.counts["mistakes"])
 
 
 @command.named("""\
