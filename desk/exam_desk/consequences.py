@@ -152,16 +152,13 @@ def grouped(changes: list[Change], people: dict[str, list[Met]]) -> list[Group]:
 
 def lines(met: list[Group], at_most: int | None) -> list[str]:
     """A line for each way in which candidates are met, and below it who they are, at most so many."""
-    shown = [line for each in met for line in (each.title(), *named(each, at_most))]
+    shown = []
+    for group in met:
+        people = [] if group.kind in COUNTED else group.people
+        shown += [group.title(), *(f"  {each.who}: {each.what}" for each in people[:at_most])]
+        if rest := len(people) - len(people[:at_most]):
+            shown.append(f"  .. and {rest:,} more")
     return shown or ["nobody sits otherwise"]
-
-
-def named(met: Group, at_most: int | None) -> list[str]:
-    if met.kind in COUNTED:
-        return []
-    shown = [f"  {each.who}: {each.what}" for each in met.people[:at_most]]
-    rest = len(met.people) - len(shown)
-    return shown + ([f"  .. and {rest:,} more"] if rest else [])
 
 
 def brief(met: list[Group]) -> list[str]:

@@ -168,13 +168,10 @@ def faults(reading: Reading, sheet: Shortage) -> Iterator[str]:
                 for hall, desks in sorted(suiting - set(sheet.halls)))
     yield from (f"hall {hall} with {desks} desks is listed, but suits none of the candidates, or has not as many desks"
                 for hall, desks in sorted(set(sheet.halls) - suiting))
-    yield from wrong_sums(sheet, len(reasons.unseated()))
-
-
-def wrong_sums(sheet: Shortage, unseated: int) -> Iterator[str]:
     sums = [("halls", sheet.hall_count, len(sheet.halls)),
             ("desks", sheet.desks, sum(desks for _, desks in sheet.halls)),
-            ("candidates", sheet.candidate_count, len(sheet.candidates)), ("unseated", sheet.unseated, unseated)]
+            ("candidates", sheet.candidate_count, len(sheet.candidates)),
+            ("unseated", sheet.unseated, len(reasons.unseated()))]
     yield from (f"{name}: the sheet counts {said}, and there are {there}"
                 for name, said, there in sums if said != there)
     if sheet.candidate_count != sheet.desks + sheet.unseated:

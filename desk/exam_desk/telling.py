@@ -127,14 +127,12 @@ def text(changes: Collection[Change], tells_alone: bool = False) -> str:
     desks alone where only those to tell are wanted."""
     telling = sum(change.is_to_tell() for change in changes)
     last = f"{telling} to tell, {len(changes) - telling} with another desk only" if changes else "nothing changed"
-    shown = [each for kind in KINDS for each in of_kind(changes, kind) if not tells_alone or kind != "desk"]
-    return "".join(shown) + f"{last}\n"
-
-
-def of_kind(changes: Collection[Change], kind: str) -> list[str]:
-    """The lines of the changes of a kind, below how many these are."""
-    found = [change for change in changes if change.kind() == kind]
-    return [f"{counted(KINDS[kind], len(found))}:\n", *map(line, found)] if found else []
+    shown = ""
+    for kind, words in KINDS.items():
+        found = [change for change in changes if change.kind() == kind]
+        if found and not (tells_alone and kind == "desk"):
+            shown += "".join([f"{counted(words, len(found))}:\n", *map(line, found)])
+    return f"{shown}{last}\n"
 
 
 def counted(words: tuple[str, str], count: int) -> str:

@@ -61,13 +61,11 @@ def explanation(shortage: Shortage) -> Markup:
 
 
 def chips(title: str, kind: str, members: Iterable[Member]) -> Markup:
-    people = pages.joined(map(chip, members))
-    return pages.html("<div class='card {}'><h3>{}</h3><ol>{}</ol></div>", kind, title, people)
-
-
-def chip(member: Member) -> Markup:
-    desk = "" if member.sitting.desk is None else pages.html("<small>{}</small> ", member.sitting.desk)
-    return pages.html("<li>{}{}<br><small>{}</small></li>", desk, member.number, pages.text(member.name))
+    people = ""
+    for member in members:
+        desk = "" if member.sitting.desk is None else pages.html("<small>{}</small> ", member.sitting.desk)
+        people += pages.html("<li>{}{}<br><small>{}</small></li>", desk, member.number, pages.text(member.name))
+    return pages.html("<div class='card {}'><h3>{}</h3><ol>{}</ol></div>", kind, title, Markup(people))
 
 
 def drawing(shortage: Shortage, unseated: Sequence[Member], openings: Sequence[Opening],
@@ -112,14 +110,10 @@ def why(reasons: Reasons) -> Markup:
 def explained(reasons: Reasons, member: Member) -> Markup:
     sitting = member.sitting
     extra = f", with {sitting.extra} % extra time" if sitting.extra else ""
-    return pages.html("<p><b>{} {}</b> sits {} until {}{}, needs {}</p><ul>{}</ul>", member.number,
-                      pages.text(member.name), sitting.paper, sitting.finish, extra,
-                      "+".join(reasons.needs(member)) or "-", by_reason(reasons.of(member)))
-
-
-def by_reason(halls: Iterable[tuple[str, str]]) -> Markup:
     found: dict[str, list[str]] = {}
-    for hall, reason in halls:
+    for hall, reason in reasons.of(member):
         found.setdefault(reason, []).append(hall)
     lines = [pages.html("<li>{}: {}</li>", ", ".join(codes), pages.text(reason)) for reason, codes in found.items()]
-    return pages.joined(lines) or Markup("<li>no hall is open</li>")
+    return pages.html("<p><b>{} {}</b> sits {} until {}{}, needs {}</p><ul>{}</ul>", member.number,
+                      pages.text(member.name), sitting.paper, sitting.finish, extra,
+                      "+".join(reasons.needs(member)) or "-", pages.joined(lines) or Markup("<li>no hall is open</li>"))

@@ -1,7 +1,6 @@
 """One page of a session: halls, shortage, who sits where, clashes and appeals."""
 from __future__ import annotations
 
-import sqlite3
 
 from markupsafe import Markup
 
@@ -82,7 +81,13 @@ class Page:
 
     def appeals_part(self) -> Markup:
         numbers = {member.number for member in self.members}
-        rows = [appeal_row(row, f"{row['number']:07}" in numbers) for row in self.appeals]
+        rows = []
+        for row in self.appeals:
+            gone = "" if f"{row['number']:07}" in numbers else Markup("<br><i>no longer in this session</i>")
+            state = appeals.STATES[row["state"]]
+            rows.append([f"{row['number']:07}", pages.text(row["name"]) + gone, row["ref"], appeals.KINDS[row["kind"]],
+                         appeals.subject(row), row["lodged"],
+                         pages.html("<span class='tag {}'>{}</span>", state, state)])
         heads = ["Number", "name:Name", "Reference", "Kind", "About", "Lodged", "State"]
         return drawing.table(heads, rows) if rows else NONE
 
@@ -102,10 +107,3 @@ def hall_label(opening: Opening, listed: bool) -> Markup:
     details += ["only with needs or extra time"] * opening.reserved
     return pages.html("<a href='#hall-{}'>{}</a> {}{}<br><small>{}</small>", opening.hall, opening.hall,
                       pages.text(opening.title), mark, "; ".join(details))
-
-
-def appeal_row(row: sqlite3.Row, is_member: bool) -> list[object]:
-    name = pages.text(row["name"]) + ("" if is_member else Markup("<br><i>no longer in this session</i>"))
-    state = appeals.STATES[row["state"]]
-    return [f"{row['number']:07}", name, row["ref"], appeals.KINDS[row["kind"]], appeals.subject(row), row["lodged"],
-            pages.html("<span class='tag {}'>{}</span>", state, state)]

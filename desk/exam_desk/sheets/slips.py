@@ -10,7 +10,7 @@ from markupsafe import Markup
 from exam_desk import facts, files, lists, notebook
 from exam_desk.answers import Sitting
 from exam_desk.names import name_order
-from exam_desk.reading import Member, Person, Reading
+from exam_desk.reading import Person, Reading
 from exam_desk.sheets import beside, pages
 from exam_desk.trouble import Trouble
 from exam_desk.words import clock, short_day
@@ -100,16 +100,11 @@ def sittings_by_candidate(reading: Reading, choice: Choice) -> dict[tuple[str, s
     found: dict[tuple[str, str], list[Sat]] = {}
     for head in heads:
         clashes = reading.clashes(head["code"], choice.only)
-        for member in members(reading, head["code"], choice.only):
+        asked = (reading.member(head["code"], number) for number in choice.only)
+        for member in filter(None, asked) if choice.only else reading.members(head["code"]):
             found.setdefault((member.name, member.number), []).append(
                 Sat(head, member.sitting, clashes.get(member.number, [])))
     return found
-
-
-def members(reading: Reading, session: str, only: Collection[str]) -> list[Member]:
-    if not only:
-        return reading.members(session)
-    return [member for number in only if (member := reading.member(session, number))]
 
 
 class Look(NamedTuple):
