@@ -1,7 +1,6 @@
 """One page of a session: halls, shortage, who sits where, clashes and appeals."""
 from __future__ import annotations
 
-
 from markupsafe import Markup
 
 from exam_desk import appeals, lists, reasons
