@@ -1,4 +1,4 @@
-"""What all commands of the desk share: how they begin, which office they mean, their words, and how they speak.
+"""What all commands of the desk share: how they are named, which office they mean, and how they speak.
 
 OFFICE names another file than office.db, TODAY another date than the clock's, EXAMOFFICE another program. The package
 exam_desk reads none of these: a command hands an `Office` on. What not every command needs is imported where it is
@@ -10,7 +10,7 @@ import contextlib
 import os
 import signal
 import sys
-from typing import TYPE_CHECKING
+from typing import TYPE_CHECKING, NamedTuple
 
 from exam_desk import beside
 from exam_desk.office import Office
@@ -20,14 +20,36 @@ from exam_desk.words import plain
 if TYPE_CHECKING:
     import argparse
     import datetime
+    from collections.abc import Callable, Iterable
     from types import FrameType, TracebackType
 
     from exam_desk.reading import Reading
+    from exam_desk.snapshot import Rows
+
+    Run = Callable[[argparse.ArgumentParser], int | None]
 
 DESK = os.path.dirname(os.path.realpath(__file__))
+OFFICE = os.path.join(DESK, "office")
 BAR = 24  # letters of a bar that is full
 MANY, FEW = 500, 100  # of so many questions, the progress is shown after each few
 CLEAR = "\r\x1b[K"  # a terminal takes away the line on which it writes
+
+
+class Command(NamedTuple):
+    """A command of the desk."""
+    text: str  # what `--help` prints; its first line stands in the list of commands
+    run: Run  # takes the words from the command line, and gives a status, or nothing where all is done
+
+
+COMMANDS: dict[str, Command] = {}  # by name
+
+
+def named(text: str) -> Callable[[Run], Run]:
+    """Makes the function below it the command of its name."""
+    def put(run: Run) -> Run:
+        COMMANDS[run.__name__.replace("_", "-")] = Command(text, run)
+        return run
+    return put
 
 
 def begin() -> None:
@@ -73,9 +95,15 @@ def say(text: str) -> None:
     sys.stdout.flush()
 
 
-def is_wanted(question: str) -> bool:
+def say_lines(lines: Iterable[str]) -> None:
+    say("".join(f"{plain(line)}\n" for line in lines))
+
+
+def ask(question: str) -> None:
+    """Raises `Trouble` unless the answer is yes."""
     say(f"{question} [y/N] ")
-    return sys.stdin.readline().strip().lower() in ("y", "yes")
+    if sys.stdin.readline().strip().lower() not in ("y", "yes"):
+        raise Trouble("nothing is changed")
 
 
 def progress(text: str, part: float | None = None) -> None:
@@ -100,16 +128,23 @@ def tell_consequences(copy: str | None) -> None:
             sys.stderr.flush()
 
 
-def arguments(name: str, doc: str | None) -> argparse.ArgumentParser:
-    """What reads the words of a command; `--help` prints the text."""
-    import argparse
-    return argparse.ArgumentParser(prog=f"office {name}", description=doc,
-                                   formatter_class=argparse.RawDescriptionHelpFormatter)
-
-
 def office() -> Office:
     """The office that is meant."""
     return Office(office_path(), program(), today, user(), warn)
+
+
+def existing_office() -> Office:
+    """The office that is meant. Raises `Trouble` where it is not there."""
+    found = office()
+    if not os.path.isfile(found.path):
+        raise Trouble(f"there is no office {found.path}; `office init` makes one")
+    return found
+
+
+def rows() -> contextlib.closing[Rows]:
+    """The rows of the office as they are now."""
+    from exam_desk import snapshot
+    return contextlib.closing(snapshot.rows(office()))
 
 
 def reading(path: str | None = None) -> Reading:

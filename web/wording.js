@@ -40,7 +40,7 @@ export function arrangementText(needs, extra) {
 export class Titles {
   #of = { papers: new Map(), halls: new Map(), sessions: new Map() };
 
-  /** Takes what desk/titles wrote. */
+  /** Takes what `office titles` wrote. */
   take(json) {
     for (const kind of Object.keys(this.#of)) {
       this.#of[kind] = new Map(Object.entries(json?.[kind] ?? {}));

@@ -36,11 +36,6 @@ def subject(row: sqlite3.Row) -> str:
     return f"{feature_text(row['needs'])} {row['extra']}" if kind == "arrangement" else target
 
 
-def open_count(rows: Rows, session: str) -> int:
-    [count] = rows.execute("SELECT count(*) FROM appeal WHERE session = ? AND state = 1", [session]).fetchone()
-    return int(count)
-
-
 def open_lines(rows: Rows, today: str, sessions: Collection[str] = ()) -> list[str]:
     """Two lines on each open appeal of these sessions, or of all, the most urgent first."""
     asked = {head["code"] for head in facts.sessions(rows, sessions)}

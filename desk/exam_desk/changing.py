@@ -14,7 +14,7 @@ import sqlite3
 import time
 from collections.abc import Callable, Iterator, Sequence
 from dataclasses import dataclass
-from typing import NamedTuple
+from typing import NamedTuple, TypeVar
 
 from exam_desk import copies, files, logbook, private, refusals, running, states, turns, undo
 from exam_desk.office import Office
@@ -23,6 +23,7 @@ from exam_desk.trouble import Stale, Trouble
 CHANGES = ["import", "withdraw", "reinstate", "close-hall", "decide", "migrate"]
 PAUSE = 0.2  # seconds from one try to the next
 Tell = Callable[[str], None]  # hears which step begins
+Value = TypeVar("Value")
 
 
 @dataclass(frozen=True)
@@ -113,7 +114,7 @@ class Turn(NamedTuple):
     def carried(self, step: Step, line: tuple[str, ...], status: str) -> Answered:
         """Carries out one step, which the program does whole or not at all; `status` begins its line in the log."""
         self.tell(step.title())
-        with logged(self.office, step.words, status=status) as outcome:
+        with begun(self.office, logbook.logged(self.office, step.words, status)) as outcome:
             answered = Answered(step, run_patiently(self.office, line, self.lock))
             outcome.status, outcome.answer = answered.ran.status, answered.first_line()
         return answered
@@ -136,20 +137,15 @@ def rehearse(office: Office, steps: Sequence[Step], tell: Tell = ignore) -> Rehe
             after = stack.enter_context(private.private_copy(before, office.path))
         except OSError as fault:
             raise Trouble(fault.strerror or str(fault), fault.filename or office.path) from fault
-        answers = answered_over(office, after, steps, tell)
+        answers: list[Answered] = []
+        with placed(office, steps) as lines:
+            for step, line in zip(steps, lines):
+                tell(step.title())
+                answers.append(Answered(step, running.run_over(office, after, *line)))
+                if refused_of(answers):
+                    break
         kept = stack.pop_all()
     return Rehearsal(office, before, after, answers, kept)
-
-
-def answered_over(office: Office, path: str, steps: Sequence[Step], tell: Tell) -> list[Answered]:
-    answers: list[Answered] = []
-    with placed(office, steps) as lines:
-        for step, line in zip(steps, lines):
-            tell(step.title())
-            answers.append(Answered(step, running.run_over(office, path, *line)))
-            if answers[-1].ran.status:
-                break
-    return answers
 
 
 @contextlib.contextmanager
@@ -183,8 +179,9 @@ def carry_out(office: Office, steps: Sequence[Step], made_from: str | None = Non
     Where names of states are given, the office must be of the first one, else `Stale` is raised; and it is said whether
     it is of the second one then. Raises `Trouble` where nothing could begin, and nothing is changed.
     """
-    if not os.path.isfile(office.path):
-        return Carried(said_of_none(office, steps[0]), None, None)
+    if not os.path.isfile(office.path):  # the program says so
+        with placed(office, steps[:1]) as [line]:
+            return Carried([Answered(steps[0], run_patiently(office, line))], None, None)
     title = title or ", ".join(step.title() for step in steps)
     with placed(office, steps) as lines, turn(office, title, made_from, tell) as taken:
         copy = kept_copy(office, title)
@@ -204,12 +201,6 @@ def carry_out(office: Office, steps: Sequence[Step], made_from: str | None = Non
     return Carried(answers, None if is_undone else copy, as_promised)
 
 
-def said_of_none(office: Office, step: Step) -> list[Answered]:
-    """What the program says where there is no office."""
-    with placed(office, [step]) as [line]:
-        return [Answered(step, run_patiently(office, line))]
-
-
 def has_done_nothing(office: Office, answered: Answered, copy: str) -> bool:
     number = refusals.number_of(answered.ran.complaint)
     return answered.is_refused() and (number != 23 or copies.is_as_now(office, copy))
@@ -219,11 +210,7 @@ def has_done_nothing(office: Office, answered: Answered, copy: str) -> bool:
 def turn(office: Office, title: str, made_from: str | None = None, tell: Tell = ignore) -> Iterator[Turn]:
     """The office for this process alone, in the state that was looked at. Says of a change without an end what is known
     of it. Raises `Stale` where it is in another state, and `Trouble` where it cannot be had."""
-    with contextlib.ExitStack() as stack:
-        try:
-            lock = stack.enter_context(turns.alone(office, [title]))
-        except OSError as fault:
-            raise no_copy(office, fault) from fault
+    with begun(office, turns.alone(office, [title])) as lock:
         if made_from is not None and not is_in_state(office, made_from):
             raise Stale("the office has changed since you looked at it, so nothing is changed: look again")
         if found := logbook.unfinished(office):
@@ -252,15 +239,17 @@ def no_copy(office: Office, fault: OSError) -> NotBegun:
 
 
 @contextlib.contextmanager
-def logged(office: Office, words: Sequence[str], copy: str = "",
-           status: str = logbook.BEGINS) -> Iterator[logbook.Outcome]:
-    """As `logbook.logged`; raises `NotBegun` where no line can be written before the change."""
+def begun(office: Office, context: contextlib.AbstractContextManager[Value]) -> Iterator[Value]:
+    """A context of a change. Raises `NotBegun` where it does not begin."""
     with contextlib.ExitStack() as stack:
         try:
-            outcome = stack.enter_context(logbook.logged(office, words, status, copy))
+            value = stack.enter_context(context)
         except OSError as fault:
             raise no_copy(office, fault) from fault
-        yield outcome
+        except sqlite3.Error as fault:
+            raise NotBegun(f"{office.path} cannot be read, so nothing is changed: {fault}; `office check` says more"
+                           ) from fault
+        yield value
 
 
 def run_patiently(office: Office, words: Sequence[str], lock: int | None = None) -> running.Ran:
@@ -277,7 +266,8 @@ def carried_all(taken: Turn, title: str, steps: list[tuple[Step, tuple[str, ...]
     """Carries out steps up to the first that is refused; then, or where one cannot be saved, the copy is put back."""
     answers: list[Answered] = []
     office = taken.office
-    with prepared(office, copy) as ready, logged(office, [title], os.path.basename(copy)) as outcome:
+    with (begun(office, undo.ready(office, copy)) as ready,  # it can be moved in when the disk is full
+          begun(office, logbook.logged(office, [title], answer=os.path.basename(copy))) as outcome):
         try:
             for step, line in steps:
                 answers.append(taken.carried(step, line, logbook.STEP))
@@ -297,25 +287,10 @@ def carried_all(taken: Turn, title: str, steps: list[tuple[Step, tuple[str, ...]
     return answers
 
 
-@contextlib.contextmanager
-def prepared(office: Office, copy: str) -> Iterator[str]:
-    """The path of a file that can be moved into the place of the office when the disk is full."""
-    with contextlib.ExitStack() as stack:
-        try:
-            ready = stack.enter_context(undo.ready(office, copy))
-        except OSError as fault:
-            raise no_copy(office, fault) from fault
-        except sqlite3.Error as fault:
-            raise NotBegun(f"{office.path} cannot be read, so nothing is changed: {fault}; `office check` says more"
-                           ) from fault
-        yield ready
-
-
 def go_back(office: Office, words: Sequence[str], copy: str, may_go: Callable[[list[str]], bool],
             made_from: str | None = None) -> Back:
     """Puts a copy in the place of the office, in one turn, where `may_go` agrees to the appeals and decisions that this
-    takes away. Raises as `turn`, and `Trouble` where the copy is gone or
-    no good office."""
+    takes away. Raises as `turn`, and `Trouble` where the copy is gone or no good office."""
     with turn(office, " ".join(words), made_from):
         if not os.path.isdir(copy):
             raise Trouble("this copy is gone by now: `office back` lists what is there; nothing is changed")
@@ -323,7 +298,7 @@ def go_back(office: Office, words: Sequence[str], copy: str, may_go: Callable[[l
         if not may_go(lines):
             return Back(False, lines, None)
         when, _ = copies.when_and_what(copy)
-        with logged(office, words) as outcome:
+        with begun(office, logbook.logged(office, words)) as outcome:
             kept = undo.put_back(office, copy)
             outcome.status, outcome.answer = 0, "; ".join([f"as it was on {when}", *lines])
     return Back(True, lines, kept)
@@ -344,7 +319,6 @@ def way_back(copy: str) -> str:
 
 
 def broken_off(office: Office, found: logbook.Unfinished) -> str:
-    """What is known of a change without an end."""
     what = f"`{found.command}` of {found.when}"
     if not found.copy:
         return f"{what} has no end in the log: it is there whole or not at all; look"

@@ -1,40 +1,31 @@
-"""The mistakes of the import files of a folder, before any import: what `office check-files` says, as values."""
+"""The mistakes of the import files of a folder, before any import: what `office check-files` says, as values. What the
+files would do is tried by the program on a private copy of the office, or on an empty office."""
 from __future__ import annotations
 
 import contextlib
 import os
+import sqlite3
 from collections import Counter
-from collections.abc import Iterator
-from dataclasses import dataclass, field
+from collections.abc import Iterator, Mapping
+from dataclasses import replace
+from typing import NamedTuple
 
-from exam_desk import files, mistakes, snapshot, trying
-from exam_desk.changing import Tell
+from exam_desk import changing, consequences, files, mistakes, overlaps, private, running, snapshot
+from exam_desk.changing import Step, Tell
 from exam_desk.office import Office
+from exam_desk.reading import Reading
 from exam_desk.serving import Progress
 from exam_desk.trouble import Trouble
+from exam_desk.words import plain
 
 MOST_SHOWN = 5  # mistakes or notes on one column of a file
 WORKBOOKS = (".xlsx", ".xlsm", ".ods")
 
 
-@dataclass
-class Checked:
-    """What a folder holds: of each file the mistakes and the notes, what files without a mistake would do, and a
-    sentence on each other name."""
-    files: dict[str, tuple[mistakes.Found, mistakes.Found]] = field(default_factory=dict)
-    tried: list[str] = field(default_factory=list)
-    others: list[str] = field(default_factory=list)
-
-    def counts(self) -> Counter[str]:
-        """How many files, mistakes and notes there are."""
-        return Counter(files=len(self.files), mistakes=sum(wrong.counts.total() for wrong, _ in self.files.values()),
-                       notes=sum(notes.counts.total() for _, notes in self.files.values()) + len(self.tried))
-
-    def lines(self) -> Iterator[str]:
-        for name, (wrong, notes) in self.files.items():
-            yield from lines_on(name, wrong, "")
-            yield from lines_on(name, notes, "NOTE: ")
-        yield from (f"NOTE: {line}" for line in [*self.tried, *self.others])
+class Checked(NamedTuple):
+    """What is said of a folder, and how many files, mistakes and notes there are."""
+    lines: list[str]
+    counts: Counter[str]
 
 
 def lines_on(name: str, found: mistakes.Found, word: str) -> Iterator[str]:
@@ -68,23 +59,50 @@ def texts_in(folder: str) -> dict[str, bytes]:
     return found
 
 
-def check(texts: dict[str, bytes], known: mistakes.Known, most: int = MOST_SHOWN) -> Checked:
-    """Looks through files one after the other; each knows what those before it bring."""
-    found = Checked()
-    for kind, text in texts.items():
-        found.files[f"{kind}.csv"] = mistakes.looked_through(kind, text, known, most)
-    return found
-
-
 def check_folder(office: Office, folder: str, tell: Tell, progress: Progress) -> Checked:
-    """Looks through the import files of a folder, beside what the office has, and tries those without a mistake. Raises
-    `Trouble` as `texts_in`."""
-    texts = texts_in(folder)
-    found = check(texts, office_knows(office))
-    if texts and not found.counts()["mistakes"]:
-        found.tried = trying.lines(office, texts, tell, progress)
-    found.others = [sentence for name in sorted(os.listdir(folder)) if (sentence := other(name))]
-    return found
+    """Looks through the import files of a folder one after the other: each knows what the office has, and what those
+    before it bring. Files without a mistake are tried. Raises `Trouble` as `texts_in`."""
+    texts, known = texts_in(folder), office_knows(office)
+    found = {f"{kind}.csv": mistakes.looked_through(kind, text, known, MOST_SHOWN) for kind, text in texts.items()}
+    counts = Counter(files=len(found), mistakes=sum(wrong.count for wrong, _ in found.values()))
+    tried = would_do(office, texts, tell, progress) if texts and not counts["mistakes"] else []
+    counts["notes"] = sum(notes.count for _, notes in found.values()) + len(tried)
+    lines = [line for name, (wrong, notes) in found.items()
+             for line in (*lines_on(name, wrong, ""), *lines_on(name, notes, "NOTE: "))]
+    others = (other(name) for name in sorted(os.listdir(folder)))
+    return Checked([*lines, *(f"NOTE: {line}" for line in (*tried, *others) if line)], counts)
+
+
+def would_do(office: Office, texts: Mapping[str, bytes], tell: Tell, progress: Progress) -> list[str]:
+    """What the files would do to candidates, in short, and which sessions would be at one time then. Where it cannot be
+    tried, a line says why."""
+    steps = [Step(("import", kind, f"{kind}.csv"), text) for kind, text in texts.items()]
+    try:
+        with there_or_empty(office) as tried, changing.rehearse(tried, steps, tell) as rehearsal:
+            tell("")
+            if refused := rehearsal.refused:
+                raise Trouble(f"the program says {refused.first_line()} to {refused.step.words[-1]}")
+            with (Reading(tried, rehearsal.before, progress) as before,
+                  Reading(tried, rehearsal.after, progress) as after):
+                met = [each for each in consequences.groups(before, after)
+                       if each.kind not in (consequences.TWICE, consequences.HALLS)]
+                found = [*consequences.short_at_first(before, after), *consequences.brief(met),
+                         *overlaps.lines(after, overlaps.found(after))]
+            return [f"once imported: {line}" for line in found]
+    except (Trouble, OSError, sqlite3.Error, MemoryError) as fault:
+        return [f"nobody can say what the files would do: {plain(fault) or 'there is no memory'}"]
+
+
+@contextlib.contextmanager
+def there_or_empty(office: Office) -> Iterator[Office]:
+    """The office; where there is none, an empty one in a private folder."""
+    if os.path.exists(office.path):
+        yield office
+        return
+    with private.own_folder(office.path) as folder:
+        empty = replace(office, path=os.path.join(folder, office.base_name()))
+        running.run_over(empty, empty.path, "init")
+        yield empty
 
 
 def other(name: str) -> str:

@@ -1,4 +1,4 @@
-"""Access codes at random for candidates who have none, or who are to have another."""
+"""Access codes at random for candidates who have none, or who are to have another; and other names for candidates."""
 from __future__ import annotations
 
 import contextlib
@@ -7,8 +7,9 @@ import secrets
 from typing import NamedTuple
 
 from exam_desk import files, snapshot
+from exam_desk.changing import Step
 from exam_desk.office import Office
-from exam_desk.trouble import Trouble
+from exam_desk.trouble import NoOffice, Trouble
 
 LETTERS, DIGITS, LENGTH = "BCDFGHJKMNPQRSTVWXYZ", "23456789", 10
 
@@ -94,3 +95,17 @@ def write(path: str, rows: list[list[str]]) -> None:
         files.put(path, files.BOM + text.encode())
     except FileExistsError:
         raise Trouble(f"{path} is there already; remove it, or name another with --output") from None
+
+
+def renamed(office: Office, number: str, name: str) -> Step:
+    """The import of a candidate's row with another name and the same code. Raises `Trouble` where there is no such
+    candidate, or the name has another form."""
+    known = in_office(office)
+    if not known:
+        raise NoOffice(office.path)
+    if number not in known:
+        raise Trouble(f"the office has no candidate {number}; a number has seven digits, `office look NAME` finds it")
+    if not files.is_name(name.encode("utf-8", "surrogateescape")):
+        raise Trouble("a name has 1 to 80 bytes and no control characters")
+    rows = [files.HEADERS["candidates"], [number, name, known[number][2]]]
+    return Step(("import", "candidates", f"name of {number}"), files.written(rows).encode())

@@ -142,31 +142,23 @@ def short_at_first(before: Reading, after: Reading) -> list[str]:
 
 def grouped(changes: list[Change], people: dict[str, list[Met]]) -> list[Group]:
     """The changes, and besides those who are met in other ways, by kind."""
-    for change in one_for_each_name(changes):
-        met = candidate(change.session, change.number, change.name, change.what())
-        people.setdefault(change.kind(), []).append(met)
+    named: dict[str, Change] = {}
+    for change in changes:
+        if change.kind() != "name" or named.setdefault(change.number, change) is change:  # once, not in each session
+            met = candidate(change.session, change.number, change.name, change.what())
+            people.setdefault(change.kind(), []).append(met)
     return [Group(kind, people[kind]) for kind in KINDS if people.get(kind)]
-
-
-def one_for_each_name(changes: list[Change]) -> list[Change]:
-    """Without another name in a second session of its candidate."""
-    first: dict[str, Change] = {}
-    return [change for change in changes
-            if change.kind() != "name" or first.setdefault(change.number, change) is change]
 
 
 def lines(met: list[Group], at_most: int | None) -> list[str]:
     """A line for each way in which candidates are met, and below it who they are, at most so many."""
-    shown = [line for each in met for line in (each.title(), *named(each, at_most))]
+    shown = []
+    for group in met:
+        people = [] if group.kind in COUNTED else group.people
+        shown += [group.title(), *(f"  {each.who}: {each.what}" for each in people[:at_most])]
+        if rest := len(people) - len(people[:at_most]):
+            shown.append(f"  .. and {rest:,} more")
     return shown or ["nobody sits otherwise"]
-
-
-def named(met: Group, at_most: int | None) -> list[str]:
-    if met.kind in COUNTED:
-        return []
-    shown = [f"  {each.who}: {each.what}" for each in met.people[:at_most]]
-    rest = len(met.people) - len(shown)
-    return shown + ([f"  .. and {rest:,} more"] if rest else [])
 
 
 def brief(met: list[Group]) -> list[str]:

@@ -34,7 +34,6 @@ def sessions(rows: Rows, asked: Collection[str] = ()) -> list[sqlite3.Row]:
 
 
 def papers(rows: Rows, session: str) -> list[str]:
-    """The codes of the papers of a session."""
     return [code for code, in rows.execute("SELECT code FROM paper WHERE session = ? ORDER BY code", [session])]
 
 
@@ -47,7 +46,6 @@ def hall_titles(rows: Rows) -> dict[str, str]:
 
 
 def candidate_names(rows: Rows) -> dict[str, str]:
-    """The name of each candidate, by number."""
     return {f"{number:07}": name for number, name in rows.execute("SELECT number, name FROM candidate")}
 
 

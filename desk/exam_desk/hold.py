@@ -61,7 +61,6 @@ class Hold:
         return self.asked - self.answered
 
     async def take(self, reader: asyncio.StreamReader, writer: asyncio.StreamWriter) -> None:
-        """Serves one client."""
         self.clients += 1
         try:
             if self.clients > self.most_clients:

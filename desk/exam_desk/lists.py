@@ -1,11 +1,13 @@
 """What lists and papers share: the order of names and desks, counts and arrangements in words."""
 from __future__ import annotations
 
-from collections.abc import Iterable
+from collections.abc import Collection, Iterable
 
+from exam_desk import facts
 from exam_desk.answers import Sitting
 from exam_desk.names import name_order
-from exam_desk.reading import Member
+from exam_desk.reading import Member, Reading
+from exam_desk.trouble import Trouble
 
 
 def by_name(members: Iterable[Member]) -> list[Member]:
@@ -15,6 +17,18 @@ def by_name(members: Iterable[Member]) -> list[Member]:
 def by_desk(members: Iterable[Member], hall: str) -> list[Member]:
     return sorted((member for member in members if member.sitting.hall == hall),
                   key=lambda member: member.sitting.desk or 0)
+
+
+def halls(reading: Reading, session: str, asked: Collection[str] = ()) -> list[tuple[facts.Opening, list[Member]]]:
+    """The halls that are asked for, or all in which somebody sits, each with who sits there, by desk. Raises `Trouble`
+    where nobody sits in one that is asked for."""
+    members = reading.members(session)
+    found = [(opening, there) for opening in facts.openings(reading.rows, session)
+             if (there := by_desk(members, opening.hall)) and (not asked or opening.hall in asked)]
+    missing = [code for code in asked if code not in {opening.hall for opening, _ in found}]
+    if missing:
+        raise Trouble(f"nobody sits in {missing[0]} in {session}")
+    return found
 
 
 def count(number: int, thing: str) -> str:

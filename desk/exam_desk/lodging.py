@@ -2,8 +2,8 @@
 from __future__ import annotations
 
 import contextlib
+import itertools
 import json
-import re
 import subprocess
 from collections.abc import Iterator, Sequence
 from typing import NamedTuple
@@ -16,13 +16,9 @@ TRIES, SECONDS = 3, 60
 KINDS = {"hall": ["hall"], "clash": ["paper"], "arrangement": ["needs", "extra"]}  # the values of each
 
 
-def is_reason(text: bytes) -> bool:
-    return len(text) <= 200 and not re.search(rb"[\x00-\x1f\x7f]", text) and files.is_utf_8(text)
-
-
 FORMS: dict[str, files.Form] = {
     "number": files.is_number, "session": files.is_code, "hall": files.is_hall, "paper": files.is_code,
-    "needs": files.is_features, "extra": files.whole(0, 100), "reason": is_reason}
+    "needs": files.is_features, "extra": files.whole(0, 100), "reason": lambda text: files.is_short(text, 200)}
 
 
 class Lodging(NamedTuple):
@@ -60,10 +56,7 @@ def candidate(office: Office, number: str) -> tuple[str, str]:
         refs = {ref for ref, in connection.execute("SELECT ref FROM appeal WHERE number = ?", [int(number)])}
     if found is None:
         raise Trouble(f"refused 6: {refusals.SENTENCES[6]}")
-    place = 1
-    while f"D{place}" in refs:
-        place += 1
-    return found["code"], f"D{place}"
+    return found["code"], next(ref for place in itertools.count(1) if (ref := f"D{place}") not in refs)
 
 
 @contextlib.contextmanager
@@ -116,14 +109,11 @@ def lodge(office: Office, words: Sequence[str], lodging: Lodging) -> Lodged:
     with logbook.logged(office, ["lodge", *words]) as outcome:
         with served(office) as server:
             answer = post(server, lodging.number, code, body)
-        outcome.status, outcome.answer = outcome_of(answer, ref)
+        if "error" in answer:
+            last = f" last day {answer['day']}" if "day" in answer else ""
+            outcome.status, outcome.answer = 1, f"refused {answer['error']}{last}"
+        else:
+            outcome.status, outcome.answer = 0, f"{ref} {answer['state']}"
     if outcome.status:
         return Lodged(outcome.status, outcome.answer, refusals.explained(office, ["lodge"], outcome.answer))
     return Lodged(0, f"{lodging.number} {outcome.answer}", [])
-
-
-def outcome_of(answer: dict[str, object], ref: str) -> tuple[int, str]:
-    """The status and what is said of an answer of `serve`."""
-    if "error" in answer:
-        return 1, f"refused {answer['error']}" + (f" last day {answer['day']}" if "day" in answer else "")
-    return 0, f"{ref} {answer['state']}"

@@ -45,7 +45,6 @@ def shown(words: Sequence[str]) -> list[str]:
 
 
 def write(office: Office, words: Sequence[str], status: int | str, answer: str) -> None:
-    """Adds a line to the log."""
     now = datetime.datetime.now().isoformat(" ", "seconds")
     columns = [now, office.user, " ".join(shown(words)), str(status), answer]
     line = "\t".join(map(plain, columns)) + "\n"
@@ -55,24 +54,20 @@ def write(office: Office, words: Sequence[str], status: int | str, answer: str) 
         log_file.write(line.encode("utf-8", "backslashreplace"))
 
 
-def write_after(office: Office, words: Sequence[str], status: int | str, answer: str) -> None:
-    """As `write`, after a change: where no line can be written, a warning has to do."""
-    try:
-        write(office, words, status, answer)
-    except (OSError, beside.Strange) as fault:
-        office.warn(f"no line in the log: {fault.strerror if isinstance(fault, OSError) else fault}")
-
-
 @contextlib.contextmanager
 def logged(office: Office, words: Sequence[str], status: str = BEGINS, answer: str = "") -> Iterator[Outcome]:
-    """A line in the log before a change, which waits until that is on the disk; and one with the outcome after it."""
+    """A line in the log before a change, which waits until that is on the disk; and one with the outcome after it. In
+    place of one that cannot be written a warning has to do."""
     write(office, words, status, answer)
     beside.sync(turns.inside(office, NAME))
     outcome = Outcome()
     try:
         yield outcome
     finally:
-        write_after(office, words, outcome.status, outcome.answer)
+        try:
+            write(office, words, outcome.status, outcome.answer)
+        except (OSError, beside.Strange) as fault:
+            office.warn(f"no line in the log: {fault.strerror if isinstance(fault, OSError) else fault}")
 
 
 def unfinished(office: Office) -> Unfinished | None:

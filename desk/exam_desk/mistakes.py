@@ -200,7 +200,7 @@ class File:
         self.wrong, self.notes = Found(most), Found(most)
         self.missing: list[str] = []  # the columns that the header lacks; their fields are empty
         references = dict(files.REFERENCES.get(kind, []))
-        self.columns = [(column, right, references.get(place), noting.NOTES.get(column, noting.no_notes))
+        self.columns = [(column, right, references.get(place), noting.NOTES.get(column, lambda _: ()))
                         for place, (column, right) in enumerate(zip(self.header, files.FORMS[kind]))]
         self.first: dict[tuple[bytes, ...], files.Record] = {}  # the first record of each key
 
@@ -258,7 +258,6 @@ class File:
         return True
 
     def is_whole(self, record: files.Record) -> bool:
-        """Whether a row has all its values."""
         count, wanted = len(record.fields), len(self.header)
         if count != wanted:
             self.wrong.add(record.line, "row", f"{count} fields in place of {wanted}; {count_cure(record, wanted)}")
@@ -312,10 +311,11 @@ class File:
             self.wrong.add(1, "file", passed)
         if self.kind == "candidates":
             self.note_shared_codes()
-        elif self.kind == "entries":
-            self.note_withdrawn()
-        elif self.kind == "arrangements":
-            self.note_standing()
+        for record in self.first.values() if self.kind in ("entries", "arrangements") else ():
+            if record.fields in self.known.withdrawn:
+                self.notes.add(record.line, "row", "is withdrawn in the office and stays so; `office reinstate`")
+            elif self.kind == "arrangements" and record.fields[0] in self.known.standing:
+                self.notes.add(record.line, "row", "a standing grant is in force for this candidate in its place")
 
     def note_shared_codes(self) -> None:
         names = {record.fields[0]: record.fields[1] for record in self.first.values()}
@@ -330,16 +330,6 @@ class File:
             sharing = self.known.codes[code] if code else ()
             if len(sharing) > 1:
                 self.notes.add_value(record.line, "number", number, sharers)
-
-    def note_withdrawn(self) -> None:
-        for record in self.first.values():
-            if record.fields in self.known.withdrawn:
-                self.notes.add(record.line, "row", "is withdrawn in the office and stays so; `office reinstate`")
-
-    def note_standing(self) -> None:
-        for record in self.first.values():
-            if record.fields[0] in self.known.standing:
-                self.notes.add(record.line, "row", "a standing grant is in force for this candidate in its place")
 
 
 def beginning_of(text: bytes) -> str:

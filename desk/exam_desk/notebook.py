@@ -64,7 +64,6 @@ def set_school_name(office: Office, name: str) -> None:
 
 
 def notes(office: Office) -> dict[str, str]:
-    """The note on each candidate who has one, by number."""
     nothing: dict[str, str] = {}
     return read(office, NOTES, nothing, lambda value: is_map(value, is_text))
 

@@ -15,10 +15,6 @@ def has_wrong_letters(text: str) -> bool:
     return bool(WRONG_LETTERS.search(text))
 
 
-def no_notes(_: bytes) -> Iterable[str]:
-    return ()
-
-
 def name_notes(field: bytes) -> Iterator[str]:
     """What may be wrong with a name or a title that has a right form."""
     text = field.decode("utf-8", "replace")

@@ -25,5 +25,4 @@ class Office:
         return [self.program, "--db", path, "--today", self.today().isoformat(), *words]
 
     def line(self, *words: str) -> list[str]:
-        """The program's command line over this office."""
         return self.line_over(self.path, *words)

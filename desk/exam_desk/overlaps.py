@@ -7,7 +7,7 @@ from __future__ import annotations
 
 import itertools
 from collections import defaultdict
-from collections.abc import Collection, Iterator
+from collections.abc import Collection
 from typing import NamedTuple
 
 from exam_desk.lists import count
@@ -18,17 +18,16 @@ LONGEST = 1200  # minutes that somebody without a desk may sit: those of the lon
 MOST_NAMED = 3  # candidates, or halls, in a line
 MOST_LINES = 20
 SESSIONS = "SELECT code, CAST(julianday(day) * 1440 AS INTEGER) + start AS begins FROM session ORDER BY begins, code"
-CANDIDATES = ("SELECT DISTINCT printf('%07d', entry.number) FROM session JOIN paper ON paper.session = session.code "
-              "JOIN entry ON entry.paper = paper.code "
-              "LEFT JOIN seat ON seat.session = session.code AND seat.number = entry.number "
-              "LEFT JOIN opening ON opening.session = seat.session AND opening.hall = seat.hall "
-              "WHERE session.code = :early AND live = 1 AND coalesce(until - start, :longest) > :gap "
-              "AND (:only = '' OR entry.number = CAST(:only AS INTEGER)) AND entry.number IN (SELECT number "
-              "FROM paper JOIN entry ON entry.paper = paper.code WHERE session = :late AND live = 1) ORDER BY 1")
+IN_BOTH = ("SELECT DISTINCT printf('%07d', entry.number) FROM session JOIN paper ON paper.session = session.code "
+           "JOIN entry ON entry.paper = paper.code "
+           "LEFT JOIN seat ON seat.session = session.code AND seat.number = entry.number "
+           "LEFT JOIN opening ON opening.session = seat.session AND opening.hall = seat.hall "
+           "WHERE session.code = :early AND live = 1 AND coalesce(until - start, :longest) > :gap AND entry.number IN "
+           "(SELECT number FROM paper JOIN entry ON entry.paper = paper.code WHERE session = :late AND live = 1) "
+           "ORDER BY 1")
 SEATED = ("SELECT hall, printf('%07d', number) FROM seat JOIN opening USING (session, hall) "
           "JOIN session ON code = session WHERE session = :early AND until - start > :gap "
-          "AND hall IN (SELECT hall FROM seat WHERE session = :late) AND (:only = '' OR hall IN (SELECT hall FROM seat "
-          "WHERE number = CAST(:only AS INTEGER) AND session IN (:early, :late))) ORDER BY hall")
+          "AND hall IN (SELECT hall FROM seat WHERE session = :late) ORDER BY hall")
 
 
 class Pair(NamedTuple):
@@ -46,21 +45,34 @@ class Overlap(NamedTuple):
     halls: list[str]
 
 
-def of_candidate(reading: Reading, number: str) -> Iterator[Overlap]:
+Doubtful = tuple[Pair, list[str], dict[str, list[str]]]  # candidates, and those of halls, who may be there in both
+
+
+def of_candidate(reading: Reading, number: str) -> list[Overlap]:
     """The overlaps of the sessions in which a candidate sits, as far as they or their halls are in both."""
-    sittings = reading.all_of(number)
-    for each in found(reading, sittings, number) if sittings else []:
-        halls = [sittings[code].hall for code in each[:2] if code in sittings]
-        shown = each._replace(halls=[hall for hall in each.halls if hall in halls])
-        if shown.candidates or shown.halls:
-            yield shown
+    own = reading.all_of(number)
+    opened = {(session, hall) for session, hall in reading.rows.execute("SELECT session, hall FROM opening")}
+    doubtful = []
+    for pair in pairs(reading, own) if own else []:
+        mine = [own[code].hall for code in (pair.early, pair.late) if code in own]
+        is_shared = any({(pair.early, hall), (pair.late, hall)} <= opened for hall in mine)
+        there = seated(reading, pair) if is_shared else {}
+        doubtful.append((pair, [number] * (len(mine) == 2), {hall: there[hall] for hall in there if hall in mine}))
+    return certain(reading, doubtful)
 
 
-def found(reading: Reading, asked: Collection[str] = (), only: str = "") -> list[Overlap]:
-    """The overlaps of these sessions with any others, otherwise all, by day and start; of candidates and halls only
-    one and theirs, where one is named."""
+def found(reading: Reading, asked: Collection[str] = ()) -> list[Overlap]:
+    """The overlaps of these sessions with any others, otherwise all, by day and start."""
     reading.rows.index_entries()
-    doubtful = [(pair, *in_doubt(reading, pair, only)) for pair in pairs(reading, asked)]
+    doubtful = []
+    for pair in pairs(reading, asked):
+        in_both = reading.rows.execute(IN_BOTH, {**pair._asdict(), "longest": LONGEST})
+        doubtful.append((pair, [number for number, in in_both], seated(reading, pair)))
+    return certain(reading, doubtful)
+
+
+def certain(reading: Reading, doubtful: Collection[Doubtful]) -> list[Overlap]:
+    """What is left of pairs when the program has said who sits until when."""
     numbers = {number for _, people, halls in doubtful for number in (*people, *itertools.chain(*halls.values()))}
     reading.ask(reading.person(int(number)) for number in sorted(numbers))
     overlaps = [Overlap(pair.early, pair.late, [number for number in people if lasts(reading, pair, number)],
@@ -72,18 +84,18 @@ def found(reading: Reading, asked: Collection[str] = (), only: str = "") -> list
 def pairs(reading: Reading, asked: Collection[str]) -> list[Pair]:
     """The pairs of sessions that may be at one time, by the rows alone; of those asked for, if there are such."""
     sessions = reading.rows.execute(SESSIONS).fetchall()
-    return [Pair(early, late, then - now) for (early, now), (late, then) in itertools.combinations(sessions, 2)
-            if then - now < LONGEST and (not asked or early in asked or late in asked)]
+    return [Pair(early, late, then - now) for place, (early, now) in enumerate(sessions)
+            for late, then in itertools.takewhile(lambda each: each[1] < now + LONGEST, sessions[place + 1:])
+            if not asked or early in asked or late in asked]
 
 
-def in_doubt(reading: Reading, pair: Pair, only: str) -> tuple[list[str], dict[str, list[str]]]:
-    """The candidates of both sessions who may still sit when the second begins; and by hall those who sit there in the
-    first session, where candidates of the second have it too."""
-    values = {**pair._asdict(), "only": only, "longest": LONGEST}
+def seated(reading: Reading, pair: Pair) -> dict[str, list[str]]:
+    """By hall those who sit there in the first session and may still sit when the second begins, where candidates of
+    the second have it too."""
     halls: dict[str, list[str]] = defaultdict(list)
-    for hall, number in reading.rows.execute(SEATED, values):
+    for hall, number in reading.rows.execute(SEATED, pair._asdict()):
         halls[hall].append(number)
-    return [number for number, in reading.rows.execute(CANDIDATES, values)], halls
+    return halls
 
 
 def lasts(reading: Reading, pair: Pair, number: str) -> bool:
@@ -98,7 +110,6 @@ def of_day(clock: str) -> int:
 
 
 def line(reading: Reading, each: Overlap) -> str:
-    """An overlap in words."""
     parts = [f"{count(len(each.candidates), 'candidate')} in both: "
              + few([f"{number} {plain(reading.person(int(number)).name)}" for number in each.candidates])
              ] if each.candidates else []

@@ -29,7 +29,6 @@ class Compared(NamedTuple):
 
 
 def desks_of(members: Iterable[Member]) -> dict[str, Desk]:
-    """The desk of each who has one, by number."""
     return {member.number: Desk(member.sitting.hall, member.sitting.desk) for member in members
             if member.sitting.hall is not None and member.sitting.desk is not None}
 

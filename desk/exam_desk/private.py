@@ -88,14 +88,11 @@ def sweep(place: str) -> None:
     with os.scandir(place) as entries:
         for entry in entries:
             with contextlib.suppress(OSError):
-                if is_private(entry) and (lock := claim(entry.path)) is not None:
+                is_private = (entry.name.startswith(PREFIX) and entry.is_dir(follow_symlinks=False)
+                              and entry.stat(follow_symlinks=False).st_uid == os.geteuid())
+                if is_private and (lock := claim(entry.path)) is not None:
                     shutil.rmtree(entry.path, ignore_errors=True)
                     os.close(lock)
-
-
-def is_private(entry: os.DirEntry[str]) -> bool:
-    found = entry.stat(follow_symlinks=False)
-    return entry.name.startswith(PREFIX) and stat.S_ISDIR(found.st_mode) and found.st_uid == os.geteuid()
 
 
 def copy_files(source: str, target: str) -> None:

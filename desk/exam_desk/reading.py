@@ -102,7 +102,6 @@ class Reading:
         return sitting and Member(person.number, person.name, sitting)
 
     def all_of(self, number: str) -> dict[str, Sitting]:
-        """What a candidate sits, by session."""
         self.ask([self.person(int(number))])
         return self.sittings[int(number)]
 
@@ -121,7 +120,6 @@ class Reading:
         return {number: papers for number, papers in found.items() if papers}
 
     def appeals(self, number: str) -> list[Appeal]:
-        """The appeals of a candidate, by reference."""
         with self.asking:
             [body] = self.bodies([self.person(int(number))], "appeals")
         return answers.appeals(body)
@@ -158,9 +156,16 @@ class Reading:
         return self.begun().bodies(requests, self.progress) if requests else []
 
     def begun(self) -> Serve:
-        """The `serve` over the copy. Call it with the lock of those who ask."""
+        """The `serve`, over a second copy. Call it with the lock of those who ask."""
         if self.serve is None:
-            self.serve = serve = Serve(self.office, self.second_copy(), self.refuse_rows)
+            folder = os.path.join(os.path.dirname(self.copy), "served")
+            os.mkdir(folder, 0o700)
+            path = os.path.join(folder, os.path.basename(self.copy))  # while it is open nobody can print a sheet of it
+            with self.printing:
+                for ending in ("", "-wal"):
+                    with contextlib.suppress(FileNotFoundError):
+                        private.copy_file(self.copy + ending, path + ending)
+            self.serve = serve = Serve(self.office, path, self.refuse_rows)
             self.stack.callback(serve.close)
         return self.serve
 
@@ -169,17 +174,6 @@ class Reading:
         with self.asking:
             if self.kept is None:
                 self.begun().begin()
-
-    def second_copy(self) -> str:
-        """The path of the files for `serve`: while it has them open nobody else can print a sheet of them."""
-        folder = os.path.join(os.path.dirname(self.copy), "served")
-        os.mkdir(folder, 0o700)
-        path = os.path.join(folder, os.path.basename(self.copy))
-        with self.printing:
-            for ending in ("", "-wal"):
-                with contextlib.suppress(FileNotFoundError):
-                    private.copy_file(self.copy + ending, path + ending)
-        return path
 
     def sheet(self, name: str, *values: str) -> str:
         """A sheet as the program prints it. Raises `Trouble` where it refuses it.

@@ -6,7 +6,6 @@ import errno
 import itertools
 import os
 import re
-import sqlite3
 import stat
 import tempfile
 from collections.abc import Iterable, Sequence
@@ -121,20 +120,15 @@ def record_lines(kind: str, name: str, record: files.Record, column: int, number
 
 def unknown_lines(office: Office, name: str, found: Iterable[files.Record], column: int, table: str) -> list[str]:
     """The first lines whose reference the office does not have."""
+    key = "printf('%07d', number)" if table == "candidates" else "code"
     with contextlib.closing(snapshot.rows(office)) as connection:
-        known = known_keys(connection, table)
+        known = {str(code).encode() for code, in connection.execute(f"SELECT {key} FROM {table[:-1]}")}
     wrong = ((record.line, record.fields[column]) for record in found
              if len(record.fields) > column and record.fields[column] not in known)
     lines = [f"line {line} of {name}: {table[:-1]} is {files.shown(field)}"
              for line, field in itertools.islice(wrong, MOST_LINES)]
     more = sum(1 for _ in wrong)
     return lines + ([f".. and {more} more lines"] if more else [])
-
-
-def known_keys(connection: sqlite3.Connection, table: str) -> set[bytes]:
-    """The keys of sessions, papers, halls or candidates in the office, as the files spell them."""
-    key = "printf('%07d', number)" if table == "candidates" else "code"
-    return {str(code).encode() for code, in connection.execute(f"SELECT {key} FROM {table[:-1]}")}
 
 
 def lasting_cause(office: Office) -> str | None:

@@ -8,11 +8,9 @@ from __future__ import annotations
 
 import itertools
 import sqlite3
-from collections.abc import Container
 from typing import NamedTuple
 
 from exam_desk import files, lists, overlaps
-from exam_desk.answers import Sitting
 from exam_desk.changing import Step
 from exam_desk.mistakes import RIGHT
 from exam_desk.reading import Member, Reading
@@ -59,10 +57,13 @@ def plan(reading: Reading, asked: Asked) -> Plan:
     if rows.execute("SELECT 1 FROM hall WHERE code = ?", [asked.hall]).fetchone() is None:
         raise Trouble(f"the office has no hall {asked.hall}; nothing is changed")
     day = session_row(rows, first["session"])["day"]
-    there = session_then(rows, first["session"], day, asked)
-    session = there or free_code(first["session"], codes(rows, "session"))
-    paper = paper_there(rows, first, session)
-    code = paper or free_code(asked.paper, codes(rows, "paper"))
+    then = rows.execute(SESSIONS_THEN, [day, overlaps.of_day(asked.start), asked.hall])
+    there = next((code for code, in then if is_numbered(code, first["session"])), None)
+    session = there or free_code(rows, "session", first["session"])
+    wanted = (session, first["minutes"], first["requires"])
+    paper = next((row["code"] for row in second_papers(rows, first)
+                  if (row["session"], row["minutes"], row["requires"]) == wanted), None)
+    code = paper or free_code(rows, "paper", asked.paper)
     steps = [] if there else [imported("sessions", session, day, asked.start)]
     if not paper:
         steps.append(imported("papers", code, first["title"], session, first["minutes"],
@@ -96,10 +97,6 @@ def refuse_without_clash(reading: Reading, asked: Asked, session: str) -> None:
                       "changed")
 
 
-def codes(rows: Rows, table: str) -> set[str]:
-    return {code for code, in rows.execute(f"SELECT code FROM {table}")}
-
-
 def numbered(code: str, place: int) -> str:
     """The code with a number behind it, cut to the letters that a code may have."""
     ending = f"-{place}"
@@ -112,15 +109,10 @@ def is_numbered(code: str, first: str) -> bool:
     return place.isdecimal() and int(place) >= 2 and code == numbered(first, int(place))
 
 
-def free_code(code: str, taken: Container[str]) -> str:
-    return next(found for place in itertools.count(2) if (found := numbered(code, place)) not in taken)
-
-
-def session_then(rows: Rows, first: str, day: str, asked: Asked) -> str | None:
-    """The second session of that start in that hall, where there is one."""
-    hours, minutes = asked.start.split(":")
-    found = rows.execute(SESSIONS_THEN, [day, int(hours) * 60 + int(minutes), asked.hall])
-    return next((code for code, in found if is_numbered(code, first)), None)
+def free_code(rows: Rows, table: str, first: str) -> str:
+    """The first code with a number that no session, or no paper, has."""
+    taken = {code for code, in rows.execute(f"SELECT code FROM {table}")}
+    return next(found for place in itertools.count(2) if (found := numbered(first, place)) not in taken)
 
 
 def second_papers(rows: Rows, first: sqlite3.Row) -> list[sqlite3.Row]:
@@ -131,14 +123,7 @@ def second_papers(rows: Rows, first: sqlite3.Row) -> list[sqlite3.Row]:
             if is_numbered(row["code"], first["code"]) and is_numbered(row["session"], first["session"])]
 
 
-def paper_there(rows: Rows, first: sqlite3.Row, session: str) -> str | None:
-    """The second paper in a session, where one is there that lasts as long and requires as much."""
-    return next((row["code"] for row in second_papers(rows, first) if row["session"] == session
-                 and (row["minutes"], row["requires"]) == (first["minutes"], first["requires"])), None)
-
-
 def imported(kind: str, *values: object) -> Step:
-    """The import of a row."""
     return Step(("import", kind, f"{kind}.csv"), files.written([files.HEADERS[kind], values]).encode())
 
 
@@ -188,14 +173,10 @@ def plan_back(reading: Reading, number: str, paper: str) -> Plan:
 
 def lines(planned: Plan, before: Reading, after: Reading) -> list[str]:
     """What a rehearsed plan does for the candidate. Raises `Trouble` where they would not sit as was asked."""
-    return lines_there(planned, before, after) if planned.hall else lines_back(planned, after)
-
-
-def lines_there(planned: Plan, before: Reading, after: Reading) -> list[str]:
+    if not planned.hall:
+        return lines_back(planned, after)
     first, second = member(after, planned.first, planned.number), member(after, planned.session, planned.number)
-    refuse_early(first, second)
-    refuse_elsewhere(planned, after, second)
-    refuse_overlaps(planned, after, second.sitting)
+    refuse_otherwise(planned, after, first, second)
     found = [planned.made, f"{second.number} {plain(second.name)} sits {first.sitting.paper} until "
              f"{first.sitting.finish}, and {second.sitting.paper} from {second.sitting.start} to "
              f"{second.sitting.finish} in {second.sitting.hall}, desk {second.sitting.desk}"]
@@ -214,30 +195,23 @@ def member(reading: Reading, session: str, number: str) -> Member:
     return found
 
 
-def refuse_early(first: Member, second: Member) -> None:
+def refuse_otherwise(planned: Plan, after: Reading, first: Member, second: Member) -> None:
+    """Raises `Trouble` where the candidate would sit too early, another paper, in another hall, or at two places."""
     if second.sitting.start < first.sitting.finish:
         raise Trouble(f"{first.number} sits {first.sitting.paper} until {first.sitting.finish}: begin then, or later; "
                       "nothing is changed")
-
-
-def refuse_elsewhere(planned: Plan, after: Reading, second: Member) -> None:
-    """Raises `Trouble` where another paper or hall would be sat."""
     if second.sitting.paper != planned.paper:
         raise Trouble(f"{second.number} sits {second.sitting.paper} in {planned.session}: take another start or hall; "
                       "nothing is changed")
     if second.sitting.hall != planned.hall:
         reason = dict(Reasons(after, planned.session).of(second)).get(planned.hall)
         raise Trouble(f"{second.number} would have no desk in {planned.hall} ({reason}); nothing is changed")
-
-
-def refuse_overlaps(planned: Plan, after: Reading, second: Sitting) -> None:
-    """Raises `Trouble` where the candidate would be in two sessions at one time."""
-    for each in overlaps.found(after, [planned.session]):
-        if planned.number in each.candidates:
+    for each in overlaps.of_candidate(after, planned.number):
+        if each.candidates and planned.session in (each.early, each.late):
             other = after.all_of(planned.number)[each.early if each.late == planned.session else each.late]
             raise Trouble(f"{planned.number} sits {other.paper} in {other.session} from {other.start} to "
-                          f"{other.finish}, and would sit {second.paper} from {second.start} to {second.finish}; "
-                          "nothing is changed")
+                          f"{other.finish}, and would sit {planned.paper} from {second.sitting.start} to "
+                          f"{second.sitting.finish}; nothing is changed")
 
 
 def lines_back(planned: Plan, after: Reading) -> list[str]:

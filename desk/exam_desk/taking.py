@@ -1,21 +1,12 @@
 """From a workbook, or a folder of import files, to the list of imports that brings it into the office."""
 from __future__ import annotations
 
-import os
-from collections.abc import Iterator
-
 from exam_desk import lists
 from exam_desk.changing import Step
 from exam_desk.trouble import Trouble
 from exam_desk.workbook.checking import file_parts
 from exam_desk.workbook.headers import KINDS
 from exam_desk.workbook.reading import Reading
-from exam_desk.workbook.rows import Record
-
-
-def title_of(source: str) -> str:
-    """The name of the whole change, as the log and the copies have it."""
-    return f"take {os.path.basename(os.path.abspath(source))}"
 
 
 def steps_of(reading: Reading) -> list[Step]:
@@ -27,13 +18,9 @@ def steps_of(reading: Reading) -> list[Step]:
     if empty:
         raise Trouble(f"{lists.count(empty, 'candidate')} without an access code: nothing is changed; write the files "
                       "by `office read` or `office mend`, fill the codes by `office codes`, and take that folder")
-    steps = [step for kind in KINDS if reading.records.get(kind) for step in imports_of(kind, reading.records[kind])]
+    steps = [Step(("import", kind, f"{kind}.csv" if place == 1 else f"{kind}-{place}.csv"), text)
+             for kind in KINDS if (rows := [record.fields for record in reading.records.get(kind, [])])
+             for place, (text, _) in enumerate(file_parts(kind, rows), 1)]  # several where they are too many for one
     if not steps:
         raise Trouble("there is no row to import")
     return steps
-
-
-def imports_of(kind: str, records: list[Record]) -> Iterator[Step]:
-    """The imports of a kind: more than one where its rows are more than an import takes."""
-    for place, (text, _) in enumerate(file_parts(kind, (record.fields for record in records)), 1):
-        yield Step(("import", kind, f"{kind}.csv" if place == 1 else f"{kind}-{place}.csv"), text)

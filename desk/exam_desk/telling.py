@@ -53,7 +53,6 @@ class Change(NamedTuple):
         return "time" if time(old) != time(new) else "name" if self.name != self.old_name else "desk"
 
     def what(self) -> str:
-        """The change in words."""
         if self.old is None or self.new is None:
             word, sitting = ("joined", self.new) if self.old is None else ("left", self.old)
             return f"{word}: {sitting.paper}, {time(sitting)}, {place(sitting)}" if sitting else ""
@@ -112,12 +111,9 @@ def of_session(before: Reading, after: Reading, session: str, people: Collection
     pairs = {number: (old.get(number, none), new.get(number, none)) for number in {**old, **new}}
     found = [Change(session, number, after[0] or before[0], before[1], after[1], before[0] or after[0])
              for number, (before, after) in pairs.items()]
-    return sorted(filter(is_change, found), key=lambda change: name_order(change.name, change.number))
-
-
-def is_change(change: Change) -> bool:
-    return (change.old is None or change.new is None or shown(change.old) != shown(change.new)
-            or change.old_name != change.name)
+    return sorted((change for change in found if change.old is None or change.new is None
+                   or shown(change.old) != shown(change.new) or change.old_name != change.name),
+                  key=lambda change: name_order(change.name, change.number))
 
 
 def sittings(reading: Reading, session: str, people: Collection[int] | None) -> dict[str, tuple[str, Sitting]]:
@@ -131,14 +127,12 @@ def text(changes: Collection[Change], tells_alone: bool = False) -> str:
     desks alone where only those to tell are wanted."""
     telling = sum(change.is_to_tell() for change in changes)
     last = f"{telling} to tell, {len(changes) - telling} with another desk only" if changes else "nothing changed"
-    shown = [each for kind in KINDS for each in of_kind(changes, kind) if not tells_alone or kind != "desk"]
-    return "".join(shown) + f"{last}\n"
-
-
-def of_kind(changes: Collection[Change], kind: str) -> list[str]:
-    """The lines of the changes of a kind, below how many these are."""
-    found = [change for change in changes if change.kind() == kind]
-    return [f"{counted(KINDS[kind], len(found))}:\n", *map(line, found)] if found else []
+    shown = ""
+    for kind, words in KINDS.items():
+        found = [change for change in changes if change.kind() == kind]
+        if found and not (tells_alone and kind == "desk"):
+            shown += "".join([f"{counted(words, len(found))}:\n", *map(line, found)])
+    return f"{shown}{last}\n"
 
 
 def counted(words: tuple[str, str], count: int) -> str:

@@ -140,20 +140,14 @@ def alone(office: Office, words: Sequence[str]) -> Iterator[int]:
         ask_keep_aside(office)
         with opened(office, "office.lock") as lock:
             while not try_lock(lock):
-                wait.pause(lambda: having(office))
+                wait.pause(lambda: f"`keep` (it does not step aside: {state})" if (state := keep_state(office)) else
+                           "the program (a command that began it was killed)")  # this process has want.lock
             yield lock
 
 
 def is_taken(office: Office) -> bool:
-    """Whether a command has the office now, or waits for it."""
     with opened(office, "want.lock") as want:
         return not is_free(want)
-
-
-def having(office: Office) -> str:
-    """Who has the office though this process has want.lock."""
-    state = keep_state(office)
-    return f"`keep` (it does not step aside: {state})" if state else "the program (a command that began it was killed)"
 
 
 def ahead(office: Office, turn: int) -> str:

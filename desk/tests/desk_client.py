@@ -77,7 +77,7 @@ class DeskSchool(SampleSchool):
         self.start()
 
     def start(self):
-        self.process = subprocess.Popen([PYTHON, DESK / "desk", "--port", "0"], env=self.environment,
+        self.process = subprocess.Popen([PYTHON, DESK / "office", "desk", "--port", "0"], env=self.environment,
                                         stdout=subprocess.PIPE,
                                         stderr=self.complaints, text=True, cwd=self.folder)
         self.addCleanup(self.end)

@@ -23,3 +23,12 @@ def at_one_time(rows, seats):
                 both[pair][is_hall].add(who)
     order = sorted(both, key=lambda pair: [(begins[code], code) for code in pair])
     return {pair: (sorted(both[pair][0]), sorted(both[pair][1])) for pair in order}
+
+
+def of_candidate(both, seats, number):
+    """Of two sessions at one time what `at_one_time` gave, as far as a candidate or their halls are in both."""
+    for pair, (candidates, halls) in both.items():
+        own = {seats[session][number].hall for session in pair if number in seats[session]}
+        found = [number] * (number in candidates), [hall for hall in halls if hall in own]
+        if any(found):
+            yield pair, *found

@@ -19,9 +19,9 @@ from typing import NamedTuple
 
 import sample
 from cells import Cells
-from moments import at_one_time
+from moments import at_one_time, of_candidate
 
-from exam_desk import checking_shortage, overlaps, reasons, shortage, telling  # beside the tests' folder
+from exam_desk import overlaps, reasons, shortage, telling  # beside the tests' folder
 from exam_desk.names import fold, name_order
 from exam_desk.office import Office
 from exam_desk.reading import Reading
@@ -309,7 +309,7 @@ class RandomOffice:
               [line[:7] for line in text.split("\n") if line[:1].isdigit()],
               [number for number, seat in sorted(self.now[session].items()) if seat.hall == "-"], "why", text)
         assert "are free" not in text, text
-        equal((list(found.differences(sheet)), list(checking_shortage.faults(reading, sheet))), ([], []), "shortage",
+        equal((list(found.differences(sheet)), list(reasons.faults(reading, sheet))), ([], []), "shortage",
               text)
 
     def slips(self, reading):
@@ -360,8 +360,14 @@ class RandomOffice:
             equal([members, seated, short, desks, free, clashing, twice, waiting], [*map(str, wanted)], "summary", line)
 
     def persons(self, reading):
+        both = at_one_time(reading.rows, self.now)
         for number in self.chance.sample(sorted(self.codes), 3):
             text = "\n".join(person.lines(reading, person.find(reading.rows, number), True))
+            notes = [line[len("  NOTE: "):] for line in text.split("\n") if line.startswith("  NOTE: ")]
+            wanted = [overlaps.line(reading, overlaps.Overlap(*pair, *found))
+                      for pair, *found in of_candidate(both, self.now, number)]
+            equal(notes, wanted, "overlaps", text)
+            self.compared["overlaps of one"] += len(notes)
             for session in self.sessions:
                 if seat := self.now[session].get(number):
                     place = "no desk" if seat.hall == "-" else f"{seat.hall} {self.titles[seat.hall]}, desk {seat.desk}"

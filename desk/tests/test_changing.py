@@ -165,7 +165,7 @@ class Full(Changing):
 
     def test_no_room_before_the_first_step(self):
         before = self.state()
-        for name in ("exam_desk.copies.keep_copy", "exam_desk.undo.ready", "exam_desk.logbook.write"):
+        for name in ("exam_desk.copies.keep_copy", "exam_desk.undo.in_one_file", "exam_desk.logbook.write"):
             with mock.patch(name, side_effect=OSError(28, "No space left on device", "/x")):
                 with self.assertRaisesRegex(changing.NotBegun, "nothing is changed: /x: No space left on .*; make room"):
                     changing.carry_out(self.value, STEPS)

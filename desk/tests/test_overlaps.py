@@ -45,6 +45,10 @@ class Overlaps(sample.SampleSchool):
         for number, notes in (("0001000", [NOTES[0], NOTES[2]]), ("0001034", NOTES[1:2]), ("0001051", [])):
             said = re.findall("  NOTE: (.*)\n", self.office("look", number))
             self.assertEqual([note for note in said if note != NOTES[0]], [note for note in notes if note != NOTES[0]])
+        rows = [line.split(",") for line in self.office("export", "MON-AM").split("\n")[1:-1]]
+        for hall in ("AULA", "GYM"):  # a note on a hall is for those who sit there
+            number = next(row[1] for row in rows if row[3] == hall)
+            self.assertEqual(f"  NOTE: {NOTES[0]}\n" in self.office("look", number), hall == "AULA", number)
         told = self.run_office("withdraw", "0001017", "MA-1").stderr  # what was so before is not told again
         self.assertIn("1 leaves a session: MON-AM 0001017 Bo Ito", told)
         self.assertNotIn("at one time", told)

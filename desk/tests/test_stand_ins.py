@@ -12,7 +12,7 @@ from unittest import mock
 import sample
 from cells import Cells
 
-from exam_desk import checking_shortage, reasons, shortage, telling  # beside the tests' folder
+from exam_desk import reasons, shortage, telling  # beside the tests' folder
 from exam_desk.reading import Reading
 from exam_desk.sheets import board, counts, doors, person, printing, slips, summary
 from exam_desk.sheets.session_page import Page
@@ -37,7 +37,7 @@ class Pages:
         self.summary = summary.text(reading, [SESSION])
         self.reasons = reasons.Reasons(reading, SESSION)
         self.sheets = printing.written(reading, session_row(reading.rows, SESSION))
-        self.faults = list(checking_shortage.faults(reading, shortage.read(reading.sheet("shortage", SESSION))))
+        self.faults = list(reasons.faults(reading, shortage.read(reading.sheet("shortage", SESSION))))
         self.look = "\n".join(person.lines(reading, person.find(reading.rows, NUMBER), False))
         changes = telling.differences(before, reading)
         self.changes = telling.text(changes)

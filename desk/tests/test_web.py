@@ -13,7 +13,7 @@ import unittest
 
 TOP = pathlib.Path(__file__).resolve().parents[2]
 WEB = TOP / "web"
-TITLES = TOP / "desk/titles"
+OFFICE = TOP / "desk/office"
 PROGRAM = os.environ.get("EXAMOFFICE") or str(TOP / "crates/examoffice/out/examoffice")
 KINDS = ["sessions", "papers", "halls", "openings", "candidates", "arrangements", "entries"]
 LEAST_CONTRAST = 4.5  # WCAG 2, 1.4.3
@@ -147,7 +147,8 @@ class SampleSchool(unittest.TestCase):
 
 class Titles(SampleSchool):
     def titles(self, *words):
-        return subprocess.run([TITLES, *words], env=self.environment, capture_output=True, text=True, check=False)
+        return subprocess.run([OFFICE, "titles", *words], env=self.environment, capture_output=True, text=True,
+                              check=False)
 
     def kept(self):
         folder = pathlib.Path(self.folder.name)

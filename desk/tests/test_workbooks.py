@@ -53,7 +53,7 @@ class Corpus(unittest.TestCase):
     @needs_openpyxl
     def test_the_command_reads_what_libreoffice_wrote(self) -> None:
         with concurrent.futures.ThreadPoolExecutor(AT_A_TIME) as pool:
-            command = [sys.executable, "-B", str(sample.DESK / "read")]
+            command = [sys.executable, "-B", str(sample.DESK / "office"), "read"]
             made = [case for case in corpus.all_cases() if case.name.startswith("made-")]
             verdicts = list(pool.map(lambda case: corpus.judged(case, command), made))
         self.assertGreater(len(verdicts), 9)

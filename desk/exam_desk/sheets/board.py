@@ -11,10 +11,6 @@ from exam_desk.sheets import beside, pages
 from exam_desk.snapshot import session_row
 from markupsafe import Markup
 
-STYLE = """
-.columns { columns: 2; column-gap: 8mm } .columns th.top { font-size: 8.5pt } .legend { columns: 3 }
-.columns td { padding: 0.3mm 1mm 0.3mm 0; line-height: 1.15 }
-"""
 HEADS = ["Name", "w:Hall", "n:Desk"]
 BODY = "<h1>{}</h1>\n<p class=legend>{}</p>\n<div class=columns>{}</div>\n"
 
@@ -30,7 +26,7 @@ def page(reading: Reading, session: str) -> str:
     printed = notebook.printed(reading.office, session)
     body = pages.table(HEADS, [row(member, shared, printed) for member in members], pages.when(head))
     above = beside.school(reading.office, "<br>") + pages.when(head)
-    return pages.document(f"Notice board {session}", pages.html(BODY, above, legend, body), STYLE)
+    return pages.document(f"Notice board {session}", pages.html(BODY, above, legend, body), "board")
 
 
 def row(member: Member, shared: set[str], printed: dict[str, Desk]) -> list[object]:

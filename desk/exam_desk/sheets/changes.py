@@ -11,10 +11,6 @@ from exam_desk.sheets import beside, pages
 from exam_desk.telling import KINDS, Change, counted
 from exam_desk.words import short_day
 
-STYLE = """
-table { margin-bottom: 5mm } td { font-size: 9.5pt } td.box { border: 0.6pt solid #000; width: 9mm }
-td:nth-child(3) { width: 21% } td:nth-child(4), td:nth-child(5) { width: 29% }
-"""
 HEADS = ["w:Session", "w:Number", "Name", "Before", "Now", "box:Told"]
 NOBODY = Markup("<p>Nobody.</p>\n")
 
@@ -27,7 +23,7 @@ def page(office: Office, changes: Iterable[Change], titles: Mapping[str, str], s
     parts = [table(kind, by_kind[kind], titles) for kind in KINDS if kind in by_kind]
     above = pages.html("<p>{}{}</p>\n", beside.school(office, " &middot; "), since)
     return pages.document("Changes", Markup("<h1>Who must be told</h1>\n") + above + (pages.joined(parts) or NOBODY),
-                          STYLE)
+                          "changes")
 
 
 def table(kind: str, changes: list[Change], titles: Mapping[str, str]) -> Markup:
@@ -42,10 +38,10 @@ def name(change: Change) -> Markup:
 
 
 def sat(sitting: Sitting | None, titles: Mapping[str, str]) -> Markup:
-    """Where, what and when."""
     if sitting is None:
         return Markup("nothing")
     place = pages.html("{} ({}), desk {}", pages.text(titles.get(sitting.hall, "")), sitting.hall, sitting.desk
                        ) if sitting.hall else Markup("<b>no desk</b>")
-    return pages.html("{}<br>{} ({})<br>{}, <span class=w>{}–{}</span>", place, pages.text(titles.get(sitting.paper, "")), sitting.paper,
-                      short_day(sitting.date), sitting.start, sitting.finish)
+    return pages.html("{}<br>{} ({})<br>{}, <span class=w>{}–{}</span>", place,
+                      pages.text(titles.get(sitting.paper, "")), sitting.paper, short_day(sitting.date), sitting.start,
+                      sitting.finish)

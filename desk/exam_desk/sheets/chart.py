@@ -13,11 +13,6 @@ from exam_desk.sheets import beside, pages
 from exam_desk.snapshot import session_row
 from exam_desk.trouble import Trouble
 
-STYLE = """
-.chart { table-layout: fixed; border-collapse: separate; border-spacing: 1mm } .chart th { border: 0 }
-.chart td { border: 0.6pt solid #000; height: 14mm; padding: 0.6mm; font-size: 7.5pt; line-height: 1.1 }
-.chart td.none { border: 0 } .chart td b { display: block; font-size: 9pt }
-"""
 HALL = ("<div class=sheet><h1>{} ({})</h1>\n<p>{}{}. Front of the hall above. {}</p>\n"
         "<table class=chart><tbody>\n{}</tbody></table></div>\n")
 
@@ -32,20 +27,14 @@ class NotDrawn(Trouble):
 
 
 def page(reading: Reading, session: str, asked: Collection[str] = ()) -> str:
-    """The charts of the halls that are asked for, or of all in which somebody sits. Raises `Trouble` where nobody sits
-    in one that is asked for, and `NotDrawn`."""
+    """The charts of halls, as `lists.halls`. Raises `NotDrawn` too."""
     head = session_row(reading.rows, session)
-    members, rows = reading.members(session), notebook.rows_of_halls(reading.office)
+    halls, rows = lists.halls(reading, session, asked), notebook.rows_of_halls(reading.office)
     school = beside.school(reading.office, ". ")
-    halls = [(opening, there) for opening in facts.openings(reading.rows, session)
-             if (there := lists.by_desk(members, opening.hall)) and (not asked or opening.hall in asked)]
-    for code in set(asked) - {opening.hall for opening, _ in halls}:
-        raise Trouble(f"nobody sits in {code} in {session}")
     if unknown := [opening.hall for opening, _ in halls if opening.hall not in rows]:
         raise NotDrawn(unknown)
-    charts = [chart(head, school, opening, there, rows[opening.hall]) for opening, there in halls]
-    body = pages.joined(charts) or Markup("<p>Nobody has a desk.</p>\n")
-    return pages.document(f"Seating charts {session}", body, STYLE)
+    return pages.of_desks(f"Seating charts {session}", [chart(head, school, opening, there, rows[opening.hall])
+                                                        for opening, there in halls], "chart")
 
 
 def chart(head: sqlite3.Row, school: Markup, opening: facts.Opening, members: list[Member], rows: Rows) -> Markup:

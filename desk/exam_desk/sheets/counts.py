@@ -12,7 +12,6 @@ from exam_desk.reading import Reading
 from exam_desk.sheets import beside, pages
 from exam_desk.snapshot import session_row
 
-STYLE = "table { margin-bottom: 6mm } td.box { border: 0.6pt solid #000; width: 14mm }"
 HEADS = ["Hall", "Paper", "n:Copies", "n:Last finish", "box:Spare", "box:Packed"]
 TOTAL_HEADS = ["Paper, all halls", "n:Copies", "n:Last finish"]
 NO_DESK = Markup("<b>no desk</b>")
@@ -30,7 +29,8 @@ def page(reading: Reading, session: str) -> str:
     rows += [[NO_DESK, papers[code], *found, "", ""] for code, found in unseated]
     total = [[papers[code], *found] for code, found in sums(sittings, lambda each: each.paper)]
     above = pages.html("{}<b>Copies</b> &emsp; {}", beside.school(reading.office, "<br>"), pages.when(head))
-    return pages.document(f"Copies {session}", pages.table(HEADS, rows, above) + pages.table(TOTAL_HEADS, total), STYLE)
+    return pages.document(f"Copies {session}", pages.table(HEADS, rows, above) + pages.table(TOTAL_HEADS, total),
+                          "counts")
 
 
 def sums(sittings: Iterable[Sitting], key: Callable[[Sitting], Key]) -> list[tuple[Key, tuple[int, str]]]:

@@ -12,15 +12,8 @@ from exam_desk.notebook import Desk
 from exam_desk.reading import Member, Reading
 from exam_desk.sheets import beside, pages, paging
 from exam_desk.snapshot import session_row
-from exam_desk.trouble import Trouble
 from exam_desk.words import clock
 
-STYLE = """
-td { box-sizing: border-box; height: 9mm; padding: 0.5mm 2mm 0.5mm 0; vertical-align: middle } td.sign { border: 0.6pt solid #000 }
-.sign { width: 34mm }
-th.top span { float: right; text-align: right; margin-left: 4mm } td:nth-child(6) { width: 36mm; font-size: 8.5pt }
-td:nth-child(3) { width: 40% } td.n { padding-right: 3mm }
-"""
 HEADS = ["n:Desk", "w:Number", "Name", "w:Paper", "w:Finish", "Arrangement", "sign:Signature"]
 ABOVE = "<span>{}{}<br>open until {}, last finish {}<br>{}, {} expected</span><b>{}</b><br>{}, page {} of {}<br>{}"
 BELOW = Markup("Present: ________ &emsp; Absent: ________ &emsp; Invigilator: ______________________________")
@@ -38,21 +31,12 @@ class Beside(NamedTuple):
 
 
 def page(reading: Reading, session: str, asked: Collection[str] = ()) -> str:
-    """The sheets of the halls that are asked for, or of all in which somebody sits. Raises `Trouble` where nobody sits
-    in one that is asked for."""
+    """The sheets of halls, as `lists.halls`."""
     head = session_row(reading.rows, session)
-    members = reading.members(session)
-    halls = {opening.hall: (opening, lists.by_desk(members, opening.hall))
-             for opening in facts.openings(reading.rows, session)}
-    for code in asked:
-        if code not in halls or not halls[code][1]:
-            raise Trouble(f"nobody sits in {code} in {session}")
     also = Beside(pages.when(head), beside.school(reading.office, "<br>"), facts.paper_titles(reading.rows),
                   notebook.notes(reading.office), notebook.printed(reading.office, session))
-    sheets = [sheet(also, opening, sitting) for code, (opening, sitting) in halls.items()
-              if sitting and (not asked or code in asked)]
-    body = pages.joined(sheets) or Markup("<p>Nobody has a desk.</p>\n")
-    return pages.document(f"Invigilators' sheets {session}", body, STYLE)
+    return pages.of_desks(f"Invigilators' sheets {session}", [
+        sheet(also, opening, there) for opening, there in lists.halls(reading, session, asked)], "doors")
 
 
 def sheet(also: Beside, opening: facts.Opening, members: list[Member]) -> Markup:
@@ -81,7 +65,6 @@ def arrangement(also: Beside, member: Member) -> Sequence[str]:
 
 
 def height(also: Beside, member: Member) -> float:
-    """What a row takes, in millimetres."""
     texts = paging.lines([member.name], NAME), paging.lines(arrangement(also, member), ARRANGEMENT)
     return max(ROW, 1 + paging.LINE * max(texts))
 

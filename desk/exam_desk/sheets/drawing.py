@@ -1,4 +1,4 @@
-"""Parts of the page of a session: its style, bars, and the picture of a shortage."""
+"""Parts of the page of a session: bars, and the picture of a shortage."""
 from __future__ import annotations
 
 from collections.abc import Iterable, Sequence
@@ -61,13 +61,11 @@ def explanation(shortage: Shortage) -> Markup:
 
 
 def chips(title: str, kind: str, members: Iterable[Member]) -> Markup:
-    people = pages.joined(map(chip, members))
-    return pages.html("<div class='card {}'><h3>{}</h3><ol>{}</ol></div>", kind, title, people)
-
-
-def chip(member: Member) -> Markup:
-    desk = "" if member.sitting.desk is None else pages.html("<small>{}</small> ", member.sitting.desk)
-    return pages.html("<li>{}{}<br><small>{}</small></li>", desk, member.number, pages.text(member.name))
+    people = ""
+    for member in members:
+        desk = "" if member.sitting.desk is None else pages.html("<small>{}</small> ", member.sitting.desk)
+        people += pages.html("<li>{}{}<br><small>{}</small></li>", desk, member.number, pages.text(member.name))
+    return pages.html("<div class='card {}'><h3>{}</h3><ol>{}</ol></div>", kind, title, Markup(people))
 
 
 def drawing(shortage: Shortage, unseated: Sequence[Member], openings: Sequence[Opening],
@@ -112,59 +110,10 @@ def why(reasons: Reasons) -> Markup:
 def explained(reasons: Reasons, member: Member) -> Markup:
     sitting = member.sitting
     extra = f", with {sitting.extra} % extra time" if sitting.extra else ""
-    return pages.html("<p><b>{} {}</b> sits {} until {}{}, needs {}</p><ul>{}</ul>", member.number,
-                      pages.text(member.name), sitting.paper, sitting.finish, extra,
-                      "+".join(reasons.needs(member)) or "-", by_reason(reasons.of(member)))
-
-
-def by_reason(halls: Iterable[tuple[str, str]]) -> Markup:
     found: dict[str, list[str]] = {}
-    for hall, reason in halls:
+    for hall, reason in reasons.of(member):
         found.setdefault(reason, []).append(hall)
     lines = [pages.html("<li>{}: {}</li>", ", ".join(codes), pages.text(reason)) for reason, codes in found.items()]
-    return pages.joined(lines) or Markup("<li>no hall is open</li>")
-
-
-STYLE = """
-:root { --ink: #1c2733; --soft: #55616d; --line: #c5ccd3; --blue: #2f5d82; --pale: #fdf1dc; --amber: #8a5a00; }
-body { margin: 0 auto; padding: 1.5rem 1.25rem 4rem; max-width: 72rem; background: #fff; color: var(--ink);
-  font: 16px/1.5 system-ui, "Segoe UI", "Helvetica Neue", "DejaVu Sans", sans-serif;
-  font-variant-numeric: tabular-nums; }
-h1 { font-size: 1.9rem; margin: 0; } h2 { font-size: 1.3rem; margin: 0 0 .6rem; }
-h3 { font-size: 1rem; margin: 0 0 .4rem; }
-small { color: var(--soft); font-size: .85em; font-weight: 400; } p { max-width: 46rem; margin: 0 0 .8rem; }
-header p { margin: .2rem 0; } nav a { margin-right: 1rem; } a { color: var(--blue); }
-body > section { margin-top: 2rem; padding-top: 1rem; border-top: 2px solid var(--ink); }
-.wide { overflow-x: auto; } table { border-collapse: collapse; width: 100%; } td { border-top: 1px solid var(--line); }
-th { text-align: left; font-size: .85rem; vertical-align: bottom; } td { vertical-align: top; }
-.n { text-align: right; }
-th, td { padding: .2rem .6rem .2rem 0; } .halls td:nth-child(2) { width: 45%; padding-top: .4rem; }
-.bar { display: block; width: 100%; height: 1rem; overflow: visible; }
-.hall { break-inside: avoid; margin-bottom: 1.4rem; }
-rect { stroke: var(--ink); vector-effect: non-scaling-stroke; } rect.lacking { stroke-width: 2; stroke-dasharray: 4 3; }
-.taken { fill: var(--blue); } .listed { fill: #e9b44c; } .free, .none, rect.lacking { fill: #fff; }
-.none { stroke: none; }
-.tag { border: 1px solid var(--ink); border-radius: .6rem; padding: 0 .45rem; font-size: .8rem; white-space: nowrap; }
-.tag.open { border-width: 2px; font-weight: 600; } .halls .tag { background: var(--pale); border-color: var(--amber); }
-.sum { font-size: 1.25rem; font-weight: 600; margin-bottom: .6rem; } .balance { display: grid; gap: .3rem 1rem;
-  grid-template-columns: max-content 1fr; align-items: center; max-width: 46rem; margin: 0 0 1rem; } dd { margin: 0; }
-.cards { display: flex; flex-wrap: wrap; gap: 1rem; align-items: flex-start; }
-td, h3, li, .why p { overflow-wrap: anywhere; } .n { overflow-wrap: normal; }
-.card { max-width: 100%; box-sizing: border-box; }
-.card { border: 2px solid var(--amber); background: var(--pale); border-radius: .4rem; padding: .6rem .8rem; }
-.card ol { list-style: none; display: flex; flex-wrap: wrap; gap: .35rem; margin: 0; padding: 0; }
-.card ol li { background: #fff; border: 1px solid var(--amber); border-radius: .25rem; padding: .2rem .45rem;
-  min-width: 8.5rem; line-height: 1.25; } .card.lacking, .card.lacking ol li { border-style: dashed; }
-.card.out { border: 1px solid var(--line); background: #fff; }
-.card ul { columns: 13rem; margin: 0; padding-left: 1.1rem; }
-.numbers { columns: 6.5rem; white-space: nowrap; list-style: none; padding: 0; margin: 0 0 1rem; }
-.why { margin-top: 1rem; } .why ul { margin: 0 0 .6rem; padding-left: 1.1rem; } .why b { font-weight: 600; }
-.columns { columns: 26rem; column-gap: 2.5rem; } .columns table { font-size: .92rem; }
-.columns th, .columns td { width: 1%; white-space: nowrap; }
-.columns .name { width: auto; white-space: normal; overflow-wrap: anywhere; }
-@media (max-width: 40rem) { .halls td:nth-child(2) { width: 22%; } }
-@media print { body { max-width: none; padding: 0; font-size: 10pt; } nav { display: none; }
-  a { color: inherit; text-decoration: none; } body > section { margin-top: 1rem; padding-top: .6rem; }
-  h2, h3 { break-after: avoid; } tr, li, .card { break-inside: avoid; } .wide { overflow: visible; }
-  th, td { padding-top: .08rem; padding-bottom: .08rem; } .columns { columns: 2; } .columns table { font-size: 9pt; } }
-"""
+    return pages.html("<p><b>{} {}</b> sits {} until {}{}, needs {}</p><ul>{}</ul>", member.number,
+                      pages.text(member.name), sitting.paper, sitting.finish, extra,
+                      "+".join(reasons.needs(member)) or "-", pages.joined(lines) or Markup("<li>no hall is open</li>"))

@@ -4,6 +4,7 @@ What is Markup is HTML already; every other value is escaped where it is put in,
 """
 from __future__ import annotations
 
+import os
 import re
 import sqlite3
 from collections.abc import Iterable, Sequence
@@ -12,24 +13,7 @@ from markupsafe import Markup, escape
 
 from exam_desk.words import clock, long_day, plain
 
-PAPER = """
-@page { size: A4; margin: 14mm 12mm 16mm;
-  @bottom-right { content: counter(page) " / " counter(pages); font: 8pt sans-serif } }
-"""
-STYLE = PAPER + """
-body { margin: 0; font: 10pt/1.3 "Liberation Sans", "DejaVu Sans", Arial, sans-serif; color: #000 }
-h1 { font-size: 15pt; margin: 0 0 2mm } h2 { font-size: 12pt; margin: 5mm 0 1mm; break-after: avoid }
-p { margin: 0 0 3mm }
-table { border-collapse: collapse; width: calc(100% - 1mm) } thead { display: table-header-group; break-inside: avoid }
-tr { break-inside: avoid }
-th, td { text-align: left; vertical-align: top; padding: 1mm 2mm 1mm 0; overflow-wrap: anywhere }
-th { font-size: 8.5pt; border-bottom: 0.6pt solid #000; overflow-wrap: normal } td { border-bottom: 0.3pt solid #888 }
-th.top { overflow-wrap: anywhere; font-size: 10pt; font-weight: 400; border: 0 } th.top b { font-size: 15pt }
-td.n, th.n { text-align: right; white-space: nowrap; padding-right: 4mm }
-td.below { border: 0; padding-top: 6mm } .w { white-space: nowrap; overflow-wrap: normal } small { font-size: 8.5pt }
-.sheet { break-after: page } .sheet:last-child { break-after: auto }
-@media screen { body { max-width: 186mm; margin: 8mm auto } .sheet { margin-bottom: 15mm } }
-"""
+STYLES = os.path.join(os.path.dirname(__file__), "styles")
 DOCUMENT = ('<!doctype html>\n<html lang="en"><head><meta charset="utf-8"><title>{}</title>\n<style>{}</style></head>\n'
             "<body>\n{}</body></html>\n")
 HEAD = re.compile("(?:([a-z]+):)?(.*)")  # of a column: its kind, if it has one, and its words
@@ -41,7 +25,6 @@ def html(form: str, *values: object) -> Markup:
 
 
 def safe(value: object) -> Markup:
-    """A value as HTML."""
     return value if isinstance(value, Markup) else escape(plain(value))
 
 
@@ -79,9 +62,23 @@ def table(heads: Sequence[str], rows: Iterable[Sequence[object]], above: Markup 
 
 
 def when(head: sqlite3.Row) -> Markup:
-    """Day, start and code of a session."""
     return html("{}, {} ({})", long_day(head["day"]), clock(head["start"]), head["code"])
 
 
-def document(title: str, body: Markup, style: str = "") -> str:
-    return str(html(DOCUMENT, title, Markup(STYLE + style), body))
+def style(*names: str) -> Markup:
+    """Style sheets, one behind the other."""
+    found = ""
+    for name in names:
+        with open(os.path.join(STYLES, f"{name}.css"), encoding="utf-8") as file:
+            found += f"\n{file.read()}"
+    return Markup(found)
+
+
+def document(title: str, body: Markup, name: str) -> str:
+    """A page of A4 with the style of this name, besides that of all paper."""
+    return str(html(DOCUMENT, title, style("page", "paper", name), body))
+
+
+def of_desks(title: str, sheets: Iterable[Markup], name: str) -> str:
+    """As `document`, of sheets on who has a desk."""
+    return document(title, joined(sheets) or Markup("<p>Nobody has a desk.</p>\n"), name)

@@ -47,8 +47,9 @@ def lines(reading: Reading, found: list[Person], codes: bool) -> list[str]:
     for person in found:
         said.append(f"{person.number} {person.name}" + (f", access code {person.code}" if codes else ""))
         if len(found) <= MOST_SHOWN:
-            said += [*entries(reading, person), *at_one_time(reading, person), *imported(reading.rows, person),
-                     *lodged(reading, person)]
+            said += [*entries(reading, person), *(f"  NOTE: {overlaps.line(reading, each)}" for each in
+                                                  overlaps.of_candidate(reading, person.number)),
+                     *imported(reading.rows, person), *lodged(reading, person)]
     if len(found) > MOST_SHOWN:
         said.append(f"{len(found)} candidates; say more of the name, or the number")
     return said
@@ -64,7 +65,6 @@ def entries(reading: Reading, person: Person) -> Iterator[str]:
 
 
 def fate(row: sqlite3.Row, sitting: Sitting | None, halls: dict[str, str]) -> str:
-    """What became of an entry."""
     if not row["live"] or sitting is None:
         return "withdrawn"
     if row["paper"] != sitting.paper:
@@ -72,11 +72,6 @@ def fate(row: sqlite3.Row, sitting: Sitting | None, halls: dict[str, str]) -> st
     place = f"{sitting.hall} {halls[sitting.hall]}, desk {sitting.desk}" if sitting.hall else "no desk"
     allowance = lists.allowance(sitting)
     return f"{place}, until {sitting.finish}" + (f", with {allowance}" if allowance else "")
-
-
-def at_one_time(reading: Reading, person: Person) -> Iterator[str]:
-    for each in overlaps.of_candidate(reading, person.number):
-        yield f"  NOTE: {overlaps.line(reading, each)}"
 
 
 def imported(rows: Rows, person: Person) -> Iterator[str]:

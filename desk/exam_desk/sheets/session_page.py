@@ -1,8 +1,6 @@
 """One page of a session: halls, shortage, who sits where, clashes and appeals."""
 from __future__ import annotations
 
-import sqlite3
-
 from markupsafe import Markup
 
 from exam_desk import appeals, lists, reasons
@@ -68,9 +66,6 @@ class Page:
         return (drawing.explanation(self.shortage) + drawing.balance(self.shortage) + picture
                 + drawing.why(self.reasons))
 
-    def seats_part(self) -> Markup:
-        return pages.html("<div class=columns>{}</div>", pages.joined(map(self.hall_part, self.openings)))
-
     def hall_part(self, opening: Opening) -> Markup:
         rows = [[each.sitting.desk, each.number, pages.text(each.name), each.sitting.paper, each.sitting.finish]
                 for each in self.seated[opening.hall]]
@@ -85,16 +80,23 @@ class Page:
 
     def appeals_part(self) -> Markup:
         numbers = {member.number for member in self.members}
-        rows = [appeal_row(row, f"{row['number']:07}" in numbers) for row in self.appeals]
+        rows = []
+        for row in self.appeals:
+            gone = "" if f"{row['number']:07}" in numbers else Markup("<br><i>no longer in this session</i>")
+            state = appeals.STATES[row["state"]]
+            rows.append([f"{row['number']:07}", pages.text(row["name"]) + gone, row["ref"], appeals.KINDS[row["kind"]],
+                         appeals.subject(row), row["lodged"],
+                         pages.html("<span class='tag {}'>{}</span>", state, state)])
         heads = ["Number", "name:Name", "Reference", "Kind", "About", "Lodged", "State"]
         return drawing.table(heads, rows) if rows else NONE
 
     def document(self) -> str:
         head = f"Session {self.head['code']}, {self.head['day']} {clock(self.head['start'])}"
-        parts = [self.halls_part(), self.shortage_part(), self.seats_part(), self.clashes_part(), self.appeals_part()]
+        seats = pages.html("<div class=columns>{}</div>", pages.joined(map(self.hall_part, self.openings)))
+        parts = [self.halls_part(), self.shortage_part(), seats, self.clashes_part(), self.appeals_part()]
         sections = pages.joined((pages.html("<section id={}><h2>{}</h2>\n{}\n</section>", *each, part)
                                  for each, part in zip(SECTIONS.items(), parts)), "\n")
-        return str(pages.html(DOCUMENT, head, Markup(pages.PAPER + drawing.STYLE), self.title(), sections))
+        return str(pages.html(DOCUMENT, head, pages.style("page", "session"), self.title(), sections))
 
 
 def hall_label(opening: Opening, listed: bool) -> Markup:
@@ -104,10 +106,3 @@ def hall_label(opening: Opening, listed: bool) -> Markup:
     details += ["only with needs or extra time"] * opening.reserved
     return pages.html("<a href='#hall-{}'>{}</a> {}{}<br><small>{}</small>", opening.hall, opening.hall,
                       pages.text(opening.title), mark, "; ".join(details))
-
-
-def appeal_row(row: sqlite3.Row, is_member: bool) -> list[object]:
-    name = pages.text(row["name"]) + ("" if is_member else Markup("<br><i>no longer in this session</i>"))
-    state = appeals.STATES[row["state"]]
-    return [f"{row['number']:07}", name, row["ref"], appeals.KINDS[row["kind"]], appeals.subject(row), row["lodged"],
-            pages.html("<span class='tag {}'>{}</span>", state, state)]

@@ -10,18 +10,11 @@ from markupsafe import Markup
 from exam_desk import facts, files, lists, notebook
 from exam_desk.answers import Sitting
 from exam_desk.names import name_order
-from exam_desk.reading import Member, Person, Reading
+from exam_desk.reading import Person, Reading
 from exam_desk.sheets import beside, pages
 from exam_desk.trouble import Trouble
 from exam_desk.words import clock, short_day
 
-STYLE = """
-.slip { font-size: 9.5pt; break-inside: avoid; border: 0.8pt dashed #555; padding: 2mm 4mm 3mm; margin: 0 1mm 3mm 0 }
-.slip td:nth-child(1) { width: 23% } .slip td:nth-child(2) { width: 13% } .slip td:nth-child(3) { width: 30% }
-.slip th.top { padding-bottom: 0 } .slip th.top b { font-size: 12.5pt }
-.slip td { border: 0; padding-top: 0.8mm; padding-bottom: 0 }
-.slip th.top span { float: right; margin-left: 6mm } .slip th { padding-bottom: 0.3mm }
-"""
 HEADS = ["w:Day", "w:Time", "Paper", "Hall"]
 HEADER = ["number", "name", "session", "date", "start", "finish", "paper", "paper title", "hall", "hall title",
           "arrangement", "not sat", "note", "group", "desk", "code"]
@@ -63,7 +56,7 @@ def page(reading: Reading, choice: Choice) -> str:
         by_group.setdefault(each.group, []).append(slip(look, each))
     bodies = [pages.html(GROUP, pages.text(group or NO_GROUP), pages.joined(found)) if choice.groups
               else pages.joined(found) for group, found in by_group.items()]
-    return pages.document("Slips", pages.joined(bodies), STYLE)
+    return pages.document("Slips", pages.joined(bodies), "slips")
 
 
 def csv_text(reading: Reading, choice: Choice) -> str:
@@ -101,23 +94,17 @@ def refuse_missing(asked: Collection[str], found: Collection[str]) -> None:
 
 
 def sittings_by_candidate(reading: Reading, choice: Choice) -> dict[tuple[str, str], list[Sat]]:
-    """What each candidate sits, by name and number."""
     heads = facts.sessions(reading.rows, choice.sessions)
     if not choice.only:
         reading.ask_sessions(head["code"] for head in heads)
     found: dict[tuple[str, str], list[Sat]] = {}
     for head in heads:
         clashes = reading.clashes(head["code"], choice.only)
-        for member in members(reading, head["code"], choice.only):
+        asked = (reading.member(head["code"], number) for number in choice.only)
+        for member in filter(None, asked) if choice.only else reading.members(head["code"]):
             found.setdefault((member.name, member.number), []).append(
                 Sat(head, member.sitting, clashes.get(member.number, [])))
     return found
-
-
-def members(reading: Reading, session: str, only: Collection[str]) -> list[Member]:
-    if not only:
-        return reading.members(session)
-    return [member for number in only if (member := reading.member(session, number))]
 
 
 class Look(NamedTuple):

@@ -6,7 +6,7 @@ import sqlite3
 from collections import Counter
 from collections.abc import Collection
 
-from exam_desk import appeals, facts, overlaps
+from exam_desk import facts, overlaps
 from exam_desk.reading import Reading
 from exam_desk.words import clock
 
@@ -29,6 +29,6 @@ def line(reading: Reading, head: sqlite3.Row, overlapping: int) -> str:
     members = reading.members(head["code"])
     seated = sum(member.sitting.hall is not None for member in members)
     desks = sum(opening.desks for opening in facts.openings(reading.rows, head["code"]))
+    [[waiting]] = reading.rows.execute("SELECT count(*) FROM appeal WHERE session = ? AND state = 1", [head["code"]])
     return LINE.format(head["code"], head["day"], clock(head["start"]), len(members), seated, len(members) - seated,
-                       desks, desks - seated, len(reading.clashes(head["code"])), overlapping,
-                       appeals.open_count(reading.rows, head["code"]))
+                       desks, desks - seated, len(reading.clashes(head["code"])), overlapping, waiting)

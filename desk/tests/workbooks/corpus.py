@@ -102,15 +102,15 @@ def run(case: Case, command: list[str], folder: pathlib.Path) -> Done:
 
 
 def run_inside(case: Case, folder: pathlib.Path) -> Done:
-    """As `run`, of desk/read in this process: without the other processes it takes a tenth of the time."""
+    """As `run`, of `office read` in this process: without the other processes it takes a tenth of the time."""
     opening.ask_child = lambda what, data: child.read(data)
     target = folder / "work" / "out"
     words = laid_out(case, folder)
     before = sys.stdout, sys.stderr, sys.excepthook, sys.argv
     out, complaint = (io.TextIOWrapper(io.BytesIO(), "utf-8") for _ in range(2))
     try:
-        sys.stdout, sys.stderr, sys.argv = out, complaint, ["read", *words]
-        runpy.run_path(str(DESK / "read"), run_name="__main__")
+        sys.stdout, sys.stderr, sys.argv = out, complaint, ["office", "read", *words]
+        runpy.run_path(str(DESK / "office"), run_name="__main__")
         status: object = 0
     except SystemExit as end:
         status = end.code
@@ -127,7 +127,7 @@ def run_inside(case: Case, folder: pathlib.Path) -> Done:
 
 
 def judged(case: Case, command: list[str]) -> Verdict:
-    """What is wrong of a case; no command stands for desk/read in this process."""
+    """What is wrong of a case; no command stands for `office read` in this process."""
     with tempfile.TemporaryDirectory(prefix="workbook-") as folder:
         try:
             done = run(case, command, pathlib.Path(folder)) if command else run_inside(case, pathlib.Path(folder))

@@ -4,6 +4,7 @@ from __future__ import annotations
 
 import os
 import sys
+from collections.abc import Sequence
 
 import command
 from exam_desk import beside, changing, refusals, running, turns
@@ -114,11 +115,11 @@ def replace_by(office: Office, line: list[str]) -> None:
         raise running.not_started(office, fault) from fault
 
 
-def outcome(office: Office, words: list[str], ran: Ran) -> int:
-    """Says what a refusal means; the status."""
+def outcome(office: Office, words: Sequence[str], ran: Ran, data: bytes | None = None) -> int:
+    """Says what a refusal of a command, or of an import of these bytes, means; the status."""
     lines = []
     if ran.status == 1:
-        lines = refusals.explained(office, words, ran.complaint)
+        lines = refusals.explained(office, words, ran.complaint, data)
     elif ran.status == 2:
         lines = running.usage(office, words[0])
     sys.stderr.write(ran.complaint + "".join(f"{line}\n" for line in lines))

@@ -1,0 +1,157 @@
+"""Commands over what the school keeps beside its office, on which no seat depends."""
+from __future__ import annotations
+
+import sys
+from typing import TYPE_CHECKING
+
+import command
+from exam_desk.trouble import Trouble
+from exam_desk.words import plain
+
+if TYPE_CHECKING:
+    from argparse import ArgumentParser
+
+    from exam_desk.notebook import Desk
+    from exam_desk.reading import Reading
+
+MOST_BYTES = 1 << 16  # of numbers on standard input
+
+
+@command.named("""Notes who was missing in a session, and lists it for the exam board: absent SESSION [NUMBER .. | -]
+
+    office absent MON-AM 0001051 0001060    notes two candidates as absent
+    office absent MON-AM - <numbers.txt     as many as stand in a file, parted by spaces or lines
+    office absent MON-AM --there 0001060    takes one back
+    office absent MON-AM >board.csv         prints number, paper, present or absent, by paper
+
+Who was missing is no fact of the office: no seat changes by it. Where one number is wrong nothing is noted. The paper
+is the one that the candidate was to sit.
+""")
+def absent(parser: ArgumentParser) -> None:
+    from exam_desk import absences, lists
+    parser.add_argument("session", metavar="SESSION")
+    parser.add_argument("number", metavar="NUMBER", nargs="*", default=[])
+    parser.add_argument("--there", metavar="NUMBER", nargs="+", default=[], help="who is not absent after all")
+    given = parser.parse_args()
+    missing, there = numbers(given.number), numbers(given.there)
+    with command.reading() as reading:
+        if given.number or given.there:
+            members = reading.members(given.session)
+            missed = absences.note(reading, given.session, missing, there)
+            command.say(f"{lists.count(len(missed), 'candidate')} absent of {len(members):,}\n")
+        else:
+            command.say(absences.listed(reading, given.session))
+
+
+def numbers(words: list[str]) -> list[str]:
+    """The numbers that are given; `-` stands for those on standard input."""
+    from exam_desk import files
+    if words != ["-"]:
+        return words
+    text = sys.stdin.buffer.read(MOST_BYTES + 1)
+    if len(text) > MOST_BYTES:
+        raise Trouble(f"more than {MOST_BYTES} bytes of numbers")
+    return text.removeprefix(files.BOM).decode("utf-8", "replace").replace(",", " ").split()
+
+
+@command.named("""Keeps notes on candidates, such as rest breaks, a scribe, a dictionary: notes [FILE]
+
+    office notes notes.csv    takes the notes of a file with the header number,text
+    office notes              prints them, with names
+
+A note stands on what invigilators and candidates get, and on nothing else. It is no fact of the office: no seat depends
+on it. A later row for a number replaces the note, an empty text takes it away; notes that are not in the file stay. A
+text has at most 200 bytes. Where one row is wrong no row is taken. Notes lie beside the office, for its user alone, and
+in its copies; `office back` leaves them as they are.
+""")
+def notes(parser: ArgumentParser) -> None:
+    from exam_desk import facts, notebook, numbered
+    from exam_desk.sheets import notes
+    parser.add_argument("file", metavar="FILE", nargs="?")
+    given = parser.parse_args()
+    office = command.office()
+    with command.rows() as rows:
+        if not given.file:
+            command.say(notes.text(office, rows))
+            return
+        known = set(facts.candidate_names(rows))
+    noted = notebook.take_notes(office, numbered.texts_in(given.file, "text", notebook.MOST_NOTE_BYTES, known))
+    command.say(f"added {noted.added} changed {noted.changed} removed {noted.removed} same {noted.same}\n")
+
+
+@command.named("""Notes which desks are on paper, and says which are other ones now: printed SESSION [--look]
+
+    office printed MON-AM           after printing: the desks as they are now are on paper
+    office printed MON-AM --look    who has another desk since then, and which halls are to be printed again
+
+Nothing but this command notes it: to look at a page notes nothing. On the day write *absent* on the paper rather than
+withdraw, since a withdrawal can give others another desk.
+""")
+def printed(parser: ArgumentParser) -> None:
+    from exam_desk import lists, printed
+    parser.add_argument("session", metavar="SESSION")
+    parser.add_argument("--look", action="store_true", help="notes nothing, and compares")
+    given = parser.parse_args()
+    with command.reading() as reading:
+        if given.look:
+            command.say_lines(compared(reading, given.session))
+        else:
+            noted = printed.note(reading, given.session)
+            others = f", {noted.others} other than before" if noted.others else ""
+            command.say(f"{lists.count(noted.desks, 'desk')} noted{others}\n")
+
+
+def compared(reading: Reading, session: str) -> list[str]:
+    """Who has another desk than on paper, and the halls whose paper is out of date."""
+    from exam_desk import printed
+    found = printed.compared(reading, session)
+    if found is None:
+        raise Trouble(f"nobody noted which desks are printed for {session}; `office printed {session}` does")
+    last = f"to print again: {', '.join(found.halls)}" if found.halls else "the papers are up to date"
+    return [*(f"{move.number} {move.name}: {place(move.now)}, was {place(move.printed)}" for move in found.moves), last]
+
+
+def place(desk: Desk | None) -> str:
+    return f"{desk.hall} {desk.desk}" if desk else "no desk"
+
+
+@command.named("""Keeps how the desks of halls stand, for the seating charts: rows [HALL DESKS-IN-A-ROW [RUNNING]]
+
+    office rows GYM 8                     rows of 8 desks, numbered across, each row from the left
+    office rows GYM 8 down-and-up         numbered down the first column and up the next
+    office rows                           prints what is kept
+
+RUNNING is across, across-and-back, down or down-and-up, seen from the front of the hall. No seat depends on it.
+""")
+def rows(parser: ArgumentParser) -> None:
+    from exam_desk import facts, notebook
+    parser.add_argument("hall", metavar="HALL", nargs="?")
+    parser.add_argument("across", metavar="DESKS-IN-A-ROW", nargs="?", type=int)
+    parser.add_argument("running", metavar="RUNNING", nargs="?", choices=notebook.RUNNING, default=notebook.RUNNING[0])
+    given = parser.parse_args()
+    office = command.office()
+    with command.rows() as connection:
+        titles = facts.hall_titles(connection)
+    if given.hall is not None:
+        if given.hall not in titles:
+            raise Trouble(f"the office has no hall {given.hall}; it has {', '.join(sorted(titles)[:20])}")
+        notebook.keep_rows(office, given.hall, notebook.Rows(given.across or 0, given.running))
+    kept = sorted(notebook.rows_of_halls(office).items())
+    lines = [f"{hall}: rows of {rows.across}, {rows.running}\n" for hall, rows in kept]
+    command.say("".join(lines) or "nothing is kept\n")
+
+
+@command.named("""Keeps the name of the school, which stands on its papers: school [NAME]
+
+    office school "Hill School"    takes the name
+    office school                  prints it
+    office school ''               takes it away
+""")
+def school(parser: ArgumentParser) -> None:
+    from exam_desk import notebook
+    parser.add_argument("name", metavar="NAME", nargs="?")
+    given = parser.parse_args()
+    office = command.office()
+    if given.name is not None:
+        notebook.set_school_name(office, given.name)
+    command.say(f"{plain(notebook.school_name(office)) or 'no name'}\n")

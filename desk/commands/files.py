@@ -1,0 +1,264 @@
+"""Commands over the files of facts: workbooks, folders of import files, access codes."""
+from __future__ import annotations
+
+import gc
+import os
+from typing import TYPE_CHECKING
+
+import command
+from commands import changes
+from exam_desk.trouble import Trouble
+from exam_desk.words import plain
+
+if TYPE_CHECKING:
+    from argparse import ArgumentParser, Namespace
+
+    from exam_desk.office import Office
+    from exam_desk.workbook.reading import Reading
+
+
+def add_reading(parser: ArgumentParser) -> None:
+    """The options of a command that reads values as a spreadsheet writes them."""
+    parser.add_argument("--dates", choices=["day-first", "month-first"], default="", help="what 01/06/2027 means")
+    parser.add_argument("--encoding", help="of CSV files that are not UTF-8, such as cp1252")
+    parser.add_argument("--all", action="store_true", help="print every line")
+
+
+def add_choices(parser: ArgumentParser) -> None:
+    """The options of a command that reads a workbook."""
+    from exam_desk.workbook.headers import KINDS
+    parser.add_argument("--columns", metavar="FILE", help="a file .toml which says what the headers and words mean")
+    parser.add_argument("--sheet", action="append", metavar="NAME",
+                        help="read this sheet, and no other that is not named")
+    parser.add_argument("--leave", action="append", metavar="NAME", default=[], help="do not read this sheet")
+    parser.add_argument("--together", action="append", choices=KINDS, default=[],
+                        help="read all sheets of this kind as one list")
+    parser.add_argument("--hidden", choices=["take", "leave"], default="", help="what becomes of hidden rows")
+
+
+def read_workbook(office: Office, path: str, given: Namespace) -> Reading:
+    """Reads a workbook as the options say. Raises `Trouble` where it cannot be read."""
+    from exam_desk.checking import office_knows
+    from exam_desk.workbook import reading
+    from exam_desk.workbook.columns import read_columns
+    from exam_desk.workbook.tables import Choices
+    from exam_desk.workbook.texts import Way
+    columns, way = read_columns(given.columns) if given.columns else ({}, Way())
+    choices = Choices(given.sheet, given.leave, given.together, given.hidden)
+    if given.dates:
+        way = Way(given.dates, way.words)
+    return reading.read_workbook(path, office_knows(office), way, columns, choices, given.encoding, command.progress)
+
+
+def read_folder(office: Office, path: str, given: Namespace) -> Reading:
+    """Reads a folder of import files as the options say."""
+    from exam_desk.checking import office_knows
+    from exam_desk.workbook.reading import mend_folder
+    from exam_desk.workbook.texts import Way
+    return mend_folder(path, office_knows(office), Way(given.dates), given.encoding, command.progress)
+
+
+def print_lines(reading: Reading, everything: bool) -> None:
+    """Prints what was changed, and what is wrong."""
+    from exam_desk.workbook.report import told_lines
+    command.progress("")
+    for line in told_lines(reading.report.lines, everything):
+        print(plain(line))
+
+
+def told(reading: Reading, target: str, lines_name: str, everything: bool) -> int:
+    """Prints the lines; writes the folder where there is no mistake, and gives the status."""
+    from exam_desk.workbook.writing import write_folder
+    print_lines(reading, everything)
+    wrong, changed, notes = (reading.report.count(sort) for sort in ("mistake", "change", "note"))
+    if wrong:
+        print(f"{wrong} mistakes, {changed} changes, {notes} notes: nothing is written")
+        return 1
+    for kind, count in write_folder(target, reading, lines_name).items():
+        print(f"{kind}: {count}")
+    place = plain(os.path.join(target, lines_name))
+    print(f"0 mistakes, {changed} changes, {notes} notes: look through them in {place}")
+    return 0
+
+
+@command.named("""Looks through the import files of a folder before any import: check-files FOLDER.
+
+    office check-files .
+
+It reads sessions.csv, papers.csv, halls.csv, openings.csv, candidates.csv, arrangements.csv and entries.csv, those that
+are there, and the office's file if there is one; it changes nothing. Each mistake is a line: file, line, value, cure.
+What the program takes, though it may be wrong, is a note. Files without a mistake it imports into a private copy, and
+notes who would have no desk, who would miss a paper, who would sit otherwise, and which sessions would be at one time.
+The status is 1 if there is a mistake.
+""")
+def check_files(parser: ArgumentParser) -> bool:
+    from exam_desk import checking
+    gc.disable()  # a file can have a million rows, and no row refers to itself
+    parser.add_argument("folder")
+    checked = checking.check_folder(command.office(), parser.parse_args().folder, command.progress, command.show_asked)
+    command.say_lines(checked.lines)
+    if not checked.counts["files"]:
+        raise Trouble("none of the seven files is there")
+    print("{files} files, {mistakes} mistakes, {notes} notes".format_map(checked.counts))
+    return bool(checked.counts["mistakes"])
+
+
+@command.named("""\
+Makes access codes at random for those who have none: codes [CANDIDATES.csv] [--new NUMBER ..] [--output FILE]
+
+    office codes                                   reads candidates.csv, writes candidates-with-codes.csv
+    office codes new.csv --output new-coded.csv
+    office codes --new 0001051                     another code for one candidate, whose row is the office's
+
+It fills the column `code` where that is empty: with the code that the office has, since slips with it may be out, else
+with a new one. It keeps the codes that are there, and makes none twice. --new names who gets another code all the same;
+without CANDIDATES.csv their rows alone are written, as the office has them.
+
+It writes a new file that only its owner can read, never over one that is there; look at it, and import it. A code has
+ten letters and digits, without vowels and what looks alike, and begins with a letter, so that no spreadsheet takes it
+for a number.
+""")
+def codes(parser: ArgumentParser) -> None:
+    from exam_desk import coding, lists
+    parser.add_argument("candidates", metavar="CANDIDATES.csv", nargs="?", help="candidates.csv if not given")
+    parser.add_argument("--new", metavar="NUMBER", nargs="+", default=[], help="who gets another code")
+    parser.add_argument("--output", metavar="FILE")
+    given = parser.parse_args()
+    path = given.candidates or "candidates.csv"
+    found = coding.coded(command.office(), None if given.new and not given.candidates else path, given.new)
+    output = given.output or f"{os.path.splitext(path)[0]}-with-codes.csv"
+    coding.write(output, found.rows)
+    kept = f", {found.kept} filled from the office" if found.kept else ""
+    made, rows = lists.count(found.made, "code"), lists.count(len(found.rows), "row")
+    command.say(f"{plain(output)}: {made} made for {rows}{kept}\n")
+
+
+@command.named("""\
+Writes the facts of the office as the seven CSV files, for the spreadsheet or the next year: dump FOLDER
+
+    office dump facts
+    office dump --workbook facts.xlsx
+
+The files can be imported again. It makes the folder and its files for their owner alone, since they hold the access
+codes; a folder that is there is left as it is. What a file cannot say: withdrawn entries are in withdrawn.txt and not
+in entries.csv, and appeals are in none. A file that would be too long for an import goes on in entries-2.csv, and so
+on. Each value is in quotes, and names are as they are: to a spreadsheet one that begins with = is a formula, unless its
+column has the format text. With --workbook it writes one .xlsx instead, of seven sheets whose columns have that format;
+`office read` reads it.
+""")
+def dump(parser: ArgumentParser) -> None:
+    from exam_desk import dumping
+    parser.add_argument("folder", nargs="?")
+    parser.add_argument("--workbook", metavar="FILE.xlsx", help="write a workbook in place of a folder")
+    given = parser.parse_args()
+    if (given.folder is None) == (given.workbook is None):
+        parser.error("name a folder, or --workbook FILE.xlsx")
+    office = command.office()
+    if given.workbook:
+        said = dumping.write_workbook(office, given.workbook)
+    else:
+        said = dumping.write_folder(office, given.folder)
+    command.say("\n".join([*said, ""]))
+
+
+@command.named("""Mends import files that a spreadsheet broke: mend FOLDER [NEW]
+
+    office mend facts                           makes the folder facts-mended
+
+It reads sessions.csv, papers.csv, halls.csv, openings.csv, candidates.csv, arrangements.csv and entries.csv, those
+that are there, by the rules of `office read`: numbers get their zeros back, dates and times their form, and each
+change is a line with its file, column and line of the file, such as candidates!A17. What cannot be decided is a MISTAKE
+with a cure; where there is one nothing is written, and the status is 1. The files of FOLDER stay as they are. The new
+folder is for its owner alone, and has besides the files all these lines, in mend.txt.
+""")
+def mend(parser: ArgumentParser) -> int:
+    from exam_desk.workbook.writing import refuse_there
+    add_reading(parser)
+    parser.add_argument("folder")
+    parser.add_argument("new", nargs="?")
+    given = parser.parse_args()
+    target = os.path.abspath(given.new or os.path.abspath(given.folder) + "-mended")
+    refuse_there(target)
+    return told(read_folder(command.office(), given.folder, given), target, "mend.txt", given.all)
+
+
+@command.named("""Makes the import files from a workbook: read WORKBOOK [FOLDER]
+
+    office read school.xlsx                     makes the folder school, with sessions.csv, papers.csv and so on
+    office read students.csv new --columns columns.toml
+
+It reads .xlsx, .xlsm, .ods and .csv. A sheet is found by its name (Candidates) or by its header, a column by its
+header. What a cell says in another way than the files is written as the files have it, and each such change is a line
+with its cell; what cannot be decided is a MISTAKE with a cure. Where there is one nothing is written, and the status is
+1. The folder must be new. It is for its owner alone, and has besides the files all these lines, in read.txt. Look
+through them before the import. Colours of cells and comments are not read, and the results of formulas are those of the
+last save.
+""")
+def read(parser: ArgumentParser) -> int:
+    from exam_desk.workbook.writing import refuse_there
+    add_reading(parser)
+    parser.add_argument("workbook")
+    parser.add_argument("folder", nargs="?")
+    add_choices(parser)
+    given = parser.parse_args()
+    target = os.path.abspath(given.folder or os.path.splitext(os.path.basename(given.workbook))[0])
+    refuse_there(target)
+    return told(read_workbook(command.office(), given.workbook, given), target, "read.txt", given.all)
+
+
+@command.named("""Brings a workbook, or a folder of import files, into the office: take WORKBOOK|FOLDER
+
+    office take school.xlsx         says what would change, asks, and imports
+    office take facts --yes         without a question, for scripts
+
+It reads a workbook as `office read` does, and a folder as `office mend` does; where there is a mistake nothing is
+changed, and the status is 1. It tries all imports on a private copy of the office, and says what each would do and who
+would lose a desk, move, get one, join or leave. Then it imports in order, whole or not at all; `office back 1` takes
+all of it back.
+""")
+def take(parser: ArgumentParser) -> None:
+    from exam_desk import changing, consequences, taking
+    add_reading(parser)
+    parser.add_argument("source", metavar="WORKBOOK|FOLDER")
+    parser.add_argument("--yes", action="store_true", help="do not ask")
+    add_choices(parser)
+    given = parser.parse_args()
+    office = command.existing_office()
+    reading = (read_folder if os.path.isdir(given.source) else read_workbook)(office, given.source, given)
+    print_lines(reading, given.all)
+    steps = taking.steps_of(reading)
+    with changing.rehearse(office, steps, command.progress) as rehearsal:
+        command.progress("")
+        for answered in rehearsal.answers:
+            if answered.ran.status:
+                changes.refuse(office, answered, answered.step.words[-1])
+            print(f"{answered.step.words[-1]}: {answered.first_line()}")
+        if rehearsal.made_from == rehearsal.promised:
+            print("the office has all this already: nothing is changed")
+            return
+        for line in consequences.of(rehearsal, None if given.all else changes.MOST_NAMED, command.show_asked):
+            print(line)
+        if not given.yes:
+            command.ask("import all this?")
+        carried = changing.carry_out(office, steps, rehearsal.made_from, rehearsal.promised,
+                                     f"take {os.path.basename(os.path.abspath(given.source))}", command.progress)
+    command.progress("")
+    if refused := carried.refused:
+        changes.refuse(office, refused, refused.step.words[-1])
+    changes.say_carried(carried, "imported")
+
+
+@command.named("""Makes an empty workbook for the facts of the office, with a sheet for each kind: template FILE.xlsx
+
+    office template school.xlsx
+
+Its cells have the format text, so that no spreadsheet changes what is typed; each header says in a comment what its
+column takes, and codes are chosen from lists. The row that begins with `e.g.` is an example, which `office read`
+leaves out.
+""")
+def template(parser: ArgumentParser) -> None:
+    from exam_desk.workbook.writing import put_workbook
+    parser.add_argument("file")
+    path = parser.parse_args().file
+    put_workbook(path, {}, example=True)
+    command.say(f"{plain(path)}: fill it, then office read {plain(path)}\n")

@@ -1,0 +1,109 @@
+"""Commands that serve: candidates day after day, and the officer's desk in a browser."""
+from __future__ import annotations
+
+import os
+import sys
+from typing import TYPE_CHECKING
+
+import command
+
+if TYPE_CHECKING:
+    from argparse import ArgumentParser
+
+PORT, DAYS = "8080", 30
+PYTHON = "/usr/bin/python3"  # that has Debian's modules
+READY = """The desk of {} is open. In a browser:
+
+    {}
+
+The link works once, within ten minutes; `office desk --link` prints another. Ctrl-C closes the desk.
+"""
+
+
+@command.named("""Opens the officer's desk in a browser: desk [--port NUMBER] [--link]
+
+    office desk              serves on 127.0.0.1 and prints a link, which opens the desk once, within ten minutes
+    office desk --port 8800  at this port, for example for `ssh -L 8800:127.0.0.1:8800`
+    office desk --link       prints another link of the desk that runs
+
+An office has one desk: where one runs, `office desk` prints a link of that. It runs beside `office keep` and beside
+other commands. Ctrl-C ends it. It needs python3-flask and python3-waitress.
+""")
+def desk(parser: ArgumentParser) -> None:
+    if sys.executable != PYTHON:
+        os.execv(PYTHON, [PYTHON, command.OFFICE, "desk", *sys.argv[1:]])
+    from exam_web import serving
+    parser.add_argument("--port", type=int, metavar="NUMBER", help=f"{serving.PORT} or the next that is free")
+    parser.add_argument("--link", action="store_true", help="print another link of the desk that runs")
+    given = parser.parse_args()
+    office = command.office()
+    if given.link:
+        command.say(serving.another_link(office) + "\n")
+        return
+    serving.serve(office, given.port, bool(os.environ.get("TODAY")),
+                  lambda link: None if is_journal() else command.say(READY.format(office.path, link)))
+
+
+def is_journal() -> bool:
+    """Whether the output goes to the journal, as that of a service: no link is to stand there."""
+    output = os.fstat(sys.stdout.fileno())
+    return os.environ.get("JOURNAL_STREAM") == f"{output.st_dev}:{output.st_ino}"
+
+
+@command.named("""\
+Serves candidates day after day, and steps aside for each command of the office: keep start|run|stop|status [PLACE].
+
+    office keep start 8080     serves on 127.0.0.1, port 8080 (without PLACE: 8080), in the background, for a trial
+    office keep status         says whether it serves, and where
+    office keep stop           ends it
+    office keep run /run/examoffice     in the foreground, for systemd: serves at a socket, keep.socket, in this folder
+
+Another user of the machine can take a port while `keep` is away. A folder that is yours and holds nothing else is safe:
+its group may use the socket, so give it the group of nginx. At each new day `keep` keeps a copy of the office, and
+serves with the new date; where `serve` fails or hangs it begins anew. A candidate notices nothing of the gaps: each
+request waits up to 30 seconds for its answer. It writes to keep.log in the folder desk-office.db beside the office,
+where the lock files and the copies of the days are too.
+""")
+def keep(parser: ArgumentParser) -> bool:
+    from exam_desk import beside, keeping, kept
+    parser.add_argument("what", choices=["start", "run", "stop", "status"])
+    parser.add_argument("place", type=place_of, nargs="?", default=PORT, help="a port, or a folder for the socket")
+    parser.add_argument("--days", type=int, default=DAYS, help="how many copies of days are kept (30)")
+    given = parser.parse_args()
+    if given.days < 1:
+        parser.error("DAYS is 1 or more")
+    office = command.existing_office()
+    beside.refuse_stranger(office.path)
+    beside.refuse_strange(beside.folder(office.path))
+    if given.what == "run":
+        keeping.run(office, given.place, given.days)
+        return False
+    if given.what == "stop":
+        kept.stop(office)
+        print("ended")
+        return False
+    begun = given.what == "start"
+    status = kept.start(office, line_to_run(given.place, given.days)) if begun else kept.status(office)
+    print(status.sentence)
+    return not status.serves
+
+
+def place_of(given: str) -> str:
+    """A port, or the path of the socket in a folder."""
+    from argparse import ArgumentTypeError
+    from exam_desk import keeping
+    if given.isascii() and given.isdigit():
+        if not 1 <= int(given) <= 65535:
+            raise ArgumentTypeError("a port is 1 to 65535")
+        return str(int(given))
+    path = os.path.join(os.path.abspath(given), keeping.SOCKET)
+    if not os.path.isdir(given):
+        raise ArgumentTypeError(f"{given} is neither a port nor a folder")
+    if len(os.fsencode(path)) > keeping.MOST_PATH:
+        raise ArgumentTypeError(f"the path {path} is longer than {keeping.MOST_PATH} bytes")
+    return path
+
+
+def line_to_run(place: str, days: int) -> list[str]:
+    where = place if place.isdigit() else os.path.dirname(place)
+    return [sys.executable, command.OFFICE, "keep", "run", where, "--days", str(days)]
