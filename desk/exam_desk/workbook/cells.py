@@ -4,6 +4,7 @@ A workbook may come from a stranger, so whatever is read and kept has a limit.
 """
 import functools
 import re
+from collections.abc import Sequence
 from dataclasses import dataclass, field
 from typing import NamedTuple
 
@@ -35,10 +36,10 @@ class Sheet:
     name: str
     hidden: bool = False
     rows: dict[int, dict[int, Cell]] = field(default_factory=dict)  # by row, then by column
-    hidden_rows: list[tuple[int, int]] = field(default_factory=list)  # the first and the last
-    hidden_columns: list[tuple[int, int]] = field(default_factory=list)
-    merged: list[tuple[int, int, int, int]] = field(default_factory=list)  # first row and column, last row and column
-    comments: list[tuple[int, int]] = field(default_factory=list)  # row and column
+    hidden_rows: list[Sequence[int]] = field(default_factory=list)  # the first and the last
+    hidden_columns: list[Sequence[int]] = field(default_factory=list)
+    merged: list[Sequence[int]] = field(default_factory=list)  # first row and column, last row and column
+    comments: list[Sequence[int]] = field(default_factory=list)  # row and column
 
 
 class Book(NamedTuple):
@@ -81,11 +82,6 @@ def area_of(text: str) -> tuple[int, int, int, int]:
 
 
 @functools.cache
-def quoted_name(name: str) -> str:
-    return name if re.fullmatch(r"\w+", name) else "'" + name.replace("'", "''") + "'"
-
-
-@functools.cache
 def letters_of(column: int) -> str:
     """A column as its letters: 28 is AB."""
     name = ""
@@ -99,7 +95,6 @@ def place_name(sheet: Sheet | None, row: int | None = None, column: int | None =
     """A place as people write it: Sheet!B7, Sheet!7, Sheet!B, Sheet; names that are not one word in quotes."""
     if sheet is None:
         return ""
-    name = quoted_name(sheet.name)
-    if row is None:
-        return f"{name}!{letters_of(column)}" if column else name
-    return f"{name}!{letters_of(column)}{row}" if column else f"{name}!{row}"
+    name = sheet.name if re.fullmatch(r"\w+", sheet.name) else "'" + sheet.name.replace("'", "''") + "'"
+    place = f"{letters_of(column or 0)}{row or ''}"
+    return f"{name}!{place}" if place else name
