@@ -4,7 +4,7 @@ A workbook may come from a stranger, so whatever is read and kept has a limit.
 """
 import functools
 import re
-from collections.abc import Sequence
+from collections.abc import Iterable, Sequence
 from dataclasses import dataclass, field
 from typing import NamedTuple
 
@@ -40,6 +40,11 @@ class Sheet:
     hidden_columns: list[Sequence[int]] = field(default_factory=list)
     merged: list[Sequence[int]] = field(default_factory=list)  # first row and column, last row and column
     comments: list[Sequence[int]] = field(default_factory=list)  # row and column
+
+    def merge(self, areas: Iterable[Sequence[int]]) -> None:
+        self.merged += areas
+        if len(self.merged) > MOST_MERGED:
+            raise Trouble(f"it has more than {MOST_MERGED:,} merged cells")
 
 
 class Book(NamedTuple):

@@ -86,8 +86,8 @@ def list_of(kind: str, place: int, name: str) -> Any:
 
 
 def put(sheet: Any, row: int, column: int, text: str, like: Any = None, **looks: Any) -> Any:
-    """A text cell, whatever the text looks like: openpyxl would make a formula of =1+1 and an error of #N/A, and of what
-    looks like _x0041_ a spreadsheet would make a letter."""
+    """A text cell, whatever the text looks like: openpyxl would make a formula of =1+1 and an error of #N/A, and a
+    spreadsheet would make a letter of _x0041_."""
     cell = sheet.cell(row, column)
     cell.value = re.sub("_(?=x[0-9A-Fa-f]{4}_)", "_x005F_", text)
     cell.data_type = "s"

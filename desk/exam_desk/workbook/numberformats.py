@@ -52,9 +52,8 @@ def tidied(number: decimal.Decimal) -> decimal.Decimal:
     return decimal.Context(prec=15).create_decimal(number).normalize()
 
 
-def whole_seconds(days: decimal.Decimal) -> decimal.Decimal:
-    """A part of a day in seconds, without the noise of binary numbers."""
-    seconds = round(days * DAY_SECONDS, 3)
+def whole_seconds(seconds: decimal.Decimal) -> decimal.Decimal:
+    """Seconds without the noise of binary numbers."""
     near = decimal.Decimal(round(seconds))
     return near if abs(seconds - near) < decimal.Decimal("0.05") else seconds
 
@@ -62,7 +61,7 @@ def whole_seconds(days: decimal.Decimal) -> decimal.Decimal:
 def moment_cell(number: decimal.Decimal, plain: str, form: str, marks: frozenset[str],
                 epoch: datetime.datetime) -> Cell:
     """The cell of a number under a format of dates or of times."""
-    seconds = whole_seconds(number)
+    seconds = whole_seconds(round(number * DAY_SECONDS, 3))
     if "date" in marks or number >= 1 and "elapsed" not in marks:
         if not 0 <= number < LAST_SERIAL:
             return Cell("number", plain, "")

@@ -71,7 +71,7 @@ class Table:
     kind: str
     sheet: Sheet
     header: Header
-    marks: dict[int, str] = field(default_factory=dict)  # of a column of crosses the feature or the paper it stands for
+    marks: dict[int, str] = field(default_factory=dict)  # of a column of crosses its feature or paper
     paper: str = ""  # the paper whose candidates the sheet lists, or ''
 
     def __post_init__(self) -> None:
