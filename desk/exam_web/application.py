@@ -1,6 +1,4 @@
 """The application: its screens, what all pages have, and faults in words."""
-from __future__ import annotations
-
 import errno
 import sqlite3
 from typing import Any
@@ -11,10 +9,11 @@ from werkzeug.exceptions import HTTPException
 from werkzeug.routing import RequestRedirect
 from werkzeug.wrappers import Response
 
+from exam_desk import appeals as appeal_words
 from exam_desk.trouble import Trouble
 from exam_desk.words import FEATURES
-from exam_web import (appeals, candidates, clashes, entering, files, guard, office, plans, proposals, season, session,
-                      wording)
+from exam_web import (appeals, candidates, clashes, effects, entering, files, forms, guard, office, plans, proposals,
+                      season, session, wording)
 from exam_web.desk import Desk, StillReading, desk, release
 from exam_web.wording import text
 
@@ -38,11 +37,13 @@ def make(here: Desk) -> Flask:
     app.extensions["desk"] = here
     app.extensions["guard"] = guard.Guard(app, here.address, here.prefix)
     wording.prepare(app)
+    app.jinja_env.globals.update(appeals=appeal_words, EFFECTS=effects.KINDS, FEATURES=FEATURES, places=PLACES)
     for screen in SCREENS:
         app.register_blueprint(screen)
     app.context_processor(everywhere)
     app.teardown_request(release)
     app.register_error_handler(HTTPException, refused)
+    app.register_error_handler(forms.Wrong, forms.wrong_page)
     app.register_error_handler(StillReading, still_reading)
     app.register_error_handler(Trouble, troubled)
     app.register_error_handler(OSError, faulty)
@@ -57,9 +58,9 @@ def everywhere() -> dict[str, Any]:
     said: list[tuple[str, Any]] = []
     if visit:
         said, visit.said = visit.said, []
-    return {"mark": visit and visit.mark, "initials": visit and visit.initials, "said": said, "places": PLACES,
+    return {"mark": visit and visit.mark, "initials": visit and visit.initials, "said": said,
             "today": here.office.today().isoformat(), "pretended": here.pretended,
-            "office_name": here.office.base_name(), "state": g.view.name if "view" in g else "", "FEATURES": FEATURES,
+            "office_name": here.office.base_name(), "state": g.view.name if "view" in g else "",
             "wrong": g.get("wrong", {}), "given": g.get("given", MultiDict()), "asked_form": g.get("asked_form"),
             "direction": "rtl" if wording.language() in wording.RIGHT_TO_LEFT else "ltr"}
 

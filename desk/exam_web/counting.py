@@ -1,6 +1,4 @@
 """What is counted of sessions, by rows: members, seats, desks, two papers at once, open appeals."""
-from __future__ import annotations
-
 from dataclasses import dataclass
 
 from exam_web.desk import View

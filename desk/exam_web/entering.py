@@ -1,6 +1,4 @@
 """Coming in by a link, with initials for the log; and locking the screen."""
-from __future__ import annotations
-
 import re
 
 from flask import Blueprint, current_app, g, redirect, render_template, request, url_for

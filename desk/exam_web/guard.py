@@ -3,8 +3,6 @@
 Every request passes `Door` and `Guard.check` before a route sees it. A route is open without a visit only where its
 endpoint stands in OPEN.
 """
-from __future__ import annotations
-
 import base64
 import contextlib
 import hashlib

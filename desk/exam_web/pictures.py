@@ -1,6 +1,4 @@
 """Halls as grids of desks, for SVG: they stand as the notebook says, or as in most halls where it says nothing."""
-from __future__ import annotations
-
 import math
 from collections.abc import Sequence
 from typing import NamedTuple

@@ -1,6 +1,4 @@
 """One desk an office: its port, its lock and its links; and the end of all of them."""
-from __future__ import annotations
-
 import contextlib
 import fcntl
 import logging

@@ -3,8 +3,6 @@
 What could help is a guess that a button rehearses: only the program says what it comes to. Whom a hall would suit,
 `reasons.Reasons` says.
 """
-from __future__ import annotations
-
 from collections.abc import Iterator
 from concurrent.futures import ThreadPoolExecutor
 from typing import NamedTuple

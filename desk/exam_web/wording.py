@@ -5,8 +5,6 @@ copy languages/de.json under the name of the language that browsers ask for, and
 word in braces stands for a value. A text that a language lacks stays English; en.json says some otherwise than the
 commands do. What the program says is English always.
 """
-from __future__ import annotations
-
 import datetime
 import json
 import pathlib

@@ -58,7 +58,7 @@ def mend_folder(folder: str, known: mistakes.Known, way: Way, encoding: str | No
     return read_book(book, Job(known, way, choices=Choices(together=together)), progress)
 
 
-def read_book(book: Book, job: Job, progress: Progress) -> Reading:
+def read_book(book: Book, job: Job, progress: Progress = lambda text: None) -> Reading:
     """Finds the tables of a workbook, reads their rows, and checks what comes out as the files of an import."""
     for text in book.notes:
         job.report.note(None, None, None, text)
