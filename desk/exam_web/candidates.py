@@ -8,8 +8,8 @@ from werkzeug.wrappers import Response as Answer
 from exam_desk import facts, names, notebook, second_sitting
 from exam_desk.sheets import notes, person
 from exam_desk.trouble import Trouble
-from exam_web import printing
-from exam_web.desk import View, candidate_row, desk, view
+from exam_web import counting, printing
+from exam_web.desk import View, candidate_row, desk, once, view
 from exam_web.forms import Wrong, lead
 from exam_web.wording import text
 
@@ -24,23 +24,23 @@ def find() -> str | Answer:
     if len(found) == 1:
         return redirect(url_for("candidates.page", number=found[0][0]))
     return render_template("candidates.html", asked=asked, found=found[:MOST_FOUND], total=len(found),
-                           everybody=view().candidates())
+                           everybody=counting.candidates(view()))
 
 
 def search(asked: str) -> list[tuple[int, str]]:
     """Whose number ends so, or whose name has all these words: accents and capitals do not matter."""
-    people = view().once("people", lambda: folded(view()))
     if asked.isascii() and asked.isdigit():
         end = asked.lstrip("0") or "0"
-        return [(number, name) for number, name, _ in people if str(number).endswith(end)]
+        return [(number, name) for number, name, _ in people(view()) if str(number).endswith(end)]
     words = names.fold(asked).split()
-    return [(number, name) for number, name, letters in people if all(word in letters for word in words)]
+    return [(number, name) for number, name, letters in people(view()) if all(word in letters for word in words)]
 
 
-def folded(found: View) -> list[tuple[int, str, str]]:
+@once
+def people(found: View) -> list[tuple[int, str, str]]:
     """All candidates in the order of their names, each with the letters that the search compares."""
-    people = [(number, name, names.fold(name)) for number, name in found.rows("SELECT number, name FROM candidate")]
-    return sorted(people, key=lambda each: names.name_order(each[1], f"{each[0]:07}"))
+    rows = [(number, name, names.fold(name)) for number, name in found.rows("SELECT number, name FROM candidate")]
+    return sorted(rows, key=lambda each: names.name_order(each[1], f"{each[0]:07}"))
 
 
 @pages.get("/candidates/<int:number>")

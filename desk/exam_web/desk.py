@@ -6,7 +6,7 @@ import sqlite3
 import threading
 import time
 from collections.abc import Callable, Iterable, Iterator, Sequence
-from typing import Any, TypeVar
+from typing import Any, Concatenate, ParamSpec, TypeVar
 
 from flask import abort, current_app, g
 
@@ -17,6 +17,7 @@ from exam_desk.reading import Reading
 PATIENCE = 4  # seconds that a page waits for the office to be read, or for a rehearsal
 COPYING, COUNTING = "Its files are copied and read", "Candidates and desks are counted"
 Found = TypeVar("Found")
+Asked = ParamSpec("Asked")
 
 
 class StillReading(Exception):
@@ -44,17 +45,12 @@ class View:
     def count(self, query: str, values: Sequence[object] = ()) -> int:
         return int(self.rows(query, values)[0][0])
 
-    def candidates(self) -> int:
-        """How many there are."""
-        return self.once("candidates", lambda: self.count("SELECT count(*) FROM candidate"))
-
     def missed(self, session: str, numbers: Iterable[int]) -> dict[str, list[str]]:
         """The papers that each of some candidates is entered for and does not sit, by number, as the program says."""
         asked = [f"{number:07}" for number in numbers]
         return self.reading.clashes(session, asked) if asked else {}
 
     def once(self, key: object, make: Callable[[], Found]) -> Found:
-        """What is worked out of this state is worked out once."""
         with self.lock:
             if key not in self.found:
                 self.found[key] = make()
@@ -63,6 +59,13 @@ class View:
 
     def close(self) -> None:
         self.stack.close()
+
+
+def once(make: Callable[Concatenate[View, Asked], Found]) -> Callable[Concatenate[View, Asked], Found]:
+    """What is worked out of a view is worked out once."""
+    def found(view: View, /, *asked: Asked.args, **more: Asked.kwargs) -> Found:
+        return view.once((make, *asked), lambda: make(view, *asked, **more))
+    return found
 
 
 class Desk:

@@ -1,4 +1,4 @@
-"""What a form that was posted comes to: it leads to a page, or the page that has it says what is wrong at its fields."""
+"""What a form that was posted comes to: it leads to a page, or its own page says what is wrong at its fields."""
 import secrets
 from typing import Any
 

@@ -12,7 +12,7 @@ from werkzeug.wrappers import Response as Answer
 from exam_desk import changing, copies, kept, logbook, private, turns, undo
 from exam_desk.trouble import Stale
 from exam_web import downloads, effects, proposals
-from exam_web.desk import View, desk, office, view
+from exam_web.desk import View, desk, office, once, view
 from exam_web.forms import Wrong, lead, whole
 from exam_web.wording import shown, text
 
@@ -49,22 +49,21 @@ def page() -> str | Answer:
 def copy(key: str) -> str:
     path = copy_of(key)
     when, what = copies.when_and_what(path)
-    return render_template("copy.html", key=key, when=when, what=what, e=since(path), most=proposals.MOST_ROWS,
+    return render_template("copy.html", key=key, when=when, what=what, e=since(view(), path), most=proposals.MOST_ROWS,
                            lost=undo.taken_away(desk().office, path),
                            log=[line for line in log_since(when) if line[3] not in (logbook.BEGINS, logbook.STEP)])
 
 
-def since(path: str) -> effects.Effects:
+@once
+def since(now: View, path: str) -> effects.Effects:
     """What is another since a copy was made."""
-    def make() -> effects.Effects:
-        with desk().rehearsing, closing(View(desk().office, copies.file_in(desk().office, path))) as then:
-            return effects.effects(then, view())
-    return view().once(("since", path), make)
+    with desk().rehearsing, closing(View(desk().office, copies.file_in(desk().office, path))) as then:
+        return effects.effects(then, now)
 
 
 @pages.get("/office/copies/<key>/changes.csv")
 def copy_csv(key: str) -> Response:
-    return downloads.attached(since(copy_of(key)).csv(), "changes-since.csv")
+    return downloads.attached(since(view(), copy_of(key)).csv(), "changes-since.csv")
 
 
 @pages.post("/office/copies/<key>/back")

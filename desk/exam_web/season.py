@@ -10,7 +10,7 @@ from werkzeug.wrappers import Response
 from exam_desk import appeals, lastdays, logbook, running, turns
 from exam_desk.trouble import Trouble
 from exam_web import counting, office
-from exam_web.desk import View, desk, view
+from exam_web.desk import View, desk, once, view
 from exam_web.forms import lead
 from exam_web.wording import days_until, many, text
 
@@ -58,7 +58,7 @@ def warm(found: View) -> None:
 def totals(found: list[counting.Sums]) -> dict[str, int]:
     return {"members": sum(each.members for each in found), "short": sum(each.short for each in found),
             "waiting": sum(each.waiting for each in found),
-            "candidates": view().candidates()}
+            "candidates": counting.candidates(view())}
 
 
 def weeks_of(found: list[counting.Sums]) -> list[list[tuple[str, list[counting.Sums]]]]:
@@ -97,7 +97,7 @@ def shortages(coming: list[counting.Sums]) -> list[Attention]:
     return [Attention("now" if days_until(each.day) <= SOON else "soon", each.day,
                       many(each.short, "{count} candidate without a desk in {session}",
                            "{count} candidates without a desk in {session}", session=each.code),
-                      url_for("session.page", code=each.code) + "#short", text("See why"))
+                      url_for("session.page", code=each.code, _anchor="short"), text("See why"))
             for each in coming if each.short]
 
 
@@ -115,14 +115,13 @@ def open_appeals() -> list[Attention]:
             for (last, code), counts in kinds.items()]
 
 
+@once
 def unheard_clashes(found: View) -> dict[str, int]:
     """By session how many have two papers at once and no appeal on it that is open or decided."""
-    def make() -> dict[str, int]:
-        heard = set(map(tuple, found.rows("SELECT session, number FROM appeal WHERE kind = 2 AND state IN (1, 2, 3)")))
-        counts = {code: sum((code, number) not in heard for number in numbers)
-                  for code, numbers in counting.two_papers(found).items()}
-        return {code: count for code, count in counts.items() if count}
-    return found.once("unheard", make)
+    heard = set(map(tuple, found.rows("SELECT session, number FROM appeal WHERE kind = 2 AND state IN (1, 2, 3)")))
+    counts = {code: sum((code, number) not in heard for number in numbers)
+              for code, numbers in counting.two_papers(found).items()}
+    return {code: count for code, count in counts.items() if count}
 
 
 def clashes(coming: list[counting.Sums]) -> list[Attention]:
@@ -142,7 +141,7 @@ def unserved(coming: list[counting.Sums]) -> list[Attention]:
     if not coming or turns.keep_state(desk().office) is not None:
         return []
     return [Attention("note", None, text("Candidates cannot ask for their seats: the office is not served"),
-                      url_for("office.page") + "#serve", text("Serve"))]
+                      url_for("office.page", _anchor="serve"), text("Serve"))]
 
 
 def deadlines(found: list[counting.Sums], days: int = 14) -> list[tuple[str, dict[str, list[str]]]]:

@@ -1,4 +1,5 @@
 """A session: its numbers, its shortage and what could help, its halls as pictures, its appeals and what is printed."""
+import math
 import re
 import sqlite3
 
@@ -9,15 +10,19 @@ from exam_desk import absences, facts, lastdays, notebook, printed
 from exam_desk.facts import Opening
 from exam_desk.notebook import Rows
 from exam_desk.reading import Member
-from exam_desk.sheets.chart import NotDrawn
+from exam_desk.sheets.chart import NotDrawn, numbered
 from exam_desk.trouble import Trouble
-from exam_web import counting, downloads, pictures, printing, shortages
-from exam_web.desk import candidate_row, desk, view
+from exam_web import counting, downloads, printing, shortages
+from exam_web.desk import desk, view
 from exam_web.forms import Wrong, lead, whole
 from exam_web.wording import many, said, text
 
 pages = Blueprint("session", __name__)
 MOST_PEOPLE = 100  # that a page lists for one reason
+WIDTH, HEIGHT, GAP = 78, 38, 5  # of a desk in a picture, and from one to the next
+RUNNING = dict(zip(notebook.RUNNING, ("along the rows", "along and back", "down the columns", "down and up")))
+MOST_SUPPOSED = 14  # desks in a row, where nobody said how many
+ONE = "SELECT number, name FROM candidate WHERE number = ?"
 SEATS = "session,date,start,finish,number,name,paper,paper title,hall,desk,extra,needs".split(",")
 
 
@@ -36,17 +41,17 @@ def opening(code: str, hall: str) -> Opening:
 
 @pages.get("/sessions/<code>")
 def page(code: str) -> str:
-    sums = sums_of(code)
+    sums, noted = sums_of(code), notebook.absent(desk().office, code)
     codes = list(counting.sums(view()))
-    place = codes.index(code)
+    before, _, after = [None, *codes, None][codes.index(code):][:3]
     lodged = view().rows("SELECT appeal.*, name FROM appeal JOIN candidate ON candidate.number = appeal.number "
                          "WHERE session = ? ORDER BY state, appeal.number, ref LIMIT ?", [code, MOST_PEOPLE + 1])
+    absent = [row for number in sorted(map(int, noted)) for row in view().rows(ONE, [number])]
     return render_template(
         "session.html", s=sums, halls=openings(code), taken=taken(code), papers=papers(code), lodged=lodged,
-        previous=codes[place - 1] if place else None, next=codes[place + 1] if place + 1 < len(codes) else None,
-        closed=closed_halls(code), shortage=shortages.of(code, sums), clashes=clashes(code), most=MOST_PEOPLE,
-        absent=[candidate_row(number) for number in sorted(map(int, notebook.absent(desk().office, code)))],
-        sheets=printing.SHEETS, last=lastdays.to_decide(sums.day))
+        previous=before, next=after, closed=closed_halls(code), clashes=clashes(code), most=MOST_PEOPLE, absent=absent,
+        shortage=shortages.of(view(), code) if sums.short else None, sheets=printing.SHEETS,
+        last=lastdays.to_decide(sums.day))
 
 
 def taken(code: str) -> dict[str, int]:
@@ -94,11 +99,15 @@ def hall_page(code: str, hall: str) -> str:
     """A hall as a picture: a piece of the session's page, or a page of its own where no script runs."""
     sums, found = sums_of(code), opening(code, hall)
     members = sitting_in(code, hall)
-    drawn = pictures.picture(found, members, [row["code"] for row in papers(code)])
+    supposed = Rows(min(MOST_SUPPOSED, math.ceil(math.sqrt(found.desks * 1.7))), "down")
+    rows = notebook.rows_of_halls(desk().office).get(hall, supposed)
+    desks = sorted((number, column * (WIDTH + GAP) + 2, row * (HEIGHT + GAP) + 2)
+                   for row, line in enumerate(numbered(found.desks, rows))
+                   for column, number in enumerate(line) if number is not None)
     return render_template("hall_piece.html" if "piece" in request.args else "hall.html", s=sums, opening=found,
-                           members=members, absent=notebook.absent(desk().office, code), picture=drawn,
-                           running=pictures.RUNNING, papers=papers(code), desk_width=pictures.WIDTH,
-                           desk_height=pictures.HEIGHT)
+                           rows=rows, desks=desks, members=members, running=RUNNING, desk_width=WIDTH,
+                           by_desk={member.sitting.desk: member for member in members}, desk_height=HEIGHT,
+                           codes=[row["code"] for row in papers(code)], absent=notebook.absent(desk().office, code))
 
 
 @pages.post("/sessions/<code>/halls/<hall>/draw")
