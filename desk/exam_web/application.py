@@ -12,12 +12,12 @@ from werkzeug.wrappers import Response
 from exam_desk import appeals as appeal_words
 from exam_desk.trouble import Trouble
 from exam_desk.words import FEATURES
-from exam_web import (appeals, candidates, clashes, effects, entering, files, forms, guard, office, plans, proposals,
+from exam_web import (appeals, candidates, clashes, effects, files, forms, guard, office, plans, proposals,
                       season, session, wording)
 from exam_web.desk import Desk, StillReading, desk, release
 from exam_web.wording import text
 
-SCREENS = [screen.pages for screen in (entering, season, session, candidates, appeals, clashes, files, plans, proposals,
+SCREENS = [screen.pages for screen in (guard, season, session, candidates, appeals, clashes, files, plans, proposals,
                                        office)]
 PLACES = [("season.page", "Season"), ("files.page", "Files"), ("candidates.find", "Candidates"),
           ("appeals.page", "Appeals"), ("office.page", "Office")]

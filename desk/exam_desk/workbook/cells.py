@@ -74,10 +74,7 @@ def place_of(text: str) -> tuple[int, int]:
     match = re.fullmatch(r"\$?([A-Z]{1,3})\$?([0-9]{1,7})", text)
     if not match:
         raise Trouble(f"it has a cell {text[:20]!r}")
-    column = 0
-    for letter in match[1]:
-        column = 26 * column + ord(letter) - 64
-    return int(match[2]), column
+    return int(match[2]), sum((ord(letter) - 64) * 26 ** place for place, letter in enumerate(reversed(match[1])))
 
 
 def area_of(text: str) -> tuple[int, int, int, int]:
