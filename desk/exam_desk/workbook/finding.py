@@ -82,7 +82,7 @@ def named_papers(job: Job, sheets: list[Sheet]) -> set[str]:
         kinds = kinds_by_name(job, sheet)
         may_be = not kinds or "papers" in kinds
         if may_be and (header := find_header("papers", sheet, job.of_kind("papers"), not kinds)):
-            place = header.columns["paper"][0]
+            place = header.columns.get("paper", [0])[0]
             codes |= {job.said("paper", cells[place]) for row, cells in sheet.rows.items()
                       if row > header.row and place in cells}
     return codes - {""}
@@ -104,10 +104,10 @@ def find_tables(job: Job, sheets: list[Sheet]) -> tuple[list[Table], list[Sheet]
             rest.append(sheet)
         for kind in kinds:
             header = find_header(kind, sheet, job.of_kind(kind))
-            if kind == "entries" and (not header or "paper" not in header.columns):
-                rest.append(sheet)
-            elif header:
+            if header:
                 found.setdefault(kind, []).append((sheet, header))
+            elif kind == "entries":
+                rest.append(sheet)
             else:
                 tell_no_header(job, kind, sheet)
     tables = []

@@ -130,7 +130,8 @@ def find_header(kind: str, sheet: Sheet, given: Given, whole: bool = False) -> H
     needed = set(files.HEADERS[kind]) - {"code"} if whole else files.needed_columns(kind)
     for row in sorted(sheet.rows)[:WITHIN]:
         header = match_header(kind, row, sheet.rows[row], given)
-        if needed <= always | header.columns.keys() and len(header.columns) > (len(best.columns) if best else 1):
+        have = always | header.columns.keys()
+        if needed <= have and len(have) > 1 and len(header.columns) > (len(best.columns) if best else 0):
             best = header
     return best
 

@@ -351,3 +351,7 @@ case("struck-feature-header", xlsx(sheet("Halls", ["hall", "title", ("strike", "
      only=True, mistakes=[["Halls!C1", "struck"]])
 case("csv-field-without-end", b'number,name,code\n0000001,"' + b"x" * 4_300_000, 1, suffix="csv",
      stderr=["is a quote not closed?"])
+PAPER_ALWAYS = {"args": ["--columns", "{here}/columns.toml"],
+                "beside": {"columns.toml": '[papers]\npaper = { always = "MA-1" }\n[entries]\npaper = { always = "MA-1" }\n'}}
+case("columns-one-paper", xlsx(sheet("Papers", PAPERS[1:], ["Maths", "S1", 90, "-"]), sheet("Entries", ["number"],
+     ["0000001"])), files={"papers": ["MA-1,Maths,S1,90,-"], "entries": ["0000001,MA-1"]}, **PAPER_ALWAYS)
