@@ -3,6 +3,7 @@ import secrets
 from typing import Any
 
 from flask import current_app, g, redirect, request, url_for
+from flask.typing import ResponseReturnValue
 from markupsafe import Markup
 from werkzeug.datastructures import MultiDict
 from werkzeug.wrappers import Response
@@ -24,12 +25,14 @@ class Wrong(Exception):
         self.form = form or (request.view_args or {})["what"]  # its name on the page
 
 
-def wrong_page(wrong: Wrong) -> tuple[str, int]:
+def wrong_page(wrong: Wrong) -> ResponseReturnValue:
     """The page of a form, with what is wrong at its fields and all that was given."""
     g.wrong, g.given, g.asked_form = wrong.fields, request.form, wrong.form
     endpoint, values = wrong.page
-    answer: str = current_app.view_functions[endpoint](**values)
-    return answer, 422
+    try:
+        return current_app.view_functions[endpoint](**values), 422
+    except Exception as fault:  # what the form is about is gone, or the office cannot be read
+        return current_app.handle_user_exception(fault)
 
 
 def lead(endpoint: str, said: Markup | None = None, kind: str = "good", **values: Any) -> Response:
