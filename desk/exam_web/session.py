@@ -22,7 +22,6 @@ MOST_PEOPLE = 100  # that a page lists for one reason
 WIDTH, HEIGHT, GAP = 78, 38, 5  # of a desk in a picture, and from one to the next
 RUNNING = dict(zip(notebook.RUNNING, ("along the rows", "along and back", "down the columns", "down and up")))
 MOST_SUPPOSED = 14  # desks in a row, where nobody said how many
-ONE = "SELECT number, name FROM candidate WHERE number = ?"
 SEATS = "session,date,start,finish,number,name,paper,paper title,hall,desk,extra,needs".split(",")
 
 
@@ -46,12 +45,13 @@ def page(code: str) -> str:
     before, _, after = [None, *codes, None][codes.index(code):][:3]
     lodged = view().rows("SELECT appeal.*, name FROM appeal JOIN candidate ON candidate.number = appeal.number "
                          "WHERE session = ? ORDER BY state, appeal.number, ref LIMIT ?", [code, MOST_PEOPLE + 1])
-    absent = [row for number in sorted(map(int, noted)) for row in view().rows(ONE, [number])]
+    known = [number for number, in view().rows("SELECT number FROM candidate ORDER BY number")
+             if f"{number:07}" in noted] if noted else []  # a copy from before they came may have been put back
     return render_template(
         "session.html", s=sums, halls=openings(code), taken=taken(code), papers=papers(code), lodged=lodged,
-        previous=before, next=after, closed=closed_halls(code), clashes=clashes(code), most=MOST_PEOPLE, absent=absent,
-        shortage=shortages.of(view(), code) if sums.short else None, sheets=printing.SHEETS,
-        last=lastdays.to_decide(sums.day))
+        previous=before, next=after, closed=closed_halls(code), clashes=clashes(code), most=MOST_PEOPLE,
+        absent=members_of(code, known), shortage=shortages.of(view(), code) if sums.short else None,
+        sheets=printing.SHEETS, last=lastdays.to_decide(sums.day))
 
 
 def taken(code: str) -> dict[str, int]:
