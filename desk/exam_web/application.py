@@ -32,7 +32,6 @@ NO_ROOM = {errno.ENOSPC, errno.EDQUOT}
 
 
 def make(here: Desk) -> Flask:
-    """The application over a desk."""
     app = Flask(__name__)
     app.extensions["desk"] = here
     app.extensions["guard"] = guard.Guard(app, here.address, here.prefix)
@@ -45,7 +44,7 @@ def make(here: Desk) -> Flask:
     app.register_error_handler(HTTPException, refused)
     app.register_error_handler(forms.Wrong, forms.wrong_page)
     app.register_error_handler(StillReading, still_reading)
-    app.register_error_handler(Trouble, troubled)
+    app.register_error_handler(Trouble, faulty)
     app.register_error_handler(OSError, faulty)
     app.register_error_handler(sqlite3.Error, faulty)
     here.warm = season.warm
@@ -83,12 +82,8 @@ def still_reading(stage: StillReading) -> tuple[str, int, dict[str, str]]:
     return render_template("reading.html", stage=text(str(stage)), address=request.path), 503, {"Retry-After": "1"}
 
 
-def troubled(trouble: Trouble) -> tuple[str, int]:
-    return problem(wording.shown(str(trouble)), 500)
-
-
 def faulty(fault: Exception) -> tuple[str, int]:
-    """A file or the database that cannot be used now."""
+    """What cannot be done now: by the package, by a file or by the database."""
     if isinstance(fault, OSError) and fault.errno in NO_ROOM:
         return problem(text("The disk is full: make room, for example in the folder {place}, and try again.",
                             place=str(fault.filename or "desk-office.db/days")), 500)

@@ -17,7 +17,6 @@ AT_ONCE = (f"SELECT session, number, group_concat(code) FROM (SELECT session, nu
 
 @dataclass(frozen=True)
 class Sums:
-    """A session in numbers."""
     code: str
     day: str
     start: int  # minutes of the day

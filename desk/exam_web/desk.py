@@ -172,7 +172,6 @@ class Desk:
 
     @contextlib.contextmanager
     def both(self, rehearsal: changing.Rehearsal) -> Iterator[tuple[View, View]]:
-        """The office before a rehearsal and after it."""
         with self.before(rehearsal) as before, contextlib.closing(View(self.office, rehearsal.after)) as after:
             yield before, after
 
@@ -210,7 +209,6 @@ def view() -> View:
 
 
 def candidate_row(number: int) -> sqlite3.Row:
-    """The number, the name and the access code of a candidate."""
     return view().row("SELECT number, name, code FROM candidate WHERE number = ?", [number]) or abort(404)
 
 

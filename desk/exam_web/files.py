@@ -69,5 +69,4 @@ def download(key: str, kind: str) -> Response:
 
 @pages.post("/files/dump")
 def dump() -> Response:
-    """All facts as the seven files."""
     return downloads.archive("facts", lambda folder: dumping.write_all(view().reading.rows, folder))

@@ -116,7 +116,6 @@ def use_link(office: str, token: str) -> bool:
 
 
 def age(name: str, folder: int) -> float:
-    """The seconds since a file was made."""
     return abs(time.time() - os.stat(name, dir_fd=folder, follow_symlinks=False).st_mtime)
 
 

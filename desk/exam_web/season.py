@@ -40,7 +40,6 @@ def page() -> str:
 
 @pages.post("/init")
 def init() -> Response:
-    """Makes an empty office."""
     if desk().is_there():
         return lead("season.page")
     done = running.run(desk().office, "init")

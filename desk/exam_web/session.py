@@ -55,7 +55,6 @@ def page(code: str) -> str:
 
 
 def taken(code: str) -> dict[str, int]:
-    """How many sit in each hall."""
     found = view().rows("SELECT hall, count(*) FROM seat WHERE session = ? GROUP BY hall", [code])
     return {hall: count for hall, count in found}
 
@@ -89,7 +88,6 @@ def members_of(code: str, numbers: list[int]) -> list[Member]:
 
 
 def sitting_in(code: str, hall: str) -> list[Member]:
-    """Who sits in a hall, by desk."""
     numbers = view().rows("SELECT number FROM seat WHERE session = ? AND hall = ?", [code, hall])
     return sorted(members_of(code, [number for number, in numbers]), key=lambda member: member.sitting.desk or 0)
 
@@ -140,7 +138,6 @@ def note_absent(code: str) -> Response:
 
 @pages.get("/sessions/<code>/attendance.csv")
 def attendance_csv(code: str) -> Response:
-    """The list for the exam board."""
     sums_of(code)
     return downloads.attached(absences.listed(view().reading, code).encode(), f"{code}-attendance.csv")
 

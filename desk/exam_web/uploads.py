@@ -90,7 +90,6 @@ def of_visit(key: str) -> Upload:
 
 
 def taken(storages: Iterable[FileStorage], dates: str, view: View) -> Upload:
-    """The files of an upload by kind."""
     upload = Upload()
     for storage in storages:
         name = (storage.filename or "").replace("\\", "/").rsplit("/", 1)[-1]
@@ -199,7 +198,6 @@ def corrections(kind: str, looked: Looked, form: Mapping[str, str], taken: set[s
 
 
 def corrected(content: bytes, wanted: Corrections) -> bytes:
-    """The bytes of a file with other values."""
     out = io.StringIO()
     lines = csv.writer(out, lineterminator="\n")
     for record in files.records(content):

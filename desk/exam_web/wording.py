@@ -22,7 +22,6 @@ LANGUAGES: dict[str, dict[str, str]] = {
 
 
 def language() -> str:
-    """The first language of the browser that the desk has."""
     return request.accept_languages.best_match(["en", *LANGUAGES]) or "en"
 
 

@@ -22,7 +22,6 @@ def packed(book: Book) -> Iterator[str]:
 
 
 def refused(sentence: str) -> str:
-    """The line of a workbook that cannot be read."""
     return json.dumps({"refused": sentence})
 
 

@@ -19,8 +19,6 @@ MOST_MERGED = 200_000  # rows that merged cells cover
 
 
 class Cell(NamedTuple):
-    """A cell that holds something."""
-
     kind: str  # text, number, percent, date, time, bool, error, or pending: a formula without a result
     text: str  # a text; the digits of a number; 2027-06-07 or 2027-06-07T09:00:00; the seconds of a time
     shown: str  # what the officer sees, as far as that is known, else ''

@@ -31,7 +31,6 @@ def keep_codes(job: Job, candidates: list[Record]) -> None:
 
 
 def found_in(job: Job, kind: str, rows: list[Record]) -> Iterator[Found]:
-    """The mistakes and the notes of the files of a kind."""
     first = 0
     for text, count in file_parts(kind, (record.fields for record in rows)):
         wrong, notes = mistakes.looked_through(kind, text, job.known)

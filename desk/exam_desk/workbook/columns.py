@@ -44,7 +44,6 @@ def check_kind(kind: str, said: object) -> None:
 
 
 def is_headers(value: object) -> bool:
-    """Whether a value is a header or several."""
     texts = value if isinstance(value, list) else [value]
     return bool(texts) and all(isinstance(text, str) and text.strip() for text in texts)
 

@@ -21,7 +21,6 @@ NO_DAY = ("1899-12-30", "1899-12-31", "1900-01-01", "1904-01-01")  # what stands
 
 
 def read_date(column: str, cell: Cell, text: str, way: Way) -> Value:
-    """The day of a cell."""
     if cell.kind == "text":
         return date_of_text(text, way)
     if cell.kind == "number":

@@ -71,7 +71,6 @@ def kinds_of(job: Job, sheet: Sheet) -> list[str]:
 
 
 def known_papers(job: Job) -> set[str]:
-    """The codes of papers that the office has."""
     return {code.decode() for code in job.known.keys["papers"] or ()}
 
 
@@ -118,7 +117,6 @@ def find_tables(job: Job, sheets: list[Sheet]) -> tuple[list[Table], list[Sheet]
 
 
 def tell_both(job: Job, kind: str, sheets: list[Sheet], place: int) -> bool:
-    """Whether several sheets are of one kind and the officer has not said that they are one list."""
     if len(sheets) < 2 or kind in job.choices.together:
         return False
     names = " and ".join(map(place_name, sheets))

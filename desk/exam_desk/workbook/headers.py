@@ -61,7 +61,6 @@ class Header(NamedTuple):
 
 @functools.lru_cache(1 << 14)
 def folded(text: str) -> str:
-    """A header without capitals, spaces and marks."""
     return re.sub(r"[\W_]+", "", unicodedata.normalize("NFKC", bare(text)).casefold()) + ("%" if "%" in text else "")
 
 
@@ -72,7 +71,6 @@ def words_of(kind: str, column: str) -> frozenset[str]:
 
 @functools.lru_cache(1 << 14)
 def is_header_word(text: str) -> bool:
-    """Whether a text is a header of a column of any kind."""
     return len(text) <= 200 and text.lstrip()[:1].isalpha() and any(
         folded(text) in words_of(kind, column) for kind, header in files.HEADERS.items() for column in header)
 
@@ -93,7 +91,6 @@ def text_cells(cells: Mapping[int, Cell]) -> dict[int, str]:
 
 
 def named_kind(name: str) -> str | None:
-    """The kind that the name of a sheet says."""
     word = folded(name)
     return next((kind for kind, names in SHEET_NAMES.items() if word in names.split()), None)
 

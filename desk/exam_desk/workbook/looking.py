@@ -90,5 +90,4 @@ def refuse_type(*_: object) -> None:
 
 
 def local(element: Element) -> str:
-    """The name of an element without its namespace."""
     return element.tag.rpartition("}")[2]

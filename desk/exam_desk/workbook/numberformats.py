@@ -74,7 +74,6 @@ def moment_cell(number: decimal.Decimal, plain: str, form: str, marks: frozenset
 
 
 def clock_text(seconds: decimal.Decimal) -> str:
-    """A time of day from its seconds."""
     whole = int(seconds)
     text = f"{whole // 3600:02}:{whole // 60 % 60:02}:{whole % 60:02}"
     return text if whole == seconds else text + f"{float(seconds) % 1:.3f}"[1:]

@@ -57,7 +57,6 @@ def is_zip(data: bytes) -> bool:
 
 
 def read_zip(data: bytes) -> Book:
-    """The workbook in a zip."""
     return carrying.unpacked(ask_child("read", data).decode("utf-8", "surrogatepass").split("\n"))
 
 

@@ -33,7 +33,6 @@ class Record(NamedTuple):
 
 
 def read_table(table: Table, progress: Progress) -> list[Record]:
-    """The records of a table."""
     look_at_hidden(table)
     look_at_comments(table)
     look_at_mixed_dates(table)
@@ -178,7 +177,6 @@ def begins_other(table: Table, row: int) -> bool:
 
 
 def total_word(cell: Cell | None) -> bool:
-    """Whether a cell says that its row is a total."""
     if cell is None or cell.kind != "text" or len(cell.text) > 100 or cell.text[:1].isdigit():
         return False
     return bare(cell.text).rstrip(":").lower() in TOTALS or first_word(cell.text) in ("total", "totals", "summe")
@@ -241,7 +239,6 @@ def read_row(table: Table, row: int, here: Row) -> list[Record]:
 
 
 def read_marks(table: Table, row: int, here: Row) -> list[int]:
-    """The columns of a row that have a cross."""
     marks = {place: is_mark(here[place]) for place in table.marks}
     for place in [place for place, mark in marks.items() if mark is None]:
         text = f"{shown_of(here[place])!r} is neither a cross nor empty (below {table.marks[place]})"
@@ -265,7 +262,6 @@ def read_field(table: Table, row: int, name: str, here: Row) -> Field:
 
 
 def read_one(table: Table, row: int, name: str, here: Row, place: int) -> Field:
-    """A field of one cell."""
     cell = here[place]
     try:
         value = table.job.value(name, cell)

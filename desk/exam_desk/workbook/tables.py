@@ -93,7 +93,6 @@ class Table:
     note = partialmethod(tell, "note")
 
     def places(self) -> set[int]:
-        """The columns of the sheet that are read."""
         return {place for places in self.header.columns.values() for place in places} | set(self.marks)
 
 

@@ -65,7 +65,6 @@ def cleaned(text: str) -> tuple[str, str]:
 
 @functools.lru_cache(1 << 16)
 def bare(text: str) -> str:
-    """A text without what no eye sees."""
     return cleaned(text)[0]
 
 

@@ -59,7 +59,6 @@ def refuse_unread(cell: Cell) -> None:
 
 
 def read_number(column: str, cell: Cell, text: str, way: Way) -> Value:
-    """The number of a candidate."""
     if "." not in text:
         refuse_other_digits(cell)
     quoted = cell.kind == "text" and text.startswith(QUOTES)
@@ -99,7 +98,6 @@ def code_of_number(text: str, cell: Cell) -> Value:
 
 
 def read_name(column: str, cell: Cell, text: str, way: Way) -> Value:
-    """The name of a candidate, or a title."""
     if re.search("[\n\r\t\v\f\x85\u2028\u2029]", text):
         raise Wrong("a line end or a tab inside: make it one line")
     note = "is a number in the workbook" if cell.kind == "number" else ""
@@ -136,7 +134,6 @@ def read_features(column: str, cell: Cell, text: str, way: Way) -> Value:
 
 
 def features_of(part: str, taught: Mapping[str, str]) -> set[str]:
-    """The features of one word."""
     if part in taught:
         return set(taught[part].split("+"))
     short = re.sub("[ _-]", "", part)

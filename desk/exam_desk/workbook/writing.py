@@ -48,7 +48,6 @@ def write_folder(target: str, reading: Reading, lines_name: str) -> dict[str, in
 
 
 def write_kind(folder: str, kind: str, rows: Iterable[list[str]]) -> int:
-    """Writes the rows of a kind, and gives their count."""
     counts = []
     for place, (text, count) in enumerate(file_parts(kind, rows), 1):
         files.put(os.path.join(folder, f"{kind}.csv" if place == 1 else f"{kind}-{place}.csv"), text)

@@ -99,11 +99,9 @@ class Reader:
         self.styles: dict[int, Style] = {}
 
     def of_root(self, root: str) -> list[str]:
-        """The parts with a first element."""
         return [name for name, (_, _, found) in self.roots.items() if found == root]
 
     def elements(self, parts: list[str], name: str) -> Iterator[Element]:
-        """The elements of a name in parts."""
         for part in parts:
             for _, found, element in self.parts.elements(part, "end"):
                 if found == name:
@@ -193,7 +191,6 @@ class Reader:
         return self.styles[number]
 
     def comments(self, part: str) -> Iterator[str]:
-        """The cells of a sheet that have comments."""
         beside = links_beside(part)
         links = links_of(self.archive, beside).find(COMMENTS) if beside in self.roots else []
         for element in self.elements([link.target for link in links if link.target in self.roots], "comment"):
@@ -215,5 +212,4 @@ def other_cell(value: Any, kind: str) -> Cell:
 
 
 def is_hidden(look_of: dict[str, str], size: str) -> bool:
-    """Whether a row or a column is hidden, or has no height or width."""
     return look_of.get("hidden", "0") in ("1", "true") or float(look_of.get(size, "1")) == 0
