@@ -81,9 +81,13 @@ def code(number: int) -> str:
 def note(number: int) -> Answer:
     """Keeps the note on a candidate, or takes it away; no seat depends on it."""
     candidate_row(number)
-    given = request.form.get("note", "").strip()
+    given, known = request.form.get("note", "").strip(), notebook.notes(desk().office).get(f"{number:07}", "")
+    wrong = None
     if not notebook.is_note(given.encode("utf-8", "surrogateescape")):
         wrong = text("at most {most} bytes in one line", most=notebook.MOST_NOTE_BYTES)
+    elif request.form.get("was", known) != known:
+        wrong = text("somebody has changed it meanwhile; it says: {note}", note=known or "–")
+    if wrong:
         raise Wrong(("candidates.page", {"number": number}), "note", note=wrong)
     notebook.take_notes(desk().office, {f"{number:07}": given})
     said = text("The note is kept.") if given else text("There is no note on this candidate.")
