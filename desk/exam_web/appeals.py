@@ -1,14 +1,11 @@
 """Appeals: the open ones by their last day, one with what its grant would come to, and two papers at once."""
-from __future__ import annotations
-
 import sqlite3
 
-from flask import Blueprint, render_template, request
+from flask import Blueprint, abort, render_template, request
 
-from exam_desk import appeals, changing, facts, lastdays
-from exam_desk.telling import Change
+from exam_desk import changing, facts, lastdays
 from exam_web import effects, plans, proposals
-from exam_web.desk import desk, missing, view
+from exam_web.desk import desk, view
 from exam_web.wording import days_until
 
 pages = Blueprint("appeals", __name__)
@@ -23,22 +20,21 @@ def page() -> str:
     waiting = view().rows(ALL + "WHERE state = 1 " + ORDER)
     rest = view().rows(ALL + "WHERE state <> 1 " + ORDER + " LIMIT ?", [MOST_SHOWN])
     decided = view().count("SELECT count(*) FROM appeal WHERE state <> 1")
-    return render_template("appeals.html", waiting=waiting, rest=rest, decided=decided, appeals=appeals,
-                           last_day=lastdays.to_decide)
+    return render_template("appeals.html", waiting=waiting, rest=rest, decided=decided, last_day=lastdays.to_decide)
 
 
 def appeal_row(number: int, ref: str) -> sqlite3.Row:
-    return view().row(ALL + "WHERE appeal.number = ? AND ref = ?", [number, ref]) or missing()
+    return view().row(ALL + "WHERE appeal.number = ? AND ref = ?", [number, ref]) or abort(404)
 
 
 @pages.get("/appeals/<int:number>/<ref>")
 def one(number: int, ref: str) -> str:
     row = appeal_row(number, ref)
-    member = view().reading.member(row["session"], f"{number:07}")
+    last = lastdays.to_decide(row["day"])
     others = view().count("SELECT count(*) FROM appeal WHERE number = ?", [number]) - 1
-    return render_template("appeal.html", row=row, member=member, appeals=appeals, others=others,
-                           last=lastdays.to_decide(row["day"]), titles=facts.paper_titles(view().reading.rows),
-                           late=days_until(lastdays.to_decide(row["day"])) < 0)
+    return render_template("appeal.html", row=row, member=view().reading.member(row["session"], f"{number:07}"),
+                           others=others, last=last, late=days_until(last) < 0,
+                           titles=facts.paper_titles(view().reading.rows))
 
 
 @pages.get("/appeals/<int:number>/<ref>/if-granted")
@@ -46,14 +42,15 @@ def if_granted(number: int, ref: str) -> str:
     """What a grant would come to: it is tried on a private copy, so the office stays as it is."""
     row = appeal_row(number, ref)
     if row["state"] != 1:
-        missing()
+        abort(404)
     outcome = "standing" if "standing" in request.args and row["kind"] == 3 else "granted"
     step = plans.command("decide", f"{number:07}", ref, outcome, "")
+    refusal, found = [], None
     with desk().rehearsing, changing.rehearse(desk().office, [step]) as rehearsal:
-        refused, found = rehearsal.refused, None
-        if not refused:
-            with proposals.both(desk(), rehearsal) as (before, after):
+        if rehearsal.refused:
+            refusal = proposals.worded(rehearsal.refused.first_line(), [])
+        else:
+            with desk().both(rehearsal) as (before, after):
                 found = effects.effects(before, after)
     return render_template("if_granted.html" if "piece" in request.args else "if_granted_page.html", row=row, e=found,
-                           refusal=proposals.worded(refused.first_line(), [])[0] if refused else "", most=12,
-                           kind_of=Change.kind)
+                           refusal=refusal[0] if refusal else "", most=12)

@@ -1,6 +1,4 @@
 """The application: its screens, what all pages have, and faults in words."""
-from __future__ import annotations
-
 import errno
 import sqlite3
 from typing import Any
@@ -11,14 +9,15 @@ from werkzeug.exceptions import HTTPException
 from werkzeug.routing import RequestRedirect
 from werkzeug.wrappers import Response
 
+from exam_desk import appeals as appeal_words
 from exam_desk.trouble import Trouble
 from exam_desk.words import FEATURES
-from exam_web import (appeals, candidates, clashes, entering, files, guard, office, plans, proposals, season, session,
-                      wording)
+from exam_web import (appeals, candidates, clashes, effects, files, forms, guard, office, plans, proposals,
+                      season, session, wording)
 from exam_web.desk import Desk, StillReading, desk, release
 from exam_web.wording import text
 
-SCREENS = [screen.pages for screen in (entering, season, session, candidates, appeals, clashes, files, plans, proposals,
+SCREENS = [screen.pages for screen in (guard, season, session, candidates, appeals, clashes, files, plans, proposals,
                                        office)]
 PLACES = [("season.page", "Season"), ("files.page", "Files"), ("candidates.find", "Candidates"),
           ("appeals.page", "Appeals"), ("office.page", "Office")]
@@ -33,18 +32,19 @@ NO_ROOM = {errno.ENOSPC, errno.EDQUOT}
 
 
 def make(here: Desk) -> Flask:
-    """The application over a desk."""
     app = Flask(__name__)
     app.extensions["desk"] = here
     app.extensions["guard"] = guard.Guard(app, here.address, here.prefix)
     wording.prepare(app)
+    app.jinja_env.globals.update(appeals=appeal_words, EFFECTS=effects.KINDS, FEATURES=FEATURES, places=PLACES)
     for screen in SCREENS:
         app.register_blueprint(screen)
     app.context_processor(everywhere)
     app.teardown_request(release)
     app.register_error_handler(HTTPException, refused)
+    app.register_error_handler(forms.Wrong, forms.wrong_page)
     app.register_error_handler(StillReading, still_reading)
-    app.register_error_handler(Trouble, troubled)
+    app.register_error_handler(Trouble, faulty)
     app.register_error_handler(OSError, faulty)
     app.register_error_handler(sqlite3.Error, faulty)
     here.warm = season.warm
@@ -57,9 +57,9 @@ def everywhere() -> dict[str, Any]:
     said: list[tuple[str, Any]] = []
     if visit:
         said, visit.said = visit.said, []
-    return {"mark": visit and visit.mark, "initials": visit and visit.initials, "said": said, "places": PLACES,
+    return {"mark": visit and visit.mark, "initials": visit and visit.initials, "said": said,
             "today": here.office.today().isoformat(), "pretended": here.pretended,
-            "office_name": here.office.base_name(), "state": g.view.name if "view" in g else "", "FEATURES": FEATURES,
+            "office_name": here.office.base_name(), "state": g.view.name if "view" in g else "",
             "wrong": g.get("wrong", {}), "given": g.get("given", MultiDict()), "asked_form": g.get("asked_form"),
             "direction": "rtl" if wording.language() in wording.RIGHT_TO_LEFT else "ltr"}
 
@@ -82,12 +82,8 @@ def still_reading(stage: StillReading) -> tuple[str, int, dict[str, str]]:
     return render_template("reading.html", stage=text(str(stage)), address=request.path), 503, {"Retry-After": "1"}
 
 
-def troubled(trouble: Trouble) -> tuple[str, int]:
-    return problem(wording.shown(str(trouble)), 500)
-
-
 def faulty(fault: Exception) -> tuple[str, int]:
-    """A file or the database that cannot be used now."""
+    """What cannot be done now: by the package, by a file or by the database."""
     if isinstance(fault, OSError) and fault.errno in NO_ROOM:
         return problem(text("The disk is full: make room, for example in the folder {place}, and try again.",
                             place=str(fault.filename or "desk-office.db/days")), 500)

@@ -1,17 +1,16 @@
 """Candidates: the search, their notes, and the page of one with timetable, arrangement, appeals and access code."""
-from __future__ import annotations
-
 import contextlib
 import sqlite3
 
-from flask import Blueprint, Response, g, redirect, render_template, request, url_for
+from flask import Blueprint, Response, redirect, render_template, request, url_for
 from werkzeug.wrappers import Response as Answer
 
-from exam_desk import appeals, facts, names, notebook, second_sitting
+from exam_desk import facts, names, notebook, second_sitting
 from exam_desk.sheets import notes, person
 from exam_desk.trouble import Trouble
-from exam_web import printing, proposals
-from exam_web.desk import View, candidate_row, desk, view
+from exam_web import counting, printing
+from exam_web.desk import View, candidate_row, desk, once, view
+from exam_web.forms import Wrong, lead
 from exam_web.wording import text
 
 pages = Blueprint("candidates", __name__)
@@ -24,25 +23,24 @@ def find() -> str | Answer:
     found = search(asked) if asked else []
     if len(found) == 1:
         return redirect(url_for("candidates.page", number=found[0][0]))
-    everybody = view().once("candidates", lambda: view().count("SELECT count(*) FROM candidate"))
     return render_template("candidates.html", asked=asked, found=found[:MOST_FOUND], total=len(found),
-                           everybody=everybody)
+                           everybody=counting.candidates(view()))
 
 
 def search(asked: str) -> list[tuple[int, str]]:
     """Whose number ends so, or whose name has all these words: accents and capitals do not matter."""
-    people = view().once("people", lambda: folded(view()))
     if asked.isascii() and asked.isdigit():
         end = asked.lstrip("0") or "0"
-        return [(number, name) for number, name, _ in people if str(number).endswith(end)]
+        return [(number, name) for number, name, _ in people(view()) if str(number).endswith(end)]
     words = names.fold(asked).split()
-    return [(number, name) for number, name, letters in people if all(word in letters for word in words)]
+    return [(number, name) for number, name, letters in people(view()) if all(word in letters for word in words)]
 
 
-def folded(found: View) -> list[tuple[int, str, str]]:
+@once
+def people(found: View) -> list[tuple[int, str, str]]:
     """All candidates in the order of their names, each with the letters that the search compares."""
-    people = [(number, name, names.fold(name)) for number, name in found.rows("SELECT number, name FROM candidate")]
-    return sorted(people, key=lambda each: names.name_order(each[1], f"{each[0]:07}"))
+    rows = [(number, name, names.fold(name)) for number, name in found.rows("SELECT number, name FROM candidate")]
+    return sorted(rows, key=lambda each: names.name_order(each[1], f"{each[0]:07}"))
 
 
 @pages.get("/candidates/<int:number>")
@@ -56,7 +54,7 @@ def page(number: int, code: str = "") -> str:
                          "WHERE paper.code NOT IN (SELECT paper FROM entry WHERE number = ?) "
                          "ORDER BY day, start, paper.code", [number])
     return render_template("candidate.html", who=who, entries=entries, sittings=view().reading.all_of(f"{number:07}"),
-                           lodged=lodged, standing=standing, others=others, code=code, appeals=appeals,
+                           lodged=lodged, standing=standing, others=others, code=code,
                            second=second_sat(number, entries), hall_titles=facts.hall_titles(view().reading.rows),
                            note=notebook.notes(desk().office).get(f"{number:07}", ""),
                            arrangement=view().row("SELECT needs, extra FROM arrangement WHERE number = ?", [number]))
@@ -80,16 +78,20 @@ def code(number: int) -> str:
 
 
 @pages.post("/candidates/<int:number>/note")
-def note(number: int) -> Answer | tuple[str, int]:
+def note(number: int) -> Answer:
     """Keeps the note on a candidate, or takes it away; no seat depends on it."""
     candidate_row(number)
-    given = request.form.get("note", "").strip()
+    given, known = request.form.get("note", "").strip(), notebook.notes(desk().office).get(f"{number:07}", "")
+    wrong = None
     if not notebook.is_note(given.encode("utf-8", "surrogateescape")):
         wrong = text("at most {most} bytes in one line", most=notebook.MOST_NOTE_BYTES)
-        return proposals.wrong_page(proposals.Wrong(("candidates.page", {"number": number}), note=wrong), "note")
+    elif request.form.get("was", known) != known:
+        wrong = text("somebody has changed it meanwhile; it says: {note}", note=known or "–")
+    if wrong:
+        raise Wrong(("candidates.page", {"number": number}), "note", note=wrong)
     notebook.take_notes(desk().office, {f"{number:07}": given})
-    g.visit.said.append(("good", text("The note is kept.") if given else text("There is no note on this candidate.")))
-    return redirect(url_for("candidates.page", number=number) + "#note", 303)
+    said = text("The note is kept.") if given else text("There is no note on this candidate.")
+    return lead("candidates.page", said, number=number, _anchor="note")
 
 
 @pages.get("/candidates/notes")

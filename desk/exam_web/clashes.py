@@ -1,10 +1,8 @@
 """Two papers at once: who has them, which one they sit, whether they have asked to sit the other, a second sitting."""
-from __future__ import annotations
-
 from flask import Blueprint, redirect, render_template, request, url_for
 from werkzeug.wrappers import Response
 
-from exam_desk import appeals, facts
+from exam_desk import facts
 from exam_web import counting, session
 from exam_web.desk import candidate_row, view
 
@@ -16,12 +14,12 @@ MOST_SHOWN = 300
 def page() -> str:
     """The sessions with such candidates, and those of one of them."""
     lodged = view().rows("SELECT * FROM appeal WHERE kind = 2 ORDER BY lodged")
-    asked = {(row["session"], row["number"]): row for row in lodged}
     sessions = [each for each in counting.sums(view()).values() if each.clashes]
     chosen = request.args.get("session", "")
     shown = [each for each in sessions if each.code == chosen] or sessions[:1]
-    found = {each.code: session.clashes(each.code, MOST_SHOWN) for each in shown}
-    return render_template("clashes.html", sessions=sessions, shown=shown, found=found, asked=asked, appeals=appeals,
+    return render_template("clashes.html", sessions=sessions, shown=shown,
+                           found={each.code: session.clashes(each.code, MOST_SHOWN) for each in shown},
+                           asked={(row["session"], row["number"]): row for row in lodged},
                            titles=facts.paper_titles(view().reading.rows))
 
 

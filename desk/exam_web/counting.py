@@ -1,9 +1,7 @@
 """What is counted of sessions, by rows: members, seats, desks, two papers at once, open appeals."""
-from __future__ import annotations
-
 from dataclasses import dataclass
 
-from exam_web.desk import View
+from exam_web.desk import View, once
 
 LIVE = "FROM entry JOIN paper ON paper.code = entry.paper WHERE live = 1"
 COUNTS = {
@@ -19,7 +17,6 @@ AT_ONCE = (f"SELECT session, number, group_concat(code) FROM (SELECT session, nu
 
 @dataclass(frozen=True)
 class Sums:
-    """A session in numbers."""
     code: str
     day: str
     start: int  # minutes of the day
@@ -39,12 +36,9 @@ class Sums:
         return self.desks - self.seated
 
 
+@once
 def sums(view: View) -> dict[str, Sums]:
     """All sessions by code, in the order of their days."""
-    return view.once("sums", lambda: make_sums(view))
-
-
-def make_sums(view: View) -> dict[str, Sums]:
     counts: dict[str, dict[str, int]] = {name: {code: count for code, count in view.rows(query)}
                                          for name, query in COUNTS.items()}
     counts["clashes"] = {code: len(people) for code, people in two_papers(view).items()}
@@ -52,11 +46,15 @@ def make_sums(view: View) -> dict[str, Sums]:
             for code, day, start in view.rows("SELECT code, day, start FROM session ORDER BY day, start, code")}
 
 
+@once
 def two_papers(view: View) -> dict[str, dict[int, str]]:
     """By session the numbers of those who have two live entries in it, each with these papers."""
-    def make() -> dict[str, dict[int, str]]:
-        found: dict[str, dict[int, str]] = {}
-        for code, number, papers in view.rows(AT_ONCE):
-            found.setdefault(code, {})[number] = papers
-        return found
-    return view.once("at once", make)
+    found: dict[str, dict[int, str]] = {}
+    for code, number, papers in view.rows(AT_ONCE):
+        found.setdefault(code, {})[number] = papers
+    return found
+
+
+@once
+def candidates(view: View) -> int:
+    return view.count("SELECT count(*) FROM candidate")

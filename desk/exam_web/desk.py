@@ -1,6 +1,4 @@
 """What the pages of one desk share: the office that they show, read once for each of its states."""
-from __future__ import annotations
-
 import contextlib
 import dataclasses
 import os
@@ -8,7 +6,7 @@ import sqlite3
 import threading
 import time
 from collections.abc import Callable, Iterable, Iterator, Sequence
-from typing import Any, NoReturn, TypeVar
+from typing import Any, Concatenate, ParamSpec, TypeVar
 
 from flask import abort, current_app, g
 
@@ -19,6 +17,7 @@ from exam_desk.reading import Reading
 PATIENCE = 4  # seconds that a page waits for the office to be read, or for a rehearsal
 COPYING, COUNTING = "Its files are copied and read", "Candidates and desks are counted"
 Found = TypeVar("Found")
+Asked = ParamSpec("Asked")
 
 
 class StillReading(Exception):
@@ -41,11 +40,10 @@ class View:
         return self.reading.rows.execute(query, values).fetchall()
 
     def row(self, query: str, values: Sequence[object] = ()) -> sqlite3.Row | None:
-        found: sqlite3.Row | None = self.reading.rows.execute(query, values).fetchone()
-        return found
+        return next(iter(self.rows(query, values)), None)
 
     def count(self, query: str, values: Sequence[object] = ()) -> int:
-        return int(self.reading.rows.execute(query, values).fetchone()[0])
+        return int(self.rows(query, values)[0][0])
 
     def missed(self, session: str, numbers: Iterable[int]) -> dict[str, list[str]]:
         """The papers that each of some candidates is entered for and does not sit, by number, as the program says."""
@@ -53,7 +51,6 @@ class View:
         return self.reading.clashes(session, asked) if asked else {}
 
     def once(self, key: object, make: Callable[[], Found]) -> Found:
-        """What is worked out of this state is worked out once."""
         with self.lock:
             if key not in self.found:
                 self.found[key] = make()
@@ -62,6 +59,13 @@ class View:
 
     def close(self) -> None:
         self.stack.close()
+
+
+def once(make: Callable[Concatenate[View, Asked], Found]) -> Callable[Concatenate[View, Asked], Found]:
+    """What is worked out of a view is worked out once."""
+    def found(view: View, /, *asked: Asked.args, **more: Asked.kwargs) -> Found:
+        return view.once((make, *asked), lambda: make(view, *asked, **more))
+    return found
 
 
 class Desk:
@@ -101,8 +105,7 @@ class Desk:
 
     def read(self) -> None:
         """Reads the office, and puts it in the place of the view that is held."""
-        began = time.monotonic()
-        view, fault = None, None
+        began, fault, view = time.monotonic(), None, None
         try:
             self.stage = COPYING
             view = View(self.office)
@@ -112,12 +115,11 @@ class Desk:
             fault = error
         with self.changed:
             self.read_until, self.fault = began, fault
-            if view and not fault:
-                old, self.held = self.held, view
-                if old:
-                    self.drop(old)
-            elif view:
-                view.close()
+            unused = view
+            if not fault:
+                unused, self.held = self.held, view
+            if unused:
+                self.drop(unused)
             self.changed.notify_all()
         if view and not fault and (first := view.row("SELECT number FROM candidate LIMIT 1")):
             with contextlib.suppress(Exception):  # a page that asks says it
@@ -138,8 +140,7 @@ class Desk:
         asked = time.monotonic()
         with self.changed:
             if not self.has_current(asked):
-                self.wanted = asked
-                self.changed.notify_all()
+                self.start_reading()
                 self.changed.wait_for(lambda: self.read_until >= asked or self.has_current(asked), PATIENCE)
                 if self.read_until >= asked and self.fault:
                     raise self.fault
@@ -161,18 +162,18 @@ class Desk:
     @contextlib.contextmanager
     def before(self, rehearsal: changing.Rehearsal) -> Iterator[View]:
         """The office as a rehearsal found it: the view at hand, where the office is still of that state."""
-        with self.changed:
-            held = self.held if self.held and self.held.reading.is_current() else None
-            if held:
-                held.readers += 1
-        if held:
-            try:
-                yield held
-            finally:
-                self.release(held)
-        else:
-            with contextlib.closing(View(self.office, rehearsal.before)) as view:
-                yield view
+        with contextlib.ExitStack() as stack:
+            with self.changed:
+                held = self.held if self.held and self.held.reading.is_current() else None
+                if held:
+                    held.readers += 1
+                    stack.callback(self.release, held)
+            yield held or stack.enter_context(contextlib.closing(View(self.office, rehearsal.before)))
+
+    @contextlib.contextmanager
+    def both(self, rehearsal: changing.Rehearsal) -> Iterator[tuple[View, View]]:
+        with self.before(rehearsal) as before, contextlib.closing(View(self.office, rehearsal.after)) as after:
+            yield before, after
 
     def close(self) -> None:
         with self.changed:
@@ -181,11 +182,6 @@ class Desk:
         self.reader.join()
         if self.held:
             self.held.close()
-
-
-def missing() -> NoReturn:
-    """Answers that what is asked for is not there."""
-    abort(404)
 
 
 def desk() -> Desk:
@@ -213,8 +209,7 @@ def view() -> View:
 
 
 def candidate_row(number: int) -> sqlite3.Row:
-    """The number, the name and the access code of a candidate."""
-    return view().row("SELECT number, name, code FROM candidate WHERE number = ?", [number]) or missing()
+    return view().row("SELECT number, name, code FROM candidate WHERE number = ?", [number]) or abort(404)
 
 
 def release(_: BaseException | None = None) -> None:

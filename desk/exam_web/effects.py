@@ -1,8 +1,6 @@
 """What a change does to people and to sessions: the difference of two states of an office."""
-from __future__ import annotations
-
 from collections import Counter
-from dataclasses import dataclass
+from typing import NamedTuple
 
 from exam_desk import telling
 from exam_desk.consequences import has_seats
@@ -23,13 +21,11 @@ KINDS = {  # the gravest first: in words before the change, and after it
     "joins": ("would join a session", "joined a session"),
     "desk": ("would have another desk number only", "have another desk number only"),
 }
-ORDER = list(KINDS)
 NUMBERS = ("members", "desks", "short", "clashes")
 MOST_CLASHES = 100  # new ones that are named
 
 
-@dataclass(frozen=True)
-class SessionChange:
+class SessionChange(NamedTuple):
     """A session whose numbers are others: of each the number before and after, None where there was no session."""
     code: str
     day: str
@@ -44,15 +40,15 @@ class Effects:
 
     def __init__(self, changes: list[Change], sessions: list[SessionChange], clashes: list[NewClash],
                  titles: dict[str, str]) -> None:
-        self.changes = sorted(changes, key=lambda each: ORDER.index(each.kind()))
+        self.changes = sorted(changes, key=lambda each: list(KINDS).index(each.kind()))
         self.sessions, self.clashes, self.titles = sessions, clashes, titles
         self.to_tell = [each for each in self.changes if each.is_to_tell()]
         self.people = len({each.number for each in self.to_tell})
         self.counts = Counter(map(Change.kind, self.changes))
         self.desk_only = Counter(each.session for each in self.changes if each.kind() == "desk")  # by session
 
-    def csv(self) -> str:
-        return telling.csv_text(self.changes, self.titles)
+    def csv(self) -> bytes:
+        return telling.csv_text(self.changes, self.titles).encode("utf-8", "surrogateescape")
 
 
 def effects(before: View, after: View) -> Effects:
@@ -78,10 +74,6 @@ def new_clashes(before: View, after: View) -> list[NewClash]:
 
 def session_changes(before: View, after: View) -> list[SessionChange]:
     old = counting.sums(before)
-    found = []
-    for session in counting.sums(after).values():
-        was = old.get(session.code)
-        numbers = {name: (getattr(was, name) if was else None, getattr(session, name)) for name in NUMBERS}
-        if any(before != after for before, after in numbers.values()):
-            found.append(SessionChange(session.code, session.day, numbers))
-    return found
+    found = [SessionChange(each.code, each.day, {name: (getattr(old.get(each.code), name, None), getattr(each, name))
+                                                 for name in NUMBERS}) for each in counting.sums(after).values()]
+    return [each for each in found if any(was != now for was, now in each.numbers.values())]

@@ -1,15 +1,11 @@
 """Files: what the office has, what is uploaded, its mistakes, and the import that is rehearsed."""
-from __future__ import annotations
-
-import os
-import secrets
-
 from flask import Blueprint, Response, abort, g, redirect, render_template, request, url_for
 from werkzeug.wrappers import Response as Answer
 
-from exam_desk import dumping, files, private
+from exam_desk import dumping, files
 from exam_web import downloads, uploads
 from exam_web.desk import desk, view
+from exam_web.forms import keep, lead
 from exam_web.wording import many, text
 
 pages = Blueprint("files", __name__)
@@ -35,13 +31,8 @@ def upload() -> Answer:
         abort(400)
     found = uploads.taken(request.files.getlist("files"), dates, view())
     if not (found.texts or found.notes or found.workbooks):
-        g.visit.said.append(("bad", text("Choose the files first.")))
-        return redirect(url_for("files.page"), 303)
-    while len(g.visit.uploads) >= uploads.MOST_UPLOADS:
-        g.visit.uploads.pop(next(iter(g.visit.uploads)))
-    key = secrets.token_urlsafe(9)
-    g.visit.uploads[key] = found
-    return redirect(url_for("files.look", key=key), 303)
+        return lead("files.page", text("Choose the files first."), "bad")
+    return lead("files.look", key=keep(g.visit.uploads, uploads.MOST_UPLOADS, found))
 
 
 @pages.get("/files/uploaded/<key>")
@@ -50,9 +41,8 @@ def look(key: str) -> str:
     looked = uploads.looked_through(upload.texts, view())
     return render_template("look.html", key=key, upload=upload, looked=looked, headers=files.HEADERS,
                            total=sum(each.total for each in looked.values()), most=uploads.MOST_SHOWN,
-                           of_books=sum(each.mistakes for each in upload.workbooks),
-                           most_lines=MOST_LINES, cures=sum(bool(fault.write) for each in looked.values()
-                                                            for fault in each.faults))
+                           of_books=sum(each.mistakes for each in upload.workbooks), most_lines=MOST_LINES,
+                           cures=sum(bool(fault.write) for each in looked.values() for fault in each.faults))
 
 
 @pages.post("/files/uploaded/<key>/correct")
@@ -62,30 +52,21 @@ def correct(key: str) -> Answer:
     taken = {code for code, in view().rows("SELECT code FROM candidate")}
     rows = 0
     for kind, looked in uploads.looked_through(upload.texts, view()).items():
-        wanted = uploads.corrections(kind, looked, request.form, taken)
-        if wanted:
+        if wanted := uploads.corrections(kind, looked, request.form, taken):
             upload.texts[kind] = uploads.corrected(upload.texts[kind], wanted)
             rows += len(wanted)
     upload.edits += rows
     said = many(rows, "{count} row is corrected in what was uploaded; your own files are as they were.",
                 "{count} rows are corrected in what was uploaded; your own files are as they were.")
-    g.visit.said.append(("good", said))
-    return redirect(url_for("files.look", key=key), 303)
+    return lead("files.look", said, key=key)
 
 
 @pages.get("/files/uploaded/<key>/<kind>.csv")
 def download(key: str, kind: str) -> Response:
     found = uploads.of_visit(key).texts.get(kind) if kind in files.HEADERS else None
-    if found is None:
-        abort(404)
-    return downloads.attached(found, f"{kind}.csv", "text/csv")
+    return abort(404) if found is None else downloads.attached(found, f"{kind}.csv")
 
 
 @pages.post("/files/dump")
 def dump() -> Response:
-    """All facts as the seven files."""
-    with private.own_folder(desk().office.path) as folder:
-        place = os.path.join(folder, "facts")
-        os.mkdir(place, 0o700)
-        dumping.write_all(view().reading.rows, place)
-        return downloads.archive(place, f"facts-{desk().office.today().isoformat()}")
+    return downloads.archive("facts", lambda folder: dumping.write_all(view().reading.rows, folder))

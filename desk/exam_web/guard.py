@@ -1,15 +1,14 @@
-"""Who may come in: one address, one link, one visit; and what a page of the desk may load.
+"""Who may come in: one address, one link, one visit, with initials for the log; and what a page of the desk may load.
 
 Every request passes `Door` and `Guard.check` before a route sees it. A route is open without a visit only where its
 endpoint stands in OPEN.
 """
-from __future__ import annotations
-
 import base64
 import contextlib
 import hashlib
 import hmac
 import os
+import re
 import secrets
 import threading
 import time
@@ -17,10 +16,15 @@ from collections.abc import Callable, Iterable, Iterator
 from dataclasses import dataclass, field
 from typing import Any
 
-from flask import Flask, Response, abort, g, request
+from flask import Blueprint, Flask, abort, current_app, g, redirect, render_template, request, url_for
+from werkzeug.wrappers import Response
 
 from exam_desk import beside
+from exam_web.desk import desk
 
+pages = Blueprint("entering", __name__)
+INITIALS = re.compile(r"[\w.-]{1,12}")
+MOST_TOKEN = 200
 LINK_SECONDS = 600  # of a link that nobody opened
 IDLE_SECONDS = 8 * 3600
 MOST_UPLOAD = 32 << 20  # bytes of a request
@@ -46,7 +50,7 @@ Start = Callable[..., Any]
 @dataclass
 class Visit:
     """A browser that came in by a link. All of it goes when the desk ends or the screen is locked."""
-    initials: str  # of who works, as the log has them
+    initials: str  # of who works
     mark: str = field(default_factory=lambda: secrets.token_urlsafe(24))  # stands in each form
     seen: float = field(default_factory=time.monotonic)
     said: list[tuple[str, Any]] = field(default_factory=list)  # what the next page says once
@@ -112,7 +116,6 @@ def use_link(office: str, token: str) -> bool:
 
 
 def age(name: str, folder: int) -> float:
-    """The seconds since a file was made."""
     return abs(time.time() - os.stat(name, dir_fd=folder, follow_symlinks=False).st_mtime)
 
 
@@ -182,13 +185,36 @@ class Guard:
     def dress(self, response: Response) -> Response:
         for name, value in HEADERS.items():
             response.headers.setdefault(name, value)
-        style = g.get("style")
-        response.headers["Content-Security-Policy"] = POLICY.format(f" '{source_of(style)}'" if style else "")
+        hashed = base64.b64encode(hashlib.sha256(g.get("style", "").encode()).digest()).decode()
+        own = f" 'sha256-{hashed}'" if "style" in g else ""  # of a printed sheet: its style, and no other
+        response.headers["Content-Security-Policy"] = POLICY.format(own)
         if request.endpoint == "static":
             response.headers["Cache-Control"] = "private, max-age=3600"
         return response
 
 
-def source_of(style: str) -> str:
-    """The hash by which the policy lets the style of a printed sheet through, and no other."""
-    return "sha256-" + base64.b64encode(hashlib.sha256(style.encode()).digest()).decode()
+@pages.get("/enter")
+def page(failed: str = "", initials: str = "") -> str:
+    return render_template("enter.html", failed=failed, given_initials=initials)
+
+
+@pages.post("/enter")
+def enter() -> Response | tuple[str, int]:
+    """Takes the link's token once; initials of a wrong form leave the link as it is."""
+    initials = request.form.get("initials", "").strip()
+    token = request.form.get("token", "").strip()[-MOST_TOKEN:].rsplit("#", 1)[-1]
+    if not INITIALS.fullmatch(initials):
+        return page("initials", initials[:40]), 422
+    if not use_link(desk().office.path, token):
+        return page("link", initials), 422
+    answer = redirect(url_for("season.page"), 303)
+    current_app.extensions["guard"].begin(answer, initials)
+    return answer
+
+
+@pages.post("/leave")
+def leave() -> Response:
+    answer = redirect(url_for("entering.page"), 303)
+    current_app.extensions["guard"].end(answer)
+    g.visit = None
+    return answer

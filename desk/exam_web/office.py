@@ -1,20 +1,19 @@
 """The office: whether it serves, its copies and how one is put back, its log, a backup."""
-from __future__ import annotations
-
 import hashlib
 import os
 import pathlib
+import re
 import sys
 from contextlib import closing
 
-from flask import Blueprint, Response, abort, g, redirect, render_template, request, url_for
+from flask import Blueprint, Response, abort, redirect, render_template, request, url_for
 from werkzeug.wrappers import Response as Answer
 
 from exam_desk import changing, copies, kept, logbook, private, turns, undo
-from exam_desk.telling import Change
 from exam_desk.trouble import Stale
 from exam_web import downloads, effects, proposals
-from exam_web.desk import View, desk, missing, office, view
+from exam_web.desk import View, desk, office, once, view
+from exam_web.forms import Wrong, lead, whole
 from exam_web.wording import shown, text
 
 pages = Blueprint("office", __name__)
@@ -29,8 +28,7 @@ def copy_key(path: str) -> str:
 
 
 def copy_of(key: str) -> str:
-    found = [path for path in copies.listed(desk().office) if copy_key(path) == key]
-    return found[0] if found else missing()
+    return next((path for path in copies.listed(desk().office) if copy_key(path) == key), "") or abort(404)
 
 
 def log_since(when: str = "") -> list[list[str]]:
@@ -51,27 +49,25 @@ def page() -> str | Answer:
 def copy(key: str) -> str:
     path = copy_of(key)
     when, what = copies.when_and_what(path)
-    return render_template("copy.html", key=key, when=when, what=what, e=since(path), kinds=effects.KINDS,
-                           kind_of=Change.kind, most=proposals.MOST_ROWS, lost=undo.taken_away(desk().office, path),
+    return render_template("copy.html", key=key, when=when, what=what, e=since(view(), path), most=proposals.MOST_ROWS,
+                           lost=undo.taken_away(desk().office, path),
                            log=[line for line in log_since(when) if line[3] not in (logbook.BEGINS, logbook.STEP)])
 
 
-def since(path: str) -> effects.Effects:
+@once
+def since(now: View, path: str) -> effects.Effects:
     """What is another since a copy was made."""
-    def make() -> effects.Effects:
-        with desk().rehearsing, closing(View(desk().office, copies.file_in(desk().office, path))) as then:
-            return effects.effects(then, view())
-    return view().once(("since", path), make)
+    with desk().rehearsing, closing(View(desk().office, copies.file_in(desk().office, path))) as then:
+        return effects.effects(then, now)
 
 
 @pages.get("/office/copies/<key>/changes.csv")
 def copy_csv(key: str) -> Response:
-    found = since(copy_of(key)).csv().encode("utf-8", "surrogateescape")
-    return downloads.attached(found, "changes-since.csv", "text/csv")
+    return downloads.attached(since(view(), copy_of(key)).csv(), "changes-since.csv")
 
 
 @pages.post("/office/copies/<key>/back")
-def back(key: str) -> Answer | tuple[str, int]:
+def back(key: str) -> Answer:
     """Puts a copy back, if the office is as the page showed it and each appeal that would be lost has its tick."""
     path, who = copy_of(key), office()
     when, _ = copies.when_and_what(path)
@@ -82,37 +78,30 @@ def back(key: str) -> Answer | tuple[str, int]:
                                           request.form.get("state", ""))
     except Stale:
         said = text("Nothing is changed: the office is another than the page showed. This is how it stands now.")
-        g.visit.said.append(("bad", said))
-        return redirect(url_for("office.copy", key=key), 303)
+        return lead("office.copy", said, "bad", key=key)
     if not is_back:
         wrong = text("tick each of these, or leave the office as it is")
-        return proposals.wrong_page(proposals.Wrong(("office.copy", {"key": key}), lost=wrong), "back")
-    said = text("The office is as it was on {when}. The office from before is the newest copy.", when=when)
-    g.visit.said.append(("good", said))
-    return redirect(url_for("office.page"), 303)
+        raise Wrong(("office.copy", {"key": key}), "back", lost=wrong)
+    return lead("office.page", text("The office is as it was on {when}. The office from before is the newest copy.",
+                                    when=when))
 
 
 @pages.post("/office/keep")
-def keep() -> Answer | tuple[str, int]:
+def keep() -> Answer:
     what, port = request.form.get("what"), request.form.get("port", "")
-    if what not in ("start", "stop"):
-        abort(400)
-    if what == "start" and not (port.isdecimal() and LOWEST_PORT <= int(port[:6]) <= HIGHEST_PORT):
-        wrong = text("a whole number from {low} to {high}", low=LOWEST_PORT, high=HIGHEST_PORT)
-        return proposals.wrong_page(proposals.Wrong(("office.page", {}), port=wrong), "keep")
-    if what == "start":
-        status = kept.start(office(), [sys.executable, KEEP, "run", port])
-        g.visit.said.append(("good" if status.serves else "bad", shown(status.sentence)))
-    else:
+    if what == "stop":
         kept.stop(office())
-    return redirect(url_for("office.page") + "#serve", 303)
+        return lead("office.page", _anchor="serve")
+    if what != "start":
+        abort(400)
+    if not (re.fullmatch("[0-9]{1,5}", port) and LOWEST_PORT <= int(port) <= HIGHEST_PORT):
+        raise Wrong(("office.page", {}), "keep", port=whole(LOWEST_PORT, HIGHEST_PORT))
+    status = kept.start(office(), [sys.executable, KEEP, "run", port])
+    return lead("office.page", shown(status.sentence), "good" if status.serves else "bad", _anchor="serve")
 
 
 @pages.post("/office/backup")
 def backup() -> Response:
     here = desk().office
-    with private.own_folder(here.path) as folder:
-        place = os.path.join(folder, "office")
-        os.mkdir(place, 0o700)
-        private.copy_files(os.path.realpath(here.path), os.path.join(place, here.base_name()))
-        return downloads.archive(place, f"office-{here.today().isoformat()}")
+    return downloads.archive("office", lambda folder: private.copy_files(os.path.realpath(here.path),
+                                                                         os.path.join(folder, here.base_name())))

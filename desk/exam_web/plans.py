@@ -1,30 +1,25 @@
 """What forms ask, as steps of the program. Values have the forms of the import files; all else the program says."""
-from __future__ import annotations
-
 import re
 import sqlite3
 from collections.abc import Callable
 from functools import partial
 
-from flask import Blueprint, g, request
-from werkzeug.datastructures import MultiDict
+from flask import Blueprint, abort, g, request
+from markupsafe import Markup
 from werkzeug.wrappers import Response
 
-from markupsafe import Markup
-
-from exam_desk import coding, files, lodging, mistakes, second_sitting
+from exam_desk import coding, files, lodging, second_sitting
 from exam_desk.changing import Step
 from exam_desk.trouble import Trouble
 from exam_desk.words import FEATURES, clock
 from exam_web import proposals, session, uploads
-from exam_web.desk import candidate_row, missing, view
-from exam_web.proposals import TROUBLE, Page, Plan, Wrong
+from exam_web.desk import candidate_row, view
+from exam_web.forms import Form, Page, Wrong, checked
+from exam_web.proposals import TROUBLE, Plan
 from exam_web.wording import said, text
 
 pages = Blueprint("plans", __name__)
-Form = MultiDict[str, str]
 MOST_REASON = 200  # bytes
-SHEET_HINT = "; format the column as text"  # of cures, for who has a spreadsheet
 REF = re.compile("[A-Z0-9]{1,16}")
 OUTCOMES = {"granted": ("Grant appeal {ref} of {name}", "Grant"),
             "standing": ("Grant appeal {ref} of {name}, for later sessions too", "Grant, standing"),
@@ -42,20 +37,10 @@ def import_step(kind: str, *values: str) -> Step:
     return Step(("import", kind, f"{kind}.csv"), data)
 
 
-def checked(page: Page, form: Form, **columns: str) -> dict[str, str]:
-    """The values of fields, by the forms of the columns that are named; what is wrong is said beside its field."""
-    values = {name: form.get(name, "").strip() for name in columns}
-    wrong = {name: text(mistakes.CURES[column].removesuffix(SHEET_HINT)) for name, column in columns.items()
-             if not mistakes.RIGHT[column](values[name].encode("utf-8", "surrogateescape"))}
-    if wrong:
-        raise Wrong(page, **wrong)
-    return values
-
-
 def candidate(form: Form) -> tuple[str, sqlite3.Row, Page]:
     number = form.get("number", "")
     if not files.is_number(number.encode("utf-8", "surrogateescape")):
-        missing()
+        abort(404)
     return number, candidate_row(int(number)), ("candidates.page", {"number": int(number)})
 
 
@@ -72,14 +57,12 @@ def needs(form: Form) -> str:
     return "+".join(name for name in FEATURES if name in chosen) or "-"
 
 
-def of_entry(title: str, verb: str, step: Callable[[str, str], Step], *numbers: int) -> Callable[[Form], Plan]:
-    """What makes the plan of one entry; refusals of these numbers are about its paper."""
-    def make(form: Form) -> Plan:
-        number, row, page = candidate(form)
-        paper = checked(page, form, paper="paper")["paper"]
-        return Plan(text(title, name=row["name"], paper=paper), [step(number, paper)], page, text(verb),
-                    dict.fromkeys((5, 6, 8, *numbers), "paper"))
-    return make
+def of_entry(title: str, verb: str, step: Callable[[str, str], Step], number: int, form: Form) -> Plan:
+    """The plan of one entry; a refusal of this number is about its paper, as are those of what is not known."""
+    who, row, page = candidate(form)
+    paper = checked(page, form, paper="paper")["paper"]
+    return Plan(text(title, name=row["name"], paper=paper), [step(who, paper)], page, text(verb),
+                dict.fromkeys((5, 6, 8, number), "paper"))
 
 
 def arrangement(form: Form) -> Plan:
@@ -93,10 +76,9 @@ def arrangement(form: Form) -> Plan:
 
 def new_code(form: Form) -> Plan:
     number, row, page = candidate(form)
-    taken = {code for code, in view().rows("SELECT code FROM candidate")}
+    code = coding.new_code({code for code, in view().rows("SELECT code FROM candidate")})
     return Plan(text("New access code for {name}", name=row["name"]),
-                [import_step("candidates", number, row["name"], coding.new_code(taken))], page,
-                text("Give the new code"),
+                [import_step("candidates", number, row["name"], code)], page, text("Give the new code"),
                 note=text("The old code ends at once."),
                 done_note=text("The candidate's page shows the new code when you ask for it, and prints a slip."))
 
@@ -104,15 +86,12 @@ def new_code(form: Form) -> Plan:
 def lodge(form: Form) -> Plan:
     """An appeal for a candidate who is there, lodged over HTTP as candidates do: so its reason is no argument."""
     number, row, page = candidate(form)
-    kind = form.get("kind", "")
-    code = checked(page, form, session="session")["session"]
-    if kind == "arrangement":
-        values = [needs(form), checked(page, form, wanted_extra="extra")["wanted_extra"]]
-    elif kind in lodging.KINDS:
-        values = [checked(page, form, **{f"wanted_{kind}": "paper" if kind == "clash" else kind})[f"wanted_{kind}"]]
-    else:
+    kind, code = form.get("kind", ""), checked(page, form, session="session")["session"]
+    if kind not in lodging.KINDS:
         raise Wrong(page, kind=text("choose one"))
     field = "wanted_extra" if kind == "arrangement" else f"wanted_{kind}"
+    value = checked(page, form, **{field: lodging.KINDS[kind][-1]})[field]
+    values = [needs(form), value] if kind == "arrangement" else [value]
     fields = {**dict.fromkeys((4, 12, 13, 20, 21), "session"), **dict.fromkeys((5, 7, 8, 11, 18, 19), field)}
     title = text("Lodge for {name}: {kind} {values}, {session}", name=row["name"], kind=text(kind),
                  values=" ".join(values), session=code)
@@ -124,7 +103,7 @@ def decide(form: Form) -> Plan:
     number, row, _ = candidate(form)
     ref, outcome = form.get("ref", ""), form.get("outcome", "")
     if not REF.fullmatch(ref):
-        missing()
+        abort(404)
     page: Page = ("appeals.one", {"number": int(number), "ref": ref})
     if outcome not in OUTCOMES:
         raise Wrong(page, outcome=text("choose one"))
@@ -141,9 +120,8 @@ def session_page(form: Form) -> tuple[str, Page]:
 
 def opening(form: Form, page: Page, prefix: str = "") -> list[str]:
     """The values of a hall that is to be open, after its session."""
-    names = {prefix + name: name for name in ("hall", "desks", "until")}
-    values = checked(page, form, **names)
-    return [*(values[name] for name in names), "yes" if form.get(prefix + "reserved") else "no"]
+    values = checked(page, form, **{prefix + name: name for name in ("hall", "desks", "until")})
+    return [*values.values(), "yes" if form.get(prefix + "reserved") else "no"]
 
 
 def open_hall(form: Form) -> Plan:
@@ -217,8 +195,8 @@ def import_files(form: Form) -> Plan:
     key = form.get("upload", "")
     upload = uploads.of_visit(key)
     steps = [Step(("import", kind, f"{kind}.csv"), upload.texts[kind]) for kind in upload.kinds]
-    return Plan(text("Import {kinds}", kinds=", ".join(upload.kinds)), steps,
-                ("files.look", {"key": key}), text("Import"))
+    return Plan(text("Import {kinds}", kinds=", ".join(upload.kinds)), steps, ("files.look", {"key": key}),
+                text("Import"))
 
 
 ENTRIES: dict[str, tuple[str, str, Callable[[str, str], Step], int]] = {
@@ -227,16 +205,13 @@ ENTRIES: dict[str, tuple[str, str, Callable[[str, str], Step], int]] = {
     "enter": ("Enter {name} for {paper}", "Enter", partial(import_step, "entries"), 20),
 }
 PLANS: dict[str, Callable[[Form], Plan]] = {
-    **{what: of_entry(*values) for what, values in ENTRIES.items()}, "arrangement": arrangement, "code": new_code,
-    "lodge": lodge, "decide": decide, "open": open_hall, "close": close_hall, "files": import_files,
+    **{what: partial(of_entry, *values) for what, values in ENTRIES.items()}, "arrangement": arrangement,
+    "code": new_code, "lodge": lodge, "decide": decide, "open": open_hall, "close": close_hall, "files": import_files,
     "second": second, "second-back": second_back,
 }
 
 
 @pages.post("/propose/<what>")
-def propose(what: str) -> Response | tuple[str, int]:
-    make = PLANS.get(what) or missing()
-    try:
-        return proposals.propose(make(request.form), what)
-    except Wrong as wrong:
-        return proposals.wrong_page(wrong, what)
+def propose(what: str) -> Response:
+    make = PLANS.get(what) or abort(404)
+    return proposals.propose(make(request.form))

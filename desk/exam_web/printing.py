@@ -1,6 +1,4 @@
 """What is printed of a session, by the functions of the command line."""
-from __future__ import annotations
-
 from collections.abc import Callable, Collection
 from typing import NamedTuple
 
@@ -17,15 +15,12 @@ class Sheet(NamedTuple):
     by_hall: bool = False
 
 
-def slips_of(reading: Reading, session: str) -> str:
-    return slips.page(reading, slips.Choice(sessions=[session], desks=True))
-
-
 SHEETS = {
     "doors": Sheet("Invigilators' sheets to sign", doors.page, True), "poster": Sheet("Posters for doors", poster.page),
     "cards": Sheet("Desk cards", cards.page, True), "chart": Sheet("Seating charts", chart.page, True),
-    "slips": Sheet("Slips for candidates", slips_of), "board": Sheet("Notice board by name", board.page),
-    "counts": Sheet("Copies of each paper", counts.page),
+    "slips": Sheet("Slips for candidates", lambda reading, session: slips.page(
+        reading, slips.Choice(sessions=[session], desks=True))),
+    "board": Sheet("Notice board by name", board.page), "counts": Sheet("Copies of each paper", counts.page),
 }
 
 

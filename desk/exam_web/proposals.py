@@ -1,18 +1,14 @@
 """The one way for all changes: a form becomes a plan, the plan is rehearsed and shown, then one button does it."""
-from __future__ import annotations
-
 import dataclasses
 import datetime
-import secrets
 import sqlite3
 import threading
 import time
-from collections.abc import Callable, Iterator
-from contextlib import closing, contextmanager
+from collections.abc import Callable
 from dataclasses import dataclass, field
 from typing import Any
 
-from flask import Blueprint, abort, current_app, g, redirect, render_template, request, url_for
+from flask import Blueprint, abort, g, render_template, request, url_for
 from markupsafe import Markup
 from werkzeug.wrappers import Response
 
@@ -20,11 +16,11 @@ from exam_desk import changing, lodging, logbook, private, refusals
 from exam_desk.changing import Answered, Step
 from exam_desk.office import Office
 from exam_desk.reading import Reading
-from exam_desk.telling import Change
 from exam_desk.trouble import Stale, Trouble
 from exam_web import downloads, effects
-from exam_web.desk import PATIENCE, Desk, View, desk, office, view
+from exam_web.desk import PATIENCE, Desk, desk, office, view
 from exam_web.effects import Effects
+from exam_web.forms import Page, Wrong, keep, lead
 from exam_web.wording import said
 
 pages = Blueprint("proposals", __name__)
@@ -38,15 +34,6 @@ WRONG_DESK = "the desk is wrong here; the office is as the log says"
 TROUBLE = 0  # among the numbers of refusals: what the desk refuses itself
 NEXT_APPEAL = ("SELECT appeal.*, name FROM appeal JOIN candidate USING (number) JOIN session ON session.code = session "
                "WHERE state = 1 AND day > ? ORDER BY day, session.start, lodged, appeal.number")
-Page = tuple[str, dict[str, Any]]  # an endpoint and its values
-
-
-class Wrong(Exception):
-    """Values of a form that cannot be: what is said beside each field, and the page that has the form."""
-
-    def __init__(self, page: Page, **fields: object) -> None:
-        super().__init__()
-        self.page, self.fields = page, fields
 
 
 @dataclass(frozen=True)
@@ -71,7 +58,7 @@ class Proposal:
     """A plan, and how far it is. Its thread alone changes it while it works."""
     plan: Plan
     came_from: str  # the state of the page whose form it was
-    key: str = field(default_factory=lambda: secrets.token_urlsafe(9))
+    key: str = ""
     lock: threading.Lock = field(default_factory=threading.Lock)  # of who does it
     working: threading.Thread | None = None
     began: float = 0
@@ -103,12 +90,28 @@ class Proposal:
     def tell(self, stage: str) -> None:
         self.stage = stage
 
-    def refuse(self, who: Office, answered: Answered | None) -> None:
-        """Keeps what the program says where it refuses a step."""
-        self.refusal, self.explained = "", []
-        if answered:
-            self.refusal = answered.first_line()
-            self.explained = refusals.explained(who, answered.step.words, answered.ran.complaint, answered.step.data)
+    def take(self, who: Office, answers: list[Answered]) -> None:
+        """Keeps what the program said of the steps, and in words where it refuses the last."""
+        self.answers, self.refusal, self.explained = answers, "", []
+        if refused := changing.refused_of(answers):
+            self.refusal = refused.first_line()
+            self.explained = refusals.explained(who, refused.step.words, refused.ran.complaint, refused.step.data)
+
+    def lodge(self, who: Office) -> str:
+        """Lodges the appeal of the plan, and gives its reference; '' where it is refused."""
+        asked = lodging.asked(self.plan.lodge)
+        assert asked, "the form has all values"
+        lodged = lodging.lodge(who, self.plan.lodge, asked)
+        self.refusal, self.explained = (lodged.line, lodged.explained) if lodged.status else ("", [])
+        return "" if lodged.status else lodged.line.split()[1]
+
+    def compare(self, here: Desk, rehearsal: changing.Rehearsal) -> None:
+        """Keeps what a rehearsal would come to. Raises `Trouble` where the plan refuses it."""
+        self.tell(COMPARING)
+        with here.both(rehearsal) as (before, after):
+            self.lines = self.plan.look(before.reading, after.reading)
+            self.effects = effects.effects(before, after)
+            self.made_from, self.promised = before.name, after.name
 
 
 def now() -> str:
@@ -121,28 +124,17 @@ def worded(line: str, explained: list[str]) -> list[Markup]:
     return [said(each.strip()) for each in found]
 
 
-def propose(plan: Plan, form: str) -> Response | tuple[str, int]:
-    """Rehearses a plan; a refusal that belongs to a field is shown there."""
+def propose(plan: Plan) -> Response:
+    """Rehearses a plan. Raises `Wrong` for a refusal that belongs to a field."""
     proposal = Proposal(plan, request.form.get("state", ""))
-    found = g.visit.proposals
-    while len(found) >= MOST_PROPOSALS:
-        found.pop(next(iter(found)))
-    found[proposal.key] = proposal
+    proposal.key = keep(g.visit.proposals, MOST_PROPOSALS, proposal)
     work(proposal, rehearse_lodging if plan.lodge else rehearse)
     name = plan.fields.get(refusals.number_of(proposal.refusal) or TROUBLE)
     if name and (proposal.refusal or proposal.trouble) and not proposal.is_working:
-        del found[proposal.key]
+        del g.visit.proposals[proposal.key]
         words = worded(proposal.refusal, proposal.explained) if proposal.refusal else [said(proposal.trouble)]
-        return wrong_page(Wrong(plan.page, **{name: Markup("; ").join(words)}), form)
-    return redirect(url_for("proposals.page", key=proposal.key), 303)
-
-
-def wrong_page(wrong: Wrong, form: str) -> tuple[str, int]:
-    """The page of a form, with what is wrong at its fields and all that was given."""
-    g.wrong, g.given, g.asked_form = wrong.fields, request.form, form
-    endpoint, values = wrong.page
-    answer: str = current_app.view_functions[endpoint](**values)
-    return answer, 422
+        raise Wrong(plan.page, **{name: Markup("; ").join(words)})
+    return lead("proposals.page", key=proposal.key)
 
 
 def work(proposal: Proposal, task: Callable[[Proposal, Desk, Office], None]) -> None:
@@ -158,6 +150,8 @@ def work(proposal: Proposal, task: Callable[[Proposal, Desk, Office], None]) -> 
         except Exception:
             proposal.trouble = WRONG_DESK
             raise
+        finally:
+            proposal.seconds = time.monotonic() - proposal.began
     proposal.trouble, proposal.began = "", time.monotonic()
     proposal.working = threading.Thread(target=run, daemon=True)
     proposal.working.start()
@@ -167,16 +161,14 @@ def work(proposal: Proposal, task: Callable[[Proposal, Desk, Office], None]) -> 
 def rehearse(proposal: Proposal, here: Desk, who: Office) -> None:
     """Carries the plan out on a private copy, and keeps what that would come to. Raises `Trouble` where the steps were
     made for another state, whatever they would do in this one."""
-    plan, proposal.since = proposal.plan, now()
+    plan, proposal.since = proposal.plan, datetime.datetime.now().isoformat(" ", "seconds")
     with changing.rehearse(who, plan.steps, proposal.tell) as rehearsal:
-        proposal.answers = rehearsal.answers
         with here.before(rehearsal) as before:
             if plan.made_from not in ("", before.name):
                 raise Trouble(OTHER_OFFICE)
-        proposal.refuse(who, rehearsal.refused)
+        proposal.take(who, rehearsal.answers)
         if not proposal.refusal:
-            compare(proposal, here, rehearsal)
-    proposal.seconds = time.monotonic() - proposal.began
+            proposal.compare(here, rehearsal)
 
 
 def rehearse_lodging(proposal: Proposal, here: Desk, who: Office) -> None:
@@ -184,47 +176,17 @@ def rehearse_lodging(proposal: Proposal, here: Desk, who: Office) -> None:
     with private.private_copy(who.path, who.path) as copy:
         there = dataclasses.replace(who, path=copy)
         proposal.tell(LODGING)
-        lodged = lodging.lodge(there, proposal.plan.lodge, asked(proposal.plan))
-        if lodged.status:
-            proposal.refusal, proposal.explained = lodged.line, lodged.explained
-            return
-        number, ref, _ = lodged.line.split()
-        with changing.rehearse(there, [Step(("decide", number, ref, "granted", ""))], proposal.tell) as rehearsal:
-            proposal.answers = rehearsal.answers  # a grant may be refused where a lodging is not
-            compare(proposal, here, rehearsal)
-    proposal.seconds = time.monotonic() - proposal.began
-
-
-def asked(plan: Plan) -> lodging.Lodging:
-    found = lodging.asked(plan.lodge)
-    assert found, "the form has all values"
-    return found
+        if ref := proposal.lodge(there):
+            grant = Step(("decide", proposal.plan.lodge[0], ref, "granted", ""))
+            with changing.rehearse(there, [grant], proposal.tell) as rehearsal:
+                proposal.answers = rehearsal.answers  # a grant may be refused where a lodging is not
+                proposal.compare(here, rehearsal)
 
 
 def lodge(proposal: Proposal, here: Desk, who: Office) -> None:
     """Lodges an appeal: it moves nobody, so no state has to be the same."""
-    lodged = lodging.lodge(who, proposal.plan.lodge, asked(proposal.plan))
-    if lodged.status:
-        proposal.refusal, proposal.explained = lodged.line, lodged.explained
-    proposal.is_done = not lodged.status
-    proposal.lodged = lodged.line.split()[1] if proposal.is_done else ""
-
-
-@contextmanager
-def both(here: Desk, rehearsal: changing.Rehearsal) -> Iterator[tuple[View, View]]:
-    """The office before a rehearsal and after it."""
-    with here.before(rehearsal) as before, closing(View(here.office, rehearsal.after)) as after:
-        yield before, after
-
-
-def compare(proposal: Proposal, here: Desk, rehearsal: changing.Rehearsal) -> None:
-    """Keeps what a rehearsal would come to. Raises `Trouble` where the plan refuses it."""
-    proposal.tell(COMPARING)
-    plan = proposal.plan
-    with both(here, rehearsal) as (before, after):
-        proposal.lines = plan.look(before.reading, after.reading)
-        proposal.effects = effects.effects(before, after)
-        proposal.made_from, proposal.promised = before.name, after.name
+    proposal.lodged = proposal.lodge(who)
+    proposal.is_done = proposal.lodged != ""
 
 
 def carry_out(proposal: Proposal, here: Desk, who: Office) -> None:
@@ -238,9 +200,8 @@ def carry_out(proposal: Proposal, here: Desk, who: Office) -> None:
         rehearse(proposal, here, who)
         proposal.moved_on = [line for line in logbook.last_lines(who) if line[0] >= since][-MOST_LINES:]
         return
-    proposal.answers, proposal.copy = carried.answers, carried.copy or ""
-    proposal.as_promised = carried.as_promised is not False
-    proposal.refuse(who, carried.refused)
+    proposal.take(who, carried.answers)
+    proposal.copy, proposal.as_promised = carried.copy or "", carried.as_promised is not False
     proposal.is_done = not proposal.refusal
 
 
@@ -251,22 +212,20 @@ def proposal_of(key: str) -> Proposal:
 
 @pages.get("/proposals/<key>")
 def page(key: str) -> str:
+    from exam_web.office import copy_key
     proposal = proposal_of(key)
     plan = proposal.plan
     if proposal.is_working:
         return render_template("working.html", p=proposal, seconds=int(time.monotonic() - proposal.began))
     elsewhere = proposal.came_from and proposal.made_from and proposal.came_from != proposal.made_from
-    return render_template("proposal.html", p=proposal, plan=plan, e=proposal.effects, kinds=effects.KINDS,
-                           kind_of=Change.kind, most=MOST_ROWS, back=url_for(plan.page[0], **plan.page[1]),
+    decided = proposal.is_done and plan.page[0] == "appeals.one"
+    today = desk().office.today().isoformat()
+    return render_template("proposal.html", p=proposal, plan=plan, e=proposal.effects, most=MOST_ROWS,
+                           back=url_for(plan.page[0], **plan.page[1]),
                            refusal=Markup("<br>").join(worded(proposal.refusal, proposal.explained)),
                            trouble=said(proposal.trouble), elsewhere=elsewhere and not proposal.is_done,
-                           next_appeal=next_appeal(proposal), rows=imported(proposal), copy_page=copy_page(proposal))
-
-
-def next_appeal(proposal: Proposal) -> sqlite3.Row | None:
-    """After a decision the open appeal that is the most urgent now."""
-    decided = proposal.is_done and proposal.plan.page[0] == "appeals.one"
-    return view().row(NEXT_APPEAL, [desk().office.today().isoformat()]) if decided else None
+                           next_appeal=view().row(NEXT_APPEAL, [today]) if decided else None, rows=imported(proposal),
+                           copy_key=copy_key(proposal.copy) if proposal.copy else "")
 
 
 def imported(proposal: Proposal) -> list[tuple[str, int, int, int]]:
@@ -276,22 +235,16 @@ def imported(proposal: Proposal) -> list[tuple[str, int, int, int]]:
             if said[::2] == ["added", "changed", "same"]]
 
 
-def copy_page(proposal: Proposal) -> str:
-    """The address of the page of the copy from before; "" where there is none."""
-    from exam_web.office import copy_key
-    return url_for("office.copy", key=copy_key(proposal.copy)) if proposal.copy else ""
-
-
 @pages.post("/proposals/<key>/do")
 def do(key: str) -> Response:
     proposal = proposal_of(key)
     with proposal.lock:  # a second click does nothing
         if proposal.can_be_done:
             work(proposal, lodge if proposal.plan.lodge else carry_out)
-    return redirect(url_for("proposals.page", key=key), 303)
+    return lead("proposals.page", key=key)
 
 
 @pages.get("/proposals/<key>/told.csv")
 def told(key: str) -> Response:
     found = proposal_of(key).effects or abort(404)
-    return downloads.attached(found.csv().encode("utf-8", "surrogateescape"), "who-must-be-told.csv", "text/csv")
+    return downloads.attached(found.csv(), "who-must-be-told.csv")

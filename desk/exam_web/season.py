@@ -1,18 +1,17 @@
 """The season: what needs a person, the last days to lodge, the calendar; the first page, where there is no office."""
-from __future__ import annotations
-
 import datetime
 from collections import Counter
 from typing import NamedTuple
 
-from flask import Blueprint, g, redirect, render_template, url_for
+from flask import Blueprint, render_template, url_for
 from markupsafe import Markup
 from werkzeug.wrappers import Response
 
 from exam_desk import appeals, lastdays, logbook, running, turns
 from exam_desk.trouble import Trouble
 from exam_web import counting, office
-from exam_web.desk import View, desk, view
+from exam_web.desk import View, desk, once, view
+from exam_web.forms import lead
 from exam_web.wording import days_until, many, text
 
 pages = Blueprint("season", __name__)
@@ -41,13 +40,12 @@ def page() -> str:
 
 @pages.post("/init")
 def init() -> Response:
-    """Makes an empty office."""
-    if not desk().is_there():
-        done = running.run(desk().office, "init")
-        if done.status:
-            raise Trouble(done.complaint.strip())
-        g.visit.said.append(("good", text("The office is there, and empty. Bring a workbook or the seven files.")))
-    return redirect(url_for("season.page"), 303)
+    if desk().is_there():
+        return lead("season.page")
+    done = running.run(desk().office, "init")
+    if done.status:
+        raise Trouble(done.complaint.strip())
+    return lead("season.page", text("The office is there, and empty. Bring a workbook or the seven files."))
 
 
 def warm(found: View) -> None:
@@ -59,20 +57,20 @@ def warm(found: View) -> None:
 def totals(found: list[counting.Sums]) -> dict[str, int]:
     return {"members": sum(each.members for each in found), "short": sum(each.short for each in found),
             "waiting": sum(each.waiting for each in found),
-            "candidates": view().once("candidates", lambda: view().count("SELECT count(*) FROM candidate"))}
+            "candidates": counting.candidates(view())}
 
 
 def weeks_of(found: list[counting.Sums]) -> list[list[tuple[str, list[counting.Sums]]]]:
     """For each week with a session its days, Monday first, each with its sessions."""
-    weeks: dict[datetime.date, dict[str, list[counting.Sums]]] = {}
+    days: dict[str, list[counting.Sums]] = {}
     for session in found:
-        date = datetime.date.fromisoformat(session.day)
-        weeks.setdefault(date - datetime.timedelta(days=date.weekday()), {}).setdefault(session.day, []).append(session)
-    at_weekends = any(datetime.date.fromisoformat(each.day).weekday() > 4 for each in found)
-    days = range(7 if at_weekends else 5)
-    return [[((monday + datetime.timedelta(days=place)).isoformat(),
-              sessions.get((monday + datetime.timedelta(days=place)).isoformat(), [])) for place in days]
-            for monday, sessions in sorted(weeks.items())]
+        days.setdefault(session.day, []).append(session)
+    dates_with = [datetime.date.fromisoformat(day) for day in days]
+    weeks = {date - datetime.timedelta(days=date.weekday()) for date in dates_with}
+    at_weekends = any(date.weekday() > 4 for date in dates_with)
+    dates = [[(monday + datetime.timedelta(days=place)).isoformat() for place in range(7 if at_weekends else 5)]
+             for monday in sorted(weeks)]
+    return [[(day, days.get(day, [])) for day in dates_of] for dates_of in dates]
 
 
 def attention(found: list[counting.Sums]) -> list[Attention]:
@@ -98,36 +96,31 @@ def shortages(coming: list[counting.Sums]) -> list[Attention]:
     return [Attention("now" if days_until(each.day) <= SOON else "soon", each.day,
                       many(each.short, "{count} candidate without a desk in {session}",
                            "{count} candidates without a desk in {session}", session=each.code),
-                      url_for("session.page", code=each.code) + "#short", text("See why"))
+                      url_for("session.page", code=each.code, _anchor="short"), text("See why"))
             for each in coming if each.short]
 
 
 def open_appeals() -> list[Attention]:
     kinds: dict[tuple[str, str], Counter[str]] = {}
-    for row in view().rows("SELECT kind, session, day FROM appeal JOIN session ON session.code = session "
-                           "WHERE state = 1"):
-        kinds.setdefault((row["day"], row["session"]), Counter())[appeals.KINDS[row["kind"]]] += 1
-    found = []
-    for (day, code), counts in kinds.items():
-        last = lastdays.to_decide(day)
-        left = days_until(last)
-        level = "late" if left < 0 else "now" if left <= URGENT else "soon"
-        parts = Markup(", ").join(Markup("{} {}").format(count, text(kind)) for kind, count in counts.items())
-        words = many(sum(counts.values()), "{count} open appeal for {session}: {kinds}",
-                     "{count} open appeals for {session}: {kinds}", session=code, kinds=parts)
-        found.append(Attention(level, last, words,
-                               url_for("appeals.page") + f"#{code}", text("Decide")))
-    return found
+    for kind, code, day in view().rows("SELECT kind, session, day FROM appeal JOIN session ON session.code = session "
+                                       "WHERE state = 1"):
+        kinds.setdefault((lastdays.to_decide(day), code), Counter())[appeals.KINDS[kind]] += 1
+    return [Attention("late" if days_until(last) < 0 else "now" if days_until(last) <= URGENT else "soon", last,
+                      many(sum(counts.values()), "{count} open appeal for {session}: {kinds}",
+                           "{count} open appeals for {session}: {kinds}", session=code,
+                           kinds=Markup(", ").join(Markup("{} {}").format(count, text(kind))
+                                                   for kind, count in counts.items())),
+                      url_for("appeals.page", _anchor=code), text("Decide"))
+            for (last, code), counts in kinds.items()]
 
 
+@once
 def unheard_clashes(found: View) -> dict[str, int]:
     """By session how many have two papers at once and no appeal on it that is open or decided."""
-    def make() -> dict[str, int]:
-        heard = set(map(tuple, found.rows("SELECT session, number FROM appeal WHERE kind = 2 AND state IN (1, 2, 3)")))
-        counts = {code: sum((code, number) not in heard for number in numbers)
-                  for code, numbers in counting.two_papers(found).items()}
-        return {code: count for code, count in counts.items() if count}
-    return found.once("unheard", make)
+    heard = set(map(tuple, found.rows("SELECT session, number FROM appeal WHERE kind = 2 AND state IN (1, 2, 3)")))
+    counts = {code: sum((code, number) not in heard for number in numbers)
+              for code, numbers in counting.two_papers(found).items()}
+    return {code: count for code, count in counts.items() if count}
 
 
 def clashes(coming: list[counting.Sums]) -> list[Attention]:
@@ -147,7 +140,7 @@ def unserved(coming: list[counting.Sums]) -> list[Attention]:
     if not coming or turns.keep_state(desk().office) is not None:
         return []
     return [Attention("note", None, text("Candidates cannot ask for their seats: the office is not served"),
-                      url_for("office.page") + "#serve", text("Serve"))]
+                      url_for("office.page", _anchor="serve"), text("Serve"))]
 
 
 def deadlines(found: list[counting.Sums], days: int = 14) -> list[tuple[str, dict[str, list[str]]]]:

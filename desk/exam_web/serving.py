@@ -1,6 +1,4 @@
 """One desk an office: its port, its lock and its links; and the end of all of them."""
-from __future__ import annotations
-
 import contextlib
 import fcntl
 import logging
@@ -47,7 +45,6 @@ def lock_of(office: Office) -> Iterator[int | None]:
 
 
 def running_at(office: Office) -> tuple[str, str]:
-    """The address and the prefix of the desk that has the lock."""
     file = beside.open_file(office.path, LOCK, flags=os.O_RDONLY)
     try:
         said = os.pread(file, NOTE_BYTES, 0).decode("ascii", "replace").split()

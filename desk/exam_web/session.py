@@ -1,28 +1,32 @@
 """A session: its numbers, its shortage and what could help, its halls as pictures, its appeals and what is printed."""
-from __future__ import annotations
-
+import math
+import re
 import sqlite3
 
-from flask import Blueprint, g, redirect, render_template, request, url_for
+from flask import Blueprint, abort, render_template, request
 from werkzeug.wrappers import Response
 
-from exam_desk import absences, appeals, facts, lastdays, notebook, printed
+from exam_desk import absences, facts, lastdays, notebook, printed
 from exam_desk.facts import Opening
 from exam_desk.notebook import Rows
 from exam_desk.reading import Member
-from exam_desk.sheets.chart import NotDrawn
+from exam_desk.sheets.chart import NotDrawn, numbered
 from exam_desk.trouble import Trouble
-from exam_web import counting, downloads, pictures, printing, proposals, shortages
-from exam_web.desk import candidate_row, desk, missing, view
+from exam_web import counting, downloads, printing, shortages
+from exam_web.desk import desk, view
+from exam_web.forms import Wrong, lead, whole
 from exam_web.wording import many, said, text
 
 pages = Blueprint("session", __name__)
 MOST_PEOPLE = 100  # that a page lists for one reason
+WIDTH, HEIGHT, GAP = 78, 38, 5  # of a desk in a picture, and from one to the next
+RUNNING = dict(zip(notebook.RUNNING, ("along the rows", "along and back", "down the columns", "down and up")))
+MOST_SUPPOSED = 14  # desks in a row, where nobody said how many
 SEATS = "session,date,start,finish,number,name,paper,paper title,hall,desk,extra,needs".split(",")
 
 
 def sums_of(code: str) -> counting.Sums:
-    return counting.sums(view()).get(code) or missing()
+    return counting.sums(view()).get(code) or abort(404)
 
 
 def openings(code: str) -> list[Opening]:
@@ -31,30 +35,26 @@ def openings(code: str) -> list[Opening]:
 
 def opening(code: str, hall: str) -> Opening:
     found = [each for each in openings(code) if each.hall == hall]
-    return found[0] if found else missing()
+    return found[0] if found else abort(404)
 
 
 @pages.get("/sessions/<code>")
 def page(code: str) -> str:
-    sums = sums_of(code)
+    sums, noted = sums_of(code), notebook.absent(desk().office, code)
     codes = list(counting.sums(view()))
-    place = codes.index(code)
+    before, _, after = [None, *codes, None][codes.index(code):][:3]
     lodged = view().rows("SELECT appeal.*, name FROM appeal JOIN candidate ON candidate.number = appeal.number "
                          "WHERE session = ? ORDER BY state, appeal.number, ref LIMIT ?", [code, MOST_PEOPLE + 1])
+    known = [number for number, in view().rows("SELECT number FROM candidate ORDER BY number")
+             if f"{number:07}" in noted] if noted else []  # a copy from before they came may have been put back
     return render_template(
         "session.html", s=sums, halls=openings(code), taken=taken(code), papers=papers(code), lodged=lodged,
-        previous=codes[place - 1] if place else None, next=codes[place + 1] if place + 1 < len(codes) else None,
-        closed=closed_halls(code), shortage=shortages.of(code, sums), clashes=clashes(code), most=MOST_PEOPLE,
-        absent=absent(code), sheets=printing.SHEETS, appeals=appeals, last=lastdays.to_decide(sums.day))
-
-
-def absent(code: str) -> list[sqlite3.Row]:
-    """Who is noted as missing, by number."""
-    return [candidate_row(number) for number in sorted(map(int, notebook.absent(desk().office, code)))]
+        previous=before, next=after, closed=closed_halls(code), clashes=clashes(code), most=MOST_PEOPLE,
+        absent=members_of(code, known), shortage=shortages.of(view(), code) if sums.short else None,
+        sheets=printing.SHEETS, last=lastdays.to_decide(sums.day))
 
 
 def taken(code: str) -> dict[str, int]:
-    """How many sit in each hall."""
     found = view().rows("SELECT hall, count(*) FROM seat WHERE session = ? GROUP BY hall", [code])
     return {hall: count for hall, count in found}
 
@@ -88,7 +88,6 @@ def members_of(code: str, numbers: list[int]) -> list[Member]:
 
 
 def sitting_in(code: str, hall: str) -> list[Member]:
-    """Who sits in a hall, by desk."""
     numbers = view().rows("SELECT number FROM seat WHERE session = ? AND hall = ?", [code, hall])
     return sorted(members_of(code, [number for number, in numbers]), key=lambda member: member.sitting.desk or 0)
 
@@ -98,29 +97,31 @@ def hall_page(code: str, hall: str) -> str:
     """A hall as a picture: a piece of the session's page, or a page of its own where no script runs."""
     sums, found = sums_of(code), opening(code, hall)
     members = sitting_in(code, hall)
-    drawn = pictures.picture(found, members, [row["code"] for row in papers(code)])
+    supposed = Rows(min(MOST_SUPPOSED, math.ceil(math.sqrt(found.desks * 1.7))), "down")
+    rows = notebook.rows_of_halls(desk().office).get(hall, supposed)
+    desks = sorted((number, column * (WIDTH + GAP) + 2, row * (HEIGHT + GAP) + 2)
+                   for row, line in enumerate(numbered(found.desks, rows))
+                   for column, number in enumerate(line) if number is not None)
     return render_template("hall_piece.html" if "piece" in request.args else "hall.html", s=sums, opening=found,
-                           members=members, absent=notebook.absent(desk().office, code), picture=drawn,
-                           running=pictures.RUNNING, papers=papers(code), desk_width=pictures.WIDTH,
-                           desk_height=pictures.HEIGHT)
+                           rows=rows, desks=desks, members=members, running=RUNNING, desk_width=WIDTH,
+                           by_desk={member.sitting.desk: member for member in members}, desk_height=HEIGHT,
+                           codes=[row["code"] for row in papers(code)], absent=notebook.absent(desk().office, code))
 
 
 @pages.post("/sessions/<code>/halls/<hall>/draw")
-def draw(code: str, hall: str) -> Response | tuple[str, int]:
+def draw(code: str, hall: str) -> Response:
     """Keeps how the desks of a hall stand; nobody moves."""
     opening(code, hall)
     across = request.form.get("across", "")
-    rows = Rows(int(across[:4]) if across.isdecimal() else 0, request.form.get("running", ""))
+    rows = Rows(int(across) if re.fullmatch("[0-9]{1,4}", across) else 0, request.form.get("running", ""))
     if not notebook.can_stand(rows):
-        g.wrong = {"across": text("a whole number from {low} to {high}", low=1, high=notebook.MOST_ACROSS)}
-        g.given, g.asked_form = request.form, "draw"
-        return hall_page(code, hall), 422
+        raise Wrong(("session.hall", {"code": code, "hall": hall}), "draw", across=whole(1, notebook.MOST_ACROSS))
     notebook.keep_rows(desk().office, hall, rows)
-    return redirect(url_for("session.page", code=code) + f"#hall-{hall}", 303)
+    return lead("session.page", code=code, _anchor=f"hall-{hall}")
 
 
 @pages.post("/sessions/<code>/absent")
-def note_absent(code: str) -> Response | tuple[str, int]:
+def note_absent(code: str) -> Response:
     """Notes as absent who is ticked, or named by number; whoever is listed and not ticked was there."""
     sums_of(code)
     ticked = request.form.getlist("absent")
@@ -129,19 +130,16 @@ def note_absent(code: str) -> Response | tuple[str, int]:
     try:
         found = absences.note(view().reading, code, [*ticked, *typed], there)
     except Trouble as trouble:
-        wrong = proposals.Wrong(("session.page", {"code": code}), numbers=said(trouble.sentence))
-        return proposals.wrong_page(wrong, "absent")
-    g.visit.said.append(("good", many(len(found), "{count} candidate is noted as absent in {session}.",
-                                      "{count} candidates are noted as absent in {session}.", session=code)))
-    return redirect(url_for("session.page", code=code) + "#absent", 303)
+        raise Wrong(("session.page", {"code": code}), "absent", numbers=said(trouble.sentence)) from None
+    told = many(len(found), "{count} candidate is noted as absent in {session}.",
+                "{count} candidates are noted as absent in {session}.", session=code)
+    return lead("session.page", told, code=code, _anchor="absent")
 
 
 @pages.get("/sessions/<code>/attendance.csv")
 def attendance_csv(code: str) -> Response:
-    """The list for the exam board."""
     sums_of(code)
-    found = absences.listed(view().reading, code).encode()
-    return downloads.attached(found, f"{code}-attendance.csv", "text/csv")
+    return downloads.attached(absences.listed(view().reading, code).encode(), f"{code}-attendance.csv")
 
 
 @pages.get("/sessions/<code>/seats.csv")
@@ -158,14 +156,13 @@ def seats_csv(code: str) -> Response:
 def sheet(code: str, sheet: str) -> str | Response:
     """A sheet to print, of all halls or of some, made by the function that the command line uses."""
     sums_of(code)
-    made = printing.SHEETS.get(sheet) or missing()
+    made = printing.SHEETS.get(sheet) or abort(404)
     halls = [request.args.getlist("hall")] if made.by_hall else []
     try:
         return printing.styled(made.page(view().reading, code, *halls))
     except NotDrawn as trouble:
-        g.visit.said.append(("bad", text("First open the line of each of these halls, and press Draw: {halls}.",
-                                         halls=", ".join(trouble.halls))))
-        return redirect(url_for("session.page", code=code) + "#halls", 303)
+        return lead("session.page", text("First open the line of each of these halls, and press Draw: {halls}.",
+                                         halls=", ".join(trouble.halls)), "bad", code=code, _anchor="halls")
 
 
 @pages.get("/sessions/<code>/printed")
@@ -180,11 +177,10 @@ def compare_printed(code: str) -> str:
 def note_printed(code: str) -> Response:
     """Notes that the sheets are printed, if the office is as the page beside them showed it."""
     sums_of(code)
-    if request.form.get("state") == view().name:
-        noted = printed.note(view().reading, code)
-        answer = ("good", many(noted.desks, "{count} desk of {session} is noted as printed.",
-                             "{count} desks of {session} are noted as printed.", session=code))
-    else:
-        answer = ("bad", text("Nothing is noted: the office is another than the page showed. Print the sheets again."))
-    g.visit.said.append(answer)
-    return redirect(url_for("session.page", code=code) + "#print", 303)
+    if request.form.get("state") != view().name:
+        told = text("Nothing is noted: the office is another than the page showed. Print the sheets again.")
+        return lead("session.page", told, "bad", code=code, _anchor="print")
+    noted = printed.note(view().reading, code)
+    told = many(noted.desks, "{count} desk of {session} is noted as printed.",
+                "{count} desks of {session} are noted as printed.", session=code)
+    return lead("session.page", told, code=code, _anchor="print")

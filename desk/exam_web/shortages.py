@@ -3,8 +3,6 @@
 What could help is a guess that a button rehearses: only the program says what it comes to. Whom a hall would suit,
 `reasons.Reasons` says.
 """
-from __future__ import annotations
-
 from collections.abc import Iterator
 from concurrent.futures import ThreadPoolExecutor
 from typing import NamedTuple
@@ -15,8 +13,7 @@ from exam_desk import reasons, shortage
 from exam_desk.facts import Opening
 from exam_desk.reading import Member
 from exam_desk.words import clock
-from exam_web.counting import Sums
-from exam_web.desk import view
+from exam_web.desk import View, once
 from exam_web.wording import text
 
 MOST_EXPLAINED, MOST_REMEDIES = 30, 4
@@ -37,19 +34,15 @@ class Shortage(NamedTuple):
     remedies: list[Remedy]
 
 
-def of(code: str, sums: Sums) -> Shortage | None:
-    """The shortage of a session; None where everybody has a desk."""
-    return view().once(("shortage", code), lambda: make(code)) if sums.short else None
-
-
-def make(code: str) -> Shortage:
-    reading = view().reading
+@once
+def of(view: View, code: str) -> Shortage:
+    """The shortage of a session in which somebody has no desk."""
     with ThreadPoolExecutor(1) as aside:  # the program prints the sheet while it is asked
-        sheet = aside.submit(reading.sheet, "shortage", code)
-        why = reasons.Reasons(reading, code)
+        sheet = aside.submit(view.reading.sheet, "shortage", code)
+        why = reasons.Reasons(view.reading, code)
     return Shortage(shortage.read(sheet.result()),
                     [(member, by_reason(why.of(member))) for member in why.unseated()[:MOST_EXPLAINED]],
-                    sorted(remedies(why), key=lambda each: -each.suits)[:MOST_REMEDIES])
+                    sorted(remedies(view, why), key=lambda each: -each.suits)[:MOST_REMEDIES])
 
 
 def by_reason(halls: list[tuple[str, str]]) -> dict[str, list[str]]:
@@ -60,16 +53,19 @@ def by_reason(halls: list[tuple[str, str]]) -> dict[str, list[str]]:
     return found
 
 
-def remedies(why: reasons.Reasons) -> Iterator[Remedy]:
+def remedies(view: View, why: reasons.Reasons) -> Iterator[Remedy]:
     opened = {each.hall: each for each in why.openings}
-    for code, title, features in view().rows("SELECT code, title, features FROM hall ORDER BY code"):
+    for code, title, features in view.rows("SELECT code, title, features FROM hall ORDER BY code"):
         widest = Opening(code, title, features, 1, MIDNIGHT, False)  # open as long as can be, for everybody
         suited = [member for member in why.unseated() if not why.obstacles(member, widest)]
-        if suited:
-            last = max(minutes(member.sitting.finish) for member in suited)
-            remedy = change(why, opened[code], suited, last) if code in opened else begin(widest, suited, last)
-            if remedy:
-                yield remedy
+        last = max((minutes(member.sitting.finish) for member in suited), default=0)
+        if suited and code in opened:
+            yield from change(why, opened[code], suited, last)
+        elif suited:  # open as it is in most sessions, and long enough
+            desks, until = view.row(USUAL, [code]) or (len(suited), last)
+            then = widest._replace(desks=desks, until=max(until, last))
+            yield Remedy(len(suited), text("Open {hall}, {title}, with {desks} desks until {until}", hall=code,
+                                           title=title, desks=desks, until=clock(then.until)), then)
 
 
 def minutes(finish: str) -> int:
@@ -77,17 +73,9 @@ def minutes(finish: str) -> int:
     return int(hours) * 60 + int(rest)
 
 
-def begin(hall: Opening, suited: list[Member], last: int) -> Remedy:
-    """A hall that is closed, open as it is in most sessions, and long enough."""
-    desks, until = view().row(USUAL, [hall.hall]) or (len(suited), last)
-    then = hall._replace(desks=desks, until=max(until, last))
-    words = text("Open {hall}, {title}, with {desks} desks until {until}", hall=then.hall, title=then.title,
-                 desks=then.desks, until=clock(then.until))
-    return Remedy(len(suited), words, then)
-
-
-def change(why: reasons.Reasons, now: Opening, suited: list[Member], last: int) -> Remedy | None:
-    """A hall that is open, with a later end, for everybody or with more desks; None where none of these is missing."""
+def change(why: reasons.Reasons, now: Opening, suited: list[Member], last: int) -> Iterator[Remedy]:
+    """A hall that is open, with a later end, for everybody or with more desks; nothing where none of these is
+    missing."""
     longer = now._replace(until=max(now.until, last))
     reserved = now.reserved and all(not why.obstacles(member, longer) for member in suited)
     more = max(0, len(suited) + len(why.taken[now.hall]) - now.desks)
@@ -95,5 +83,5 @@ def change(why: reasons.Reasons, now: Opening, suited: list[Member], last: int) 
     parts = [text("until {until}", until=clock(then.until))] * (then.until != now.until)
     parts += [text("no longer reserved")] * (then.reserved != now.reserved)
     parts += [text("with {desks} desks, {more} more", desks=then.desks, more=more)] * (more > 0)
-    words = text("Have {hall} {how}", hall=now.hall, how=Markup(", ").join(parts))
-    return Remedy(len(suited), words, then) if parts else None
+    if parts:
+        yield Remedy(len(suited), text("Have {hall} {how}", hall=now.hall, how=Markup(", ").join(parts)), then)

@@ -2,8 +2,6 @@
 
 No name that a browser sends becomes a path: it is compared and shown. A zip is read in memory and never unpacked.
 """
-from __future__ import annotations
-
 import csv
 import datetime
 import io
@@ -22,9 +20,10 @@ from werkzeug.datastructures import FileStorage
 from exam_desk import coding, files, mistakes, private
 from exam_desk.trouble import Trouble
 from exam_desk.workbook.checking import file_parts
-from exam_desk.workbook.reading import read_workbook
+from exam_desk.workbook.opening import open_book
+from exam_desk.workbook.reading import read_book
 from exam_desk.workbook.report import Line
-from exam_desk.workbook.tables import Choices
+from exam_desk.workbook.tables import Job
 from exam_desk.workbook.texts import Way
 from exam_web.desk import View, desk
 from exam_web.wording import said, shown, text
@@ -90,15 +89,14 @@ def of_visit(key: str) -> Upload:
     return found or abort(404)
 
 
-def taken(storages: Iterable[FileStorage], dates: str, view: View | None) -> Upload:
-    """The files of an upload by kind."""
+def taken(storages: Iterable[FileStorage], dates: str, view: View) -> Upload:
     upload = Upload()
     for storage in storages:
         name = (storage.filename or "").replace("\\", "/").rsplit("/", 1)[-1]
         if name.lower().endswith(".zip"):
             take_zip(upload, name, storage.stream)
         elif name.lower().endswith(BOOKS):
-            take_book(upload, name, storage.stream.read(), dates, view)
+            take_book(upload, name, storage.stream.read(), Way(dates), mistakes.Known(view.reading.rows))
         elif name:
             take(upload, name, storage.stream.read(files.MOST_BYTES + 1))
     return upload
@@ -136,15 +134,13 @@ def kind_of(name: str, content: bytes) -> str | None:
     return found or (stem if stem in files.HEADERS else None)
 
 
-def take_book(upload: Upload, name: str, content: bytes, dates: str, view: View | None) -> None:
+def take_book(upload: Upload, name: str, content: bytes, way: Way, known: mistakes.Known) -> None:
     """Reads a workbook by the rules of `office read`: its sheets are taken where no line is a mistake."""
-    known = mistakes.Known(view.reading.rows) if view else mistakes.Known()
     with private.own_folder(desk().office.path) as folder:
         path = os.path.join(folder, "workbook" + os.path.splitext(name.lower())[1])
-        with open(os.open(path, os.O_WRONLY | os.O_CREAT | os.O_EXCL, 0o600), "wb") as file:
-            file.write(content)
+        files.put(path, content)
         try:
-            reading = read_workbook(path, known, Way(dates), {}, Choices())
+            reading = read_book(open_book(path), Job(known, way))
         except Trouble as trouble:
             upload.note(name, said(trouble.sentence))
             return
@@ -159,15 +155,14 @@ def take_book(upload: Upload, name: str, content: bytes, dates: str, view: View 
 def looked_through(texts: Mapping[str, bytes], view: View) -> dict[str, Looked]:
     """The files with their mistakes, each beside the office and the files before it."""
     known, looked = mistakes.Known(view.reading.rows), {}
-    for kind in files.HEADERS:
-        if kind in texts:
-            wrong, notes = mistakes.looked_through(kind, texts[kind], known)
-            wanted = {each.line for each in (*list(wrong)[:MOST_CURED], *list(notes)[:MOST_SHOWN])}
-            records = {record.line: record for record in files.records(texts[kind]) if record.line in wanted}
-            rows = sum(1 for _ in files.records(texts[kind])) - 1
-            faults, shown = ([fault(kind, each, records) for each in list(found)[:most]]
-                             for found, most in ((wrong, MOST_CURED), (notes, MOST_SHOWN)))
-            looked[kind] = Looked(faults, shown, wrong.count, max(0, rows))
+    for kind in (kind for kind in files.HEADERS if kind in texts):
+        wrong, notes = mistakes.looked_through(kind, texts[kind], known)
+        found = list(wrong)[:MOST_CURED], list(notes)[:MOST_SHOWN]
+        lines = {each.line for part in found for each in part}
+        records = {record.line: record for record in files.records(texts[kind]) if record.line in lines}
+        rows = sum(1 for _ in files.records(texts[kind])) - 1
+        faults, shown = ([fault(kind, each, records) for each in part] for part in found)
+        looked[kind] = Looked(faults, shown, wrong.count, max(0, rows))
     return looked
 
 
@@ -203,7 +198,6 @@ def corrections(kind: str, looked: Looked, form: Mapping[str, str], taken: set[s
 
 
 def corrected(content: bytes, wanted: Corrections) -> bytes:
-    """The bytes of a file with other values."""
     out = io.StringIO()
     lines = csv.writer(out, lineterminator="\n")
     for record in files.records(content):

@@ -5,18 +5,16 @@ copy languages/de.json under the name of the language that browsers ask for, and
 word in braces stands for a value. A text that a language lacks stays English; en.json says some otherwise than the
 commands do. What the program says is English always.
 """
-from __future__ import annotations
-
 import datetime
 import json
 import pathlib
-from typing import Any
 
 from flask import Flask, current_app, request
 from markupsafe import Markup, escape
 
 from exam_desk.words import clock, feature_text, plain
 
+MOST_LETTERS = 10  # of a name at a desk
 RIGHT_TO_LEFT = ("ar", "fa", "he", "ur")
 LANGUAGES: dict[str, dict[str, str]] = {
     path.stem: json.loads(path.read_text("utf-8"))
@@ -24,7 +22,6 @@ LANGUAGES: dict[str, dict[str, str]] = {
 
 
 def language() -> str:
-    """The first language of the browser that the desk has."""
     return request.accept_languages.best_match(["en", *LANGUAGES]) or "en"
 
 
@@ -80,15 +77,18 @@ def away(iso: str) -> Markup:
     return text("in {count} days", count=left) if left > 0 else text("{count} days ago", count=-left)
 
 
-def finalize(value: Any) -> Any:
-    """The last look at every value that a page writes: no hidden character of a text goes out."""
-    return plain(value) if type(value) is str else value
+def short(name: str) -> str:
+    """The last word of a name and an initial."""
+    words = plain(name).split() or ["?"]
+    found = f"{words[-1]} {words[0][0]}" if len(words) > 1 else words[0]
+    return found if len(found) <= MOST_LETTERS else found[:MOST_LETTERS - 1] + "…"
 
 
 def prepare(app: Flask) -> None:
-    """Gives the pages of an application their words."""
+    """Gives the pages of an application their words. No hidden character of a text that they write goes out."""
     app.jinja_env.trim_blocks = app.jinja_env.lstrip_blocks = True
-    app.jinja_env.finalize = finalize
+    app.jinja_env.finalize = lambda value: plain(value) if type(value) is str else value
     app.jinja_env.globals.update(_=text, many=many, language=language)
     app.jinja_env.filters.update(shown=shown, num=number, day=day, year_day=year_day, away=away, clock=clock,
-                                 features=feature_text, until=days_until, seven=lambda value: f"{int(value):07}")
+                                 features=feature_text, short=short, until=days_until,
+                                 seven=lambda value: f"{int(value):07}")

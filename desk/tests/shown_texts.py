@@ -18,16 +18,16 @@ from jinja2 import nodes
 DESK = pathlib.Path(__file__).resolve().parent.parent
 sys.path.insert(0, str(DESK))
 from exam_desk import appeals, mistakes, refusals  # noqa: E402
-from exam_web import application, desk, effects, pictures, plans, printing, proposals  # noqa: E402
+from exam_web import application, desk, effects, forms, plans, printing, proposals, session  # noqa: E402
 
 DAYS = [datetime.date(2027, 3, day) for day in range(1, 8)]
 MONTHS = [datetime.date(2027, month, 1) for month in range(1, 13)]
 CHAPTERS = set(re.findall("^## (.+)", (DESK.parent / "docs/HANDBOOK.md").read_text("utf-8"), re.M))
 SAID = [*refusals.SENTENCES.values(), *refusals.OTHER.values()]
-CURES = [cure.removesuffix(plans.SHEET_HINT) for cure in mistakes.CURES.values()]
+CURES = [cure.removesuffix(forms.SHEET_HINT) for cure in mistakes.CURES.values()]
 OWN = [proposals.OTHER_OFFICE, proposals.WRONG_DESK]
 TABLES = {  # by what stands in the call
-    "word": [*(word for _, word in application.PLACES), *pictures.RUNNING.values()],
+    "word": [*(word for _, word in application.PLACES), *session.RUNNING.values()],
     "sheet.title": [sheet.title for sheet in printing.SHEETS.values()],
     "words[tense]": [word for pair in effects.KINDS.values() for word in pair],
     "appeals.KINDS[row.kind]": appeals.KINDS.values(), "appeals.STATES[row.state]": appeals.STATES.values(),
@@ -42,7 +42,7 @@ SENTENCE = re.compile(r"[a-z]{2,} [a-z]{2,}.* [a-z]{2,}")
 SQL = re.compile(r"\s*(SELECT|FROM|WHERE|ORDER|JOIN|AND|GROUP|HAVING)\b|.*\b(SELECT|FROM entry|JOIN)\b")
 OF_STRANGERS = {"guard.py", "serving.py"}  # they speak to who is not in, and to the terminal
 PLAIN = {"examoffice", "csv", "aria", "invalid", "true", "describedby", "fault"}  # no words of a language
-NO_TEXTS = {plans.SHEET_HINT, "the form has all values"}  # what is taken away from a text; of an assertion
+NO_TEXTS = {forms.SHEET_HINT, "the form has all values"}  # what is taken away from a text; of an assertion
 ATTRIBUTES = {"title", "placeholder", "aria-label", "alt", "data-busy", "data-working", "data-nothing"}
 found, lost = set(), []
 

@@ -229,7 +229,8 @@ class TestBack(DeskSchool):
 class TestBesideKeep(DeskSchool):
     def test_no_answer_of_a_candidate_is_lost(self):
         port = sample.free_port()
-        self.browser.post("/office/keep", "/office", 422, what="start", port="80")
+        for wrong in ("80", "0090009999"):
+            self.browser.post("/office/keep", "/office", 422, what="start", port=wrong)
         self.browser.post("/office/keep", "/office", what="start", port=str(port))
         self.addCleanup(self.run_office, "keep", "stop")
         self.assertIn(f"127.0.0.1 {port}", self.browser.words("/office"))

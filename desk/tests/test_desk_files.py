@@ -113,6 +113,7 @@ class TestFiles(Uploads):
             text = self.browser.get(page)
             self.assertNotRegex(text, r"<script(?! src=)")
             self.assertNotIn("/propose/files", text)
+            self.assertNotIn(self.folder, text)
 
     def test_downloads(self):
         mark = re.search(MARK, self.browser.get("/files"))[1]

@@ -5,6 +5,7 @@ import unittest
 
 import sample
 from desk_client import DeskSchool
+from exam_desk import notebook
 
 
 class TestPrinting(DeskSchool):
@@ -69,7 +70,10 @@ class TestPrinting(DeskSchool):
             _, text = self.browser.post("/candidates/1051/note", "/candidates/1051", 422, note=wrong)
             self.assertRegex(text, 'name="note"[^>]*aria-invalid="true"')
         self.assertEqual(self.office("notes"), f"0001051 Di Berg: {note}\n")
-        self.browser.post("/candidates/1051/note", "/candidates/1051", note="")
+        _, text = self.browser.post("/candidates/1051/note", "/candidates/1051", 422, note="mine", was="")
+        self.assertIn("somebody has changed it meanwhile", text)
+        self.assertIn(f'name="was" value="{note}"', html.unescape(text))
+        self.browser.post("/candidates/1051/note", "/candidates/1051", note="", was=note)
         self.assertEqual((self.office("notes"), self.browser.get("/candidates/notes")), ("", ""))
         self.browser.post("/candidates/9999999/note", "/candidates/1051", 404, note="x")
 
@@ -91,12 +95,25 @@ class TestPrinting(DeskSchool):
         self.assertNotIn('"absent"', self.office("absent", "MON-AM"))
         self.assertEqual(self.seats(), before)
 
+    def test_who_was_absent_and_is_gone(self):
+        page = "/sessions/MON-AM"
+        self.office("absent", "MON-AM", "0001051")
+        self.office("withdraw", "0001051", "CS-1")
+        self.office("withdraw", "0001051", "LAT")
+        self.assertIn("0001051", notebook.absent(self.value, "MON-AM"))
+        self.assertNotIn('name="listed"', self.browser.get(page))
+        self.browser.post(page + "/absent", page, numbers="0001119")
+        self.assertIn("0001119", notebook.absent(self.value, "MON-AM"))
+        notebook.keep_absent(self.value, "MON-AM", ["9999999"], [])
+        self.assertNotIn("9999999", self.browser.words(page))
+
     def test_how_a_hall_is_drawn(self):
         page = "/sessions/MON-AM/halls/GYM"
         before = self.seats()
         self.browser.post(page + "/draw", page, across="3", running="down-and-up")
         self.assertEqual(self.office("rows"), "GYM: rows of 3, down-and-up\n")
-        for across, running in (("0", "down"), ("101", "down"), ("x", "down"), ("", "down"), ("4", "other")):
+        for across, running in (("0", "down"), ("101", "down"), ("x", "down"), ("", "down"), ("4", "other"),
+                                ("00509999", "down")):
             self.browser.post(page + "/draw", page, 422, across=across, running=running)
         self.assertEqual(self.office("rows"), "GYM: rows of 3, down-and-up\n")
         self.office("rows", "GYM", "5", "across-and-back")

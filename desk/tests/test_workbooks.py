@@ -20,10 +20,9 @@ import corpus  # noqa: E402
 import rawbook  # noqa: E402
 from exam_desk.trouble import Trouble  # noqa: E402
 from exam_desk.workbook import carrying, opening  # noqa: E402
-from exam_desk.workbook.plans import workbook_of  # noqa: E402
 from exam_desk.workbook.reading import Reading  # noqa: E402
 from exam_desk.workbook.report import Report  # noqa: E402
-from exam_desk.workbook.writing import write_folder  # noqa: E402
+from exam_desk.workbook.writing import workbook_of, write_folder  # noqa: E402
 
 AT_A_TIME = 4
 

@@ -1,7 +1,6 @@
 """A workbook as lines of JSON: so the process that reads it hands it over to the one that asked."""
 import json
 from collections.abc import Iterable, Iterator
-from typing import Any
 
 from exam_desk.trouble import Trouble
 from exam_desk.workbook.cells import Book, Cell, Sheet
@@ -13,8 +12,7 @@ def packed(book: Book) -> Iterator[str]:
     yield json.dumps({"form": book.form, "notes": book.notes})
     known: dict[Cell, int] = {}
     for sheet in book.sheets:
-        more = (sheet.hidden, sheet.hidden_rows, sheet.hidden_columns, sheet.merged, sheet.comments)
-        yield json.dumps({"sheet": sheet.name, "more": more})
+        yield json.dumps({**vars(sheet), "rows": {}})
         for row, cells in sheet.rows.items():
             line: list[object] = [row]
             for column, cell in cells.items():
@@ -23,9 +21,8 @@ def packed(book: Book) -> Iterator[str]:
             yield json.dumps(line)
 
 
-def refused(trouble: Trouble) -> str:
-    """The line of a workbook that cannot be read."""
-    return json.dumps({"refused": trouble.sentence})
+def refused(sentence: str) -> str:
+    return json.dumps({"refused": sentence})
 
 
 def unpacked(lines: Iterable[str]) -> Book:
@@ -41,10 +38,8 @@ def unpacked(lines: Iterable[str]) -> Book:
             book.sheets[-1].rows[found[0]] = {column: known[cell] for column, cell in zip(found[1::2], found[2::2])}
         elif "refused" in found:
             raise Trouble(found["refused"])
-        elif "sheet" in found:
-            hidden, *places = found["more"]
-            spans: list[list[Any]] = [[tuple(place) for place in several] for several in places]
-            book.sheets.append(Sheet(found["sheet"], hidden, {}, *spans))
+        elif "name" in found:
+            book.sheets.append(Sheet(**found))
         else:
             book = Book(found["form"], [], found["notes"])
     return book

@@ -4,6 +4,7 @@ A workbook may come from a stranger, so whatever is read and kept has a limit.
 """
 import functools
 import re
+from collections.abc import Iterable, Sequence
 from dataclasses import dataclass, field
 from typing import NamedTuple
 
@@ -18,8 +19,6 @@ MOST_MERGED = 200_000  # rows that merged cells cover
 
 
 class Cell(NamedTuple):
-    """A cell that holds something."""
-
     kind: str  # text, number, percent, date, time, bool, error, or pending: a formula without a result
     text: str  # a text; the digits of a number; 2027-06-07 or 2027-06-07T09:00:00; the seconds of a time
     shown: str  # what the officer sees, as far as that is known, else ''
@@ -35,10 +34,15 @@ class Sheet:
     name: str
     hidden: bool = False
     rows: dict[int, dict[int, Cell]] = field(default_factory=dict)  # by row, then by column
-    hidden_rows: list[tuple[int, int]] = field(default_factory=list)  # the first and the last
-    hidden_columns: list[tuple[int, int]] = field(default_factory=list)
-    merged: list[tuple[int, int, int, int]] = field(default_factory=list)  # first row and column, last row and column
-    comments: list[tuple[int, int]] = field(default_factory=list)  # row and column
+    hidden_rows: list[Sequence[int]] = field(default_factory=list)  # the first and the last
+    hidden_columns: list[Sequence[int]] = field(default_factory=list)
+    merged: list[Sequence[int]] = field(default_factory=list)  # first row and column, last row and column
+    comments: list[Sequence[int]] = field(default_factory=list)  # row and column
+
+    def merge(self, areas: Iterable[Sequence[int]]) -> None:
+        self.merged += areas
+        if len(self.merged) > MOST_MERGED:
+            raise Trouble(f"it has more than {MOST_MERGED:,} merged cells")
 
 
 class Book(NamedTuple):
@@ -68,21 +72,13 @@ def place_of(text: str) -> tuple[int, int]:
     match = re.fullmatch(r"\$?([A-Z]{1,3})\$?([0-9]{1,7})", text)
     if not match:
         raise Trouble(f"it has a cell {text[:20]!r}")
-    column = 0
-    for letter in match[1]:
-        column = 26 * column + ord(letter) - 64
-    return int(match[2]), column
+    return int(match[2]), sum((ord(letter) - 64) * 26 ** place for place, letter in enumerate(reversed(match[1])))
 
 
 def area_of(text: str) -> tuple[int, int, int, int]:
     """A reference such as A2:B7 as first row and column, last row and column."""
     first, _, last = text.partition(":")
     return (*place_of(first), *place_of(last or first))
-
-
-@functools.cache
-def quoted_name(name: str) -> str:
-    return name if re.fullmatch(r"\w+", name) else "'" + name.replace("'", "''") + "'"
 
 
 @functools.cache
@@ -99,7 +95,6 @@ def place_name(sheet: Sheet | None, row: int | None = None, column: int | None =
     """A place as people write it: Sheet!B7, Sheet!7, Sheet!B, Sheet; names that are not one word in quotes."""
     if sheet is None:
         return ""
-    name = quoted_name(sheet.name)
-    if row is None:
-        return f"{name}!{letters_of(column)}" if column else name
-    return f"{name}!{letters_of(column)}{row}" if column else f"{name}!{row}"
+    name = sheet.name if re.fullmatch(r"\w+", sheet.name) else "'" + sheet.name.replace("'", "''") + "'"
+    place = f"{letters_of(column or 0)}{row or ''}"
+    return f"{name}!{place}" if place else name

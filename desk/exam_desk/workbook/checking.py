@@ -1,33 +1,23 @@
 """The check of the files before an import, `mistakes.looked_through`, with cells in place of lines."""
 import re
 from collections.abc import Callable, Iterable, Iterator, Mapping
+from functools import partial
 
 from exam_desk import files, mistakes
 from exam_desk.workbook.cells import place_name
-from exam_desk.workbook.headers import KINDS
 from exam_desk.workbook.rows import Record
 from exam_desk.workbook.tables import Job
 
-Records = Mapping[str, list[Record]]
+Found = tuple[str, mistakes.Mistake, Mapping[int, Record]]  # mistake or note; with the rows by the lines of their file
 
 
-def check_files(job: Job, records: Records, progress: Callable[[str], None]) -> None:
+def check_files(job: Job, records: Mapping[str, list[Record]], progress: Callable[[str], None]) -> None:
     """Adds to the report what `office check-files` would say of the files."""
     keep_codes(job, records.get("candidates", []))
     said = {line.place for line in job.report.lines if line.sort == "mistake"}
-    for kind in KINDS:
-        if not records.get(kind):
-            continue
-        progress(f"{kind}: check of {len(records[kind]):,} rows")
-        first = 0
-        for text, count in file_parts(kind, (record.fields for record in records[kind])):
-            wrong, notes = mistakes.looked_through(kind, text, job.known)
-            at = {record.line: first + place for place, record in enumerate(list(files.records(text))[1:])} \
-                if wrong or notes else {}
-            for sort, found in (("mistake", wrong), ("note", notes)):
-                for mistake in found:
-                    put_back(job, sort, kind, records[kind], at, mistake, said)
-            first += count
+    for kind, rows in records.items():
+        progress(f"{kind}: check of {len(rows):,} rows")
+        put_back(job, kind, found_in(job, kind, rows), said)
 
 
 def keep_codes(job: Job, candidates: list[Record]) -> None:
@@ -40,28 +30,38 @@ def keep_codes(job: Job, candidates: list[Record]) -> None:
                               "code (empty) became the one that the office has", "kept")
 
 
-def put_back(job: Job, sort: str, kind: str, records: list[Record], at: Mapping[int, int],
-             mistake: mistakes.Mistake, said: set[str]) -> None:
-    """A mistake of a file as a line on the cell from which it comes, unless a line on the cell says it."""
-    what = mistake.what.split(" ")[0]
-    if mistake.line not in at or what == "file":
-        job.report.add(sort, None, None, None, f"{kind}: {mistake.text}")
-        return
-    record, header = records[at[mistake.line]], files.HEADERS[kind]
-    column = record.columns[header.index(what)] if what in header else None
-    if sort == "mistake" and what == "code" and not record.fields[2]:
-        job.report.note(record.sheet, record.row, column, "code is empty: `office codes` fills it", "no code")
-        return
-    lacking = column is None and what in header and what != "code"  # said of the header
-    if sort == "mistake" and (lacking or place_name(record.sheet, record.row, column) in said):
-        return
+def found_in(job: Job, kind: str, rows: list[Record]) -> Iterator[Found]:
+    first = 0
+    for text, count in file_parts(kind, (record.fields for record in rows)):
+        wrong, notes = mistakes.looked_through(kind, text, job.known)
+        lines = [record.line for record in files.records(text)][1:] if wrong or notes else []
+        at = dict(zip(lines, rows[first:first + count]))
+        yield from [("mistake", each, at) for each in wrong] + [("note", each, at) for each in notes]
+        first += count
 
-    def in_workbook(match: re.Match[str]) -> str:
-        other = at.get(int(match[1]))
-        return match[0] if other is None else place_name(records[other].sheet, records[other].row)
-    text = re.sub(r"\bline ([0-9]+)\b", in_workbook, mistake.text)
-    job.report.add(sort, record.sheet, record.row, column, text if what == "row" else f"{mistake.what}: {text}",
-                   mistake.text if sort == "note" else what)
+
+def put_back(job: Job, kind: str, found: Iterable[Found], said: set[str]) -> None:
+    """Mistakes of files as lines on the cells from which they come, unless a line on the cell says it."""
+    header = files.HEADERS[kind]
+    for sort, mistake, at in found:
+        what, record = mistake.what.split(" ")[0], at.get(mistake.line)
+        if record is None or what == "file":
+            job.report.add(sort, None, None, None, f"{kind}: {mistake.text}")
+            continue
+        column = record.columns[header.index(what)] if what in header else None
+        lacking = column is None and what in header and what != "code"  # said of the header
+        if sort == "mistake" and what == "code" and not record.fields[2]:
+            job.report.note(record.sheet, record.row, column, "code is empty: `office codes` fills it", "no code")
+        elif sort == "note" or not (lacking or place_name(record.sheet, record.row, column) in said):
+            text = re.sub(r"\bline ([0-9]+)\b", partial(in_workbook, at), mistake.text)
+            job.report.add(sort, record.sheet, record.row, column, text if what == "row" else f"{mistake.what}: {text}",
+                           mistake.text if sort == "note" else what)
+
+
+def in_workbook(at: Mapping[int, Record], line: re.Match[str]) -> str:
+    """The row of a workbook from which a line of a file comes."""
+    record = at.get(int(line[1]))
+    return place_name(record.sheet, record.row) if record else line[0]
 
 
 def file_parts(kind: str, rows: Iterable[list[str]]) -> Iterator[tuple[bytes, int]]:

@@ -11,8 +11,6 @@ import zipfile
 
 MOST_MEMORY = 1 << 30  # bytes
 MOST_SECONDS = 60  # of the processor
-
-
 MISSING = "python3-openpyxl is missing: apt install python3-openpyxl"
 LACKS = 3  # the status where it is missing
 
@@ -42,13 +40,13 @@ def read(data: bytes) -> bytes:
                 from exam_desk.workbook.xlsx import read_xlsx as reader
             lines = "\n".join(carrying.packed(reader(archive)))
     except (zipfile.BadZipFile, ValueError, NotImplementedError, EOFError) as fault:
-        lines = carrying.refused(Trouble(f"it is broken or cut short: {fault}"))
+        lines = carrying.refused(f"it is broken or cut short: {fault}")
     except Trouble as trouble:
-        lines = carrying.refused(trouble)
+        lines = carrying.refused(trouble.sentence)
     except ModuleNotFoundError:
-        lines = carrying.refused(Trouble(MISSING))
+        lines = carrying.refused(MISSING)
     except MemoryError:
-        lines = carrying.refused(Trouble(f"it asks for more than {MOST_MEMORY >> 30} GB: it is no school's workbook"))
+        lines = carrying.refused(f"it asks for more than {MOST_MEMORY >> 30} GB: it is no school's workbook")
     return lines.encode("utf-8", "surrogatepass")
 
 
@@ -58,15 +56,11 @@ def write(data: bytes) -> bytes:
     except ModuleNotFoundError:
         sys.stderr.write(f"{MISSING}\n")
         sys.exit(LACKS)
-    return made(json.loads(data))
-
-
-def main(what: str) -> None:
-    sys.path[0] = str(pathlib.Path(__file__).resolve().parents[2])
-    limit(0 if what == "read" else MOST_MEMORY)  # openpyxl writes sheets to temporary files of the owner
-    given = sys.stdin.buffer.read()
-    sys.stdout.buffer.write({"read": read, "write": write}[what](given))
+    return made(*json.loads(data))
 
 
 if __name__ == "__main__":
-    main(sys.argv[1])
+    sys.path[0] = str(pathlib.Path(__file__).resolve().parents[2])
+    limit(0 if sys.argv[1] == "read" else MOST_MEMORY)  # openpyxl writes sheets to temporary files of the owner
+    given = sys.stdin.buffer.read()
+    sys.stdout.buffer.write({"read": read, "write": write}[sys.argv[1]](given))

@@ -11,20 +11,19 @@ ORDERS = ("", "day-first", "month-first")
 
 def read_columns(path: str) -> tuple[dict[str, Given], Way]:
     """What a file of columns says; raises `Trouble` where it says something else."""
-    with open(path, "rb") as file:
-        try:
-            found = tomllib.load(file)
-        except (tomllib.TOMLDecodeError, UnicodeDecodeError) as fault:
-            raise Trouble(str(fault), path) from fault
     try:
+        with open(path, "rb") as file:
+            found = tomllib.load(file)
         words, dates = found.pop("words", {}), found.pop("dates", "")
         for kind, said in found.items():
             check_kind(kind, said)
         check_words(words)
+        if dates not in ORDERS:
+            raise Trouble("dates is day-first or month-first")
+    except (tomllib.TOMLDecodeError, UnicodeDecodeError) as fault:
+        raise Trouble(str(fault), path) from fault
     except Trouble as trouble:
         raise Trouble(trouble.sentence, path) from trouble
-    if dates not in ORDERS:
-        raise Trouble("dates is day-first or month-first", path)
     return found, Way(dates, words)
 
 
@@ -45,7 +44,6 @@ def check_kind(kind: str, said: object) -> None:
 
 
 def is_headers(value: object) -> bool:
-    """Whether a value is a header or several."""
     texts = value if isinstance(value, list) else [value]
     return bool(texts) and all(isinstance(text, str) and text.strip() for text in texts)
 

@@ -4,7 +4,7 @@ import re
 
 from exam_desk import mistakes
 from exam_desk.workbook.cells import Cell
-from exam_desk.workbook.texts import Value, Way, Wrong, letters, reason, refuse_kinds
+from exam_desk.workbook.texts import Value, Way, Wrong
 
 MONTHS = {name: place for place, names in enumerate(
     ["jan january januar", "feb february februar", "mar march mär märz", "apr april", "may mai", "jun june juni",
@@ -16,71 +16,69 @@ WITH_SLASHES = re.compile(r"([0-9]{1,2})([/-])([0-9]{1,2})\2([0-9]{4})")
 AS_TEXT = re.compile(r"([0-9]{1,2})([/.-])([0-9]{1,2})\2([0-9]{2}|[0-9]{4})")  # however a spreadsheet shows a date
 DAY_FIRST = re.compile(r"(?:([^\W\d]+),? )?([0-9]{1,2})(?:\.|st|nd|rd|th)?[ -]([^\W\d]+)\.?,?[ -]([0-9]{4})")
 MONTH_FIRST = re.compile(r"(?:([^\W\d]+),? )?([^\W\d]+)\.? ([0-9]{1,2})(?:st|nd|rd|th)?,? ([0-9]{4})")
+DIGITS = "2[01][0-9]{6}"  # 20270607
 NO_DAY = ("1899-12-30", "1899-12-31", "1900-01-01", "1904-01-01")  # what stands in front of a time alone
 
 
-def read_date(column: str, cell: Cell | None, way: Way) -> Value:
-    """The day of a cell."""
-    refuse_kinds(cell, "bool", "percent")
-    if cell is None:
-        return Value("")
+def read_date(column: str, cell: Cell, text: str, way: Way) -> Value:
+    if cell.kind == "text":
+        return date_of_text(text, way)
+    if cell.kind == "number":
+        return date_of_number(text, cell)
+    day, _, clock = text.partition("T")
     if cell.kind == "time":
         raise Wrong("is a time, not a date")
-    if cell.kind == "date":
-        day, _, clock = cell.text.partition("T")
-        if clock.strip("0:."):
-            raise Wrong(f"has a time too, {clock[:5]}: leave the date alone in its cell")
-        return Value(day) if cell.shown == day else day_value(day, [])
-    text, done = letters(cell)
-    return date_of_number(text, cell) if cell.kind == "number" else date_of_text(text, done, way)
+    if clock.strip("0:."):
+        raise Wrong(f"has a time too, {clock[:5]}: leave the date alone in its cell")
+    return Value(day) if cell.shown == day else day_value(day)
 
 
-def day_value(text: str, done: list[str], more: str = "") -> Value:
+def day_value(text: str, more: str = "") -> Value:
     """A date that is not written as the files have it, told with its weekday."""
     try:
         day = datetime.date.fromisoformat(text)
     except ValueError:
         raise Wrong(f"there is no day {text}") from None
-    return Value(text, reason(done, f"{day:%A}, {day.day} {day:%B} {day.year}" + more))
+    return Value(text, f"{day:%A}, {day.day} {day:%B} {day.year}{more}")
 
 
 def date_of_number(text: str, cell: Cell) -> Value:
     """Digits such as 20270607; a count of days is none, since nobody sees which day it is."""
-    if re.fullmatch("2[01][0-9]{6}", text) and cell.shown == text:
-        return day_value(f"{text[:4]}-{text[4:6]}-{text[6:]}", [])
+    if re.fullmatch(DIGITS, text) and cell.shown == text:
+        return day_value(f"{text[:4]}-{text[4:6]}-{text[6:]}")
     if re.fullmatch("[0-9]{5}", text):
         day = datetime.date(1899, 12, 30) + datetime.timedelta(days=int(text))
         raise Wrong(f"a number without the format of a date: if {day} is meant, give the column the format date")
     raise Wrong(mistakes.CURES["date"])
 
 
-def date_of_text(text: str, done: list[str], way: Way) -> Value:
+def date_of_text(text: str, way: Way) -> Value:
     if re.fullmatch("[0-9]{4}-[0-9]{2}-[0-9]{2}", text):
-        return Value(text, reason(done))
+        return Value(text)
     if match := re.fullmatch(r"([0-9]{4}-[0-9]{2}-[0-9]{2})[T ](00:00(:00(\.0+)?)?)?Z?", text):
-        return day_value(match[1], done)
+        return day_value(match[1])
     if match := re.fullmatch(r"([0-9]{4})([/.])([0-9]{1,2})\2([0-9]{1,2})", text):
-        return day_value(f"{match[1]}-{match[3]:0>2}-{match[4]:0>2}", done)
-    if re.fullmatch("2[01][0-9]{6}", text):
-        return day_value(f"{text[:4]}-{text[4:6]}-{text[6:]}", done)
+        return day_value(f"{match[1]}-{match[3]:0>2}-{match[4]:0>2}")
+    if re.fullmatch(DIGITS, text):
+        return day_value(f"{text[:4]}-{text[4:6]}-{text[6:]}")
     if better := mistakes.date_in_order(text):
-        return day_value(better, done, ", the day first as always with points")
+        return day_value(better, ", the day first as always with points")
     if match := WITH_SLASHES.fullmatch(text):
-        return slashed(int(match[1]), int(match[3]), match[4], done, way)
+        return slashed(int(match[1]), int(match[3]), match[4], way)
     if match := DAY_FIRST.fullmatch(text):
-        return named_month(match[1], match[2], match[3], match[4], done)
+        return named_month(match[1], match[2], match[3], match[4])
     if match := MONTH_FIRST.fullmatch(text):
-        return named_month(match[1], match[3], match[2], match[4], done)
+        return named_month(match[1], match[3], match[2], match[4])
     if re.fullmatch(r"[0-9]{1,2}[/.-][0-9]{1,2}[/.-][0-9]{2}", text):
         raise Wrong("the year has two digits: write a date as 2027-06-07")
-    return Value(text, reason(done))
+    return Value(text)
 
 
-def named_month(weekday: str | None, day: str, month: str, year: str, done: list[str]) -> Value:
+def named_month(weekday: str | None, day: str, month: str, year: str) -> Value:
     """A date such as Monday 7 June 2027. The weekday, if there is one, must be that of the date."""
     if month.lower() not in MONTHS:
         raise Wrong(mistakes.CURES["date"])
-    value = day_value(f"{year}-{MONTHS[month.lower()]:02}-{int(day):02}", done)
+    value = day_value(f"{year}-{MONTHS[month.lower()]:02}-{int(day):02}")
     day_of = datetime.date.fromisoformat(value.text)
     right = any(name.startswith(weekday.lower()) for name in WEEKDAYS[day_of.weekday()].split()) if weekday else True
     if not right or weekday and len(weekday) < 2:
@@ -88,17 +86,17 @@ def named_month(weekday: str | None, day: str, month: str, year: str, done: list
     return value
 
 
-def slashed(first: int, second: int, year: str, done: list[str], way: Way) -> Value:
+def slashed(first: int, second: int, year: str, way: Way) -> Value:
     """A date such as 01/06/2027, whose day and month only the officer knows apart."""
     day_first, month_first = f"{year}-{second:02}-{first:02}", f"{year}-{first:02}-{second:02}"
     if first == second:
-        return day_value(month_first, done)
+        return day_value(month_first)
     if second > 12 >= first and way.dates != "day-first":
-        return day_value(month_first, done, ", there is no such month")
+        return day_value(month_first, ", there is no such month")
     if first > 12 >= second and way.dates != "month-first":
-        return day_value(day_first, done, ", there is no such month")
+        return day_value(day_first, ", there is no such month")
     if first > 12 or second > 12:
         raise Wrong(f"is no date with the {way.dates.replace('-', ' ')}" if way.dates else mistakes.CURES["date"])
     if way.dates:
-        return day_value(day_first if way.dates == "day-first" else month_first, done, f", {way.dates}")
+        return day_value(day_first if way.dates == "day-first" else month_first, f", {way.dates}")
     raise Wrong(f"{day_first} or {month_first}? Write it so, or say --dates day-first or --dates month-first")

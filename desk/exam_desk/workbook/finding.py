@@ -3,7 +3,7 @@ from exam_desk import files
 from exam_desk.workbook.cells import Book, Sheet, place_name
 from exam_desk.workbook.headers import (KINDS, WITHIN, Header, find_header, folded, is_exact, match_header, named_kind,
                                         names_people, text_cells, words_of)
-from exam_desk.workbook.tables import Job, Table, first_crosses, make_table
+from exam_desk.workbook.tables import Job, Table, first_crosses
 
 Found = tuple[Sheet, Header]
 
@@ -16,8 +16,7 @@ def usable_sheets(job: Job, book: Book) -> list[Sheet]:
     for name in [*(wanted or []), *leave, *said]:
         if name not in names and (name not in said or folded(name) not in map(folded, names)):
             job.report.mistake(None, None, None, f"there is no sheet {name}; there are: {', '.join(names)}")
-    usable: list[Sheet] = []
-    hidden: list[Sheet] = []
+    usable, hidden = list[Sheet](), list[Sheet]()
     for sheet in book.sheets:
         if wanted is not None and sheet.name not in wanted or sheet.name in leave:
             job.report.note(sheet, None, None, "is not read, as you said")
@@ -71,14 +70,18 @@ def kinds_of(job: Job, sheet: Sheet) -> list[str]:
     return exact if len(exact) == 1 else kinds
 
 
+def known_papers(job: Job) -> set[str]:
+    return {code.decode() for code in job.known.keys["papers"] or ()}
+
+
 def named_papers(job: Job, sheets: list[Sheet]) -> set[str]:
-    """The codes of papers that the office knows or a sheet of papers names, before anything is read."""
-    codes = {code.decode() for code in job.known.keys["papers"] or ()}
+    """The codes of papers that the office has or a sheet of papers names, before anything is read."""
+    codes = known_papers(job)
     for sheet in sheets:
         kinds = kinds_by_name(job, sheet)
         may_be = not kinds or "papers" in kinds
         if may_be and (header := find_header("papers", sheet, job.of_kind("papers"), not kinds)):
-            place = header.columns["paper"][0]
+            place = header.columns.get("paper", [0])[0]
             codes |= {job.said("paper", cells[place]) for row, cells in sheet.rows.items()
                       if row > header.row and place in cells}
     return codes - {""}
@@ -100,21 +103,20 @@ def find_tables(job: Job, sheets: list[Sheet]) -> tuple[list[Table], list[Sheet]
             rest.append(sheet)
         for kind in kinds:
             header = find_header(kind, sheet, job.of_kind(kind))
-            if kind == "entries" and (not header or "paper" not in header.columns):
-                rest.append(sheet)
-            elif header:
+            if header:
                 found.setdefault(kind, []).append((sheet, header))
+            elif kind == "entries":
+                rest.append(sheet)
             else:
                 tell_no_header(job, kind, sheet)
     tables = []
     for kind, sheets_of in found.items():
         if not tell_both(job, kind, [sheet for sheet, _ in sheets_of], 1):
-            tables += [make_table(job, kind, sheet, header) for sheet, header in sheets_of]
+            tables += [Table(job, kind, sheet, header) for sheet, header in sheets_of]
     return tables, rest
 
 
 def tell_both(job: Job, kind: str, sheets: list[Sheet], place: int) -> bool:
-    """Whether several sheets are of one kind and the officer has not said that they are one list."""
     if len(sheets) < 2 or kind in job.choices.together:
         return False
     names = " and ".join(map(place_name, sheets))
@@ -141,16 +143,15 @@ def find_entries(job: Job, rest: list[Sheet], tables: list[Table]) -> list[Table
     lists: list[tuple[Sheet, Header, dict[int, str], str]] = []
     for sheet in rest:
         code, header = job.paper(sheet.name), number_header(job, sheet)
-        if code and header:
-            lists.append((sheet, header, {}, code))
-        elif marks := paper_columns(job, sheet, header) if header else {}:
-            assert header is not None
-            lists.append((sheet, header, marks, ""))
+        marks = paper_columns(job, sheet, header) if header and not code else {}
+        if header and (code or marks):
+            lists.append((sheet, header, marks, code))
+        elif "entries" in kinds_by_name(job, sheet):
+            cure = "" if job.papers else "; no papers are known: put them into the workbook, or import them first"
+            text = f"neither a header number, paper nor one of number and the codes of papers is found{cure}"
+            job.report.mistake(sheet, min(sheet.rows), None, text)
         else:
-            if "entries" in kinds_by_name(job, sheet):
-                tell_no_entries(job, sheet)
-            else:
-                job.report.note(sheet, None, None, "is not read: no row is the header of one of the seven kinds")
+            job.report.note(sheet, None, None, "is not read: no row is the header of one of the seven kinds")
     crossed = [sheet for sheet, _, marks, _ in lists if marks]
     listed = [table.sheet for table in tables if table.kind == "entries"]
     several = listed or len(crossed) > 1 or crossed and len(crossed) < len(lists)
@@ -159,45 +160,37 @@ def find_entries(job: Job, rest: list[Sheet], tables: list[Table]) -> list[Table
     return [list_table(job, *found) for found in lists]
 
 
-def tell_no_entries(job: Job, sheet: Sheet) -> None:
-    cure = "" if job.papers else "; no papers are known: put them into the workbook, or import them first"
-    job.report.mistake(sheet, min(sheet.rows), None,
-                       f"neither a header number, paper nor one of number and the codes of papers is found{cure}")
-
-
 def list_table(job: Job, sheet: Sheet, header: Header, marks: dict[int, str], code: str) -> Table:
     if code:
         job.report.note(sheet, None, None, f"bears the name of a paper: whom it lists is entered for {code}")
     else:
         job.report.note(sheet, header.row, min(marks), f"crosses below {', '.join(marks.values())} are read as entries")
-    return make_table(job, "entries", sheet, header, marks, code)
+    return Table(job, "entries", sheet, header, marks, code)
 
 
 def number_header(job: Job, sheet: Sheet) -> Header | None:
     """The row with a header of the column number, where a sheet lists candidates."""
-    for row in sorted(sheet.rows)[:WITHIN]:
-        header = match_header("entries", row, sheet.rows[row], job.of_kind("entries"))
-        if "number" in header.columns:
-            keep = {"number": header.columns["number"]}
-            return Header(row, keep, {name: places for name, places in header.twice.items() if name == "number"})
-    return None
+    found = (match_header("entries", row, sheet.rows[row], job.of_kind("entries"))
+             for row in sorted(sheet.rows)[:WITHIN])
+    header = next((header for header in found if "number" in header.columns), None)
+    return header and Header(header.row, *({name: places for name, places in columns.items() if name == "number"}
+                                           for columns in (header.columns, header.twice)))
 
 
 def paper_columns(job: Job, sheet: Sheet, header: Header) -> dict[int, str]:
     """The columns below the codes of papers; crosses below another header are a mistake."""
-    marks: dict[int, str] = {}
     head = {place: cell for place, cell in sheet.rows[header.row].items() if place not in header.columns["number"]}
-    for place, cell in head.items():
-        if (code := job.said("paper", cell)) in job.papers:
-            if code in marks.values():
-                job.report.mistake(sheet, header.row, place, f"the paper {code} has two columns")
-            marks[place] = code
+    codes = {place: job.said("paper", cell) for place, cell in head.items()}
+    marks = {place: code for place, code in codes.items() if code in job.papers}
+    wrong = {place: f"the paper {code} has two columns" for place, code in marks.items()
+             if code in [marks[other] for other in marks if other < place]}
     crosses = first_crosses(sheet, header.row) if marks else {}
     names = {place for place, text in text_cells(head).items() if names_people(text)}
-    for place in sorted(set(crosses) - set(marks) - set(header.columns["number"]) - names):
+    for place in crosses.keys() - marks.keys() - set(header.columns["number"]) - names:
         what = f"{head[place].text.strip()!r} is no paper that is known" if place in head else \
             "the column has no header"
         where = place_name(sheet, crosses[place], place)
-        job.report.mistake(sheet, header.row, place, f"{what}, and has crosses ({where}): correct the code, or delete "
-                                                     "the column")
+        wrong[place] = f"{what}, and has crosses ({where}): correct the code, or delete the column"
+    for place, text in sorted(wrong.items()):
+        job.report.mistake(sheet, header.row, place, text)
     return marks

@@ -2,7 +2,7 @@
 import functools
 import re
 import unicodedata
-from collections.abc import Mapping
+from collections.abc import Collection, Mapping
 from typing import NamedTuple
 
 from exam_desk import files
@@ -61,7 +61,6 @@ class Header(NamedTuple):
 
 @functools.lru_cache(1 << 14)
 def folded(text: str) -> str:
-    """A header without capitals, spaces and marks."""
     return re.sub(r"[\W_]+", "", unicodedata.normalize("NFKC", bare(text)).casefold()) + ("%" if "%" in text else "")
 
 
@@ -72,7 +71,6 @@ def words_of(kind: str, column: str) -> frozenset[str]:
 
 @functools.lru_cache(1 << 14)
 def is_header_word(text: str) -> bool:
-    """Whether a text is a header of a column of any kind."""
     return len(text) <= 200 and text.lstrip()[:1].isalpha() and any(
         folded(text) in words_of(kind, column) for kind, header in files.HEADERS.items() for column in header)
 
@@ -93,28 +91,27 @@ def text_cells(cells: Mapping[int, Cell]) -> dict[int, str]:
 
 
 def named_kind(name: str) -> str | None:
-    """The kind that the name of a sheet says."""
     word = folded(name)
     return next((kind for kind, names in SHEET_NAMES.items() if word in names.split()), None)
 
 
+def wanted(kind: str, name: str, given: Given) -> list[Collection[str]]:
+    """For each part of a column of the office the words that its header may be."""
+    asked = given.get(name)
+    several = asked if isinstance(asked, list) else [asked] if isinstance(asked, str) else []
+    return [words_of(kind, name)] if asked is None else [{folded(each)} for each in several]
+
+
 def match_header(kind: str, row: int, cells: Mapping[int, Cell], given: Given) -> Header:
     """A row as the header of a kind."""
-    texts = text_cells(cells)
-    heads = {column: folded(text) for column, text in texts.items()}
+    heads = {column: folded(text) for column, text in text_cells(cells).items()}
     header = Header(row, {}, {})
     for name in files.HEADERS[kind]:
-        asked = given.get(name)
-        if isinstance(asked, str | list):
-            match_asked(header, name, [asked] if isinstance(asked, str) else asked, heads)
-        elif asked is None:
-            words = words_of(kind, name)
-            like = sorted((column for column, head in heads.items() if head in words),
-                          key=lambda column: (heads[column] != name, column))
-            if like:
-                header.columns[name] = like[:1]
-            if len(like) > 1:
-                header.twice[name] = like
+        places = [sorted((column for column, head in heads.items() if head in words),
+                         key=lambda column: (heads[column] != name, column)) for words in wanted(kind, name, given)]
+        if places and all(places):
+            header.columns[name] = [columns[0] for columns in places]
+        header.twice.update({name: columns for columns in places if len(columns) > 1})
     if kind == "candidates" and "name" not in header.columns and "name" not in given:
         first = [column for column, head in heads.items() if head in FIRST_NAME]
         last = [column for column, head in heads.items() if head in LAST_NAME]
@@ -123,27 +120,15 @@ def match_header(kind: str, row: int, cells: Mapping[int, Cell], given: Given) -
     return header
 
 
-def match_asked(header: Header, name: str, wanted: list[str], heads: Mapping[int, str]) -> None:
-    """Finds the headers that the file of columns has for a column."""
-    places = [[column for column, head in heads.items() if head == folded(want)] for want in wanted]
-    if all(places):
-        header.columns[name] = [columns[0] for columns in places]
-    for columns in places:
-        if len(columns) > 1:
-            header.twice[name] = columns
-
-
 def find_header(kind: str, sheet: Sheet, given: Given, whole: bool = False) -> Header | None:
     """The header of a kind among the first rows of a sheet; `whole` asks for every column of the kind."""
-    best = None
+    best: Header | None = None
+    always = {name for name, value in given.items() if isinstance(value, dict)}
+    needed = set(files.HEADERS[kind]) - {"code"} if whole else files.needed_columns(kind)
     for row in sorted(sheet.rows)[:WITHIN]:
         header = match_header(kind, row, sheet.rows[row], given)
-        have = set(header.columns) | {name for name, value in given.items() if isinstance(value, dict)}
-        optional = {"code"} if kind == "candidates" else set()
-        lacking = {name for name in files.HEADERS[kind] if name not in have} - optional
-        if whole and lacking or files.needed_columns(kind) - have or len(header.columns) < 2:
-            continue
-        if best is None or len(header.columns) > len(best.columns):
+        have = always | header.columns.keys()
+        if needed <= have and len(have) > 1 and len(header.columns) > (len(best.columns) if best else 0):
             best = header
     return best
 
@@ -151,8 +136,6 @@ def find_header(kind: str, sheet: Sheet, given: Given, whole: bool = False) -> H
 def is_exact(kind: str, sheet: Sheet) -> bool:
     """Whether a sheet has just the columns of a kind, under their own names."""
     header = find_header(kind, sheet, {}, True)
-    if header is None:
-        return False
-    cells = sheet.rows[header.row]
-    names = [cells[columns[0]].text for columns in header.columns.values()]
+    cells = sheet.rows[header.row] if header else {}
+    names = [cells[columns[0]].text for columns in header.columns.values()] if header else []
     return names == files.HEADERS[kind] and len(cells) == len(names)

@@ -2,6 +2,7 @@
 
 A document type is refused, so no entity exists. Nothing is unpacked to the disk, no other file is opened.
 """
+import re
 import xml.parsers.expat
 import zipfile
 from collections.abc import Iterator
@@ -30,6 +31,10 @@ class Parts:
             raise Trouble(f"more than {MOST_UNPACKED >> 20} MB come out of it: it is no workbook of a school")
         if any(part.flag_bits & 1 for part in archive.infolist()):
             raise Trouble("it has a password: save it without one")
+
+    def notes(self, macros: str) -> list[str]:
+        """What is said of a workbook whose macros stand in parts with names of this pattern."""
+        return ["it holds macros; they are not run"] if any(re.match(macros, name) for name in self.names) else []
 
     def elements(self, name: str, *events: str) -> Iterator[tuple[str, str, Element]]:
         """The elements of a part that was looked at, with their events and their names without namespaces."""
@@ -85,5 +90,4 @@ def refuse_type(*_: object) -> None:
 
 
 def local(element: Element) -> str:
-    """The name of an element without its namespace."""
     return element.tag.rpartition("}")[2]

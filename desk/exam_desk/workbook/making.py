@@ -1,6 +1,8 @@
-"""Makes an .xlsx by openpyxl, in the process with limits: columns of the format text, comments, lists."""
+"""Makes an .xlsx for the officer by openpyxl, in the process with limits: a sheet of texts for each kind, with comments
+and lists that say what each column takes."""
 import io
 import re
+from collections.abc import Mapping, Sequence
 from typing import Any
 
 from openpyxl.comments import Comment
@@ -9,55 +11,89 @@ from openpyxl.utils import get_column_letter
 from openpyxl.workbook.workbook import Workbook
 from openpyxl.worksheet.datavalidation import DataValidation
 
+from exam_desk import files, mistakes
+from exam_desk.workbook.rows import EXAMPLE
+from exam_desk.words import FEATURES
+
+EXAMPLES = {
+    "sessions": ["MON-AM", "2027-06-07", "09:00"], "papers": ["CS-1", "Computer science", "MON-AM", "120", "computer"],
+    "halls": ["GYM", "Gymnasium", "step-free"], "openings": ["MON-AM", "GYM", "24", "12:30", "no"],
+    "candidates": ["0001000", "Ada Lin", "WK3DEGZDPC"], "arrangements": ["0001034", "-", "25"],
+    "entries": ["0001000", "EN-1"]}
+MEANS = {
+    "number": "The number of the candidate", "name": "The name of the candidate, as on the lists",
+    "code": "The access code for the web page. Leave it empty, and `office codes` makes one",
+    "session": "The code of the session", "date": "The day of the session", "start": "When the session begins",
+    "paper": "The code of the paper", "title": "What people call it", "minutes": "How long the paper lasts",
+    "requires": "What the hall must have for this paper", "hall": "The code of the hall",
+    "features": "What the hall has", "desks": "How many desks", "until": "How long the hall is open",
+    "reserved": "yes: only for candidates with needs or extra time", "needs": "What the candidate needs of a hall",
+    "extra": "Extra time in percent"}
+WIDTHS = {"title": 32, "name": 32, "requires": 30, "features": 30, "needs": 30}
+LAST_ROW = {"entries": 200_001}  # as far as lists and formats reach
+MOST_ERROR = 250  # letters of what a spreadsheet says of a value that is not on a list
 TEXT = "@"
+HEAD = {"font": Font(bold=True), "fill": PatternFill("solid", fgColor="DDDDDD")}
+GREY = {"font": Font(italic=True, color="888888")}
 
 
-def made(sheets: list[dict[str, Any]]) -> bytes:
-    """The workbook of the plans of its sheets."""
+def made(rows: Mapping[str, Sequence[Sequence[str]]], example: bool) -> bytes:
+    """The workbook of the rows of each kind, which are texts; the example is a row that `read` leaves out."""
     book = Workbook()
     book.remove(book.active)
-    for plan in sheets:
-        fill(book.create_sheet(plan["name"]), plan)
+    for kind in files.HEADERS:
+        sheet = book.create_sheet(kind.capitalize())
+        fill(sheet, kind, rows.get(kind, []))
+        for place, text in enumerate([EXAMPLE + EXAMPLES[kind][0], *EXAMPLES[kind][1:]] if example else [], 1):
+            put(sheet, 2, place, text, **GREY)
     out = io.BytesIO()
     book.save(out)
     return out.getvalue()
 
 
-def fill(sheet: Any, plan: dict[str, Any]) -> None:
-    for place, (name, comment, width) in enumerate(zip(plan["header"], plan["comments"], plan["widths"]), 1):
-        look = sheet.column_dimensions[get_column_letter(place)]
-        look.width, look.number_format = width, TEXT
-        cell = put(sheet, 1, place, name, font=Font(bold=True), fill=PatternFill("solid", fgColor="DDDDDD"))
-        cell.comment = Comment(comment, "office", width=320, height=110)
+def fill(sheet: Any, kind: str, rows: Sequence[Sequence[str]]) -> None:
     sheet.freeze_panes = "A2"
-    for place, text in enumerate(plan["example"], 1):
-        put(sheet, 2, place, text, font=Font(italic=True, color="888888"))
-    plain = None
-    for number, row in enumerate(plan["rows"], 2):
+    for place, name in enumerate(files.HEADERS[kind]):
+        letter = get_column_letter(place + 1)
+        sheet.column_dimensions[letter].width = WIDTHS.get(name, 14)
+        sheet.column_dimensions[letter].number_format = TEXT
+        comment = Comment(f"{MEANS[name]}: {mistakes.CURES[name]}", "office", width=320, height=110)
+        put(sheet, 1, place + 1, name, comment=comment, **HEAD)
+        if rule := list_of(kind, place, name):
+            rule.add(f"{letter}2:{letter}{LAST_ROW.get(kind, 20_001)}")
+            sheet.add_data_validation(rule)
+    like = None
+    for number, row in enumerate(rows, 2):
         for place, text in enumerate(row, 1):
-            cell = put(sheet, number, place, text) if plain is None else put(sheet, number, place, text, like=plain)
-            plain = plain or cell
-    for place, formula, hard, error in plan["lists"]:
-        rule = DataValidation(type="list", formula1=formula, allow_blank=True, showErrorMessage=hard)
-        rule.errorTitle, rule.error = "examoffice", error
-        rule.add(f"{get_column_letter(place)}2:{get_column_letter(place)}{plan['last']}")
-        sheet.add_data_validation(rule)
+            like = put(sheet, number, place, text, like)
+
+
+def list_of(kind: str, place: int, name: str) -> Any:
+    """What a column may be chosen from; None where it is typed."""
+    source = dict(files.REFERENCES.get(kind, [])).get(place)
+    takes_features = mistakes.CURES[name] == mistakes.FEATURES_CURE
+    if source:
+        offered = f"{source.capitalize()}!$A$2:$A${mistakes.LIMITS[source] + 1}"
+    elif name == "reserved":
+        offered = '"yes,no"'
+    elif takes_features:
+        offered = f'"-,{",".join(FEATURES)}"'
+    else:
+        return None
+    return DataValidation(type="list", formula1=offered, allow_blank=True, errorTitle="examoffice",
+                          showErrorMessage=not takes_features,  # several may be joined by +, so the list is a hint
+                          error=f"not on the list: {mistakes.CURES[name]}"[:MOST_ERROR])
 
 
 def put(sheet: Any, row: int, column: int, text: str, like: Any = None, **looks: Any) -> Any:
-    """A text cell, whatever the text looks like: openpyxl would make a formula of =1+1 and an error of #N/A."""
+    """A text cell, whatever the text looks like: openpyxl would make a formula of =1+1 and an error of #N/A, and a
+    spreadsheet would make a letter of _x0041_."""
     cell = sheet.cell(row, column)
-    cell.value = escaped(text)
+    cell.value = re.sub("_(?=x[0-9A-Fa-f]{4}_)", "_x005F_", text)
     cell.data_type = "s"
     if like is not None:
         cell._style = like._style  # a look of its own for each cell takes ten times as long
         return cell
-    cell.number_format, cell.alignment = TEXT, Alignment(horizontal="left")
-    for name, look in looks.items():
+    for name, look in {"number_format": TEXT, "alignment": Alignment(horizontal="left"), **looks}.items():
         setattr(cell, name, look)
     return cell
-
-
-def escaped(text: str) -> str:
-    """A text as a workbook stores it: what looks like _x0041_ would be read as a letter."""
-    return re.sub("_(?=x[0-9A-Fa-f]{4}_)", "_x005F_", text)

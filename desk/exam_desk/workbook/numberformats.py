@@ -19,6 +19,7 @@ NUMBER = re.compile(r"\s*[+-]?([0-9]+\.?[0-9]*|\.[0-9]+)([eE][+-]?[0-9]+)?\s*")
 TOKEN = re.compile(r'"[^"]*"|\\.|_.|\*.|\[[^\]]*\]|General|[0#?]+(?:[0#?,.]*[0#?])?,*|.', re.I)
 DATE_TOKEN = re.compile(r'\[[^\]]*\]|yy\?|AM/PM|([ymdhs])\1*|[\\_*].|"[^"]*"|.', re.I)
 LOCALE = re.compile(r"\[\$[^\]-]*-([0-9A-F]+)\]", re.I)  # a language in the last ten bits, digits in the first
+OTHER_DIGITS = 2 << 24  # the first number of a language and its digits where these are of another script
 DIGITS = re.compile(r"(?P<group>#,)?#*(?P<zeros>0*)(?:\.(?P<places>0+))?")
 
 
@@ -31,7 +32,7 @@ def number_cell(raw: str, form: str, epoch: datetime.datetime = WINDOWS) -> Cell
     number = decimal.Decimal(raw)
     if abs(number) > MOST_NUMBER:
         return Cell("number", f"{number:.5E}", f"{number:.5E}")
-    tidy = tidied(number)
+    tidy = decimal.Context(prec=15).create_decimal(number).normalize()  # beyond is noise of binary numbers
     plain = format(tidy, "f") if tidy else "0"
     marks = format_marks(form)
     if marks & {"date", "time"}:
@@ -47,14 +48,8 @@ def number_cell(raw: str, form: str, epoch: datetime.datetime = WINDOWS) -> Cell
     return Cell("number", plain, shown)
 
 
-def tidied(number: decimal.Decimal) -> decimal.Decimal:
-    """A number at fifteen digits: what lies beyond is noise of a spreadsheet's binary numbers."""
-    return decimal.Context(prec=15).create_decimal(number).normalize()
-
-
-def whole_seconds(days: decimal.Decimal) -> decimal.Decimal:
-    """A part of a day in seconds, without the noise of binary numbers."""
-    seconds = round(days * DAY_SECONDS, 3)
+def whole_seconds(seconds: decimal.Decimal) -> decimal.Decimal:
+    """Seconds without the noise of binary numbers."""
     near = decimal.Decimal(round(seconds))
     return near if abs(seconds - near) < decimal.Decimal("0.05") else seconds
 
@@ -62,7 +57,7 @@ def whole_seconds(days: decimal.Decimal) -> decimal.Decimal:
 def moment_cell(number: decimal.Decimal, plain: str, form: str, marks: frozenset[str],
                 epoch: datetime.datetime) -> Cell:
     """The cell of a number under a format of dates or of times."""
-    seconds = whole_seconds(number)
+    seconds = whole_seconds(round(number * DAY_SECONDS, 3))
     if "date" in marks or number >= 1 and "elapsed" not in marks:
         if not 0 <= number < LAST_SERIAL:
             return Cell("number", plain, "")
@@ -79,22 +74,15 @@ def moment_cell(number: decimal.Decimal, plain: str, form: str, marks: frozenset
 
 
 def clock_text(seconds: decimal.Decimal) -> str:
-    """A time of day from its seconds."""
     whole = int(seconds)
     text = f"{whole // 3600:02}:{whole // 60 % 60:02}:{whole % 60:02}"
     return text if whole == seconds else text + f"{float(seconds) % 1:.3f}"[1:]
 
 
 @functools.cache
-def sections(form: str) -> tuple[str, ...]:
+def sections(form: str) -> list[str]:
     """The sections of a number format: for numbers above 0, below 0, for 0, and for texts."""
-    parts = [""]
-    for token in TOKEN.findall(form):
-        if token == ";":
-            parts.append("")
-        else:
-            parts[-1] += token
-    return tuple(parts)
+    return "".join("\0" if token == ";" else token for token in TOKEN.findall(form)).split("\0")
 
 
 @functools.cache
@@ -103,53 +91,38 @@ def format_marks(form: str) -> frozenset[str]:
     bare = re.sub(r'"[^"]*"|\\.|_.|\*.', "", sections(form)[0])
     elapsed = re.search(r"\[(h+|m+|s+)\]", bare, re.I)
     bare = re.sub(r"\[[^\]]*\]", "", bare).lower()
-    marks = set()
     digits = re.search("[0#?]", re.sub(r"s[.,]0+", "s", bare).replace("yy?", "yy"))
-    if bare not in ("general", "@") and not digits:
-        clock = bool(re.search("[hs]", bare) or elapsed)
-        if re.search("[ydge]|b[12]", bare) or "m" in bare and not clock or "mmm" in bare:
-            marks.add("date")
-        if clock:
-            marks.add("time")
-        if elapsed:
-            marks.add("elapsed")
-    if "%" in bare:
-        marks.add("percent")
-    if re.search(r"e[+-]", bare) and digits:
-        marks.add("power")
-    return frozenset(marks)
+    clock = re.search("[hs]", bare) or elapsed
+    of_moments = {"date": re.search("[ydge]|b[12]", bare) or "m" in bare and not clock or "mmm" in bare,
+                  "time": clock, "elapsed": elapsed} if bare not in ("general", "@") and not digits else {}
+    marks = {**of_moments, "percent": "%" in bare, "power": digits and re.search(r"e[+-]", bare)}
+    return frozenset(mark for mark, has in marks.items() if has)
 
 
 def shown_number(form: str, number: decimal.Decimal) -> str | None:
     """How a number is shown: '' where that is not known, none where nothing is shown."""
     parts = sections(form)
-    if locale_of(form) >= 2 << 24 or any(re.match(r"\[[<>=]", token) for token in TOKEN.findall(form)):
+    if locale_of(form) >= OTHER_DIGITS or any(re.match(r"\[[<>=]", token) for token in TOKEN.findall(form)):
         return ""
-    numeric = parts[:3] if len(parts) > 1 or "@" not in parts[0] else ("General",)
+    numeric = parts[:3] if len(parts) > 1 or "@" not in parts[0] else ["General"]
     place = 0 if number > 0 else 1 if number < 0 else 2
     section = numeric[place] if place < len(numeric) else numeric[0]
     if not section.strip() and len(parts) > 1:
         return None
-    minus = "-" if number < 0 and place >= len(numeric) else ""
-    shown, known = "", 0
-    for token in TOKEN.findall(section or "General"):
-        text = shown_token(token, abs(number))
-        if text is None:
-            return ""
-        known += token.lower() == "general" or token[0] in "0#?"
-        shown += text
-    return minus + shown.strip() if known < 2 else ""
+    tokens = TOKEN.findall(section or "General")
+    pieces = [shown_token(token, abs(number)) for token in tokens]
+    if None in pieces or sum(token.lower() == "general" or token[0] in "0#?" for token in tokens) > 1:
+        return ""
+    return ("-" if number < 0 and place >= len(numeric) else "") + "".join(map(str, pieces)).strip()
 
 
 def shown_token(token: str, number: decimal.Decimal) -> str | None:
     """What a piece of a number format shows; none where that is not known."""
     if token.lower() == "general":
         return f"{float(number):.5E}" if number >= LONG_NUMBER else format(number, "f") if number else "0"
-    if token[0] in "0#":
-        return shown_digits(token, number)
     if token[0] == "[":
         return token[2:-1].split("-")[0] if token.startswith("[$") else ""
-    return literal(token)
+    return shown_digits(token, number) if token[0] in "0#" else literal(token)
 
 
 def literal(token: str) -> str | None:
@@ -181,17 +154,17 @@ def shown_text(form: str, text: str) -> str | None:
 
 
 def locale_of(form: str) -> int:
-    """The number of the language and of the digits of a number format; from 2 << 24 on they are of another script."""
+    """The number of the language and of the digits of a number format."""
     match = LOCALE.search(form)
-    return 2 << 24 if "[dbnum" in form.lower() else int(match[1], 16) if match else 0
+    return OTHER_DIGITS if "[dbnum" in form.lower() else int(match[1], 16) if match else 0
 
 
 def painted(form: str, when: datetime.datetime) -> str:
     """How a date is shown, where the format is plain; '' where that is not known."""
-    words = [word if word[0] in '"\\_*' else word.lower() for word in
-             (match[0] for match in DATE_TOKEN.finditer(sections(form)[0]))]
+    words = [match[0] if match[0][0] in '"\\_*' else match[0].lower()
+             for match in DATE_TOKEN.finditer(sections(form)[0])]
     foreign = locale_of(form) & 0x3ff not in (0, 9) and {"mmm", "mmmm", "ddd", "dddd"} & set(words)
-    if foreign or locale_of(form) >= 2 << 24:
+    if foreign or locale_of(form) >= OTHER_DIGITS:
         return ""
     numbers = {"h": (when.hour + 11) % 12 + 1 if "am/pm" in words else when.hour, "n": when.minute, "s": when.second,
                "d": when.day, "m": when.month}

@@ -6,9 +6,9 @@ from collections.abc import Iterator
 from xml.etree.ElementTree import Element
 
 from exam_desk.trouble import Trouble
-from exam_desk.workbook.cells import MOST_COLUMN, MOST_MERGED, MOST_ROW, MOST_SHEETS, Book, Budget, Cell, Sheet
+from exam_desk.workbook.cells import MOST_COLUMN, MOST_ROW, MOST_SHEETS, Book, Budget, Cell, Sheet
 from exam_desk.workbook.looking import OPEN_AND_SAVE, Parts, local
-from exam_desk.workbook.numberformats import number_cell
+from exam_desk.workbook.numberformats import number_cell, whole_seconds
 
 ASIDE = ("tracked-changes", "shapes", "dde-links", "forms")  # what stands among sheets and rows, and has no cells
 IN_LETTERS = ("annotation", "frame", "custom-shape", "control", "ruby-text", "note")  # in letters, and none of them
@@ -35,8 +35,7 @@ def read_ods(archive: zipfile.ZipFile) -> Book:
         raise Trouble(f"a part of it is broken ({fault}): {OPEN_AND_SAVE}") from fault
     if not reader.spreadsheet:
         raise Trouble("it is a document of another kind: save the table as .xlsx or .ods")
-    macros = any(name.startswith(("Basic/", "Scripts/")) for name in parts.names)
-    return Book("ods", reader.sheets, ["it holds macros; they are not run"] * macros)
+    return Book("ods", reader.sheets, parts.notes(r"(Basic|Scripts)/"))
 
 
 def attributes(element: Element) -> dict[str, str]:
@@ -100,8 +99,8 @@ class OdsReader:
         self.parents[style] = given.get("parent-style-name")
         looks = {local(part): attributes(part) for part in element}
         text = looks.get("text-properties", {})
-        if lines := [text[key] for key in ("text-line-through-style", "text-line-through-type") if key in text]:
-            self.struck[style] = any(line != "none" for line in lines)
+        if lines := {text.get("text-line-through-style"), text.get("text-line-through-type")} - {None}:
+            self.struck[style] = lines != {"none"}
         if looks.get("table-properties", {}).get("display") == "false":
             self.invisible.add(style[1])
 
@@ -151,9 +150,7 @@ class OdsReader:
         """Keeps whether a cell is merged with others, and its comment."""
         rows, columns = int(given.get("number-rows-spanned", 1)), int(given.get("number-columns-spanned", 1))
         if rows > 1 or columns > 1:
-            sheet.merged.append((self.row + 1, column + 1, self.row + rows, column + columns))
-            if len(sheet.merged) > MOST_MERGED:
-                raise Trouble(f"it has more than {MOST_MERGED:,} merged cells")
+            sheet.merge([(self.row + 1, column + 1, self.row + rows, column + columns)])
         if any(local(inside) == "annotation" for inside in part):
             self.budget.keep("")
             sheet.comments.append((self.row + 1, column + 1))
@@ -161,24 +158,21 @@ class OdsReader:
     def cell(self, part: Element, given: dict[str, str], struck: bool) -> Cell | None:
         paragraphs = [inside for inside in part if local(inside) == "p"]
         shown, formula, kind = "\n".join(map(letters, paragraphs)), "formula" in given, given.get("value-type")
-        unseen = bool(paragraphs) and not shown
-        struck = struck or any(self.is_struck(style, family)
-                               for text in paragraphs for family, style in styles_in(text))
         if kind == "error" or formula and re.match(r"Err:[0-9]+$|#[A-Z/0]+[!?]?$", shown):
             return Cell("error", shown or "#VALUE!", shown, formula)
         if kind in NUMBERS:
             found = number_cell(given.get("value", ""), NUMBERS[kind])
             if found and paragraphs:  # a writer that gives no letters leaves them to the reader
-                found = found._replace(shown=shown, unseen=unseen)
-            return found and found._replace(formula=formula, struck=struck)
-        if kind in ("date", "time", "boolean"):
-            text = given.get(f"{kind}-value", "")
-            found = time_cell(text, shown) if kind == "time" else Cell("bool", text, shown) if kind == "boolean" else \
-                Cell("date", re.sub(r"T00:00:00(\.0+)?$", "", text), shown)
-            return found._replace(formula=formula, struck=struck, unseen=unseen)
-        if text := shown or given.get("string-value", ""):
-            return Cell("text", text, shown, formula, struck, unseen)
-        return Cell("pending", "", "", True) if formula and kind is None else None
+                found = found._replace(shown=shown)
+        elif kind in ("date", "time", "boolean"):
+            found = typed_cell(kind, given.get(f"{kind}-value", ""), shown)
+        elif text := shown or given.get("string-value", ""):
+            found = Cell("text", text, shown)
+        else:
+            return Cell("pending", "", "", True) if formula and kind is None else None
+        struck = struck or any(self.is_struck(style, family) for inside in paragraphs
+                               for family, style in styles_in(inside))
+        return found and found._replace(formula=formula, struck=struck, unseen=bool(paragraphs) and not shown)
 
 
 def repeated(sheet: Sheet, given: dict[str, str], what: str) -> int:
@@ -198,8 +192,7 @@ def pieces(element: Element) -> Iterator[str]:
     yield element.text or ""
     for inside in element:
         if (name := local(inside)) in SPACES:
-            count = next((value for key, value in inside.items() if key.endswith("}c")), "1")
-            yield SPACES[name] * max(0, min(int(count), 1000))
+            yield SPACES[name] * max(0, min(int(attributes(inside).get("c", 1)), 1000))
         elif name not in IN_LETTERS:
             yield from pieces(inside)
         yield inside.tail or ""
@@ -214,10 +207,14 @@ def styles_in(element: Element) -> Iterator[Style]:
             yield from styles_in(inside)
 
 
-def time_cell(text: str, shown: str) -> Cell:
+def typed_cell(kind: str, text: str, shown: str) -> Cell:
+    """The cell of a day, of a time, which is a duration, or of a truth value."""
     match = re.fullmatch(r"PT([0-9]+)H([0-9]+)M([0-9]+)(?:[.,]([0-9]+))?S", text)
+    if kind == "boolean":
+        return Cell("bool", text, shown)
+    if kind == "date":
+        return Cell("date", re.sub(r"T00:00:00(\.0+)?$", "", text), shown)
     if not match:
         return Cell("text", shown or text, shown)
     seconds = decimal.Decimal(f"{int(match[1]) * 3600 + int(match[2]) * 60 + int(match[3])}.{match[4] or 0}")
-    near = decimal.Decimal(round(seconds))
-    return Cell("time", str(near if abs(seconds - near) < decimal.Decimal("0.05") else seconds), shown)
+    return Cell("time", str(whole_seconds(seconds)), shown)

@@ -1,4 +1,5 @@
 """Opens a workbook: what it is its bytes say, not its name. Those in a zip are read by a process of their own."""
+import csv
 import importlib.util
 import os
 import pathlib
@@ -21,6 +22,7 @@ MOST_SECONDS = 600  # of the clock, for the process that reads; of the processor
 OLD = b"\xd0\xcf\x11\xe0\xa1\xb1\x1a\xe1"  # of Microsoft's compound files
 NO_WORKBOOK = "it is no workbook, whatever its name: open it in a spreadsheet and save it as .xlsx or .ods"
 OTHERS = (b"<html", b"<!doctype", b"<table", b"<?xml", b"<meta", b"%pdf", b"{\\rtf")
+NAMES = {"\t": "tabs"}  # of what parts columns
 ALSO = {"xlsx": ("xlsx", "xlsm", "xltx", "xltm"), "ods": ("ods", "ots"), "csv": ("csv", "txt", "tsv")}
 
 
@@ -55,7 +57,6 @@ def is_zip(data: bytes) -> bool:
 
 
 def read_zip(data: bytes) -> Book:
-    """The workbook in a zip."""
     return carrying.unpacked(ask_child("read", data).decode("utf-8", "surrogatepass").split("\n"))
 
 
@@ -94,35 +95,39 @@ def decoded(data: bytes, encoding: str | None) -> str:
         raise Trouble(f"there is no encoding {encoding}") from None
 
 
-def text_cell(shown: str) -> Cell:
-    """A field of CSV. Some programs write ="0000017" so that a spreadsheet leaves the zeros."""
-    match = re.fullmatch('="([^"]*)"', shown)
-    return Cell("text", match[1] if match else shown, shown)
+def comma_of(lines: list[str]) -> str:
+    """What parts the columns of a CSV file: what its first line says, or what stands as often in most of the first
+    lines."""
+    if lines and (match := re.fullmatch("sep=(.)", lines[0])):
+        if match[1] != "\t" and not (match[1].isascii() and match[1].isprintable() and match[1] != '"'):
+            raise Trouble(f"{match[1]} cannot part columns, as its first line says: save it with commas or semicolons")
+        return match[1]
+    bare = [re.sub('"[^"]*"', "", line) for line in lines]
+    counts = {mark: Counter(line.count(mark) for line in bare if mark in line) for mark in ",;\t|"}
+    return max(counts, key=lambda mark: max(((often, many) for many, often in counts[mark].items()), default=(0, 0)))
 
 
 def read_csv(data: bytes, name: str, encoding: str | None = None) -> Book:
-    """A file of one sheet whose cells are texts. What parts its columns stands as often in most of its first lines."""
-    text, notes = decoded(data, encoding), []
+    """A file of one sheet whose cells are texts."""
+    text, budget = decoded(data, encoding), Budget()
     lines = [line for line in text.splitlines()[:20] if line.strip()]
-    if lines and (match := re.fullmatch("sep=(.)", lines[0])):
-        comma = match[1]
+    comma, sheet = comma_of(lines), Sheet(name)
+    if lines and lines[0] == f"sep={comma}":
         text = text.replace(lines[0], "", 1)
-    else:
-        bare = [re.sub('"[^"]*"', "", line) for line in lines]
-        counts = {mark: Counter(line.count(mark) for line in bare if mark in line) for mark in ",;\t|"}
-        comma = max(counts, key=lambda mark: max(((often, many) for many, often in counts[mark].items()),
-                                                 default=(0, 0)))
-    if comma != ",":
-        notes.append(f"its columns are parted by {'tabs' if comma == chr(9) else comma}")
-    sheet, budget = Sheet(name), Budget()
-    if comma != "\t" and not (comma.isascii() and comma.isprintable() and comma != '"'):
-        raise Trouble(f"{comma} cannot part columns, as its first line says: save it with commas or semicolons")
-    for record in files.records(text.encode(), comma.encode()):
-        if not record.closed:
-            raise Trouble(f"a quote is not closed in line {record.line}")
-        cells = {column: text_cell(field.decode()) for column, field in enumerate(record.fields, 1) if field}
-        for cell in cells.values():
-            budget.keep(cell.text)
-        if cells:
-            sheet.rows[record.line] = cells
-    return Book("csv", [sheet], notes)
+    try:
+        for record in files.records(text.encode(), comma.encode()):
+            if not record.closed:
+                raise Trouble(f"a quote is not closed in line {record.line}")
+            if cells := {column: text_cell(field.decode(), budget) for column, field in enumerate(record.fields, 1)
+                         if field}:
+                sheet.rows[record.line] = cells
+    except csv.Error:
+        raise Trouble(f"one of its fields has more than {files.MOST_BYTES:,} bytes: is a quote not closed?") from None
+    return Book("csv", [sheet], [f"its columns are parted by {NAMES.get(comma, comma)}"] * (comma != ","))
+
+
+def text_cell(shown: str, budget: Budget) -> Cell:
+    """A field of CSV. Some programs write ="0000017" so that a spreadsheet leaves the zeros."""
+    text = re.sub(r'\A="([^"]*)"\Z', r"\1", shown)
+    budget.keep(text)
+    return Cell("text", text, shown)

@@ -6,14 +6,14 @@ from typing import NamedTuple
 
 from exam_desk import mistakes
 from exam_desk.trouble import Trouble
-from exam_desk.workbook.cells import Book
+from exam_desk.workbook.cells import Book, Sheet
 from exam_desk.workbook.checking import check_files
-from exam_desk.workbook.finding import find_entries, find_tables, usable_sheets
+from exam_desk.workbook.finding import find_entries, find_tables, known_papers, usable_sheets
 from exam_desk.workbook.headers import KINDS, Given
 from exam_desk.workbook.opening import open_book
 from exam_desk.workbook.report import Report
 from exam_desk.workbook.rows import Record, read_table
-from exam_desk.workbook.tables import Choices, Job, Table
+from exam_desk.workbook.tables import Choices, Job
 from exam_desk.workbook.texts import Way
 
 Progress = Callable[[str], None]
@@ -58,27 +58,28 @@ def mend_folder(folder: str, known: mistakes.Known, way: Way, encoding: str | No
     return read_book(book, Job(known, way, choices=Choices(together=together)), progress)
 
 
-def read_book(book: Book, job: Job, progress: Progress) -> Reading:
+def read_book(book: Book, job: Job, progress: Progress = lambda text: None) -> Reading:
     """Finds the tables of a workbook, reads their rows, and checks what comes out as the files of an import."""
     for text in book.notes:
         job.report.note(None, None, None, text)
-    tables, rest = find_tables(job, usable_sheets(job, book))
-    records: dict[str, list[Record]] = {}
-    read_tables(job, tables, [kind for kind in KINDS if kind != "entries"], records, progress)
-    codes = {code.decode() for code in job.known.keys["papers"] or ()}
-    job.papers = codes | {record.fields[0] for record in records.get("papers", [])}
-    read_tables(job, tables + find_entries(job, rest, tables), ["entries"], records, progress)
-    if not any(records.values()) and not job.report.count("mistake"):
+    records = read_sheets(job, usable_sheets(job, book), progress)
+    if not records and not job.report.count("mistake"):
         job.report.mistake(None, None, None, "no sheet has rows of one of the seven kinds: see `office template`")
     check_files(job, records, progress)
     return Reading(records, job.report)
 
 
-def read_tables(job: Job, tables: list[Table], kinds: list[str], records: dict[str, list[Record]],
-                progress: Progress) -> None:
-    for kind in kinds:
-        for table in tables:
-            if table.kind == kind:
-                records.setdefault(kind, []).extend(read_table(job, table, progress))
+def read_sheets(job: Job, sheets: list[Sheet], progress: Progress) -> dict[str, list[Record]]:
+    """The records of each kind of which there are some. Which sheets are entries in another form the papers say."""
+    tables, rest = find_tables(job, sheets)
+    records: dict[str, list[Record]] = {}
+    for kind in KINDS:
+        if kind == "entries":
+            tables += find_entries(job, rest, tables)
+        if found := [record for table in tables if table.kind == kind for record in read_table(table, progress)]:
+            records[kind] = found
         if kind == "sessions":
-            job.days = {record.fields[0]: record.fields[1] for record in records.get(kind, [])}
+            job.days = {record.fields[0]: record.fields[1] for record in found}
+        if kind == "papers":
+            job.papers = known_papers(job) | {record.fields[0] for record in found}
+    return records

@@ -1,6 +1,7 @@
 """What is told of a workbook: lines with a place, which are changes, notes or mistakes."""
 from collections import Counter
 from collections.abc import Iterable, Iterator
+from functools import partialmethod
 from typing import NamedTuple
 
 from exam_desk.workbook.cells import Sheet, letters_of, place_name
@@ -33,14 +34,9 @@ class Report:
             what: str = "") -> None:
         self.lines.append(Line(place_name(sheet, row, column), sort, text, sheet.name if sheet else "", column, what))
 
-    def mistake(self, sheet: Sheet | None, row: int | None, column: int | None, text: str, what: str = "") -> None:
-        self.add("mistake", sheet, row, column, text, what)
-
-    def change(self, sheet: Sheet | None, row: int | None, column: int | None, text: str, what: str = "") -> None:
-        self.add("change", sheet, row, column, text, what)
-
-    def note(self, sheet: Sheet | None, row: int | None, column: int | None, text: str, what: str = "") -> None:
-        self.add("note", sheet, row, column, text, what)
+    mistake = partialmethod(add, "mistake")
+    change = partialmethod(add, "change")
+    note = partialmethod(add, "note")
 
     def count(self, sort: str) -> int:
         return sum(line.sort == sort for line in self.lines)

@@ -1,7 +1,7 @@
 """The tables of a workbook: which columns of which sheet say what, and what is told of its header."""
-from collections.abc import Mapping
+from collections.abc import Callable, Mapping
 from dataclasses import dataclass, field
-from typing import NamedTuple
+from functools import partialmethod
 
 from exam_desk import files, mistakes
 from exam_desk.workbook.cells import Cell, Sheet, letters_of
@@ -63,129 +63,121 @@ class Job:
         return code if code in self.papers else ""
 
 
-class Table(NamedTuple):
+@dataclass
+class Table:
     """Where the rows of a kind stand."""
 
+    job: Job
     kind: str
     sheet: Sheet
     header: Header
-    marks: dict[int, str]  # of a column of crosses the feature or the paper that it stands for
-    paper: str  # the paper whose candidates the sheet lists, or ''
-    fixed: dict[str, str]  # of a column of the office a value for all rows
+    marks: dict[int, str] = field(default_factory=dict)  # of a column of crosses its feature or paper
+    paper: str = ""  # the paper whose candidates the sheet lists, or ''
+
+    def __post_init__(self) -> None:
+        """Adds the lines on what the header says."""
+        self.fixed = {name: str(value["always"]) for name, value in self.job.of_kind(self.kind).items()
+                      if isinstance(value, dict) and "always" in value}  # of a column of the office a value for all rows
+        self.head = self.sheet.rows[self.header.row]
+        for name, places in self.header.twice.items():
+            columns = ", ".join(map(letters_of, places))
+            self.mistake(self.header.row, places[1], f"columns {columns} could all be {name}: {CURE_TWICE}")
+        for tell in (tell_header, find_features, tell_columns, tell_lacking, tell_unread):
+            tell(self)
+
+    def tell(self, sort: str, row: int | None, column: int | None, text: str, what: str = "") -> None:
+        self.job.report.add(sort, self.sheet, row, column, text, what)
+
+    mistake = partialmethod(tell, "mistake")
+    change = partialmethod(tell, "change")
+    note = partialmethod(tell, "note")
 
     def places(self) -> set[int]:
-        """The columns of the sheet that are read."""
         return {place for places in self.header.columns.values() for place in places} | set(self.marks)
 
 
-def make_table(job: Job, kind: str, sheet: Sheet, header: Header, marks: Mapping[int, str] | None = None,
-               paper: str = "") -> Table:
-    """The table below a header, with lines on what its header says."""
-    fixed = {name: str(value["always"]) for name, value in job.of_kind(kind).items()
-             if isinstance(value, dict) and "always" in value}
-    table = Table(kind, sheet, header, dict(marks or {}), paper, fixed)
-    for name, places in header.twice.items():
-        columns = ", ".join(map(letters_of, places))
-        job.report.mistake(sheet, header.row, places[1], f"columns {columns} could all be {name}: {CURE_TWICE}")
-    tell_header(job.report, table)
-    find_features(job.report, table)
-    tell_hidden_columns(job.report, table)
-    tell_lacking(job, table)
-    tell_unread(job, table)
-    return table
-
-
-def tell_header(report: Report, table: Table) -> None:
-    row, cells = table.header.row, table.sheet.rows[table.header.row]
+def tell_header(table: Table) -> None:
+    row, head = table.header.row, table.head
     above = sorted(line for line in table.sheet.rows if line < row)
     if above:
         rows = f"rows {above[0]} to {above[-1]} above it are" if len(above) > 1 else f"row {above[0]} above it is"
-        report.note(table.sheet, row, None, f"is taken as the header; {rows} not read")
+        table.note(row, None, f"is taken as the header; {rows} not read")
     for name, places in table.header.columns.items():
-        shown = [cells[place].text.strip() for place in places]
+        shown = [head[place].text.strip() for place in places]
         if shown != [name]:
-            report.note(table.sheet, row, places[0], f"{' and '.join(map(repr, shown))} is read as {name}")
-    for place in sorted(table.places()):
-        if place in cells and cells[place].struck:
-            report.mistake(table.sheet, row, place, f"the header {shown_of(cells[place])!r} is struck out: delete the "
-                                                    "column, or take the line away if it counts")
+            table.note(row, places[0], f"{' and '.join(map(repr, shown))} is read as {name}")
 
 
-def find_features(report: Report, table: Table) -> None:
+def find_features(table: Table) -> None:
     """Columns of crosses below features are read in place of the column of features."""
     feature, row = MARKED.get(table.kind), table.header.row
     if not feature or feature in table.fixed:
         return
     short = {name.replace("-", ""): name for name in FEATURES}
-    marks = {place: short[folded(text)] for place, text in text_cells(table.sheet.rows[row]).items()
+    marks = {place: short[folded(text)] for place, text in text_cells(table.head).items()
              if place not in table.places() and folded(text) in short}
     if feature in table.header.columns:
-        for place in sorted(set(marks) & set(first_crosses(table.sheet, row))):
-            report.mistake(table.sheet, row, place, f"{marks[place]} has crosses beside the column {feature}: keep one "
-                                                       "of the two")
-        return
-    for place, name in marks.items():
-        if name in table.marks.values():
-            report.mistake(table.sheet, row, place, f"the feature {name} has two columns")
-        table.marks[place] = name
+        crosses = first_crosses(table.sheet, row)
+        wrong = {place: f"{name} has crosses beside the column {feature}: keep one of the two"
+                 for place, name in marks.items() if place in crosses}
+    else:
+        wrong = {place: f"the feature {name} has two columns" for place, name in marks.items()
+                 if name in [marks[other] for other in marks if other < place]}
+        table.marks |= marks
+    for place in sorted(wrong):
+        table.mistake(row, place, wrong[place])
     if table.marks:
-        report.note(table.sheet, table.header.row, min(table.marks),
-                    f"crosses below {', '.join(table.marks.values())} are read as {feature}")
+        names = ", ".join(table.marks.values())
+        table.note(row, min(table.marks), f"crosses below {names} are read as {feature}")
 
 
-def tell_hidden_columns(report: Report, table: Table) -> None:
+def tell_columns(table: Table) -> None:
+    """Columns that are read, and whose header is struck out, or that are hidden."""
     for place in sorted(table.places()):
+        if place in table.head and table.head[place].struck:
+            table.mistake(table.header.row, place, f"the header {shown_of(table.head[place])!r} is struck out: delete "
+                                                   "the column, or take the line away if it counts")
         if any(first <= place <= last for first, last in table.sheet.hidden_columns):
-            report.note(table.sheet, table.header.row, place, f"column {letters_of(place)} is hidden; it is read")
+            table.note(table.header.row, place, f"column {letters_of(place)} is hidden; it is read")
 
 
-def tell_lacking(job: Job, table: Table) -> None:
+def tell_lacking(table: Table) -> None:
     """The columns of the kind that the sheet does not have."""
-    feature, report, asked = MARKED.get(table.kind), job.report, job.of_kind(table.kind)
-    for name in files.HEADERS[table.kind]:
-        if name in table.header.columns or name in table.fixed or name == feature and table.marks \
-                or name == "paper" and (table.marks or table.paper):
-            continue
+    asked, there = table.job.of_kind(table.kind), {*table.header.columns, *table.fixed}
+    if table.marks or table.paper:
+        there.add(MARKED.get(table.kind, "paper"))
+    for name in [name for name in files.HEADERS[table.kind] if name not in there]:
         if name == "code" and name not in asked:
-            text = "there is no column code: `office codes` fills the empty codes"
-            report.note(table.sheet, table.header.row, None, text)
+            table.note(table.header.row, None, "there is no column code: `office codes` fills the empty codes")
         else:
             why = f"; no header is {asked[name]!r}, as the file of columns says" if name in asked else ""
-            text = f"the column {name} is missing{why}: add it ({mistakes.CURES[name]})"
-            report.mistake(table.sheet, table.header.row, None, text)
+            table.mistake(table.header.row, None, f"the column {name} is missing{why}: add it ({mistakes.CURES[name]})")
 
 
-def tell_unread(job: Job, table: Table) -> None:
+def tell_unread(table: Table) -> None:
     """Columns with values that are no columns of the office."""
-    there = first_rows(table.sheet, table.header.row)
-    papers = job.papers if table.kind == "candidates" else set()
-    head = table.sheet.rows[table.header.row]
-    for place in sorted((set(there) | set(head)) - table.places()):
+    row, head = table.header.row, table.head
+    there = first_places(table.sheet, row, seen)
+    papers = table.job.papers if table.kind == "candidates" else set()
+    for place in sorted({*there, *head} - table.places()):
         if place not in head:
-            text = f"column {letters_of(place)} has values but no header; it is not read"
-            job.report.note(table.sheet, there[place], place, text)
-        elif job.said("paper", head[place]) in papers:
+            table.note(there[place], place, f"column {letters_of(place)} has values but no header; it is not read")
+        elif table.job.said("paper", head[place]) in papers:
             text = f"{shown_of(head[place])} is a paper: put the crosses on a sheet Entries, with the numbers"
-            job.report.mistake(table.sheet, table.header.row, place, text)
+            table.mistake(row, place, text)
         else:
-            text = f"the column {shown_of(head[place]).strip()!r} is not read"
-            job.report.note(table.sheet, table.header.row, place, text)
+            table.note(row, place, f"the column {shown_of(head[place]).strip()!r} is not read")
 
 
-def first_rows(sheet: Sheet, header: int) -> dict[int, int]:
-    """Of each column that has values below the header the first row with one."""
+def first_places(sheet: Sheet, header: int, counts: Callable[[Cell], object]) -> dict[int, int]:
+    """Of each column with cells that count below the header the first row with one."""
     below = sorted((row for row in sheet.rows if row > header), reverse=True)
-    return {place: row for row in below for place, cell in sheet.rows[row].items() if seen(cell)}
+    return {place: row for row in below for place, cell in sheet.rows[row].items() if counts(cell)}
 
 
 def first_crosses(sheet: Sheet, header: int) -> dict[int, int]:
     """Of each column with crosses below the header the first row with one. Numbers count as crosses where a column has
     nothing else than 1 and 0."""
-    found: dict[int, int] = {}
-    others: set[int] = set()
-    for row in sorted(row for row in sheet.rows if row > header):
-        marks = {place: is_mark(cell) for place, cell in sheet.rows[row].items()}
-        others |= {place for place, mark in marks.items() if mark is None}
-        found = {place: row for place, mark in marks.items() if mark} | found
-    return {place: row for place, row in found.items()
+    others = first_places(sheet, header, lambda cell: is_mark(cell) is None)
+    return {place: row for place, row in first_places(sheet, header, is_mark).items()
             if place not in others or sheet.rows[row][place].kind != "number"}

@@ -3,7 +3,7 @@ import decimal
 import functools
 import re
 import unicodedata
-from collections.abc import Mapping
+from collections.abc import Callable, Mapping
 from dataclasses import dataclass, field
 from typing import NamedTuple
 
@@ -15,8 +15,11 @@ INVISIBLE = dict.fromkeys([0xad, 0x61c, 0x180e, 0x200b, 0x200e, 0x200f, *range(0
                            0xfeff, *range(0xfff9, 0xfffc)])
 SPACES = re.compile(r"[\u00a0\u1680\u2007\u202f\u2000-\u200a\u3000\u205f]")
 DASHES = dict.fromkeys(map(ord, "\u2010\u2011\u2012\u2013\u2014\u2212"), "-")
-MADE = {"date": "a date of it", "time": "a time of it", "bool": "TRUE or FALSE of it"}
 GROUPS = re.compile(r"(?<=[0-9])[ ,.'\u00a0\u202f](?=[0-9]{3}(?![0-9]))")
+OTHER_LETTERS: dict[str, Callable[[str], str]] = {  # what is done to letters beyond ASCII
+    "accents composed": lambda text: unicodedata.normalize("NFC", text),
+    "invisible marks taken out": lambda text: text.translate(INVISIBLE),
+    "hard spaces made plain": lambda text: SPACES.sub(" ", text)}
 
 
 class Wrong(Exception):
@@ -50,49 +53,24 @@ def shown_of(cell: Cell | None) -> str:
     return plain(text if len(text) <= 200 else f"{text[:197]}..")
 
 
-def cleaned(text: str) -> tuple[str, list[str]]:
+def cleaned(text: str) -> tuple[str, str]:
     """A text without what no eye sees, in composed letters, and what was done."""
-    if text.isascii() and "\x7f" not in text:
-        bare = text.strip()
-        return bare, [] if bare == text else ["spaces at the ends taken away"]
-    done: list[str] = []
-    text = told(text, unicodedata.normalize("NFC", text), "accents composed", done)
-    text = told(text, text.translate(INVISIBLE), "invisible marks taken out", done)
-    text = told(text, SPACES.sub(" ", text), "hard spaces made plain", done)
-    return told(text, text.strip(), "spaces at the ends taken away", done), done
-
-
-def told(old: str, new: str, what: str, done: list[str]) -> str:
-    """The new text; what was done is added where it is another."""
-    if new != old:
-        done.append(what)
-    return new
+    done = []
+    for what, clean in OTHER_LETTERS.items() if not text.isascii() else ():
+        before, text = text, clean(text)
+        done += [what] * (text != before)
+    bare = text.strip()
+    return bare, reason(*done, "spaces at the ends taken away" * (bare != text))
 
 
 @functools.lru_cache(1 << 16)
 def bare(text: str) -> str:
-    """A text without what no eye sees."""
     return cleaned(text)[0]
 
 
-def letters(cell: Cell | None) -> tuple[str, list[str]]:
-    """The letters of a cell, of a number its digits, and what was done."""
-    return cleaned(cell.text) if cell is not None else ("", [])
-
-
-def refuse_kinds(cell: Cell | None, *kinds: str) -> None:
-    """Raises `Wrong` where a spreadsheet made one of these kinds of what was typed."""
-    if cell is None or cell.kind not in kinds:
-        return
-    again = "type it again in a column of the format text"
-    if cell.kind in MADE:
-        raise Wrong(f"a spreadsheet made {MADE[cell.kind]}: {again}")
-    raise Wrong(f"it is a percentage: {again}" if cell.kind == "percent" else "it is a number: type it as text")
-
-
-def refuse_other_digits(cell: Cell | None) -> None:
+def refuse_other_digits(cell: Cell) -> None:
     """Raises `Wrong` where a number is shown as other digits: 17 under the format "2027"000 is shown as 2027017."""
-    if cell is None or cell.kind != "number":
+    if cell.kind != "number":
         return
     shown = re.sub(r"[^0-9.,-]", "", GROUPS.sub("", cell.shown)).strip(".,")
     same = re.sub(r"[.,]0+$", "", shown).lstrip("0") == re.sub(r"\.0+$", "", cell.text).lstrip("0")
@@ -101,5 +79,5 @@ def refuse_other_digits(cell: Cell | None) -> None:
         raise Wrong(f"is the number {cell.text}, but {how}: type what counts as text")
 
 
-def reason(done: list[str], *more: str) -> str:
-    return ", ".join([*done, *(part for part in more if part)])
+def reason(*parts: str) -> str:
+    return ", ".join(filter(None, parts))

@@ -1,39 +1,46 @@
 """What a cell says as a value of the office: `read_value` has a rule for each column of the import files."""
 import re
-from collections.abc import Callable
+from collections.abc import Callable, Mapping
 
 from exam_desk import files, mistakes, noting
 from exam_desk.workbook.amounts import NONE, read_time, read_whole
 from exam_desk.workbook.cells import Cell
 from exam_desk.workbook.days import MONTHS, read_date
-from exam_desk.workbook.texts import (DASHES, Value, Way, Wrong, bare, letters, reason, refuse_kinds,
-                                      refuse_other_digits)
+from exam_desk.workbook.texts import DASHES, Value, Way, Wrong, bare, cleaned, reason, refuse_other_digits
 from exam_desk.words import FEATURES
 
 MOST_LETTERS = 1000  # of a cell: the patterns take long for longer ones
-QUOTES = "'\u2018\u2019`\u00b4"
+QUOTES = tuple("'\u2018\u2019`\u00b4")
 YES = {"yes", "y", "true", "1", "x", "✓", "✔", "ja", "j", "wahr", "oui", "vrai", "si", "sí"}
 NO = {"no", "n", "false", "0", "-", "nein", "falsch", "non", "faux", ""}
 SHORT_MONTH = "|".join(name for name in MONTHS if len(name) == 3)
 LIKE_A_DAY = re.compile(f"([0-9]{{1,2}}-({SHORT_MONTH})|({SHORT_MONTH})-[0-9]{{2}})", re.I)
 NEAR = {"wheelchair": "step-free", "accessible": "step-free", "pc": "computer", "laptop": "computer",
         "separateroom": "small-room"}
+EMPTY = Cell("text", "", "")
+AGAIN = "type it again in a column of the format text"
+MADE = {  # the kinds that a spreadsheet makes of what is typed
+    "date": f"a spreadsheet made a date of it: {AGAIN}", "time": f"a spreadsheet made a time of it: {AGAIN}",
+    "bool": f"a spreadsheet made TRUE or FALSE of it: {AGAIN}", "percent": f"it is a percentage: {AGAIN}",
+    "number": "it is a number: type it as text"}
 
 
 def read_value(column: str, cell: Cell | None, way: Way) -> Value:
     """The value of a cell, or of an empty one, as a column of the import files asks for it; raises `Wrong`."""
-    if cell is not None:
-        refuse_unread(cell)
-    word = bare(cell.text) if cell is not None and cell.kind == "text" else None
-    if word is not None and word in way.words.get(column, {}):
-        return Value(way.words[column][word], "by the file of columns")
-    value = READERS[column](column, cell, way)
+    found = cell or EMPTY
+    refuse_unread(found)
+    text, done = cleaned(found.text)
+    if cell and cell.kind == "text" and text in way.words.get(column, {}):
+        return Value(way.words[column][text], "by the file of columns")
+    read, refused = READERS[column]
+    if found.kind in refused:
+        raise Wrong(MADE[found.kind])
+    value = read(column, found, text, way)
     may_be_empty = column == "code" and not value.text
     if not mistakes.RIGHT[column](value.text.encode("utf-8", "surrogatepass")) and not may_be_empty:
-        raise Wrong("is missing" if cell is None else mistakes.cure(column, value.text.encode("utf-8", "replace")).text)
-    if not value.why and value.text != ((cell.shown or None) if cell is not None else ""):
-        value = value._replace(why=" ")
-    return value
+        raise Wrong(mistakes.cure(column, value.text.encode("utf-8", "replace")).text if cell else "is missing")
+    is_as_shown = value.text == ((cell.shown or None) if cell else "")
+    return value._replace(why=reason(done, value.why) or " " * (not is_as_shown))
 
 
 def refuse_unread(cell: Cell) -> None:
@@ -51,51 +58,37 @@ def refuse_unread(cell: Cell) -> None:
         raise Wrong("is in the cell, but its number format shows nothing: delete it, or give it another format")
 
 
-def read_number(column: str, cell: Cell | None, way: Way) -> Value:
-    """The number of a candidate."""
-    refuse_kinds(cell, "date", "time", "bool", "percent")
-    text, done = letters(cell)
+def read_number(column: str, cell: Cell, text: str, way: Way) -> Value:
     if "." not in text:
         refuse_other_digits(cell)
-    if cell is not None and cell.kind == "text" and text[:1] and text[:1] in QUOTES:
-        text = text[1:]
-        done.append("a quote in front taken away")
-    if re.fullmatch(r"[0-9]{1,7}(\.0+)?", text) and text.isascii():
-        padded = text.split(".")[0].zfill(7)
-        if padded != text:
-            done.append("zeros in front")
-        text = padded
-    elif re.fullmatch(r"[0-9]{1,3}([ ,.'’][0-9]{3})+", text):
-        raise Wrong(f"marks between the digits: write {re.sub('[^0-9]', '', text).zfill(7)} if that is meant")
-    elif re.fullmatch(r"[0-9]{8,}", text):
-        raise Wrong(f"{len(text)} digits; a number has seven")
-    return Value(text, reason(done))
+    quoted = cell.kind == "text" and text.startswith(QUOTES)
+    digits = padded = text[1:] if quoted else text
+    if re.fullmatch(r"[0-9]{1,7}(\.0+)?", digits):
+        padded = digits.split(".")[0].zfill(7)
+    elif re.fullmatch(r"[0-9]{1,3}([ ,.'’][0-9]{3})+", digits):
+        raise Wrong(f"marks between the digits: write {re.sub('[^0-9]', '', digits).zfill(7)} if that is meant")
+    elif re.fullmatch(r"[0-9]{8,}", digits):
+        raise Wrong(f"{len(digits)} digits; a number has seven")
+    return Value(padded, reason("a quote in front taken away" * quoted, "zeros in front" * (padded != digits)))
 
 
-def read_code(column: str, cell: Cell | None, way: Way) -> Value:
+def read_code(column: str, cell: Cell, text: str, way: Way) -> Value:
     """The code of a session, a paper or a hall, or an access code."""
-    refuse_kinds(cell, "date", "time", "bool", "percent")
-    text, done = letters(cell)
-    if cell is None:
-        return Value("")
     if cell.kind == "number":
         return code_of_number(text, cell)
-    new = text.translate(DASHES)
-    if new != text:
-        done.append("a dash made a hyphen")
-    text, new = new, new.upper() if new.isascii() else new
-    if new != text:
-        done.append("small letters made capitals")
-    if re.search(r"\s", new) and files.is_code(re.sub(r"\s+", "-", new).encode()):
-        raise Wrong(f"a space inside: write {re.sub(r'[ ]+', '-', new)} if that is meant ({mistakes.CURES[column]})")
-    is_day = column != "code" and LIKE_A_DAY.fullmatch(new)
-    return Value(new, reason(done), "looks like what a spreadsheet makes of a code such as MAR-1" if is_day else "")
+    plain = text.translate(DASHES)
+    code = plain.upper() if plain.isascii() else plain
+    if re.search(r"\s", code) and files.is_code(re.sub(r"\s+", "-", code).encode()):
+        raise Wrong(f"a space inside: write {re.sub(r'[ ]+', '-', code)} if that is meant ({mistakes.CURES[column]})")
+    done = reason("a dash made a hyphen" * (plain != text), "small letters made capitals" * (code != plain))
+    is_day = column != "code" and LIKE_A_DAY.fullmatch(code)
+    return Value(code, done, "looks like what a spreadsheet makes of a code such as MAR-1" if is_day else "")
 
 
 def code_of_number(text: str, cell: Cell) -> Value:
     if "E" in cell.shown.upper() or not re.fullmatch("[0-9]+", text):
         how = f", shown as {cell.shown}" if cell.shown != text else ""
-        raise Wrong(f"a spreadsheet made the number {text} of it{how}: type it again in a column of the format text")
+        raise Wrong(f"a spreadsheet made the number {text} of it{how}: {AGAIN}")
     if re.search("[^0-9., ]", cell.shown):
         raise Wrong(f"is the number {text}, but shown as {cell.shown}: type what counts as text")
     refuse_other_digits(cell)
@@ -104,63 +97,51 @@ def code_of_number(text: str, cell: Cell) -> Value:
     return Value(text, "", "is a number in the workbook: right only if the code has no zeros in front and no E")
 
 
-def read_name(column: str, cell: Cell | None, way: Way) -> Value:
-    """The name of a candidate, or a title."""
-    refuse_kinds(cell, "date", "time", "bool", "percent")
-    text, done = letters(cell)
+def read_name(column: str, cell: Cell, text: str, way: Way) -> Value:
     if re.search("[\n\r\t\v\f\x85\u2028\u2029]", text):
         raise Wrong("a line end or a tab inside: make it one line")
-    note = ""
-    if cell is not None and cell.kind == "number":
-        note = "is a number in the workbook"
-        if cell.shown != text:
-            refuse_other_digits(cell)
-            text = cell.shown
+    note = "is a number in the workbook" if cell.kind == "number" else ""
+    if note and cell.shown != text:
+        refuse_other_digits(cell)
+        text = cell.shown
     if re.search("[\u200c\u200d]", text) and not noting.has_wrong_letters(text):
         note = "holds a joiner that no eye sees; it is kept"
-    return Value(text, reason(done), note)
+    return Value(text, "", note)
 
 
-def read_yes(column: str, cell: Cell | None, way: Way) -> Value:
-    refuse_kinds(cell, "date", "time", "percent")
-    if cell is not None and cell.kind == "bool":
-        return Value("yes" if cell.text == "true" else "no", "yes or no")
-    text, done = letters(cell)
-    if cell is not None and cell.kind == "number":  # some spreadsheets store TRUE as a number that is shown so
+def read_yes(column: str, cell: Cell, text: str, way: Way) -> Value:
+    if cell.kind == "bool":
+        return Value("yes" if text == "true" else "no", "yes or no")
+    if cell.kind == "number":  # some spreadsheets store TRUE as a number that is shown so
         text = bare(cell.shown)
     word = text.translate(DASHES).lower()
-    if word not in YES | NO or cell is not None and cell.kind != "text" and not word:
+    if word not in YES | NO or cell.kind != "text" and not word:
         raise Wrong(mistakes.CURES["reserved"])
     value = "yes" if word in YES else "no"
-    return Value(value, reason(done, "empty is no" if not word else "yes or no" if value != text else ""))
+    return Value(value, "empty is no" if not word else "yes or no" if value != text else "")
 
 
-def read_features(column: str, cell: Cell | None, way: Way) -> Value:
+def read_features(column: str, cell: Cell, text: str, way: Way) -> Value:
     """A set of features, in any order and joined by any mark."""
-    refuse_kinds(cell, "date", "time", "percent", "number", "bool")
-    text, done = letters(cell)
     word = text.translate(DASHES).lower()
     if word in NONE:
-        return Value("-", reason(done, "empty is none" if not word else "none" if text != "-" else ""))
+        return Value("-", "empty is none" if not word else "none" if text != "-" else "")
     taught = {key.lower(): value for key, value in way.words.get(column, {}).items()}
-    found: set[str] = set()
-    for part in re.split(r"\s*(?:[+,;/&|\n\r]|\band\b|\bund\b)\s*", word):
-        if part:
-            found |= features_of(part, taught)
+    parts = re.split(r"\s*(?:[+,;/&|\n\r]|\band\b|\bund\b)\s*", word)
+    found = set().union(*(features_of(part, taught) for part in parts if part))
     value = "+".join(name for name in FEATURES if name in found) or "-"
-    return Value(value, reason(done, "" if value == text else "in the office's words and order"))
+    return Value(value, "in the office's words and order" if value != text else "")
 
 
-def features_of(part: str, taught: dict[str, str]) -> set[str]:
-    """The features of one word."""
+def features_of(part: str, taught: Mapping[str, str]) -> set[str]:
     if part in taught:
-        return set(taught[part].split("+")) - {"-"}
+        return set(taught[part].split("+"))
     short = re.sub("[ _-]", "", part)
-    for name in FEATURES:
-        if name.replace("-", "") == short:
-            return {name}
-    near = NEAR.get(short)
-    raise Wrong(f"{part} is none of the features" + (f"; {near}?" if near else "") + f" ({mistakes.FEATURES_CURE})")
+    found = {name for name in FEATURES if name.replace("-", "") == short}
+    near = f"; {NEAR[short]}?" if short in NEAR else ""
+    if not found:
+        raise Wrong(f"{part} is none of the features{near} ({mistakes.FEATURES_CURE})")
+    return found
 
 
 def is_mark(cell: Cell | None) -> bool | None:
@@ -175,8 +156,13 @@ def is_mark(cell: Cell | None) -> bool | None:
     return True if word in YES else False if word in NO and (word or cell.kind == "text") else None
 
 
-READERS: dict[str, Callable[[str, Cell | None, Way], Value]] = {
-    "number": read_number, "session": read_code, "paper": read_code, "hall": read_code, "code": read_code,
-    "name": read_name, "title": read_name, "date": read_date, "start": read_time, "until": read_time,
-    "minutes": read_whole, "extra": read_whole, "desks": read_whole, "reserved": read_yes,
-    "requires": read_features, "features": read_features, "needs": read_features}
+Reader = Callable[[str, Cell, str, Way], Value]  # of a column, a cell, its letters and what the officer said
+READERS: dict[str, tuple[Reader, list[str]]] = {  # with the kinds of cells that a column refuses
+    **dict.fromkeys(["number"], (read_number, ["date", "time", "bool", "percent"])),
+    **dict.fromkeys(["session", "paper", "hall", "code"], (read_code, ["date", "time", "bool", "percent"])),
+    **dict.fromkeys(["name", "title"], (read_name, ["date", "time", "bool", "percent"])),
+    **dict.fromkeys(["date"], (read_date, ["bool", "percent"])),
+    **dict.fromkeys(["start", "until"], (read_time, ["bool", "percent"])),
+    **dict.fromkeys(["minutes", "desks", "extra"], (read_whole, ["bool", "date"])),
+    **dict.fromkeys(["reserved"], (read_yes, ["date", "time", "percent"])),
+    **dict.fromkeys(["requires", "features", "needs"], (read_features, ["date", "time", "percent", "number", "bool"]))}

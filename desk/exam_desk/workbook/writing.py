@@ -1,18 +1,20 @@
 """Writes what was read as a new folder of import files, for its owner alone, whole or not at all."""
 import contextlib
+import json
 import os
 import shutil
 import tempfile
-from collections.abc import Iterable, Iterator
+from collections.abc import Iterable, Iterator, Mapping, Sequence
 
 from exam_desk import files
 from exam_desk.trouble import Trouble
 from exam_desk.workbook.checking import file_parts
 from exam_desk.workbook.headers import KINDS
-from exam_desk.workbook.plans import Rows, workbook_of
+from exam_desk.workbook.opening import ask_child
 from exam_desk.workbook.reading import Reading
-from exam_desk.workbook.report import Report
 from exam_desk.words import plain
+
+Rows = Mapping[str, Sequence[Sequence[str]]]  # by kind
 
 
 def refuse_there(target: str) -> None:
@@ -29,9 +31,8 @@ def new_folder(target: str) -> Iterator[str]:
     try:
         yield making
         os.rename(making, os.path.abspath(target))
-    except BaseException:
+    finally:
         shutil.rmtree(making, ignore_errors=True)
-        raise
 
 
 def write_folder(target: str, reading: Reading, lines_name: str) -> dict[str, int]:
@@ -40,13 +41,13 @@ def write_folder(target: str, reading: Reading, lines_name: str) -> dict[str, in
     if reading.report.count("mistake"):
         raise Trouble("there are mistakes, so nothing is written", target)
     with new_folder(target) as making:
-        files.put(os.path.join(making, lines_name), lines_of(reading.report))
+        text = "".join(f"{plain(line.whole())}\n" for line in reading.report.lines)
+        files.put(os.path.join(making, lines_name), text.encode("utf-8", "backslashreplace"))
         return {kind: write_kind(making, kind, (record.fields for record in reading.records[kind]))
                 for kind in KINDS if reading.records.get(kind)}
 
 
 def write_kind(folder: str, kind: str, rows: Iterable[list[str]]) -> int:
-    """Writes the rows of a kind, and gives their count."""
     counts = []
     for place, (text, count) in enumerate(file_parts(kind, rows), 1):
         files.put(os.path.join(folder, f"{kind}.csv" if place == 1 else f"{kind}-{place}.csv"), text)
@@ -54,8 +55,9 @@ def write_kind(folder: str, kind: str, rows: Iterable[list[str]]) -> int:
     return sum(counts)
 
 
-def lines_of(report: Report) -> bytes:
-    return "".join(f"{plain(line.whole())}\n" for line in report.lines).encode("utf-8", "backslashreplace")
+def workbook_of(rows: Rows, example: bool = False) -> bytes:
+    """An .xlsx of the rows of each kind; the example is a row that `read` leaves out."""
+    return ask_child("write", json.dumps([rows, example]).encode())
 
 
 def put_workbook(path: str, rows: Rows, example: bool = False) -> None:

@@ -19,7 +19,7 @@ from openpyxl.worksheet import _reader
 from openpyxl.xml.constants import SHEET_MAIN_NS
 
 from exam_desk.trouble import Trouble
-from exam_desk.workbook.cells import (MOST_COLUMN, MOST_MERGED, MOST_ROW, MOST_SHEETS, Book, Budget, Cell, Sheet,
+from exam_desk.workbook.cells import (MOST_COLUMN, MOST_ROW, MOST_SHEETS, Book, Budget, Cell, Sheet,
                                       area_of, place_name, place_of)
 from exam_desk.workbook.looking import OPEN_AND_SAVE, Parts, local
 from exam_desk.workbook.numberformats import BUILT_IN, MACINTOSH, WINDOWS, number_cell, shown_text
@@ -85,12 +85,11 @@ class Reader:
         self.roots = {name: root.rpartition(" ") for name, root in roots.items()}
         if styles := [name for name in self.of_root("styleSheet") if name != STYLES]:
             raise Trouble(f"its styles stand in an unusual part, {styles[0]}: {OPEN_AND_SAVE}")
-        reader = ExcelReader(self.archive.fp, keep_links=False)
-        reader.read_manifest()
-        reader.read_workbook()
-        apply_styles(self.archive, reader.wb)
-        self.reader = reader
-        self.epoch = MACINTOSH if reader.wb.epoch.year == 1904 else WINDOWS
+        self.reader = ExcelReader(self.archive.fp, keep_links=False)
+        self.reader.read_manifest()
+        self.reader.read_workbook()
+        apply_styles(self.archive, self.reader.wb)
+        self.epoch = MACINTOSH if self.reader.wb.epoch.year == 1904 else WINDOWS
         self.texts = SharedTexts()
         if len(tables := self.of_root("sst")) > 1:
             raise Trouble(f"it has two tables of texts, as no spreadsheet writes it: {OPEN_AND_SAVE}")
@@ -100,11 +99,9 @@ class Reader:
         self.styles: dict[int, Style] = {}
 
     def of_root(self, root: str) -> list[str]:
-        """The parts with a first element."""
         return [name for name, (_, _, found) in self.roots.items() if found == root]
 
     def elements(self, parts: list[str], name: str) -> Iterator[Element]:
-        """The elements of a name in parts."""
         for part in parts:
             for _, found, element in self.parts.elements(part, "end"):
                 if found == name:
@@ -112,13 +109,10 @@ class Reader:
                     element.clear()
 
     def book(self) -> Book:
-        notes = []
-        if self.epoch is MACINTOSH:
-            notes.append("it counts its days from 1904; its dates are read so")
-        if any(name.endswith("vbaProject.bin") for name in self.archive.namelist()):
-            notes.append("it holds macros; they are not run")
         if len(self.reader.parser.sheets) > MOST_SHEETS:
             raise Trouble(f"it has more than {MOST_SHEETS} sheets")
+        notes = ["it counts its days from 1904; its dates are read so"] * (self.epoch is MACINTOSH)
+        notes += self.parts.notes(".*vbaProject[.]bin$")
         sheets = []
         for named in self.reader.parser.sheets:
             part = self.reader.parser.rels[named.id].target
@@ -143,9 +137,7 @@ class Reader:
             for _ in parser.parse():
                 pass
         if parser.merged_cells is not None:
-            sheet.merged = [area_of(merged.ref) for merged in parser.merged_cells.mergeCell]
-        if len(sheet.merged) > MOST_MERGED:
-            raise Trouble(f"it has more than {MOST_MERGED:,} merged cells")
+            sheet.merge(area_of(merged.ref) for merged in parser.merged_cells.mergeCell)
         sheet.hidden_rows = [(int(row), int(row)) for row, look in parser.row_dimensions.items()
                              if is_hidden(look, "ht")]
         sheet.hidden_columns = [(int(look["min"]), int(look["max"])) for look in parser.column_dimensions.values()
@@ -171,27 +163,25 @@ class Reader:
             return
         if not (0 < row <= MOST_ROW and 0 < column <= MOST_COLUMN):
             raise Trouble("it has a cell beyond the last row or column")
-        cells = sheet.rows.setdefault(row, {})
-        if column in cells:
+        if column in sheet.rows.setdefault(row, {}):
             raise Trouble(f"it has the cell {place_name(sheet, row, column)} twice: {OPEN_AND_SAVE}")
         self.budget.keep(cell.text)
-        cells[column] = cell
+        sheet.rows[row][column] = cell
 
     def cell(self, found: dict[str, Any], value: Any, formula: bool) -> Cell | None:
         kind = found["data_type"]
         if value is None or value == "":
             return Cell("pending", "", "", True) if formula and kind not in ("s", "str") else None
         form, struck = self.style(found["style_id"])
-        struck = struck or getattr(value, "struck", False)
         if kind == "n" and not isinstance(value, SharedText):
             made = number_cell(value, form, self.epoch)
         elif kind in ("n", "s"):
             text = value if isinstance(value, SharedText) else unescaped(value)
             shown = shown_text(form, text)
-            return Cell("text", str(text), shown or "", formula, struck, shown is None)
+            made = Cell("text", str(text), shown or "", unseen=shown is None)
         else:
             made = other_cell(value, kind)
-        return made._replace(formula=formula, struck=struck) if made and (formula or struck) else made
+        return made and made._replace(formula=formula, struck=struck or getattr(value, "struck", False))
 
     def style(self, number: int) -> Style:
         if number not in self.styles:
@@ -201,7 +191,6 @@ class Reader:
         return self.styles[number]
 
     def comments(self, part: str) -> Iterator[str]:
-        """The cells of a sheet that have comments."""
         beside = links_beside(part)
         links = links_of(self.archive, beside).find(COMMENTS) if beside in self.roots else []
         for element in self.elements([link.target for link in links if link.target in self.roots], "comment"):
@@ -223,5 +212,4 @@ def other_cell(value: Any, kind: str) -> Cell:
 
 
 def is_hidden(look_of: dict[str, str], size: str) -> bool:
-    """Whether a row or a column is hidden, or has no height or width."""
     return look_of.get("hidden", "0") in ("1", "true") or float(look_of.get(size, "1")) == 0

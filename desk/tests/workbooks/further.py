@@ -347,3 +347,11 @@ case("marks-of-no-width", xlsx(candidates(["0000001", "Ada\u2063 Lin\u180e", "CO
 case("ods-links-to-other-programs", ods(table("Candidates", ods_row(*CANDIDATES), ods_row(*ADA))
      + f'<table:dde-links><table:dde-link>{table("kept", ods_row(*CANDIDATES), ods_row(*BO))}</table:dde-link>'
      "</table:dde-links>"), files=A, suffix="ods", quiet=True)
+case("struck-feature-header", xlsx(sheet("Halls", ["hall", "title", ("strike", "computer")], ["GYM", "Gym", "x"])), 1,
+     only=True, mistakes=[["Halls!C1", "struck"]])
+case("csv-field-without-end", b'number,name,code\n0000001,"' + b"x" * 4_300_000, 1, suffix="csv",
+     stderr=["is a quote not closed?"])
+PAPER_ALWAYS = {"args": ["--columns", "{here}/columns.toml"],
+                "beside": {"columns.toml": '[papers]\npaper = { always = "MA-1" }\n[entries]\npaper = { always = "MA-1" }\n'}}
+case("columns-one-paper", xlsx(sheet("Papers", PAPERS[1:], ["Maths", "S1", 90, "-"]), sheet("Entries", ["number"],
+     ["0000001"])), files={"papers": ["MA-1,Maths,S1,90,-"], "entries": ["0000001,MA-1"]}, **PAPER_ALWAYS)

@@ -1,0 +1,66 @@
+"""What a form that was posted comes to: it leads to a page, or its own page says what is wrong at its fields."""
+import secrets
+from typing import Any
+
+from flask import current_app, g, redirect, request, url_for
+from flask.typing import ResponseReturnValue
+from markupsafe import Markup
+from werkzeug.datastructures import MultiDict
+from werkzeug.wrappers import Response
+
+from exam_desk import mistakes
+from exam_web.wording import text
+
+Form = MultiDict[str, str]
+Page = tuple[str, dict[str, Any]]  # an endpoint and its values
+SHEET_HINT = "; format the column as text"  # of cures, for who has a spreadsheet
+
+
+class Wrong(Exception):
+    """Values of a form that cannot be: the page that has the form, and what is said beside each field."""
+
+    def __init__(self, page: Page, form: str = "", **fields: object) -> None:
+        super().__init__()
+        self.page, self.fields = page, fields
+        self.form = form or (request.view_args or {})["what"]  # its name on the page
+
+
+def wrong_page(wrong: Wrong) -> ResponseReturnValue:
+    """The page of a form, with what is wrong at its fields and all that was given."""
+    g.wrong, g.given, g.asked_form = wrong.fields, request.form, wrong.form
+    endpoint, values = wrong.page
+    try:
+        return current_app.view_functions[endpoint](**values), 422
+    except Exception as fault:  # what the form is about is gone, or the office cannot be read
+        return current_app.handle_user_exception(fault)
+
+
+def lead(endpoint: str, said: Markup | None = None, kind: str = "good", **values: Any) -> Response:
+    """Leads to a page, which says what was done, or what is bad."""
+    if said is not None:
+        g.visit.said.append((kind, said))
+    return redirect(url_for(endpoint, **values), 303)
+
+
+def checked(page: Page, form: Form, **columns: str) -> dict[str, str]:
+    """The values of fields, by the forms of the columns that are named; what is wrong is said beside its field."""
+    values = {name: form.get(name, "").strip() for name in columns}
+    wrong = {name: text(mistakes.CURES[column].removesuffix(SHEET_HINT)) for name, column in columns.items()
+             if not mistakes.RIGHT[column](values[name].encode("utf-8", "surrogateescape"))}
+    if wrong:
+        raise Wrong(page, **wrong)
+    return values
+
+
+def whole(low: int, high: int) -> Markup:
+    """The cure of a number that is none, or too low or too high."""
+    return text("a whole number from {low} to {high}", low=low, high=high)
+
+
+def keep(found: dict[str, Any], most: int, value: object) -> str:
+    """Keeps a thing of a visit under a key that nobody guesses, and drops the oldest beyond so many; gives the key."""
+    while len(found) >= most:
+        found.pop(next(iter(found)))
+    key = secrets.token_urlsafe(9)
+    found[key] = value
+    return key
