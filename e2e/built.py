@@ -26,6 +26,12 @@ def program(named=None):
     return os.path.abspath(found)
 
 
+def path():
+    """PATH with the folder of this python first: scripts whose first line names python3 then begin without the shim of
+    a version manager, which takes longer than they do."""
+    return os.pathsep.join([os.path.dirname(sys.executable), os.environ["PATH"]])
+
+
 def codes():
     """The access code of each candidate of the sample school."""
     with open(EXAMPLES / "candidates.csv", encoding="utf-8", newline="") as file:

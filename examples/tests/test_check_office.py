@@ -319,12 +319,14 @@ right: 3 sessions, 8 seats, 1 without a desk, 2 notes
     def fake_program(self):
         """Prints the sheets that were written by hand, and fails where two print from one file at one time."""
         fake = self.folder / "fake"
-        fake.write_text(f"""#!/bin/sh
-mkdir "$2.used" || exit 1
-sleep 0.02
-cat "{self.sheets}/$7.$5${{8:+.$8}}"
-rmdir "$2.used"
-""")
+        fake.write_text(f"""#!{sys.executable}
+import os, pathlib, sys, time
+_, _, file, _, _, command, _, session, *value = sys.argv
+os.mkdir(file + ".used")
+time.sleep(0.02)
+sys.stdout.write(pathlib.Path("{self.sheets}", ".".join([session, command, *value])).read_text("utf-8"))
+os.rmdir(file + ".used")
+""")  # one process, of which nothing is left when it is killed
         fake.chmod(0o700)
         return str(fake)
 
