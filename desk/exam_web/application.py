@@ -83,7 +83,7 @@ def still_reading(stage: StillReading) -> tuple[str, int, dict[str, str]]:
 
 
 def faulty(fault: Exception) -> tuple[str, int]:
-    """What cannot be done now: by the package, by a file or by the database."""
+    """What the package, a file or the database refuses."""
     if isinstance(fault, OSError) and fault.errno in NO_ROOM:
         return problem(text("The disk is full: make room, for example in the folder {place}, and try again.",
                             place=str(fault.filename or "desk-office.db/days")), 500)

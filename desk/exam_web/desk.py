@@ -50,13 +50,6 @@ class View:
         asked = [f"{number:07}" for number in numbers]
         return self.reading.clashes(session, asked) if asked else {}
 
-    def once(self, key: object, make: Callable[[], Found]) -> Found:
-        with self.lock:
-            if key not in self.found:
-                self.found[key] = make()
-            result: Found = self.found[key]
-            return result
-
     def close(self) -> None:
         self.stack.close()
 
@@ -64,7 +57,12 @@ class View:
 def once(make: Callable[Concatenate[View, Asked], Found]) -> Callable[Concatenate[View, Asked], Found]:
     """What is worked out of a view is worked out once."""
     def found(view: View, /, *asked: Asked.args, **more: Asked.kwargs) -> Found:
-        return view.once((make, *asked), lambda: make(view, *asked, **more))
+        key = (make, asked, *more.items())
+        with view.lock:
+            if key not in view.found:
+                view.found[key] = make(view, *asked, **more)
+            result: Found = view.found[key]
+            return result
     return found
 
 

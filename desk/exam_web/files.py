@@ -4,7 +4,7 @@ from werkzeug.wrappers import Response as Answer
 
 from exam_desk import dumping, files
 from exam_web import downloads, uploads
-from exam_web.desk import desk, view
+from exam_web.desk import View, desk, once, view
 from exam_web.forms import keep, lead
 from exam_web.wording import many, text
 
@@ -19,9 +19,13 @@ COUNTS = {"sessions": "session", "papers": "paper", "halls": "hall", "openings":
 def page() -> str | Answer:
     if not desk().is_there():
         return redirect(url_for("season.page"))
-    counts = view().once("rows", lambda: {kind: view().count(f"SELECT count(*) FROM {table}")
-                                          for kind, table in COUNTS.items()})
-    return render_template("files.html", headers=files.HEADERS, counts=counts, uploaded=g.visit.uploads)
+    return render_template("files.html", headers=files.HEADERS, counts=counts(view()), uploaded=g.visit.uploads)
+
+
+@once
+def counts(found: View) -> dict[str, int]:
+    """How many rows the office has, by kind."""
+    return {kind: found.count(f"SELECT count(*) FROM {table}") for kind, table in COUNTS.items()}
 
 
 @pages.post("/files")

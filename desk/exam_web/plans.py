@@ -153,7 +153,7 @@ def close_hall(form: Form) -> Plan:
 def others(code: str, lost: str) -> dict[str, object]:
     """What the form for another hall begins with: the closed halls first, desks and end of the lost one; where the
     first is open already, as many desks more."""
-    opened = {each.hall: each for each in session.openings(code)}
+    opened = {each.hall: each for each in session.openings(view(), code)}
     rows = view().rows("SELECT code, title FROM hall WHERE code <> ? ORDER BY code", [lost])
     halls = sorted(((row["code"], row["title"], opened.get(row["code"])) for row in rows),
                    key=lambda each: each[2] is not None)

@@ -45,11 +45,8 @@ def lock_of(office: Office) -> Iterator[int | None]:
 
 
 def running_at(office: Office) -> tuple[str, str]:
-    file = beside.open_file(office.path, LOCK, flags=os.O_RDONLY)
-    try:
-        said = os.pread(file, NOTE_BYTES, 0).decode("ascii", "replace").split()
-    finally:
-        os.close(file)
+    with open(beside.open_file(office.path, LOCK, flags=os.O_RDONLY), "rb") as file:
+        said = file.read(NOTE_BYTES).decode("ascii", "replace").split()
     if len(said) != 2:
         raise Trouble("a desk of this office begins or ends just now; try again")
     return said[0], said[1]

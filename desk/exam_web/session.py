@@ -13,7 +13,7 @@ from exam_desk.reading import Member
 from exam_desk.sheets.chart import NotDrawn, numbered
 from exam_desk.trouble import Trouble
 from exam_web import counting, downloads, printing, shortages
-from exam_web.desk import desk, view
+from exam_web.desk import View, desk, once, view
 from exam_web.forms import Wrong, lead, whole
 from exam_web.wording import many, said, text
 
@@ -29,12 +29,13 @@ def sums_of(code: str) -> counting.Sums:
     return counting.sums(view()).get(code) or abort(404)
 
 
-def openings(code: str) -> list[Opening]:
-    return view().once(("openings", code), lambda: facts.openings(view().reading.rows, code))
+@once
+def openings(found: View, code: str) -> list[Opening]:
+    return facts.openings(found.reading.rows, code)
 
 
 def opening(code: str, hall: str) -> Opening:
-    found = [each for each in openings(code) if each.hall == hall]
+    found = [each for each in openings(view(), code) if each.hall == hall]
     return found[0] if found else abort(404)
 
 
@@ -48,7 +49,7 @@ def page(code: str) -> str:
     known = [number for number, in view().rows("SELECT number FROM candidate ORDER BY number")
              if f"{number:07}" in noted] if noted else []  # a copy from before they came may have been put back
     return render_template(
-        "session.html", s=sums, halls=openings(code), taken=taken(code), papers=papers(code), lodged=lodged,
+        "session.html", s=sums, halls=openings(view(), code), taken=taken(code), papers=papers(code), lodged=lodged,
         previous=before, next=after, closed=closed_halls(code), clashes=clashes(code), most=MOST_PEOPLE,
         absent=members_of(code, known), shortage=shortages.of(view(), code) if sums.short else None,
         sheets=printing.SHEETS, last=lastdays.to_decide(sums.day))

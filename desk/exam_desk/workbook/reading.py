@@ -70,7 +70,8 @@ def read_book(book: Book, job: Job, progress: Progress = lambda text: None) -> R
 
 
 def read_sheets(job: Job, sheets: list[Sheet], progress: Progress) -> dict[str, list[Record]]:
-    """The records of each kind of which there are some. Which sheets are entries in another form the papers say."""
+    """The records of each kind that has some. Entries are last: the codes of papers say which sheets are tables of
+    them."""
     tables, rest = find_tables(job, sheets)
     records: dict[str, list[Record]] = {}
     for kind in KINDS:

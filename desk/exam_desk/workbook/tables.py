@@ -75,9 +75,9 @@ class Table:
     paper: str = ""  # the paper whose candidates the sheet lists, or ''
 
     def __post_init__(self) -> None:
-        """Adds the lines on what the header says."""
+        """Adds the lines on what the header says; `fixed` has of a column of the office a value for all rows."""
         self.fixed = {name: str(value["always"]) for name, value in self.job.of_kind(self.kind).items()
-                      if isinstance(value, dict) and "always" in value}  # of a column of the office a value for all rows
+                      if isinstance(value, dict) and "always" in value}
         self.head = self.sheet.rows[self.header.row]
         for name, places in self.header.twice.items():
             columns = ", ".join(map(letters_of, places))
