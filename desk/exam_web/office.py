@@ -18,7 +18,7 @@ from exam_web.wording import shown, text
 
 pages = Blueprint("office", __name__)
 MOST_LINES = 200  # of the log
-KEEP = str(pathlib.Path(__file__).resolve().parent.parent / "keep")  # the command
+COMMAND = str(pathlib.Path(__file__).resolve().parent.parent / "office")
 LOWEST_PORT, HIGHEST_PORT = 1024, 65535
 
 
@@ -96,7 +96,7 @@ def keep() -> Answer:
         abort(400)
     if not (re.fullmatch("[0-9]{1,5}", port) and LOWEST_PORT <= int(port) <= HIGHEST_PORT):
         raise Wrong(("office.page", {}), "keep", port=whole(LOWEST_PORT, HIGHEST_PORT))
-    status = kept.start(office(), [sys.executable, KEEP, "run", port])
+    status = kept.start(office(), [sys.executable, COMMAND, "keep", "run", port])
     return lead("office.page", shown(status.sentence), "good" if status.serves else "bad", _anchor="serve")
 
 
