@@ -145,10 +145,12 @@ class AtAnyTime(Uploads):
         self.start()
 
     def put_back(self, after):
-        """Puts back what is there: whole, or broken off, which the season says."""
+        """Puts back what is there: whole, or broken off, which the season says. Killed between the last step and its line
+        in the log, a change is whole, and the log cannot know it."""
         state = states.name_now(self.value)
         if state == after:
-            self.office("back", "1", "--yes")
+            done = self.run_office("back", "1", "--yes")
+            self.assertEqual(done.returncode, 0, done.stderr)
         elif state != self.before:
             self.assertIn("A change was broken off: ", self.browser.words("/"))
             page = re.search(r'/office/copies/[0-9a-f]{16}(?=")', self.browser.get("/"))[0]
