@@ -79,6 +79,9 @@ class Rows(unittest.TestCase):
     def test_a_script_that_says_nothing_of_its_tries_shows_nothing(self):
         self.assertEqual(self.rows(0, "OK\n", r"(\d+) kills"), [("none", "1")])
 
+    def test_numbers_are_grouped(self):
+        self.assertEqual(ALL.grouped("168 of 525104"), "168 of 525,104")
+
     def test_one_that_has_nothing_to_look_with(self):
         self.assertEqual(self.rows(0, "skipped: there is no nginx\n", r"(\d+) kills"), [("skipped: there is no nginx", "0")])
 
