@@ -116,4 +116,5 @@ def explained(reasons: Reasons, member: Member) -> Markup:
     lines = [pages.html("<li>{}: {}</li>", ", ".join(codes), pages.text(reason)) for reason, codes in found.items()]
     return pages.html("<p><b>{} {}</b> sits {} until {}{}, needs {}</p><ul>{}</ul>", member.number,
                       pages.text(member.name), sitting.paper, sitting.finish, extra,
-                      "+".join(reasons.needs(member)) or "-", pages.joined(lines) or Markup("<li>no hall is open</li>"))
+                      "+".join(reasons.needs(member)) or "-",
+                      pages.joined(lines) or Markup("<li>no hall is open</li>"))
