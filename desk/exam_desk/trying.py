@@ -48,4 +48,4 @@ def of_rehearsal(rehearsal: Rehearsal, progress: Progress) -> list[str]:
           Reading(rehearsal.office, rehearsal.after, progress) as after):
         met = [each for each in consequences.groups(before, after) if each.kind not in (TWICE, HALLS)]
         return [*consequences.short_at_first(before, after), *consequences.brief(met),
-                *overlaps.lines(after, overlaps.found(after))]
+                *consequences.other_codes(before, after), *overlaps.lines(after, overlaps.found(after))]
