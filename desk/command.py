@@ -22,6 +22,7 @@ if TYPE_CHECKING:
     import datetime
     from types import FrameType, TracebackType
 
+    from exam_desk.changing import Step
     from exam_desk.reading import Reading
 
 DESK = os.path.dirname(os.path.realpath(__file__))
@@ -98,6 +99,18 @@ def tell_consequences(copy: str | None) -> None:
         with contextlib.suppress(OSError):  # whoever reads no more has what the program said
             sys.stderr.write("".join(f"{line}\n" for line in lines))
             sys.stderr.flush()
+
+
+def carry_out(step: Step, title: str) -> int:
+    """Carries a step out, and says what came of it; the status."""
+    from exam_desk import changing, refusals
+    carried = changing.carry_out(office(), [step], title=title)
+    ran = carried.answers[0].ran
+    say(ran.answer)
+    lines = refusals.explained(office(), step.words, ran.complaint, step.data) if ran.status else []
+    sys.stderr.write(ran.complaint + "".join(f"{line}\n" for line in lines))
+    tell_consequences(carried.copy)
+    return ran.status
 
 
 def arguments(name: str, doc: str | None) -> argparse.ArgumentParser:
