@@ -52,7 +52,8 @@ class Words(sample.SampleSchool):
         self.assertTrue(done.stderr.startswith("line not understood\n"))
         for word in ("decide", "<number>", "<outcome>"):
             self.assertIn(word, done.stderr.lower())
-        self.assertEqual(self.run_office("nothing-like-it").returncode, 2)
+        done = self.run_office("nothing-like-it")
+        self.assertEqual((done.returncode, done.stderr), (2, "line not understood\n  `office --help` lists the commands\n"))
 
     def test_a_missing_program_is_named(self):
         self.assertIn("there is no program /nowhere", self.refused("init", EXAMOFFICE="/nowhere"))

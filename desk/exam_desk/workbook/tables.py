@@ -104,7 +104,8 @@ def tell_header(report: Report, table: Table) -> None:
     for name, places in table.header.columns.items():
         shown = [cells[place].text.strip() for place in places]
         if shown != [name]:
-            report.note(table.sheet, row, places[0], f"{' and '.join(map(repr, shown))} is read as {name}")
+            verb = "are" if len(shown) > 1 else "is"
+            report.note(table.sheet, row, places[0], f"{' and '.join(map(repr, shown))} {verb} read as {name}")
     for place in sorted(table.places()):
         if place in cells and cells[place].struck:
             report.mistake(table.sheet, row, place, f"the header {shown_of(cells[place])!r} is struck out: delete the "
