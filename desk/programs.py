@@ -43,7 +43,9 @@ def run(office: Office, words: list[str]) -> int:
 
 def changed(office: Office, words: list[str]) -> int:
     """Carries out a change; its status, whatever can be said of what it did."""
-    carried = changing.carry_out(office, [changing.Step(tuple(words))])
+    step = changing.Step(tuple(words))
+    title = f"{step.title()} {os.path.basename(words[-1])}" if words[0] == "import" else ""
+    carried = changing.carry_out(office, [step], title=title)
     status = outcome(office, words, printed(carried.answers[0].ran))
     if words[0] != MIGRATE:  # of the office before it nobody here can read the tables
         command.tell_consequences(carried.copy)
