@@ -1,15 +1,27 @@
 """The front script over the sample school: refusals in words, copies and `back`, the log."""
+import io
 import os
 import sqlite3
 import stat
 import subprocess
 import sys
 import unittest
-from contextlib import closing, suppress
+from contextlib import closing, redirect_stderr, suppress
 from unittest import mock
 
 import sample
+import command
 from exam_desk import copies
+
+
+class Faults(unittest.TestCase):
+    def test_who_may_not_read_is_named(self):
+        for fault, said in ((PermissionError(13, "Permission denied", "c.csv"), "c.csv: Permission denied to the user ada"),
+                            (FileNotFoundError(2, "No such file", "c.csv"), "c.csv: No such file")):
+            with mock.patch("exam_desk.beside.user_name", return_value="ada"), \
+                    redirect_stderr(io.StringIO()) as out:
+                command.tell(type(fault), fault, None)
+            self.assertEqual(out.getvalue(), f"office: {said}\n")
 
 
 class Words(sample.SampleSchool):
