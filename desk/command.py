@@ -73,7 +73,8 @@ def tell(kind: type[BaseException], fault: BaseException, place: TracebackType |
     elif isinstance(fault, Trouble):
         warn(fault)
     elif isinstance(fault, OSError):
-        warn(f"{fault.filename}: {fault.strerror}" if fault.filename else fault)
+        who = f" to the user {beside.user_name(os.getuid())}" if isinstance(fault, PermissionError) else ""
+        warn(f"{fault.filename}: {fault.strerror}{who}" if fault.filename else fault)
     elif isinstance(fault, sqlite3.Error):
         warn(f"{office_path()}: {fault}")
     else:

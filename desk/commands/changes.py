@@ -127,18 +127,12 @@ The access code stays as it is, so a slip that is out still opens the web page. 
 """)
 def name(parser: ArgumentParser) -> int:
     from commands import programs
-    from exam_desk import changing, coding
+    from exam_desk import coding
     parser.add_argument("number", metavar="NUMBER")
     parser.add_argument("name", metavar="NAME")
     given = parser.parse_args()
-    office = command.office()
-    step = coding.renamed(office, given.number, given.name)
-    carried = changing.carry_out(office, [step], title=f"name {given.number}")
-    ran = carried.answers[0].ran
-    command.say(ran.answer)
-    status = programs.outcome(office, step.words, ran, step.data)
-    command.tell_consequences(carried.copy)
-    return status
+    step = coding.renamed(command.office(), given.number, given.name)
+    return programs.carry_out(command.office(), step, f"name {given.number}")
 
 
 @command.named("""Lets a candidate with two papers at once sit one of them later: second-sitting NUMBER PAPER START HALL

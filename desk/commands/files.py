@@ -104,33 +104,42 @@ def check_files(parser: ArgumentParser) -> bool:
 
 
 @command.named("""\
-Makes access codes at random for those who have none: codes [CANDIDATES.csv] [--new NUMBER ..] [--output FILE]
+Makes access codes at random for those who have none: codes [CANDIDATES.csv] [--new NUMBER ..] [--import]
 
     office codes                                   reads candidates.csv, writes candidates-with-codes.csv
     office codes new.csv --output new-coded.csv
-    office codes --new 0001051                     another code for one candidate, whose row is the office's
+    office codes --new 0001051 --import            another code for one candidate, in the office at once
+    office codes --new 0001051                     the row of this candidate with another code, as a file to import
 
 It fills the column `code` where that is empty: with the code that the office has, since slips with it may be out, else
 with a new one. It keeps the codes that are there, and makes none twice. --new names who gets another code all the same;
 without CANDIDATES.csv their rows alone are written, as the office has them.
 
-It writes a new file that only its owner can read, never over one that is there; look at it, and import it. A code has
-ten letters and digits, without vowels and what looks alike, and begins with a letter, so that no spreadsheet takes it
-for a number.
+It writes a new file that only its owner can read, never over one that is there; look at it, and import it. With
+--import it writes none. A code has ten letters and digits, without vowels and what looks alike, and begins with a letter,
+so that no spreadsheet takes it for a number.
 """)
-def codes(parser: ArgumentParser) -> None:
+def codes(parser: ArgumentParser) -> int:
     from exam_desk import coding, lists
     parser.add_argument("candidates", metavar="CANDIDATES.csv", nargs="?", help="candidates.csv if not given")
     parser.add_argument("--new", metavar="NUMBER", nargs="+", default=[], help="who gets another code")
-    parser.add_argument("--output", metavar="FILE")
+    form = parser.add_mutually_exclusive_group()
+    form.add_argument("--output", metavar="FILE", help="the new file, CANDIDATES-with-codes.csv if not given")
+    form.add_argument("--import", action="store_true", dest="at_once", help="imports the rows, and writes no file")
     given = parser.parse_args()
     path = given.candidates or "candidates.csv"
     found = coding.coded(command.office(), None if given.new and not given.candidates else path, given.new)
+    if given.at_once:
+        from commands import programs
+        from exam_desk.changing import Step
+        step = Step(("import", "candidates", "rows with new codes"), coding.file_of(found.rows))
+        return programs.carry_out(command.office(), step, " ".join(["codes", *(["--new", *given.new] if given.new else [])]))
     output = given.output or f"{os.path.splitext(path)[0]}-with-codes.csv"
     coding.write(output, found.rows)
     kept = f", {found.kept} filled from the office" if found.kept else ""
     made, rows = lists.count(found.made, "code"), lists.count(len(found.rows), "row")
     command.say(f"{plain(output)}: {made} made for {rows}{kept}\n")
+    return 0
 
 
 @command.named("""\
@@ -209,6 +218,7 @@ def read(parser: ArgumentParser) -> int:
 @command.named("""Brings a workbook, or a folder of import files, into the office: take WORKBOOK|FOLDER
 
     office take school.xlsx         says what would change, asks, and imports
+    office take school.xlsx --codes gives each candidate who has no access code one, as `office codes` does
     office take facts --yes         without a question, for scripts
 
 It reads a workbook as `office read` does, and a folder as `office mend` does; where there is a mistake nothing is
@@ -221,12 +231,13 @@ def take(parser: ArgumentParser) -> None:
     add_reading(parser)
     parser.add_argument("source", metavar="WORKBOOK|FOLDER")
     parser.add_argument("--yes", action="store_true", help="do not ask")
+    parser.add_argument("--codes", action="store_true", help="make access codes for candidates who have none")
     add_choices(parser)
     given = parser.parse_args()
     office = command.existing_office()
     reading = (read_folder if os.path.isdir(given.source) else read_workbook)(office, given.source, given)
     print_lines(reading, given.all)
-    steps = taking.steps_of(reading)
+    steps = taking.steps_of(taking.with_codes(office, reading) if given.codes else reading)
     with changing.rehearse(office, steps, command.progress) as rehearsal:
         command.progress("")
         for answered in rehearsal.answers:

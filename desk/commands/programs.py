@@ -44,10 +44,22 @@ def run(office: Office, words: list[str]) -> int:
 
 def changed(office: Office, words: list[str]) -> int:
     """Carries out a change; its status, whatever can be said of what it did."""
-    carried = changing.carry_out(office, [changing.Step(tuple(words))])
+    step = changing.Step(tuple(words))
+    title = f"{step.title()} {os.path.basename(words[-1])}" if words[0] == "import" else ""
+    carried = changing.carry_out(office, [step], title=title)
     status = outcome(office, words, printed(carried.answers[0].ran))
     if words[0] != MIGRATE:  # of the office before it nobody here can read the tables
         command.tell_consequences(carried.copy)
+    return status
+
+
+def carry_out(office: Office, step: changing.Step, title: str) -> int:
+    """Carries out a step that a command of the desk made; the status."""
+    carried = changing.carry_out(office, [step], title=title)
+    ran = carried.answers[0].ran
+    command.say(ran.answer)
+    status = outcome(office, step.words, ran, step.data)
+    command.tell_consequences(carried.copy)
     return status
 
 

@@ -18,8 +18,8 @@ def note(reading: Reading, session: str, missing: Collection[str], there: Collec
     reading.ask(reading.person(int(number)) for number in asked if reading.knows(number))
     if wrong := [number for number in asked if not (reading.knows(number) and reading.member(session, number))]:
         more = f" and {len(wrong) - MOST_NAMED} more" if len(wrong) > MOST_NAMED else ""
-        raise Trouble(f"nothing is noted: {', '.join(wrong[:MOST_NAMED])}{more} sit nothing in {session}; a number has "
-                      "seven digits")
+        raise Trouble(f"nothing is noted: {', '.join(wrong[:MOST_NAMED])}{more}: no candidate of {session}; a number "
+                      "has seven digits")
     return notebook.keep_absent(reading.office, session, missing, there)
 
 

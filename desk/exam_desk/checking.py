@@ -87,7 +87,7 @@ def would_do(office: Office, texts: Mapping[str, bytes], tell: Tell, progress: P
                 met = [each for each in consequences.groups(before, after)
                        if each.kind not in (consequences.TWICE, consequences.HALLS)]
                 found = [*consequences.short_at_first(before, after), *consequences.brief(met),
-                         *overlaps.lines(after, overlaps.found(after))]
+                         *consequences.other_codes(before, after), *overlaps.lines(after, overlaps.found(after))]
             return [f"once imported: {line}" for line in found]
     except (Trouble, OSError, sqlite3.Error, MemoryError) as fault:
         return [f"nobody can say what the files would do: {plain(fault) or 'there is no memory'}"]

@@ -88,11 +88,15 @@ def coded(office: Office, path: str | None, new: list[str]) -> Coded:
     return filled(rows, known, set(new))
 
 
+def file_of(rows: list[list[str]]) -> bytes:
+    """The rows as a file of candidates."""
+    return files.BOM + files.written([files.HEADERS["candidates"], *rows]).encode()
+
+
 def write(path: str, rows: list[list[str]]) -> None:
     """Makes a file of candidates for its owner alone. Raises `Trouble` where it is there."""
-    text = files.written([files.HEADERS["candidates"], *rows])
     try:
-        files.put(path, files.BOM + text.encode())
+        files.put(path, file_of(rows))
     except FileExistsError:
         raise Trouble(f"{path} is there already; remove it, or name another with --output") from None
 

@@ -23,6 +23,7 @@ KINDS = {  # those of changes, and behind who has no desk what no rule of the of
     HALLS: ("hall has candidates of two sessions at one time", "halls have candidates of two sessions at one time"),
     **telling.KINDS,
 }
+CODES = ("has another access code", "have other access codes")
 LISTED_BY = {CLASHES: "clashes", TWICE: "summary", HALLS: "summary"}  # all others by `changes`
 GRAVEST = 4  # groups that have a line of their own in a short answer
 MOST_NAMED = 3  # candidates in such a line, or sessions
@@ -64,12 +65,13 @@ def of(rehearsal: Rehearsal, at_most: int | None, progress: Progress) -> list[st
 def between(before: Reading, after: Reading, at_most: int | None) -> list[str]:
     """As `of`, from two readings."""
     met = groups(before, after)
-    return (lines(met, at_most) if met or has_seats(before) else []) + session_lines(before, after)
+    shown = lines(met, at_most) if met or has_seats(before) else []
+    return shown + other_codes(before, after) + session_lines(before, after)
 
 
 def done(office: Office, copy: str, progress: Progress) -> list[str]:
-    """What a change did that is carried out, in at most six lines, from the copy of before and from the office as it is
-    now. Where that cannot be worked out, a line says so."""
+    """What a change did that is carried out, in at most six lines and one on access codes, from the copy of before and
+    from the office as it is now. Where that cannot be worked out, a line says so."""
     try:
         with (Reading(office, copies.file_in(office, copy), progress) as before,
               Reading(office, None, progress) as after):
@@ -79,7 +81,8 @@ def done(office: Office, copy: str, progress: Progress) -> list[str]:
             shown = brief(met)
             hint = [f"`office {listing(met, copies.listed(office).index(copy) + 1)}` lists them"] if shown else []
             short = short_at_first(before, after)
-            return [f"{line}; `office summary` has all sessions" for line in short] + shown + hint
+            codes = other_codes(before, after)
+            return [f"{line}; `office summary` has all sessions" for line in short] + shown + hint + codes
     except (Trouble, OSError, sqlite3.Error, MemoryError) as fault:
         reason = plain(str(fault)) or "there is no memory"
         return [f"the change is done, but nobody can say what it did to candidates: {reason}"]
@@ -138,6 +141,17 @@ def short_at_first(before: Reading, after: Reading) -> list[str]:
     if has_seats(before) or not short.total():
         return []
     return [f"{short.total():,} without a desk: {most(short)}"]
+
+
+def other_codes(before: Reading, after: Reading) -> list[str]:
+    """A line on those whose access code is another, since the slip that they hold opens nothing then."""
+    was = facts.access_codes(before.rows)
+    numbers = [number for number, code in facts.access_codes(after.rows).items() if was.get(number, code) != code]
+    if not numbers:
+        return []
+    people = by_name(after, map(str, numbers)) if len(numbers) <= MOST_NAMED else []
+    who = "; ".join(f"{person.number} {plain(person.name)}" for person in people)
+    return [f"{counted(CODES, len(numbers))}{': ' if who else ''}{who}; a slip with the old code opens nothing"]
 
 
 def grouped(changes: list[Change], people: dict[str, list[Met]]) -> list[Group]:

@@ -26,7 +26,7 @@ def keep_copy(office: Office, command: str) -> str:
     Its running number is one more than the highest, so that the order does not depend on the clock.
     """
     number = max(map(number_of, listed(office)), default=0) + 1
-    what = re.sub(r"[^A-Za-z0-9 +-]", "_", command)[:60]
+    what = re.sub(r"[^A-Za-z0-9 .+-]", "_", command)[:60]
     copy = make(office, PLACE, f"{number:06} {datetime.datetime.now():%Y-%m-%d %H.%M.%S} {what}")
     prune(office)
     return copy

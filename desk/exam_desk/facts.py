@@ -49,6 +49,11 @@ def candidate_names(rows: Rows) -> dict[str, str]:
     return {f"{number:07}": name for number, name in rows.execute("SELECT number, name FROM candidate")}
 
 
+def access_codes(rows: Rows) -> dict[int, str]:
+    """The access code of each candidate, by number."""
+    return {number: code for number, code in rows.execute("SELECT number, code FROM candidate")}
+
+
 def entered(rows: Rows, session: str) -> dict[int, int]:
     """The numbers of all who have an entry in a session, a withdrawn one too, each with the count of these."""
     rows.index_entries()

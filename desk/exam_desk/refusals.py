@@ -13,6 +13,7 @@ from collections.abc import Iterable, Sequence
 from exam_desk import files, snapshot, turns
 from exam_desk.office import Office
 from exam_desk.trouble import NoOffice
+from exam_desk.words import plain
 
 SENTENCES = {
     1: "a value has the wrong form; correct it and import the whole file again",
@@ -72,6 +73,8 @@ def explained(office: Office, words: Sequence[str], complaint: str, data: bytes 
         lines = [f"{sentence}: {cause(office)}", WHOLE_OR_NOT]
     elif number == 24 and not os.path.exists(office.path):
         lines = [str(NoOffice(office.path))]
+    elif answer == "file fault" and words[0] == "import":
+        lines.append(f"it was looked for as {plain(os.path.abspath(words[-1]))}")
     elif number and words[0] == "import":
         lines += places(office, words, number, answer, data)
     return [f"  {line}" for line in lines]
@@ -108,7 +111,7 @@ def places_in(office: Office, kind: str, name: str, text: bytes, number: int, an
 def record_lines(kind: str, name: str, record: files.Record, column: int, number: int) -> list[str]:
     lines = [f"line {record.line} of {name}: {files.row_shown(record.fields)}"]
     if 1 <= column <= len(record.fields) == len(files.HEADERS[kind]):
-        lines.append(f"{files.HEADERS[kind][column - 1]} is {files.shown(record.fields[column - 1])}")
+        lines.append(value_line(files.HEADERS[kind][column - 1], record.fields[column - 1]))
         if (kind, column) == ("candidates", 3):
             lines.append(NO_CODE)
     elif number == 1 and not record.closed:
@@ -116,6 +119,13 @@ def record_lines(kind: str, name: str, record: files.Record, column: int, number
     elif number == 1:
         lines.append(f"{len(record.fields)} fields; the header has {len(files.HEADERS[kind])}")
     return lines
+
+
+def value_line(column: str, field: bytes) -> str:
+    """What a column has, and what it must have; of an empty code another line says that."""
+    from exam_desk import mistakes  # here, since a refusal alone needs it
+    cure = "" if column == "code" and not field else f": {mistakes.cure(column, field).text}"
+    return f"{column} is {files.shown(field)}{cure}"
 
 
 def unknown_lines(office: Office, name: str, found: Iterable[files.Record], column: int, table: str) -> list[str]:

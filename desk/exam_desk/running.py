@@ -70,7 +70,8 @@ def ran(office: Office, path: str, words: tuple[str, ...], output: int | None, f
 def help_text(office: Office, *words: str) -> str:
     """The help of the program, or of one of its commands. Raises `NotStarted`."""
     try:
-        done = subprocess.run([office.program, *words, "--help"], stdout=subprocess.PIPE, check=False)
+        done = subprocess.run([office.program, *words, "--help"], stdout=subprocess.PIPE, stderr=subprocess.DEVNULL,
+                              check=False)
     except OSError as fault:
         raise not_started(office, fault) from fault
     return done.stdout.decode("utf-8", "replace")

@@ -1,12 +1,21 @@
 """From a workbook, or a folder of import files, to the list of imports that brings it into the office."""
 from __future__ import annotations
 
-from exam_desk import lists
+from exam_desk import coding, lists
 from exam_desk.changing import Step
+from exam_desk.office import Office
 from exam_desk.trouble import Trouble
 from exam_desk.workbook.checking import file_parts
 from exam_desk.workbook.headers import KINDS
 from exam_desk.workbook.reading import Reading
+
+
+def with_codes(office: Office, reading: Reading) -> Reading:
+    """What was read with a code for each candidate who has none: that of the office for the number, else a new one."""
+    records = reading.records.get("candidates", [])
+    coded = coding.filled([record.fields for record in records], coding.in_office(office), set())
+    filled = [record._replace(fields=row) for record, row in zip(records, coded.rows)]
+    return reading._replace(records={**reading.records, "candidates": filled})
 
 
 def steps_of(reading: Reading) -> list[Step]:
@@ -16,8 +25,8 @@ def steps_of(reading: Reading) -> list[Step]:
         raise Trouble(f"{lists.count(count, 'mistake')}: nothing is changed")
     empty = sum(not record.fields[2] for record in reading.records.get("candidates", []))
     if empty:
-        raise Trouble(f"{lists.count(empty, 'candidate')} without an access code: nothing is changed; write the files "
-                      "by `office read` or `office mend`, fill the codes by `office codes`, and take that folder")
+        raise Trouble(f"{lists.count(empty, 'candidate')} without an access code: nothing is changed; give --codes too "
+                      "to make them")
     steps = [Step(("import", kind, f"{kind}.csv" if place == 1 else f"{kind}-{place}.csv"), text)
              for kind in KINDS if (rows := [record.fields for record in reading.records.get(kind, [])])
              for place, (text, _) in enumerate(file_parts(kind, rows), 1)]  # several where they are too many for one

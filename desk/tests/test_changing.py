@@ -318,6 +318,18 @@ class Taking(Changing):
             self.write(f"facts/{kind}.csv", text)
         self.assertEqual((self.state(), self.log()), (before, []))
 
+    def test_codes_are_made(self):
+        """A new candidate gets one, and who has one in the office keeps it."""
+        facts = self.facts()
+        with open(os.path.join(facts, "candidates.csv"), encoding="utf-8") as file:
+            text = file.read().replace(sample.CODE, "") + "0009002,Ann,\n"
+        self.write("facts/candidates.csv", text)
+        self.assertIn("1 candidate without an access code: nothing is changed; give --codes",
+                      self.run_office("take", facts, "--yes").stderr)
+        self.assertIn("imported; ", self.office("take", facts, "--yes", "--codes"))
+        self.assertRegex(self.office("look", "0009002", "--codes"), r"\A0009002 Ann, access code [B-Z][B-Z2-9]{9}\n")
+        self.assertIn(f"access code {sample.CODE}\n", self.office("look", sample.NUMBER, "--codes"))
+
     def test_what_a_spreadsheet_broke_is_mended(self):
         facts = self.facts()
         path = os.path.join(facts, "entries.csv")

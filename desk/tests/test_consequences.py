@@ -113,6 +113,21 @@ class Told(sample.SampleSchool):
                                  "`office summary` has all sessions",
                                  "4 have new clashes: 4 in MON-AM", "`office clashes MON-AM` lists them"])
 
+    def test_another_access_code(self):
+        """Of one candidate with the name, of many with the number; and where a copy is put back it is the lost one."""
+        rows = [row.split(",") for row in (self.examples / "candidates.csv").read_text("utf-8").split("\n")[:6]]
+        lost = "; a slip with the old code opens nothing"
+        one = self.write("one.csv", "\n".join([",".join(rows[0]), f"{rows[1][0]},{rows[1][1]},NEW{rows[1][2]}"]))
+        said = f"1 has another access code: {rows[1][0]} {rows[1][1]}{lost}"
+        self.assertEqual(self.told("import", "candidates", one), [said])
+        self.assertEqual(self.told("import", "candidates", one), [])
+        self.assertEqual(self.told("back", "2", "--yes"), [said])
+        others = [",".join(rows[0]), *(f"{number},{name},NEW{code}" for number, name, code in rows[1:])]
+        several = self.write("candidates.csv", "\n".join(others))
+        self.assertIn(f"5 have other access codes{lost}\n", self.office("what-if", "import", "candidates", several))
+        self.assertIn(f"NOTE: once imported: 5 have other access codes{lost}\n", self.office("check-files", "."))
+        self.assertEqual(self.told("import", "candidates", several), [f"5 have other access codes{lost}"])
+
     def test_what_if_says_the_same_before(self):
         words = ["close-hall", "MON-AM", "GYM"]
         would = [line for line in self.office("what-if", *words).split("\n") if re.match("[0-9]", line)]

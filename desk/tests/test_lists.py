@@ -223,6 +223,21 @@ class Lists(sample.SampleSchool):
         self.assertIn("9999 is not in the office; a number has seven digits",
                       self.refused("codes", "--new", "9999", "--output", "q.csv"))
 
+    def test_a_lost_code_at_once(self):
+        """No file with a code is left, twice in a row; the name stays, the old code is told, and the copy has a name."""
+        codes = [sample.CODE]
+        for _ in range(2):
+            done = self.run_office("codes", "--new", sample.NUMBER, "--import")
+            self.assertEqual((done.returncode, done.stdout), (0, "added 0 changed 1 same 0\n"), done.stderr)
+            self.assertEqual(done.stderr, "1 has another access code: 0001051 Di Berg; a slip with the old code opens "
+                                          "nothing\n")
+            codes += re.findall("0001051 Di Berg, access code (.*)\n", self.office("look", "0001051", "--codes"))
+        self.assertEqual(len(set(codes)), 3)
+        self.assertEqual([name for name in os.listdir(self.folder) if name.endswith(".csv")], [])
+        self.assertRegex(self.office("back"), "before codes --new 0001051\n")
+        both = self.run_office("codes", "--new", "0001051", "--import", "--output", "q.csv")
+        self.assertEqual(both.returncode, 2)
+
     def test_shortage(self):
         for session, right in [("MON-AM", "right: 12 candidates = 10 desks + 2 unseated\n"),
                                ("MON-PM", "right: 60 candidates = 58 desks + 2 unseated\n"),

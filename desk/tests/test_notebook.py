@@ -188,7 +188,7 @@ class Commands(sample.SampleSchool):
                          f"3 candidates absent of {len(members)}\n")
         self.office("absent", "MON-AM", "--there", "0001000")
         self.assertEqual({line[0] for line in self.board() if line[2] == "absent"}, {"0001017", "0001051"})
-        self.assertIn("nothing is noted: 1051 sit nothing in MON-AM", self.refused("absent", "MON-AM", "0001000", "1051"))
+        self.assertIn("nothing is noted: 1051: no candidate of MON-AM", self.refused("absent", "MON-AM", "0001000", "1051"))
         self.assertEqual(len([line for line in self.board() if line[2] == "absent"]), 2)
         self.assertIn("there is no session MON", self.refused("absent", "MON"))
 

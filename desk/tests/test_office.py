@@ -1,15 +1,27 @@
 """The front script over the sample school: refusals in words, copies and `back`, the log."""
+import io
 import os
 import sqlite3
 import stat
 import subprocess
 import sys
 import unittest
-from contextlib import closing, suppress
+from contextlib import closing, redirect_stderr, suppress
 from unittest import mock
 
 import sample
+import command
 from exam_desk import copies
+
+
+class Faults(unittest.TestCase):
+    def test_who_may_not_read_is_named(self):
+        for fault, said in ((PermissionError(13, "Permission denied", "c.csv"), "c.csv: Permission denied to the user ada"),
+                            (FileNotFoundError(2, "No such file", "c.csv"), "c.csv: No such file")):
+            with mock.patch("exam_desk.beside.user_name", return_value="ada"), \
+                    redirect_stderr(io.StringIO()) as out:
+                command.tell(type(fault), fault, None)
+            self.assertEqual(out.getvalue(), f"office: {said}\n")
 
 
 class Words(sample.SampleSchool):
@@ -24,7 +36,19 @@ class Words(sample.SampleSchool):
         self.assertEqual(self.refused("import", "candidates", path).split("\n"), [
             "refused 1 record 2 column 1",
             "  a value has the wrong form; correct it and import the whole file again",
-            "  line 4 of candidates.csv: 1000,?2J,WK3DEGZDPC", "  number is '1000'", ""])
+            "  line 4 of candidates.csv: 1000,?2J,WK3DEGZDPC", "  number is '1000': leading zeros lost? 0001000 (seven digits; format the column as text)", ""])
+
+    def test_what_a_value_must_be_is_said(self):
+        for row, text in [("S-9,2027-06-07,9 Uhr", "start is '9 Uhr': a time as 09:00; format the column as text"),
+                          ("s-9,2027-06-07,09:00", "session is 's-9': write S-9 (1 to 12 of A-Z, 0-9 and -)")]:
+            path = self.write("sessions.csv", f"session,date,start\n{row}\n")
+            self.assertIn(f"  {text}\n", self.refused("import", "sessions", path))
+        path = self.write("candidates.csv", "number,name,code\n0001000,Ada,\n")
+        self.assertIn("\n  code is ''\n  `office codes FILE` ", self.refused("import", "candidates", path))
+
+    def test_a_file_that_is_not_there_is_named_with_its_folder(self):
+        self.assertEqual(self.refused("import", "entries", "none.csv").split("\n")[::2],
+                         ["file fault", f"  it was looked for as {os.path.join(self.folder, 'none.csv')}"])
 
     def test_what_is_wrong_with_a_row(self):
         for row, text in [("0001000,A,B,WK3DEGZDPC", "  4 fields; the header has 3"),
@@ -52,7 +76,8 @@ class Words(sample.SampleSchool):
         self.assertTrue(done.stderr.startswith("line not understood\n"))
         for word in ("decide", "<number>", "<outcome>"):
             self.assertIn(word, done.stderr.lower())
-        self.assertEqual(self.run_office("nothing-like-it").returncode, 2)
+        done = self.run_office("nothing-like-it")
+        self.assertEqual((done.returncode, done.stderr), (2, "line not understood\n  `office --help` lists the commands\n"))
 
     def test_a_missing_program_is_named(self):
         self.assertIn("there is no program /nowhere", self.refused("init", EXAMOFFICE="/nowhere"))
@@ -152,6 +177,13 @@ class Back(sample.SampleSchool):
         self.office("back", "1", "--yes")
         self.assertEqual(self.facts(), after)
         self.assertEqual(self.office("check"), "good\n")
+
+    def test_an_import_is_listed_with_its_file(self):
+        os.mkdir(os.path.join(self.folder, "files"))
+        path = self.write("files/late:2.csv", "number,paper\n0001000,MA-2\n")
+        self.office("import", "entries", path)
+        self.assertRegex(self.office("back"), r"  before import entries late_2\.csv\n\Z")
+        self.assertIn(", before import entries late_2.csv\n", self.office("back", "1", "--yes"))
 
     def test_modes_and_log(self):
         self.office("withdraw", "0001000", "MA-1")

@@ -21,7 +21,7 @@ import rawbook  # noqa: E402
 from exam_desk.trouble import Trouble  # noqa: E402
 from exam_desk.workbook import carrying, opening  # noqa: E402
 from exam_desk.workbook.reading import Reading  # noqa: E402
-from exam_desk.workbook.report import Report  # noqa: E402
+from exam_desk.workbook.report import Report, told_lines  # noqa: E402
 from exam_desk.workbook.writing import workbook_of, write_folder  # noqa: E402
 
 AT_A_TIME = 4
@@ -110,6 +110,21 @@ class Child(unittest.TestCase):
     def test_a_workbook_goes_over_as_it_is(self) -> None:
         book = opening.read_csv("number,name\n17,\"Ada \u00e9 \u202e\nLin\"\n".encode(), "list")
         self.assertEqual(book, carrying.unpacked(carrying.packed(book)))
+
+
+class Told(unittest.TestCase):
+    def test_each_date_is_told(self) -> None:
+        """All 18 changed dates, of 18 other changes and of 18 wrong dates five each and how many more."""
+        report = Report()
+        for day in range(18):
+            report.change(None, None, 2, f"date {day}", "date")
+            report.change(None, None, 3, f"start {day}", "start")
+            report.mistake(None, None, 2, f"wrong {day}", "date")
+        lines = list(told_lines(report.lines, False))
+        self.assertEqual([line for line in lines if line.startswith("date")], [f"date {day}" for day in range(18)])
+        self.assertEqual(sum(line.startswith(("start", "MISTAKE")) for line in lines), 10)
+        self.assertEqual(lines[28:], ["column C of : .. and 13 more such changes",
+                                      "column B of : .. and 13 more such mistakes"])
 
 
 class Writing(unittest.TestCase):

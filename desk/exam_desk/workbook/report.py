@@ -4,10 +4,12 @@ from collections.abc import Iterable, Iterator
 from functools import partialmethod
 from typing import NamedTuple
 
+from exam_desk import mistakes
 from exam_desk.workbook.cells import Sheet, letters_of, place_name
 
 WORD = {"mistake": "MISTAKE: ", "change": "", "note": "NOTE: "}
 MOST_SHOWN = 5  # lines of one sort on one column
+MOST_DATES = mistakes.LIMITS["sessions"]  # changed dates: a day and a month that were turned round look like any other
 
 
 class Line(NamedTuple):
@@ -22,6 +24,9 @@ class Line(NamedTuple):
 
     def whole(self) -> str:
         return f"{self.place}: {WORD[self.sort]}{self.text}" if self.place else f"{WORD[self.sort]}{self.text}"
+
+    def group(self) -> tuple[str, str, int | None, str]:
+        return self.sort, self.sheet, self.column, self.what
 
 
 class Report:
@@ -43,14 +48,19 @@ class Report:
 
 
 def told_lines(lines: Iterable[Line], everything: bool) -> Iterator[str]:
-    """The lines as they are printed: of one group the first five, and how many more there are."""
+    """The lines as they are printed: of one group the first five, each changed date, and how many more there are."""
     counts: Counter[tuple[str, str, int | None, str]] = Counter()
     for line in lines:
-        group = (line.sort, line.sheet, line.column, line.what)
-        counts[group] += 1
-        if everything or counts[group] <= MOST_SHOWN:
+        counts[line.group()] += 1
+        if everything or counts[line.group()] <= most_of(line.sort, line.what):
             yield line.whole()
-    for (sort, sheet, column, _), count in counts.items():
-        if count > MOST_SHOWN and not everything:
+    for (sort, sheet, column, what), count in counts.items():
+        more = count - most_of(sort, what)
+        if more > 0 and not everything:
             where = f"column {letters_of(column)} of {sheet}: " if column else f"{sheet}: " if sheet else ""
-            yield f"{where}.. and {count - MOST_SHOWN:,} more such {sort}s"
+            yield f"{where}.. and {more:,} more such {sort}s"
+
+
+def most_of(sort: str, what: str) -> int:
+    """How many lines of a group are printed."""
+    return MOST_DATES if (sort, what) == ("change", "date") else MOST_SHOWN

@@ -105,7 +105,8 @@ def tell_header(table: Table) -> None:
     for name, places in table.header.columns.items():
         shown = [head[place].text.strip() for place in places]
         if shown != [name]:
-            table.note(row, places[0], f"{' and '.join(map(repr, shown))} is read as {name}")
+            verb = "are" if len(shown) > 1 else "is"
+            table.note(row, places[0], f"{' and '.join(map(repr, shown))} {verb} read as {name}")
 
 
 def find_features(table: Table) -> None:
