@@ -59,10 +59,9 @@ def look(key: str) -> str:
 def correct(key: str) -> Answer:
     """Values typed beside mistakes, or all cures that are clear; the officer's own files stay as they are."""
     upload = uploads.of_visit(key)
-    taken = {code for code, in view().rows("SELECT code FROM candidate")}
-    rows = 0
+    coded, rows = uploads.codes(view()), 0
     for kind, looked in uploads.looked_through(upload.texts, view()).items():
-        wanted = uploads.corrections(kind, looked, request.form, taken)
+        wanted = uploads.corrections(kind, looked, request.form, coded)
         if wanted:
             upload.texts[kind] = uploads.corrected(upload.texts[kind], wanted)
             rows += len(wanted)

@@ -50,6 +50,23 @@ class TestFiles(Uploads):
         self.browser.post(f"/office/copies/{key}/back", f"/office/copies/{key}")
         self.assertEqual((self.seats(), self.rows("SELECT * FROM candidate WHERE number > 12000")), (before, []))
 
+    def test_a_candidate_of_the_office_keeps_the_code(self):
+        (number, code), (other, _) = self.rows("SELECT printf('%07d', number), code FROM candidate ORDER BY number LIMIT 2")
+        rows = f"number,name,code\n{number},Ada Marsh,\n{int(other)},Bo,\n0012001,Nadia,\n"
+        page = self.upload(("candidates.csv", rows.encode()))
+        self.assertIn("the office has a code for this candidate", self.browser.words(page))
+        self.assertIn("correct the number first", self.browser.words(page))
+        self.browser.post(page + "/correct", page, all="1")
+        self.browser.post(page + "/correct", page, all="1")
+        self.assertIn("No mistake", self.browser.words(page))
+        _, text = self.browser.ask("GET", page + "/candidates.csv")
+        kept = dict(self.rows("SELECT printf('%07d', number), code FROM candidate"))
+        found = [line.split(",") for line in text.splitlines()[1:]]
+        self.assertEqual([line[:2] for line in found], [[number, "Ada Marsh"], [other, "Bo"], ["0012001", "Nadia"]])
+        self.assertEqual([line[2] for line in found[:2]], [kept[number], kept[other]])
+        self.assertRegex(found[2][2], "^[A-Z0-9]{8,16}$")
+        self.assertNotIn(found[2][2], kept.values())
+
     def test_a_refused_step_undoes_all(self):
         page = self.upload(("candidates.csv", b"number,name,code\n0012001,Nadia,K4WBN7RTQD\n"),
                            ("openings.csv", b"session,hall,desks,until,reserved\nMON-AM,R14,9,14:00,no\n"))
