@@ -69,6 +69,18 @@ def found(reading: Reading, asked: Collection[str] = (), only: str = "") -> list
     return [each for each in overlaps if each.candidates or each.halls]
 
 
+def new(before: Reading, after: Reading, sessions: Collection[str]) -> Iterator[Overlap]:
+    """The overlaps of these sessions with any others, each with the candidates and halls that were not in both before."""
+    now = found(after, sessions) if sessions else []
+    old = {each[:2]: each for each in (found(before, sessions) if now else [])}
+    for each in now:
+        was = old.get(each[:2], each._replace(candidates=[], halls=[]))
+        more = each._replace(candidates=[number for number in each.candidates if number not in was.candidates],
+                             halls=[hall for hall in each.halls if hall not in was.halls])
+        if more.candidates or more.halls:
+            yield more
+
+
 def pairs(reading: Reading, asked: Collection[str]) -> list[Pair]:
     """The pairs of sessions that may be at one time, by the rows alone; of those asked for, if there are such."""
     sessions = reading.rows.execute(SESSIONS).fetchall()

@@ -4,9 +4,9 @@ from __future__ import annotations
 from collections import Counter
 from dataclasses import dataclass
 
-from exam_desk import telling
-from exam_desk.consequences import has_seats
-from exam_desk.reading import Member
+from exam_desk import overlaps, telling, touched
+from exam_desk.consequences import by_name, has_seats
+from exam_desk.reading import Member, Person, Reading
 from exam_desk.telling import Change
 from exam_web import counting
 from exam_web.desk import View
@@ -36,6 +36,15 @@ class SessionChange:
     numbers: dict[str, tuple[int | None, int]]
 
 
+@dataclass(frozen=True)
+class NewOverlap:
+    """Two sessions at one time: who is in both, and in which halls both have candidates, as was not so before."""
+    early: str
+    late: str
+    people: list[Person]
+    halls: list[str]
+
+
 NewClash = tuple[str, Member, list[str]]  # a session, who is in it, and the papers that they did not miss before
 
 
@@ -43,9 +52,9 @@ class Effects:
     """The changes of people, the gravest first, and of sessions."""
 
     def __init__(self, changes: list[Change], sessions: list[SessionChange], clashes: list[NewClash],
-                 titles: dict[str, str]) -> None:
+                 twice: list[NewOverlap], titles: dict[str, str]) -> None:
         self.changes = sorted(changes, key=lambda each: ORDER.index(each.kind()))
-        self.sessions, self.clashes, self.titles = sessions, clashes, titles
+        self.sessions, self.clashes, self.overlaps, self.titles = sessions, clashes, twice, titles
         self.to_tell = [each for each in self.changes if each.is_to_tell()]
         self.people = len({each.number for each in self.to_tell})
         self.counts = Counter(map(Change.kind, self.changes))
@@ -59,7 +68,7 @@ def effects(before: View, after: View) -> Effects:
     """Where nobody has a seat yet, nobody can lose or change one: then the sessions say all."""
     changes = telling.differences(before.reading, after.reading) if has_seats(before.reading) else []
     return Effects(changes, session_changes(before, after), new_clashes(before, after),
-                   telling.titles_of(before.reading, after.reading))
+                   new_overlaps(before.reading, after.reading), telling.titles_of(before.reading, after.reading))
 
 
 def new_clashes(before: View, after: View) -> list[NewClash]:
@@ -74,6 +83,12 @@ def new_clashes(before: View, after: View) -> list[NewClash]:
             if new and (member := after.reading.member(code, number)):
                 found.append((code, member, new))
     return found
+
+
+def new_overlaps(before: Reading, after: Reading) -> list[NewOverlap]:
+    """Those of the sessions that a change touches."""
+    return [NewOverlap(each.early, each.late, by_name(after, each.candidates), each.halls)
+            for each in overlaps.new(before, after, list(touched.of_readings(before, after)))]
 
 
 def session_changes(before: View, after: View) -> list[SessionChange]:

@@ -67,6 +67,30 @@ class TestFiles(Uploads):
         self.assertRegex(found[2][2], "^[A-Z0-9]{8,16}$")
         self.assertNotIn(found[2][2], kept.values())
 
+    def test_two_sessions_at_one_time_are_shown_before_the_import(self):
+        page = self.upload(("sessions.csv", b"session,date,start\nHL,2027-06-07,10:00\nT1,2027-06-07,11:00\n"),
+                           ("papers.csv", b"paper,title,session,minutes,requires\nHL-1,Oral,HL,60,-\nT1-1,Oral,T1,30,-\n"),
+                           ("openings.csv", b"session,hall,desks,until,reserved\nHL,AULA,5,18:00,no\n"),
+                           ("entries.csv", b"number,paper\n0001000,HL-1\n0001000,T1-1\n"))
+        proposal, _ = self.browser.post("/propose/files", page, upload=page.rsplit("/", 1)[1])
+        words = self.browser.words(proposal)  # 0001000 sits in MON-AM until 11:00
+        self.assertRegex(words, "Two sessions at one time would be new Sessions Candidates in both .* both MON-AM, HL "
+                                "Ada Lin 0001000 AULA Who")
+        self.browser.post(proposal + "/do", proposal)
+        self.assertIn("Two sessions at one time anew", self.browser.words(proposal))
+        late, _ = self.browser.post("/propose/withdraw", "/candidates/1017", number="0001017", paper="MA-1")
+        self.assertNotIn("at one time", self.browser.words(late))  # what was so before
+
+    def test_why_a_hall_does_not_suit_says_when_it_closes(self):
+        with open(os.path.join(self.folder, "openings.csv"), "w", encoding="utf-8") as file:
+            halls = self.rows("SELECT hall FROM opening WHERE session = 'MON-AM'")
+            file.write("session,hall,desks,until,reserved\n" + "".join(f"MON-AM,{hall},50,10:05,no\n" for hall, in halls))
+        self.office("import", "openings", "openings.csv")
+        words = self.browser.words("/sessions/MON-AM")
+        self.assertIn("without a desk", words)
+        self.assertIn("closes 10:05", words)
+        self.assertNotIn("closes 10 ", words)
+
     def test_a_refused_step_undoes_all(self):
         page = self.upload(("candidates.csv", b"number,name,code\n0012001,Nadia,K4WBN7RTQD\n"),
                            ("openings.csv", b"session,hall,desks,until,reserved\nMON-AM,R14,9,14:00,no\n"))
