@@ -25,6 +25,7 @@ KINDS = {  # the gravest first: in words before the change, and after it
 }
 ORDER = list(KINDS)
 NUMBERS = ("members", "desks", "short", "clashes")
+CODES = "SELECT number, code FROM candidate"
 MOST_CLASHES = 100  # new ones that are named
 
 
@@ -52,9 +53,11 @@ class Effects:
     """The changes of people, the gravest first, and of sessions."""
 
     def __init__(self, changes: list[Change], sessions: list[SessionChange], clashes: list[NewClash],
-                 twice: list[NewOverlap], titles: dict[str, str]) -> None:
+                 twice: list[NewOverlap], codes: int, titles: dict[str, str]) -> None:
         self.changes = sorted(changes, key=lambda each: ORDER.index(each.kind()))
         self.sessions, self.clashes, self.overlaps, self.titles = sessions, clashes, twice, titles
+        self.codes = codes  # how many candidates have another access code
+        self.short = sum(max(0, row.numbers["short"][1] - (row.numbers["short"][0] or 0)) for row in sessions)
         self.to_tell = [each for each in self.changes if each.is_to_tell()]
         self.people = len({each.number for each in self.to_tell})
         self.counts = Counter(map(Change.kind, self.changes))
@@ -68,7 +71,8 @@ def effects(before: View, after: View) -> Effects:
     """Where nobody has a seat yet, nobody can lose or change one: then the sessions say all."""
     changes = telling.differences(before.reading, after.reading) if has_seats(before.reading) else []
     return Effects(changes, session_changes(before, after), new_clashes(before, after),
-                   new_overlaps(before.reading, after.reading), telling.titles_of(before.reading, after.reading))
+                   new_overlaps(before.reading, after.reading), other_codes(before, after),
+                   telling.titles_of(before.reading, after.reading))
 
 
 def new_clashes(before: View, after: View) -> list[NewClash]:
@@ -89,6 +93,11 @@ def new_overlaps(before: Reading, after: Reading) -> list[NewOverlap]:
     """Those of the sessions that a change touches."""
     return [NewOverlap(each.early, each.late, by_name(after, each.candidates), each.halls)
             for each in overlaps.new(before, after, list(touched.of_readings(before, after)))]
+
+
+def other_codes(before: View, after: View) -> int:
+    old = dict(before.rows(CODES))
+    return sum(code != old.get(number, code) for number, code in after.rows(CODES))
 
 
 def session_changes(before: View, after: View) -> list[SessionChange]:

@@ -25,7 +25,8 @@ def page() -> str | Answer:
         return redirect(url_for("season.page"))
     counts = view().once("rows", lambda: {kind: view().count(f"SELECT count(*) FROM {table}")
                                           for kind, table in COUNTS.items()})
-    return render_template("files.html", headers=files.HEADERS, counts=counts, uploaded=g.visit.uploads)
+    return render_template("files.html", headers=files.HEADERS, counts=counts, 
+                           uploaded={key: each for key, each in g.visit.uploads.items() if not each.is_imported})
 
 
 @pages.post("/files")

@@ -70,16 +70,20 @@ class Book:
 
 @dataclass
 class Upload:
-    """Files that are not imported yet; corrections are made in these bytes."""
+    """Files that came to the desk; corrections are made in these bytes."""
     texts: dict[str, bytes] = field(default_factory=dict)  # by kind
     notes: list[Markup] = field(default_factory=list)
     workbooks: list[Book] = field(default_factory=list)
     when: str = field(default_factory=lambda: datetime.datetime.now().isoformat(" ", "minutes"))
     edits: int = 0
+    is_imported: bool = False
 
     @property
     def kinds(self) -> list[str]:
         return [kind for kind in files.HEADERS if kind in self.texts]
+
+    def note_import(self) -> None:
+        self.is_imported = True
 
     def note(self, name: str, words: Markup) -> None:
         self.notes.append(Markup("{}: {}").format(shown(name[:MOST_NAME]), words))

@@ -66,6 +66,16 @@ class TestFiles(Uploads):
         self.assertEqual([line[2] for line in found[:2]], [kept[number], kept[other]])
         self.assertRegex(found[2][2], "^[A-Z0-9]{8,16}$")
         self.assertNotIn(found[2][2], kept.values())
+        proposal, _ = self.browser.post("/propose/files", page, upload=page.rsplit("/", 1)[1])
+        self.assertNotIn("access code", self.browser.words(proposal))
+
+    def test_other_codes_are_told_before_the_import(self):
+        (number, name), = self.rows("SELECT printf('%07d', number), name FROM candidate ORDER BY number LIMIT 1")
+        page = self.upload(("candidates.csv", f"number,name,code\n{number},{name},XQ7RTWPKLM\n".encode()))
+        proposal, _ = self.browser.post("/propose/files", page, upload=page.rsplit("/", 1)[1])
+        words = self.browser.words(proposal)
+        self.assertIn("1 would have another access code", words)
+        self.assertNotIn("Nobody would move", words)
 
     def test_two_sessions_at_one_time_are_shown_before_the_import(self):
         page = self.upload(("sessions.csv", b"session,date,start\nHL,2027-06-07,10:00\nT1,2027-06-07,11:00\n"),
@@ -192,6 +202,19 @@ class TestBegin(Uploads):
         self.browser.post(proposal + "/do", proposal)
         self.assertIn("What changed", self.browser.words(proposal))
         self.assertIn("60 candidates", self.browser.words("/"))
+
+    def test_a_first_import_says_who_would_be_without_a_desk(self):
+        self.browser.post("/init", "/")
+        page = self.upload(*((f"{kind}.csv", (self.examples / "day" / f"{kind}.csv").read_bytes()) for kind in KINDS))
+        self.assertIn("Uploaded, not imported", self.browser.words("/files"))
+        proposal, _ = self.browser.post("/propose/files", page, upload=page.rsplit("/", 1)[1])
+        words = self.browser.words(proposal)  # three candidates and two desks
+        self.assertIn("1 would be without a desk", words)
+        self.assertNotIn("Nobody would move", words)
+        self.browser.post(proposal + "/do", proposal)
+        self.assertIn("1 without a desk", self.browser.words(proposal))
+        self.assertNotIn("Uploaded, not imported", self.browser.words("/files"))
+        self.assertNotIn("nothing is imported", self.browser.words(page))
 
 
 def workbook(sheets):
