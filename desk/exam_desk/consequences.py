@@ -118,14 +118,11 @@ def by_name(reading: Reading, numbers: Iterable[str]) -> list[Person]:
 def new_overlaps(before: Reading, after: Reading, sessions: list[str]) -> dict[str, list[Met]]:
     """Who is in two sessions at one time, and in which halls both have candidates, where that was not so before."""
     found: dict[str, list[Met]] = {TWICE: [], HALLS: []}
-    now = overlaps.found(after, sessions) if sessions else []
-    old = {each[:2]: each for each in (overlaps.found(before, sessions) if now else [])}
-    for each in now:
-        was = old.get(each[:2], each._replace(candidates=[], halls=[]))
+    for each in overlaps.new(before, after, sessions):
         found[TWICE] += [candidate(each.late, person.number, person.name, f"sits in {each.early} then")
-                         for person in by_name(after, {*each.candidates} - {*was.candidates})]
+                         for person in by_name(after, each.candidates)]
         found[HALLS] += [Met(each.early, f"and {each.late} in {hall}", "both number their desks from 1")
-                         for hall in each.halls if hall not in was.halls]
+                         for hall in each.halls]
     return found
 
 

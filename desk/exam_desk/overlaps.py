@@ -7,7 +7,7 @@ from __future__ import annotations
 
 import itertools
 from collections import defaultdict
-from collections.abc import Collection
+from collections.abc import Collection, Iterator
 from typing import NamedTuple
 
 from exam_desk.lists import count
@@ -79,6 +79,18 @@ def certain(reading: Reading, doubtful: Collection[Doubtful]) -> list[Overlap]:
                         [hall for hall, there in halls.items() if any(lasts(reading, pair, each) for each in there)])
                 for pair, people, halls in doubtful]
     return [each for each in overlaps if each.candidates or each.halls]
+
+
+def new(before: Reading, after: Reading, sessions: Collection[str]) -> Iterator[Overlap]:
+    """The overlaps of these sessions with any others, each with the candidates and halls that were not in both before."""
+    now = found(after, sessions) if sessions else []
+    old = {each[:2]: each for each in (found(before, sessions) if now else [])}
+    for each in now:
+        was = old.get(each[:2], each._replace(candidates=[], halls=[]))
+        more = each._replace(candidates=[number for number in each.candidates if number not in was.candidates],
+                             halls=[hall for hall in each.halls if hall not in was.halls])
+        if more.candidates or more.halls:
+            yield more
 
 
 def pairs(reading: Reading, asked: Collection[str]) -> list[Pair]:

@@ -2,9 +2,9 @@
 from collections import Counter
 from typing import NamedTuple
 
-from exam_desk import telling
-from exam_desk.consequences import has_seats
-from exam_desk.reading import Member
+from exam_desk import overlaps, telling, touched
+from exam_desk.consequences import by_name, has_seats
+from exam_desk.reading import Member, Person, Reading
 from exam_desk.telling import Change
 from exam_web import counting
 from exam_web.desk import View
@@ -22,6 +22,7 @@ KINDS = {  # the gravest first: in words before the change, and after it
     "desk": ("would have another desk number only", "have another desk number only"),
 }
 NUMBERS = ("members", "desks", "short", "clashes")
+CODES = "SELECT number, code FROM candidate"
 MOST_CLASHES = 100  # new ones that are named
 
 
@@ -32,6 +33,14 @@ class SessionChange(NamedTuple):
     numbers: dict[str, tuple[int | None, int]]
 
 
+class NewOverlap(NamedTuple):
+    """Two sessions at one time: who is in both, and in which halls both have candidates, as was not so before."""
+    early: str
+    late: str
+    people: list[Person]
+    halls: list[str]
+
+
 NewClash = tuple[str, Member, list[str]]  # a session, who is in it, and the papers that they did not miss before
 
 
@@ -39,9 +48,11 @@ class Effects:
     """The changes of people, the gravest first, and of sessions."""
 
     def __init__(self, changes: list[Change], sessions: list[SessionChange], clashes: list[NewClash],
-                 titles: dict[str, str]) -> None:
+                 twice: list[NewOverlap], codes: int, titles: dict[str, str]) -> None:
         self.changes = sorted(changes, key=lambda each: list(KINDS).index(each.kind()))
-        self.sessions, self.clashes, self.titles = sessions, clashes, titles
+        self.sessions, self.clashes, self.overlaps, self.titles = sessions, clashes, twice, titles
+        self.codes = codes  # how many candidates have another access code
+        self.short = sum(max(0, row.numbers["short"][1] - (row.numbers["short"][0] or 0)) for row in sessions)
         self.to_tell = [each for each in self.changes if each.is_to_tell()]
         self.people = len({each.number for each in self.to_tell})
         self.counts = Counter(map(Change.kind, self.changes))
@@ -55,6 +66,7 @@ def effects(before: View, after: View) -> Effects:
     """Where nobody has a seat yet, nobody can lose or change one: then the sessions say all."""
     changes = telling.differences(before.reading, after.reading) if has_seats(before.reading) else []
     return Effects(changes, session_changes(before, after), new_clashes(before, after),
+                   new_overlaps(before.reading, after.reading), other_codes(before, after),
                    telling.titles_of(before.reading, after.reading))
 
 
@@ -70,6 +82,17 @@ def new_clashes(before: View, after: View) -> list[NewClash]:
             if new and (member := after.reading.member(code, number)):
                 found.append((code, member, new))
     return found
+
+
+def new_overlaps(before: Reading, after: Reading) -> list[NewOverlap]:
+    """Those of the sessions that a change touches."""
+    return [NewOverlap(each.early, each.late, by_name(after, each.candidates), each.halls)
+            for each in overlaps.new(before, after, list(touched.of_readings(before, after)))]
+
+
+def other_codes(before: View, after: View) -> int:
+    old = {number: code for number, code in before.rows(CODES)}
+    return sum(code != old.get(number, code) for number, code in after.rows(CODES))
 
 
 def session_changes(before: View, after: View) -> list[SessionChange]:

@@ -19,7 +19,8 @@ COUNTS = {"sessions": "session", "papers": "paper", "halls": "hall", "openings":
 def page() -> str | Answer:
     if not desk().is_there():
         return redirect(url_for("season.page"))
-    return render_template("files.html", headers=files.HEADERS, counts=counts(view()), uploaded=g.visit.uploads)
+    return render_template("files.html", headers=files.HEADERS, counts=counts(view()),
+                           uploaded={key: each for key, each in g.visit.uploads.items() if not each.is_imported})
 
 
 @once
@@ -53,10 +54,9 @@ def look(key: str) -> str:
 def correct(key: str) -> Answer:
     """Values typed beside mistakes, or all cures that are clear; the officer's own files stay as they are."""
     upload = uploads.of_visit(key)
-    taken = {code for code, in view().rows("SELECT code FROM candidate")}
-    rows = 0
+    coded, rows = uploads.codes(view()), 0
     for kind, looked in uploads.looked_through(upload.texts, view()).items():
-        if wanted := uploads.corrections(kind, looked, request.form, taken):
+        if wanted := uploads.corrections(kind, looked, request.form, coded):
             upload.texts[kind] = uploads.corrected(upload.texts[kind], wanted)
             rows += len(wanted)
     upload.edits += rows

@@ -196,7 +196,7 @@ def import_files(form: Form) -> Plan:
     upload = uploads.of_visit(key)
     steps = [Step(("import", kind, f"{kind}.csv"), upload.texts[kind]) for kind in upload.kinds]
     return Plan(text("Import {kinds}", kinds=", ".join(upload.kinds)), steps, ("files.look", {"key": key}),
-                text("Import"))
+                text("Import"), done=upload.note_import)
 
 
 ENTRIES: dict[str, tuple[str, str, Callable[[str, str], Step], int]] = {

@@ -50,6 +50,7 @@ class Plan:
     lodge: tuple[str, ...] = ()  # in the place of steps: the words of an appeal that is lodged the candidate's way
     command: str = ""  # as the log has it, where it is not the steps
     made_from: str = ""  # the state that the steps were made for; "" where they suit each
+    done: Callable[[], None] = lambda: None  # is called once it is carried out
     look: Callable[[Reading, Reading], list[str]] = lambda before, after: []  # says more of a rehearsal, or refuses it
 
 
@@ -203,6 +204,8 @@ def carry_out(proposal: Proposal, here: Desk, who: Office) -> None:
     proposal.take(who, carried.answers)
     proposal.copy, proposal.as_promised = carried.copy or "", carried.as_promised is not False
     proposal.is_done = not proposal.refusal
+    if proposal.is_done:
+        proposal.plan.done()
 
 
 def proposal_of(key: str) -> Proposal:

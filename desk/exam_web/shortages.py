@@ -49,7 +49,7 @@ def by_reason(halls: list[tuple[str, str]]) -> dict[str, list[str]]:
     """The halls by reason; who sits in a full one is left out."""
     found: dict[str, list[str]] = {}
     for hall, reason in halls:
-        found.setdefault(reason.partition(":")[0], []).append(hall)
+        found.setdefault(reason.partition(": ")[0], []).append(hall)
     return found
 
 

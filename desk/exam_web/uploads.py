@@ -35,7 +35,7 @@ MOST_SHOWN = 40  # mistakes of a file on the page
 MOST_CURED = 20_000  # of a file that one press of a button can mend
 MOST_VALUE = 400  # letters of a value that is typed
 BOOKS = (".xlsx", ".xlsm", ".ods")
-NEW_CODE = "a new code"
+NEW_CODE, OWN_CODE = "a new code", "the code of the office"
 UNREADABLE = (zipfile.BadZipFile, zipfile.LargeZipFile, zlib.error, RuntimeError, EOFError, OSError, ValueError)
 
 
@@ -69,16 +69,20 @@ class Book:
 
 @dataclass
 class Upload:
-    """Files that are not imported yet; corrections are made in these bytes."""
+    """Files that came to the desk; corrections are made in these bytes."""
     texts: dict[str, bytes] = field(default_factory=dict)  # by kind
     notes: list[Markup] = field(default_factory=list)
     workbooks: list[Book] = field(default_factory=list)
     when: str = field(default_factory=lambda: datetime.datetime.now().isoformat(" ", "minutes"))
     edits: int = 0
+    is_imported: bool = False
 
     @property
     def kinds(self) -> list[str]:
         return [kind for kind in files.HEADERS if kind in self.texts]
+
+    def note_import(self) -> None:
+        self.is_imported = True
 
     def note(self, name: str, words: Markup) -> None:
         self.notes.append(Markup("{}: {}").format(shown(name[:MOST_NAME]), words))
@@ -154,19 +158,24 @@ def take_book(upload: Upload, name: str, content: bytes, way: Way, known: mistak
 
 def looked_through(texts: Mapping[str, bytes], view: View) -> dict[str, Looked]:
     """The files with their mistakes, each beside the office and the files before it."""
-    known, looked = mistakes.Known(view.reading.rows), {}
+    known, looked, coded = mistakes.Known(view.reading.rows), {}, codes(view)
     for kind in (kind for kind in files.HEADERS if kind in texts):
         wrong, notes = mistakes.looked_through(kind, texts[kind], known)
         found = list(wrong)[:MOST_CURED], list(notes)[:MOST_SHOWN]
         lines = {each.line for part in found for each in part}
         records = {record.line: record for record in files.records(texts[kind]) if record.line in lines}
         rows = sum(1 for _ in files.records(texts[kind])) - 1
-        faults, shown = ([fault(kind, each, records) for each in part] for part in found)
+        faults, shown = ([fault(kind, each, records, coded) for each in part] for part in found)
         looked[kind] = Looked(faults, shown, wrong.count, max(0, rows))
     return looked
 
 
-def fault(kind: str, mistake: mistakes.Mistake, records: Mapping[int, files.Record]) -> Fault:
+def codes(view: View) -> dict[str, str]:
+    """The access code of each candidate of the office, by number."""
+    return {number: code for number, code in view.rows("SELECT printf('%07d', number), code FROM candidate")}
+
+
+def fault(kind: str, mistake: mistakes.Mistake, records: Mapping[int, files.Record], coded: Mapping[str, str]) -> Fault:
     column, _, value = mistake.what.partition(" ")
     record = records.get(mistake.line)
     fields = [part.decode("utf-8", "replace") for part in record.fields] if record else []
@@ -174,27 +183,43 @@ def fault(kind: str, mistake: mistakes.Mistake, records: Mapping[int, files.Reco
     if place is None or place >= len(fields):
         return Fault(mistake.line, column, value, mistake.text, "", fields, None)
     if column == "code" and not fields[place]:
-        return Fault(mistake.line, column, value, text("empty: a new code can be made"), NEW_CODE, fields, place)
+        return Fault(mistake.line, column, value, *for_no_code(fields[0], coded), fields, place)
     return Fault(mistake.line, column, value, mistake.text, mistake.write, fields, place)
+
+
+def for_no_code(number: str, coded: Mapping[str, str]) -> tuple[Markup, str]:
+    """The cure of an empty code. A candidate of the office keeps the code, so that slips that are out hold."""
+    if not mistakes.RIGHT["number"](number.encode()):
+        return text("empty: correct the number first"), ""
+    if number in coded:
+        return text("empty: the office has a code for this candidate, which stays"), OWN_CODE
+    return text("empty: a new code can be made"), NEW_CODE
 
 
 Corrections = dict[int, dict[int, str]]  # by line and place; an empty dict takes the row out
 
 
-def corrections(kind: str, looked: Looked, form: Mapping[str, str], taken: set[str]) -> Corrections:
-    """What a form corrects in a file: all clear cures, or what was typed. `taken` are codes; it adds its own."""
+def corrections(kind: str, looked: Looked, form: Mapping[str, str], coded: Mapping[str, str]) -> Corrections:
+    """What a form corrects in a file: all clear cures, or what was typed. `coded` are the codes of the office."""
     wanted: Corrections = {}
+    taken = {*coded.values()}
     for each in looked.faults:
         name = f"{kind}:{each.line}:{'row' if each.place is None else each.place}"
         if each.place is None:
             if each.column == "row" and form.get(name) == "drop":
                 wanted[each.line] = {}
         elif "all" in form and each.write:
-            write = coding.new_code(taken) if each.write == NEW_CODE else each.write
-            wanted.setdefault(each.line, {})[each.place] = write
+            wanted.setdefault(each.line, {})[each.place] = written(each, coded, taken)
         elif "all" not in form and name in form and form[name] != each.fields[each.place]:
             wanted.setdefault(each.line, {})[each.place] = form[name][:MOST_VALUE]
     return wanted
+
+
+def written(mistake: Fault, coded: Mapping[str, str], taken: set[str]) -> str:
+    """What a clear cure writes. A new code is taken then."""
+    if mistake.write == OWN_CODE:
+        return coded[mistake.fields[0]]
+    return coding.new_code(taken) if mistake.write == NEW_CODE else mistake.write
 
 
 def corrected(content: bytes, wanted: Corrections) -> bytes:

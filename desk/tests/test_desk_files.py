@@ -50,6 +50,57 @@ class TestFiles(Uploads):
         self.browser.post(f"/office/copies/{key}/back", f"/office/copies/{key}")
         self.assertEqual((self.seats(), self.rows("SELECT * FROM candidate WHERE number > 12000")), (before, []))
 
+    def test_a_candidate_of_the_office_keeps_the_code(self):
+        (number, code), (other, _) = self.rows("SELECT printf('%07d', number), code FROM candidate ORDER BY number LIMIT 2")
+        rows = f"number,name,code\n{number},Ada Marsh,\n{int(other)},Bo,\n0012001,Nadia,\n"
+        page = self.upload(("candidates.csv", rows.encode()))
+        self.assertIn("the office has a code for this candidate", self.browser.words(page))
+        self.assertIn("correct the number first", self.browser.words(page))
+        self.browser.post(page + "/correct", page, all="1")
+        self.browser.post(page + "/correct", page, all="1")
+        self.assertIn("No mistake", self.browser.words(page))
+        _, text = self.browser.ask("GET", page + "/candidates.csv")
+        kept = dict(self.rows("SELECT printf('%07d', number), code FROM candidate"))
+        found = [line.split(",") for line in text.splitlines()[1:]]
+        self.assertEqual([line[:2] for line in found], [[number, "Ada Marsh"], [other, "Bo"], ["0012001", "Nadia"]])
+        self.assertEqual([line[2] for line in found[:2]], [kept[number], kept[other]])
+        self.assertRegex(found[2][2], "^[A-Z0-9]{8,16}$")
+        self.assertNotIn(found[2][2], kept.values())
+        proposal, _ = self.browser.post("/propose/files", page, upload=page.rsplit("/", 1)[1])
+        self.assertNotIn("access code", self.browser.words(proposal))
+
+    def test_other_codes_are_told_before_the_import(self):
+        (number, name), = self.rows("SELECT printf('%07d', number), name FROM candidate ORDER BY number LIMIT 1")
+        page = self.upload(("candidates.csv", f"number,name,code\n{number},{name},XQ7RTWPKLM\n".encode()))
+        proposal, _ = self.browser.post("/propose/files", page, upload=page.rsplit("/", 1)[1])
+        words = self.browser.words(proposal)
+        self.assertIn("1 would have another access code", words)
+        self.assertNotIn("Nobody would move", words)
+
+    def test_two_sessions_at_one_time_are_shown_before_the_import(self):
+        page = self.upload(("sessions.csv", b"session,date,start\nHL,2027-06-07,10:00\nT1,2027-06-07,11:00\n"),
+                           ("papers.csv", b"paper,title,session,minutes,requires\nHL-1,Oral,HL,60,-\nT1-1,Oral,T1,30,-\n"),
+                           ("openings.csv", b"session,hall,desks,until,reserved\nHL,AULA,5,18:00,no\n"),
+                           ("entries.csv", b"number,paper\n0001000,HL-1\n0001000,T1-1\n"))
+        proposal, _ = self.browser.post("/propose/files", page, upload=page.rsplit("/", 1)[1])
+        words = self.browser.words(proposal)  # 0001000 sits in MON-AM until 11:00
+        self.assertRegex(words, "Two sessions at one time would be new Sessions Candidates in both .* both MON-AM, HL "
+                                "Ada Lin 0001000 AULA Who")
+        self.browser.post(proposal + "/do", proposal)
+        self.assertIn("Two sessions at one time anew", self.browser.words(proposal))
+        late, _ = self.browser.post("/propose/withdraw", "/candidates/1017", number="0001017", paper="MA-1")
+        self.assertNotIn("at one time", self.browser.words(late))  # what was so before
+
+    def test_why_a_hall_does_not_suit_says_when_it_closes(self):
+        with open(os.path.join(self.folder, "openings.csv"), "w", encoding="utf-8") as file:
+            halls = self.rows("SELECT hall FROM opening WHERE session = 'MON-AM'")
+            file.write("session,hall,desks,until,reserved\n" + "".join(f"MON-AM,{hall},50,10:05,no\n" for hall, in halls))
+        self.office("import", "openings", "openings.csv")
+        words = self.browser.words("/sessions/MON-AM")
+        self.assertIn("without a desk", words)
+        self.assertIn("closes 10:05", words)
+        self.assertNotIn("closes 10 ", words)
+
     def test_a_refused_step_undoes_all(self):
         page = self.upload(("candidates.csv", b"number,name,code\n0012001,Nadia,K4WBN7RTQD\n"),
                            ("openings.csv", b"session,hall,desks,until,reserved\nMON-AM,R14,9,14:00,no\n"))
@@ -152,6 +203,19 @@ class TestBegin(Uploads):
         self.browser.post(proposal + "/do", proposal)
         self.assertIn("What changed", self.browser.words(proposal))
         self.assertIn("60 candidates", self.browser.words("/"))
+
+    def test_a_first_import_says_who_would_be_without_a_desk(self):
+        self.browser.post("/init", "/")
+        page = self.upload(*((f"{kind}.csv", (self.examples / "day" / f"{kind}.csv").read_bytes()) for kind in KINDS))
+        self.assertIn("Uploaded, not imported", self.browser.words("/files"))
+        proposal, _ = self.browser.post("/propose/files", page, upload=page.rsplit("/", 1)[1])
+        words = self.browser.words(proposal)  # three candidates and two desks
+        self.assertIn("1 would be without a desk", words)
+        self.assertNotIn("Nobody would move", words)
+        self.browser.post(proposal + "/do", proposal)
+        self.assertIn("1 without a desk", self.browser.words(proposal))
+        self.assertNotIn("Uploaded, not imported", self.browser.words("/files"))
+        self.assertNotIn("nothing is imported", self.browser.words(page))
 
 
 def workbook(sheets):
