@@ -36,7 +36,8 @@ class Words(sample.SampleSchool):
         self.assertEqual(self.refused("import", "candidates", path).split("\n"), [
             "refused 1 record 2 column 1",
             "  a value has the wrong form; correct it and import the whole file again",
-            "  line 4 of candidates.csv: 1000,?2J,WK3DEGZDPC", "  number is '1000': leading zeros lost? 0001000 (seven digits; format the column as text)", ""])
+            "  line 4 of candidates.csv: 1000,?2J,WK3DEGZDPC",
+            "  number is '1000': leading zeros lost? 0001000 (seven digits; format the column as text)", ""])
 
     def test_what_a_value_must_be_is_said(self):
         for row, text in [("S-9,2027-06-07,9 Uhr", "start is '9 Uhr': a time as 09:00; format the column as text"),
