@@ -82,7 +82,7 @@ def certain(reading: Reading, doubtful: Collection[Doubtful]) -> list[Overlap]:
 
 
 def new(before: Reading, after: Reading, sessions: Collection[str]) -> Iterator[Overlap]:
-    """The overlaps of these sessions with any others, each with the candidates and halls that were not in both before."""
+    """The overlaps of these sessions with any others: the candidates and halls that were not in both before."""
     now = found(after, sessions) if sessions else []
     old = {each[:2]: each for each in (found(before, sessions) if now else [])}
     for each in now:

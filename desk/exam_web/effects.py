@@ -9,17 +9,17 @@ from exam_desk.telling import Change
 from exam_web import counting
 from exam_web.desk import View
 
-KINDS = {  # the gravest first: in words before the change, and after it
+KINDS = {  # the gravest first: in words before the change, after it, and after it of one where that is another
     "loses": ("would lose the desk", "lost the desk"),
     "lacks": ("would join a session without a desk", "joined a session without a desk"),
-    "paper": ("would have another paper", "have another paper"),
+    "paper": ("would have another paper", "have another paper", "has another paper"),
     "moves": ("would move to another hall", "moved to another hall"),
-    "time": ("would have another time", "have another time"),
-    "name": ("would have another name", "have another name"),
+    "time": ("would have another time", "have another time", "has another time"),
+    "name": ("would have another name", "have another name", "has another name"),
     "gets": ("would get a desk", "got a desk"),
     "leaves": ("would leave a session", "left a session"),
     "joins": ("would join a session", "joined a session"),
-    "desk": ("would have another desk number only", "have another desk number only"),
+    "desk": ("would have another desk number only", "have another desk number only", "has another desk number only"),
 }
 NUMBERS = ("members", "desks", "short", "clashes")
 CODES = "SELECT number, code FROM candidate"

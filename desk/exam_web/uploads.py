@@ -35,7 +35,7 @@ MOST_SHOWN = 40  # mistakes of a file on the page
 MOST_CURED = 20_000  # of a file that one press of a button can mend
 MOST_VALUE = 400  # letters of a value that is typed
 BOOKS = (".xlsx", ".xlsm", ".ods")
-NEW_CODE, OWN_CODE = "a new code", "the code of the office"
+NEW_CODE, OWN_CODE = "a new code", "own code"
 UNREADABLE = (zipfile.BadZipFile, zipfile.LargeZipFile, zlib.error, RuntimeError, EOFError, OSError, ValueError)
 
 

@@ -34,6 +34,12 @@ class TestRehearsal(DeskSchool):
         self.assertEqual(told.count("\n") - 1, sum(int(count) for _, count in promised))
         self.assertIn("(ab, desk)\tclose-hall MON-AM GYM\t0\tclosed", self.log())
 
+    def test_of_one_candidate_it_speaks_of_one(self):
+        page, _ = self.browser.post("/propose/withdraw", "/candidates/1051", number="0001051", paper="CS-1")
+        self.assertIn("1 would have another paper", self.browser.words(page))  # LAT, which they missed
+        self.browser.post(page + "/do", page)
+        self.assertIn("1 has another paper", self.browser.words(page))
+
     def test_a_lost_hall_with_another_in_its_place(self):
         page, _ = self.browser.post("/propose/close", "/sessions/MON-AM", session="MON-AM", lost="GYM")
         both, _ = self.browser.post("/propose/close", page, session="MON-AM", lost="GYM",

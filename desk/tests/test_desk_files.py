@@ -51,7 +51,7 @@ class TestFiles(Uploads):
         self.assertEqual((self.seats(), self.rows("SELECT * FROM candidate WHERE number > 12000")), (before, []))
 
     def test_a_candidate_of_the_office_keeps_the_code(self):
-        (number, code), (other, _) = self.rows("SELECT printf('%07d', number), code FROM candidate ORDER BY number LIMIT 2")
+        (number,), (other,) = self.rows("SELECT printf('%07d', number) FROM candidate ORDER BY number LIMIT 2")
         rows = f"number,name,code\n{number},Ada Marsh,\n{int(other)},Bo,\n0012001,Nadia,\n"
         page = self.upload(("candidates.csv", rows.encode()))
         self.assertIn("the office has a code for this candidate", self.browser.words(page))
@@ -79,7 +79,8 @@ class TestFiles(Uploads):
 
     def test_two_sessions_at_one_time_are_shown_before_the_import(self):
         page = self.upload(("sessions.csv", b"session,date,start\nHL,2027-06-07,10:00\nT1,2027-06-07,11:00\n"),
-                           ("papers.csv", b"paper,title,session,minutes,requires\nHL-1,Oral,HL,60,-\nT1-1,Oral,T1,30,-\n"),
+                           ("papers.csv", b"paper,title,session,minutes,requires\n"
+                            b"HL-1,Oral,HL,60,-\nT1-1,Oral,T1,30,-\n"),
                            ("openings.csv", b"session,hall,desks,until,reserved\nHL,AULA,5,18:00,no\n"),
                            ("entries.csv", b"number,paper\n0001000,HL-1\n0001000,T1-1\n"))
         proposal, _ = self.browser.post("/propose/files", page, upload=page.rsplit("/", 1)[1])
@@ -94,7 +95,8 @@ class TestFiles(Uploads):
     def test_why_a_hall_does_not_suit_says_when_it_closes(self):
         with open(os.path.join(self.folder, "openings.csv"), "w", encoding="utf-8") as file:
             halls = self.rows("SELECT hall FROM opening WHERE session = 'MON-AM'")
-            file.write("session,hall,desks,until,reserved\n" + "".join(f"MON-AM,{hall},50,10:05,no\n" for hall, in halls))
+            file.write("session,hall,desks,until,reserved\n")
+            file.write("".join(f"MON-AM,{hall},50,10:05,no\n" for hall, in halls))
         self.office("import", "openings", "openings.csv")
         words = self.browser.words("/sessions/MON-AM")
         self.assertIn("without a desk", words)

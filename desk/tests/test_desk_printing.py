@@ -42,10 +42,17 @@ class TestPrinting(DeskSchool):
         found = self.browser.words(self.PRINTED + "?piece")
         self.assertIn("out of date: " + halls.removeprefix("to print again: ") + " ", found)
         self.assertIn("PC1", halls)
+        self.assertIn("And of the whole session: Posters for doors , Slips for candidates , Notice board by name ,",
+                      found)
         self.assertIn(f"{len(moves)} candidates have another desk", found)
         for move in moves:
             number, _, was = re.match(r"(\d{7}) (.*): .*, was (.*)", move).groups()
             self.assertRegex(found, rf"{number} {was.replace(' ', ' desk ')} ")
+
+    def test_a_picture_is_described_without_tags(self):
+        text = self.browser.get("/sessions/MON-AM/halls/PC1")
+        self.assertRegex(text, 'aria-label="PC1: [0-9]+ of [0-9]+ desks taken;')
+        self.assertNotIn("&lt;bdi", text)
 
     def test_printed_from_an_old_page(self):
         self.browser.post(self.PRINTED, "/sessions/MON-AM", state="0" * 64)
