@@ -19,7 +19,7 @@ from exam_web.wording import shown, text
 
 pages = Blueprint("office", __name__)
 MOST_LINES = 200  # of the log
-KEEP = str(pathlib.Path(__file__).resolve().parent.parent / "keep")  # the command
+OFFICE = str(pathlib.Path(__file__).resolve().parent.parent / "office")  # the front script
 LOWEST_PORT, HIGHEST_PORT = 1024, 65535
 
 
@@ -101,7 +101,7 @@ def keep() -> Answer | tuple[str, int]:
         wrong = text("a whole number from {low} to {high}", low=LOWEST_PORT, high=HIGHEST_PORT)
         return proposals.wrong_page(proposals.Wrong(("office.page", {}), port=wrong), "keep")
     if what == "start":
-        status = kept.start(office(), [sys.executable, KEEP, "run", port])
+        status = kept.start(office(), [sys.executable, OFFICE, "keep", "run", port])
         g.visit.said.append(("good" if status.serves else "bad", shown(status.sentence)))
     else:
         kept.stop(office())
