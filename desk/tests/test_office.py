@@ -16,7 +16,7 @@ from exam_desk import copies
 
 class Faults(unittest.TestCase):
     def test_who_may_not_read_is_named(self):
-        for fault, said in ((PermissionError(13, "Permission denied", "c.csv"), "c.csv: Permission denied to the user ada"),
+        for fault, said in ((PermissionError(13, "Denied", "c.csv"), "c.csv: Denied to the user ada"),
                             (FileNotFoundError(2, "No such file", "c.csv"), "c.csv: No such file")):
             with mock.patch("exam_desk.beside.user_name", return_value="ada"), \
                     redirect_stderr(io.StringIO()) as out:
@@ -78,7 +78,8 @@ class Words(sample.SampleSchool):
         for word in ("decide", "<number>", "<outcome>"):
             self.assertIn(word, done.stderr.lower())
         done = self.run_office("nothing-like-it")
-        self.assertEqual((done.returncode, done.stderr), (2, "line not understood\n  `office --help` lists the commands\n"))
+        self.assertEqual(done.stderr, "line not understood\n  `office --help` lists the commands\n")
+        self.assertEqual(done.returncode, 2)
 
     def test_a_missing_program_is_named(self):
         self.assertIn("there is no program /nowhere", self.refused("init", EXAMOFFICE="/nowhere"))
