@@ -96,7 +96,7 @@ def new_overlaps(before: Reading, after: Reading) -> list[NewOverlap]:
 
 
 def other_codes(before: View, after: View) -> int:
-    old = dict(before.rows(CODES))
+    old = {number: code for number, code in before.rows(CODES)}
     return sum(code != old.get(number, code) for number, code in after.rows(CODES))
 
 

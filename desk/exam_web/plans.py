@@ -12,12 +12,12 @@ from werkzeug.wrappers import Response
 
 from markupsafe import Markup
 
-from exam_desk import coding, files, lodging, mistakes, second_sitting
+from exam_desk import coding, files, lodging, mistakes, renaming, second_sitting
 from exam_desk.changing import Step
 from exam_desk.trouble import Trouble
 from exam_desk.words import FEATURES, clock
 from exam_web import proposals, session, uploads
-from exam_web.desk import candidate_row, missing, view
+from exam_web.desk import candidate_row, desk, missing, view
 from exam_web.proposals import TROUBLE, Page, Plan, Wrong
 from exam_web.wording import said, text
 
@@ -89,6 +89,14 @@ def arrangement(form: Form) -> Plan:
                  extra=extra)
     return Plan(title, [import_step("arrangements", number, needs(form), extra)], page, text("Set the arrangement"),
                 {20: "extra"}, text("It holds in every session in which no grant is in force for the candidate."))
+
+
+def rename(form: Form) -> Plan:
+    number, row, page = candidate(form)
+    name = checked(page, form, name="name")["name"]
+    return Plan(text("Another name for {name}: {other}", name=row["name"], other=name),
+                [renaming.step(desk().office, number, name)], page, text("Change the name"),
+                note=text("The access code stays."), made_from=view().name)
 
 
 def new_code(form: Form) -> Plan:
@@ -228,6 +236,7 @@ ENTRIES: dict[str, tuple[str, str, Callable[[str, str], Step], int]] = {
 }
 PLANS: dict[str, Callable[[Form], Plan]] = {
     **{what: of_entry(*values) for what, values in ENTRIES.items()}, "arrangement": arrangement, "code": new_code,
+    "name": rename,
     "lodge": lodge, "decide": decide, "open": open_hall, "close": close_hall, "files": import_files,
     "second": second, "second-back": second_back,
 }

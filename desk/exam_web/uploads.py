@@ -177,7 +177,7 @@ def looked_through(texts: Mapping[str, bytes], view: View) -> dict[str, Looked]:
 
 def codes(view: View) -> dict[str, str]:
     """The access code of each candidate of the office, by number."""
-    return dict(view.rows("SELECT printf('%07d', number), code FROM candidate"))
+    return {number: code for number, code in view.rows("SELECT printf('%07d', number), code FROM candidate")}
 
 
 def fault(kind: str, mistake: mistakes.Mistake, records: Mapping[int, files.Record], coded: Mapping[str, str]) -> Fault:
@@ -206,7 +206,8 @@ Corrections = dict[int, dict[int, str]]  # by line and place; an empty dict take
 
 def corrections(kind: str, looked: Looked, form: Mapping[str, str], coded: Mapping[str, str]) -> Corrections:
     """What a form corrects in a file: all clear cures, or what was typed. `coded` are the codes of the office."""
-    wanted, taken = Corrections(), {*coded.values()}
+    wanted: Corrections = {}
+    taken = {*coded.values()}
     for each in looked.faults:
         name = f"{kind}:{each.line}:{'row' if each.place is None else each.place}"
         if each.place is None:
