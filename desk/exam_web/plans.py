@@ -13,7 +13,7 @@ from exam_desk.changing import Step
 from exam_desk.trouble import Trouble
 from exam_desk.words import FEATURES, clock
 from exam_web import proposals, session, uploads
-from exam_web.desk import candidate_row, view
+from exam_web.desk import candidate_row, desk, view
 from exam_web.forms import Form, Page, Wrong, checked
 from exam_web.proposals import TROUBLE, Plan
 from exam_web.wording import said, text
@@ -72,6 +72,14 @@ def arrangement(form: Form) -> Plan:
                  extra=extra)
     return Plan(title, [import_step("arrangements", number, needs(form), extra)], page, text("Set the arrangement"),
                 {20: "extra"}, text("It holds in every session in which no grant is in force for the candidate."))
+
+
+def rename(form: Form) -> Plan:
+    number, row, page = candidate(form)
+    name = checked(page, form, name="name")["name"]
+    return Plan(text("Another name for {name}: {other}", name=row["name"], other=name),
+                [coding.renamed(desk().office, number, name)], page, text("Change the name"),
+                note=text("The access code stays."), made_from=view().name)
 
 
 def new_code(form: Form) -> Plan:
@@ -206,7 +214,8 @@ ENTRIES: dict[str, tuple[str, str, Callable[[str, str], Step], int]] = {
 }
 PLANS: dict[str, Callable[[Form], Plan]] = {
     **{what: partial(of_entry, *values) for what, values in ENTRIES.items()}, "arrangement": arrangement,
-    "code": new_code, "lodge": lodge, "decide": decide, "open": open_hall, "close": close_hall, "files": import_files,
+    "code": new_code, "name": rename, "lodge": lodge, "decide": decide, "open": open_hall, "close": close_hall,
+    "files": import_files,
     "second": second, "second-back": second_back,
 }
 

@@ -34,6 +34,18 @@ class TestRehearsal(DeskSchool):
         self.assertEqual(told.count("\n") - 1, sum(int(count) for _, count in promised))
         self.assertIn("(ab, desk)\tclose-hall MON-AM GYM\t0\tclosed", self.log())
 
+    def test_another_name_and_the_code_stays(self):
+        (was, code), = self.rows("SELECT name, code FROM candidate WHERE number = 1051")
+        page, _ = self.browser.post("/propose/name", "/candidates/1051", number="0001051", name="Di <b> Marsh")
+        words = self.browser.words(page)
+        self.assertIn(f"was {was}", re.sub(r"\s+", " ", words))
+        self.assertNotIn("another access code", words)
+        self.browser.post(page + "/do", page)
+        self.assertEqual(self.rows("SELECT name, code FROM candidate WHERE number = 1051"), [("Di <b> Marsh", code)])
+        for wrong in ("", "x" * 81):
+            _, text = self.browser.post("/propose/name", "/candidates/1051", 422, number="0001051", name=wrong)
+            self.assertIn('aria-invalid="true"', text)
+
     def test_of_one_candidate_it_speaks_of_one(self):
         page, _ = self.browser.post("/propose/withdraw", "/candidates/1051", number="0001051", paper="CS-1")
         self.assertIn("1 would have another paper", self.browser.words(page))  # LAT, which they missed
