@@ -10,6 +10,7 @@ import threading
 import time
 import unittest
 
+import breaking
 import sample
 import test_changing
 from exam_desk import states, turns
