@@ -150,8 +150,8 @@ class AtAnyTime(Uploads):
         in the log, a change is whole, and the log cannot know it."""
         state = states.name_now(self.value)
         if state == after:
-            done = self.run_office("back", "1", "--yes")
-            self.assertEqual(done.returncode, 0, done.stderr)
+            self.run_office(*breaking.NEXT)  # it says that the change has no end in the log, where that is so
+            self.office("back", "1", "--yes")
         elif state != self.before:
             self.assertIn("A change was broken off: ", self.browser.words("/"))
             page = re.search(r'/office/copies/[0-9a-f]{16}(?=")', self.browser.get("/"))[0]
