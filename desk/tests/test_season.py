@@ -18,7 +18,7 @@ EVENTS = [  # a command, and what it says first; `{}` stands for a number
     ("back 1 --yes", "2 lose their desks: .."),  # who had one while the paper was moved
     ("import openings fewer.csv", "{} lose their desks: {} in MON-PM"),
     ("back 1 --yes", "{} get desks: {} in MON-PM"),
-    ("import candidates people.csv", ""),
+    ("import candidates people.csv", "1 has another access code: 0001051 Di Berg; a slip with the old code opens nothing"),
     ("import entries people.csv", "refused 2"),
     ("name 0001051 Berg", "1 has another name: MON-AM 0001051 Berg"),
     ("import arrangements need.csv", "1 sits at another time: 0001000 Ada Lin in 2 sessions"),
