@@ -41,11 +41,11 @@ class Broken(Uploads):
         return self.rows("SELECT code FROM hall ORDER BY 1"), self.seats()
 
     def test_the_second_step_is_refused(self):
-        self.begin("echo refused 23 >&2; exit 1")
+        self.begin("echo refused 22 >&2; exit 1")
         before, proposal = self.state(), self.proposed()
         self.browser.post(proposal + "/do", proposal)
         self.assertIn("It was refused, and the office is as it was", self.browser.words(proposal))
-        self.assertNotIn("refused 23", self.browser.words(proposal))
+        self.assertNotIn("refused 22", self.browser.words(proposal))
         self.assertEqual(self.state(), before)
 
     def test_the_disk_is_full(self):
