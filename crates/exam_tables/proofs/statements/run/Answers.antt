@@ -1,3 +1,5 @@
+-- What the database promises of the statement, where it succeeds and where it fails. Each of its errors is reported as
+-- a refusal of the store.
 use Rattle.std.proofs.Common.{◌≡◌, ℕ, false, List, Result, Err, inl, inr, refl, sym, subst}
 use Rattle.std.specs.Prelude.{IsTrue}
 use Rattle.std.proofs.lemmas.Bool.{cases_Bool}
