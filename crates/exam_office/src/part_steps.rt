@@ -162,8 +162,8 @@ fn change(
     }
 }
 
-/// Makes the change of a lodging or a retraction in the facts of a good office, if they stay within every limit. No list
-/// shows appeals, so the lists need no change. After a refusal the facts are as before.
+/// Makes the change of a lodging or a retraction in the facts of a good office, if they stay within every limit. No
+/// list shows appeals, so the lists need no change. After a refusal the facts are as before.
 pub(crate) fn change_within(
     alloc: Global,
     facts: &mut Facts,
