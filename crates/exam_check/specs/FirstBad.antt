@@ -2,6 +2,7 @@
 use Rattle.std.specs.Prelude.{◌≡◌, ◌⊎◌, ◌<◌, ℕ, IsTrue, List, [], ◌∷◌, Option, None, Some, option_map}
 use Rattle.sqlite_trees.specs.Tree.{Trees}
 use Rattle.sqlite.specs.Effect.{Database}
+use Rattle.sqlite.specs.State.{State as Shown, HasCleanDisk}
 use Rattle.exam_commands.specs.Good.{IsTableGood, tables}
 use Rattle.exam_commands.specs.State.{State}
 use Rattle.exam_commands.specs.declared.table.Table.{Table as OfficeTable}
@@ -12,7 +13,7 @@ use Rattle.exam_tables.specs.Forms as forms
 use Rattle.exam_tables.specs.Held.{HasTable}
 use Rattle.exam_tables.specs.Loaded.{AreUnderstood}
 use Rattle.exam_tables.specs.Versions.{ContainsOf, HasVersion, version}
-use Rattle.exam_store.specs.Found.{IsNoOlder}
+use Rattle.exam_store.specs.Found.{Finds, IsNoOlder}
 use Rattle.exam_check.specs.declared.tables.Table.{Table}
 use Rattle.exam_check.specs.declared.tables.Table.TheVariants as table
 
@@ -72,6 +73,18 @@ pub record FindsBad (db : Database) (found : Option Table) : Type 0 where
   pub understood : (found ≡ Some table.Office) ⊎ AreUnderstood db load_texts
   pub listed : (found ≡ Some table.Office) ⊎ IsTrue (lists_newest db.schema)
   pub newest : IsNoOlder db
+
+-- ---- beside what opening finds
+
+-- the tables have these rows, if each of the eleven names is that of a table
+abbrev pub ContainsIfListed : Database → Trees → Type 0
+ContainsIfListed db all = IsTrue (lists_newest db.schema) → ContainsMade db all
+
+-- nothing is opened, and the first bad table is `office`
+abbrev pub OpensNothing : Shown → Shown → State → Trees → Option Table → Type 0
+OpensNothing old new office all found =
+    (HasCleanDisk new → Finds old new office → ⊥)
+    × (IsFirstBadTable old.now all found → found ≡ Some table.Office)
 
 -- ---- the first of two tables
 

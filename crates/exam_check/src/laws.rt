@@ -1,5 +1,5 @@
 //! Laws of the first bad table.
-ghost use Rattle.std.specs.Prelude.{◌≡◌, ◌≢◌, ◌↔◌, false, IsTrue, Option, None, Some};
+ghost use Rattle.std.specs.Prelude.{◌≡◌, ◌≢◌, ◌↔◌, false, Option, None};
 ghost use Rattle.sqlite_trees.specs.Tree.{Trees};
 ghost use Rattle.sqlite.specs.Effect.{Database};
 ghost use Rattle.sqlite.specs.Held.{Held, state};
@@ -8,12 +8,11 @@ ghost use Rattle.exam_types.specs.declared.refusal.Refusal.{Refusal};
 ghost use Rattle.exam_types.specs.declared.refusal.Refusal.TheVariants as refusal;
 ghost use Rattle.exam_commands.specs.Good.{IsGood};
 ghost use Rattle.exam_commands.specs.State.{State};
-ghost use Rattle.exam_sql.specs.Made.{ContainsMade, lists_newest};
+ghost use Rattle.exam_sql.specs.Made.{lists_newest};
 ghost use Rattle.exam_tables.specs.Versions.{version};
 ghost use Rattle.exam_store.specs.Found.{FailsToOpen, Finds, HoldsGood};
-ghost use Rattle.exam_check.specs.FirstBad.{IsFirstBadTable};
+ghost use Rattle.exam_check.specs.FirstBad.{ContainsIfListed, IsFirstBadTable, OpensNothing};
 ghost use Rattle.exam_check.specs.declared.tables.Table.{Table};
-ghost use Rattle.exam_check.specs.declared.tables.Table.TheVariants as table;
 
 use sqlite::Alter;
 
@@ -25,14 +24,12 @@ use sqlite::Alter;
 pub fn check_finds_nothing_exactly_where_open_accepts<S: Alter>()
     ensures good { (db : Database) (all : Trees) → IsFirstBadTable db all None ↔ HoldsGood version db all }
     ensures accepted { (old new : Held S) (office : State) (all : Trees)
-        → (IsTrue (lists_newest (state S.Store old).now.schema) → ContainsMade (state S.Store old).now all)
+        → ContainsIfListed (state S.Store old).now all
         → HasCleanDisk (state S.Store new) → Finds (state S.Store old) (state S.Store new) office → IsGood office
         → IsFirstBadTable (state S.Store old).now all None }
     ensures refused { (old new : Held S) (e : Refusal) (all : Trees) → FailsToOpen S.Store old new e
-        → e ≢ refusal.NoMemory → e ≢ refusal.Store
-        → IsFirstBadTable (state S.Store old).now all None → ⊥ }
+        → e ≢ refusal.NoMemory → e ≢ refusal.Store → IsFirstBadTable (state S.Store old).now all None → ⊥ }
     ensures unlisted { (old new : Held S) (office : State) (all : Trees) (found : Option Table)
         → lists_newest (state S.Store old).now.schema ≡ false
-        → (HasCleanDisk (state S.Store new) → Finds (state S.Store old) (state S.Store new) office → ⊥)
-        × (IsFirstBadTable (state S.Store old).now all found → found ≡ Some table.Office) }
+        → OpensNothing (state S.Store old) (state S.Store new) office all found }
 {}

@@ -5,9 +5,13 @@ use Rattle.sqlite_trees.specs.declared.store.Store.{Ghosts}
 use Rattle.sqlite.specs.Held.{state}
 use Rattle.sqlite.specs.State.{State as Shown, HasCleanDisk, Survives}
 use Rattle.exam_types.specs.declared.refusal.Refusal.{Refusal}
-use Rattle.exam_types.specs.declared.refusal.Refusal.TheVariants.{NoMemory}
+use Rattle.exam_types.specs.declared.refusal.Refusal.TheVariants.{NoMemory, NotOpenAppeal}
 use Rattle.exam_commands.specs.declared.command.Command.{Command}
+use Rattle.exam_commands.specs.declared.command.AppealState.TheVariants.{Superseded}
+use Rattle.exam_commands.specs.declared.command.Decision.{Decision}
 use Rattle.exam_commands.specs.declared.command.Reply.{Reply}
+use Rattle.exam_commands.specs.declared.command.Reply.TheVariants.{Unchanged}
+use Rattle.exam_commands.specs.Appeals.{stored_state}
 use Rattle.exam_commands.specs.State.{State}
 use Rattle.exam_commands.specs.Steps.{Step}
 use Rattle.exam_tables.specs.Faults.{is_store_refusal}
@@ -50,6 +54,13 @@ Applies (done ∷ rest) before [] after = ⊥
 abbrev pub FailsInStore : Result Reply Refusal → Type 0
 FailsInStore (Ok reply) = ⊥
 FailsInStore (Err e) = IsTrue (is_store_refusal e)
+
+-- a decision, made once more, answers that nothing has changed, or that a later grant has superseded the appeal
+abbrev pub IsDecidedAgain : State → Decision → Result Reply Refusal → Type 0
+IsDecidedAgain late decision second =
+    (second ≡ Ok Unchanged)
+    ⊎ ((stored_state late.relations decision.number decision.reference ≡ Superseded)
+    × (second ≡ Err NotOpenAppeal))
 
 -- the store refused no command
 abbrev pub NoneFails : List (Result Reply Refusal) → Type 0

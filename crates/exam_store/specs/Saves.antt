@@ -1,18 +1,18 @@
 -- The changes that save an office, and why it is not saved.
-use Rattle.std.specs.Prelude.{ℕ, List, [], Option, map}
+use Rattle.std.specs.Prelude.{ℕ, List, [], Option, Result, IfErr, map}
 use Rattle.std.specs.Borrow.{Bor}
 use Rattle.std.specs.declared.cmp.Ordering.{Ordering}
 use Rattle.std.specs.Map.Iter.{deref_pair}
 use Rattle.std.specs.Ordering.{nat_cmp}
 use Rattle.sqlite.specs.Effect.{Database}
-use Rattle.sqlite.specs.State.{State as Shown}
+use Rattle.sqlite.specs.State.{State as Shown, HasCleanDisk}
 use Rattle.exam_types.specs.declared.refusal.Refusal.{Refusal}
 use Rattle.exam_rules.specs.Relations.{code_cmp, opening_cmp, entry_cmp, appeal_cmp, seat_cmp}
 use Rattle.exam_commands.specs.State.{State}
 use Rattle.exam_tables.specs.declared.differences.Difference.{Difference}
 use Rattle.exam_tables.specs.declared.writing.Changes.{Changes}
 use Rattle.exam_tables.specs.Differences.{Turns}
-use Rattle.exam_tables.specs.Inside.{RefusesOne, RefusesOneRow, FailsFor}
+use Rattle.exam_tables.specs.Inside.{FailsFor, IsOurs, RefusesOne, RefusesOneRow}
 use Rattle.exam_tables.specs.Writes.{all_saved}
 use Rattle.exam_store.specs.Kept.{Keeps}
 
@@ -50,3 +50,8 @@ RefusesChange before after limit db =
 -- there is no memory, a call of the disk failed, the connection was shut, or the database refuses a write
 abbrev pub FailsToSave : State → State → Shown → Shown → Refusal → Type 0
 FailsToSave before after old new = FailsFor (RefusesChange before after old.step_limit old.now) old new
+
+-- why the office is not saved, where the tables are ours
+abbrev pub RefusesSaving : State → State → Shown → Shown → Result (Unit {0}) Refusal → Type 0
+RefusesSaving before after old new result =
+    HasCleanDisk new → IsOurs old.now → IfErr result (FailsToSave before after old new)

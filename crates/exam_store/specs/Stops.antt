@@ -1,10 +1,10 @@
 -- A stop in the middle of a command, and what the next run opens.
-use Rattle.std.specs.Prelude.{◌≡◌, ◌⊎◌, ℕ, All, false, Result, Ok, OnOk}
+use Rattle.std.specs.Prelude.{◌≡◌, ◌⊎◌, ℕ, All, false, IsTrue, Result, Ok, OnOk}
 use Rattle.std.specs.Map.{values_of}
 use Rattle.sqlite_trees.specs.declared.store.Store.{Ghosts}
 use Rattle.sqlite_trees.specs.Tree.{Trees}
 use Rattle.sqlite.specs.Effect.{Database}
-use Rattle.sqlite.specs.Held.{state}
+use Rattle.sqlite.specs.Held.{Held, state}
 use Rattle.sqlite.specs.State.{State as Shown, HasCleanDisk}
 use Rattle.exam_types.specs.Days.{IsDay}
 use Rattle.exam_types.specs.declared.refusal.Refusal.{Refusal}
@@ -16,11 +16,13 @@ use Rattle.exam_commands.specs.declared.command.Command.TheVariants as command
 use Rattle.exam_commands.specs.declared.command.Reply.{Reply}
 use Rattle.exam_commands.specs.declared.import_row.Row.{Row}
 use Rattle.exam_commands.specs.declared.import_row.Row.TheVariants as row
+use Rattle.exam_commands.specs.Orders.{IsInOrder}
 use Rattle.exam_commands.specs.State.{State}
 use Rattle.exam_commands.specs.Steps.{Step}
 use Rattle.exam_tables.specs.Inside.{IsOurs}
+use Rattle.exam_store.specs.Applied.{IsApplied}
 use Rattle.exam_store.specs.Found.{Finds}
-use Rattle.exam_store.specs.Kept.{Keeps}
+use Rattle.exam_store.specs.Kept.{IsKept, Keeps}
 use Rattle.exam_store.specs.Stores.{OfficeIn}
 
 -- The day of each session and of each appeal is from 2000-01-01 to 2199-12-31: only these days have texts of their own
@@ -65,3 +67,33 @@ pub record WritesNothing {S : Type 0} (g : Ghosts S) (old : OfficeIn S) (answer 
   pub office : new.office ≡ old.office
   pub shut : (state g new.database).is_open ≡ false
   pub stop : (trees : Trees) → (state g new.database).may_leave trees → (state g old.database).may_leave trees
+
+-- ---- a command of a store stops
+
+-- The store was open and kept its office, and what a stop at any moment of the command left is opened: the office that
+-- is found is the one before the command or after it.
+abbrev pub FindBeforeOrAfter : {S T : Type 0} → Ghosts S → Ghosts T → Type 0
+FindBeforeOrAfter {S} {T} g h =
+    (done : Command) (today : ℕ) (old new : OfficeIn S) (answer : Result Reply Refusal) (was now : Held T)
+    (found : State) → IsInOrder old.office → IsKept (state g old.database) old.office
+    → IsTrue (state g old.database).is_open
+    → IsApplied g done today old answer new → HasCleanDisk (state g new.database)
+    → Reopens (state g new.database) (state h was) (state h now) found
+    → IsBeforeOrAfter done today old.office (state h was).now found
+
+-- once the command has answered, the office that is found is the one after it
+abbrev pub FindAfterAnswer : {S T : Type 0} → Ghosts S → Ghosts T → Type 0
+FindAfterAnswer {S} {T} g h =
+    (done : Command) (today : ℕ) (old new : OfficeIn S) (answer : Result Reply Refusal) (was now : Held T)
+    (found : State) → IsInOrder old.office → IsKept (state g old.database) old.office
+    → IsApplied g done today old answer new → HasCleanDisk (state g new.database)
+    → Reopens (state g new.database) (state h was) (state h now) found
+    → OnOk answer (IsFoundAs (state h was).now found new.office)
+
+-- over a connection that is shut, a command is refused and writes nothing
+abbrev pub WriteNothingShut : {S : Type 0} → Ghosts S → Type 0
+WriteNothingShut {S} g =
+    (done : Command) (today : ℕ) (old new : OfficeIn S) (answer : Result Reply Refusal)
+    → (state g old.database).is_open ≡ false
+    → IsApplied g done today old answer new → HasCleanDisk (state g new.database)
+    → WritesNothing g old answer new

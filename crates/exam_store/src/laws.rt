@@ -1,16 +1,12 @@
 //! Laws of stored offices.
-ghost use Rattle.std.specs.Prelude.{◌≡◌, ◌⊎◌, ℕ, false, IsTrue, List, map, Result, Ok, Err, OnOk};
+ghost use Rattle.std.specs.Prelude.{◌≡◌, ◌⊎◌, ℕ, List, map, Result, Ok};
 ghost use Rattle.sqlite_trees.specs.Tree.{Trees};
 ghost use Rattle.sqlite.specs.Effect.{Database};
-ghost use Rattle.sqlite.specs.Held.{Held, state};
-ghost use Rattle.sqlite.specs.State.{HasCleanDisk};
 ghost use Rattle.exam_types.specs.declared.refusal.Refusal.{Refusal};
-ghost use Rattle.exam_types.specs.declared.refusal.Refusal.TheVariants as refusal;
 ghost use Rattle.exam_types.specs.Days.{IsDay};
 ghost use Rattle.exam_rules.specs.Relations.{Code};
 ghost use Rattle.exam_commands.specs.declared.command.Command.{Command};
 ghost use Rattle.exam_commands.specs.declared.command.Command.TheVariants as command;
-ghost use Rattle.exam_commands.specs.declared.command.AppealState.TheVariants as appeal;
 ghost use Rattle.exam_commands.specs.declared.command.Decision.{Decision};
 ghost use Rattle.exam_commands.specs.declared.command.Lodging.{Lodging};
 ghost use Rattle.exam_commands.specs.declared.command.Reply.{Reply};
@@ -19,11 +15,10 @@ ghost use Rattle.exam_commands.specs.Appeals.{stored_state};
 ghost use Rattle.exam_commands.specs.Orders.{IsInOrder};
 ghost use Rattle.exam_commands.specs.State.{State, empty_state};
 ghost use Rattle.exam_commands.specs.Steps.{Run, Step};
-ghost use Rattle.exam_store.specs.Applied.{Applies, FailsInStore, IsApplied, MayApply, NoneFails, in_memory};
-ghost use Rattle.exam_store.specs.Kept.{HaveSameTables, IsKept, Keeps};
+ghost use Rattle.exam_store.specs.Applied.{Applies, FailsInStore, IsDecidedAgain, MayApply, NoneFails, in_memory};
+ghost use Rattle.exam_store.specs.Kept.{HaveSameTables, Keeps};
 ghost use Rattle.exam_store.specs.Refused.{HoldsFormed};
-ghost use Rattle.exam_store.specs.Stops.{HasDays, HasRowDays, IsBeforeOrAfter, IsFoundAs, Reopens, WritesNothing};
-ghost use Rattle.exam_store.specs.Stores.{OfficeIn};
+ghost use Rattle.exam_store.specs.Stops.{FindAfterAnswer, FindBeforeOrAfter, HasDays, HasRowDays, WriteNothingShut};
 
 use sqlite::Alter;
 
@@ -92,11 +87,7 @@ pub fn repeated_decision_is_applied_once()
         → MayApply (command.Decide decision) day before (Ok first) mid
         → Applies done mid replies late
         → MayApply (command.Decide decision) later late second after
-        → (((second ≡ Ok reply.Unchanged)
-        ⊎ ((stored_state late.relations decision.number decision.reference ≡ appeal.Superseded)
-        × (second ≡ Err refusal.NotOpenAppeal)))
-        ⊎ FailsInStore second)
-        × (after ≡ late) }
+        → (IsDecidedAgain late decision second ⊎ FailsInStore second) × (after ≡ late) }
 {}
 
 /// A store that was open and kept its office stops at any moment of a command, and what the stop left is opened. Then
@@ -105,23 +96,9 @@ pub fn repeated_decision_is_applied_once()
 /// call gave on such a disk, and its `may_leave` is what a crash may have left on the disk. If a failure has shut the
 /// connection before, the command is refused, and a stop leaves only what it would have left before the command.
 pub fn stopped_command_is_made_or_not<S: Alter, T: Alter>()
-    ensures any_moment { (done : Command) (today : ℕ) (old new : OfficeIn S) (answer : Result Reply Refusal)
-        (was now : Held T) (found : State)
-        → IsInOrder old.office → IsKept (state S.Store old.database) old.office
-        → IsTrue (state S.Store old.database).is_open
-        → IsApplied S.Store done today old answer new → HasCleanDisk (state S.Store new.database)
-        → Reopens (state S.Store new.database) (state T.Store was) (state T.Store now) found
-        → IsBeforeOrAfter done today old.office (state T.Store was).now found }
-    ensures answered { (done : Command) (today : ℕ) (old new : OfficeIn S) (answer : Result Reply Refusal)
-        (was now : Held T) (found : State)
-        → IsInOrder old.office → IsKept (state S.Store old.database) old.office
-        → IsApplied S.Store done today old answer new → HasCleanDisk (state S.Store new.database)
-        → Reopens (state S.Store new.database) (state T.Store was) (state T.Store now) found
-        → OnOk answer (IsFoundAs (state T.Store was).now found new.office) }
-    ensures shut { (done : Command) (today : ℕ) (old new : OfficeIn S) (answer : Result Reply Refusal)
-        → (state S.Store old.database).is_open ≡ false
-        → IsApplied S.Store done today old answer new → HasCleanDisk (state S.Store new.database)
-        → WritesNothing S.Store old answer new }
+    ensures any_moment { FindBeforeOrAfter S.Store T.Store }
+    ensures answered { FindAfterAnswer S.Store T.Store }
+    ensures shut { WriteNothingShut S.Store }
 {}
 
 /// The day of each session and of each appeal is from 2000-01-01 to 2199-12-31 in the empty office and in one that was

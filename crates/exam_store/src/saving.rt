@@ -1,7 +1,7 @@
 //! Saving what a command changes.
 ghost use Rattle.std.specs.Prelude.{◌≡◌, List, false, IsTrue, IfOk, IfErr};
 ghost use Rattle.sqlite.specs.Held.{state};
-ghost use Rattle.sqlite.specs.State.{HasCleanDisk, Survives};
+ghost use Rattle.sqlite.specs.State.{Survives};
 ghost use Rattle.exam_types.specs.Refusals.{OnlyMemory};
 ghost use Rattle.exam_rules.specs.Orders.{KeysRise};
 ghost use Rattle.exam_rules.specs.Relations.{has_row, remove_row, seat_cmp};
@@ -12,10 +12,9 @@ ghost use Rattle.exam_commands.specs.State.{Seats as SeatRows};
 ghost use Rattle.exam_changes.specs.TablesBefore.{WasTable, WerePlans};
 ghost use Rattle.exam_tables.specs.Differences.{AreExact};
 ghost use Rattle.exam_tables.specs.Faults.{is_store_refusal};
-ghost use Rattle.exam_tables.specs.Inside.{IsOurs};
 ghost use Rattle.exam_tables.specs.Transactions.{Commits};
 ghost use Rattle.exam_store.specs.Kept.{Rekeeps};
-ghost use Rattle.exam_store.specs.Saves.{FailsToSave, TurnsTable, TurnsTables};
+ghost use Rattle.exam_store.specs.Saves.{RefusesSaving, TurnsTable, TurnsTables};
 
 use exam_office::{Before, Draft, PlansBefore};
 use exam_tables::{Changes, Difference, difference_of, save_changes};
@@ -30,10 +29,8 @@ pub fn save<S: Alter>(alloc: Global, conn: &mut Connection<S>, draft: &Draft) ->
     requires { IsGood draft.now.before → KeepsRows draft.now.before.relations draft.now.after.relations }
     ensures made { Commits (state S.Store conn.old) (state S.Store conn.new) result
         (Rekeeps draft.now.before draft.now.after) }
-    ensures failed { conn.old.in_transaction ≡ false → HasCleanDisk (state S.Store conn.new)
-        → IsOurs (state S.Store conn.old).now
-        → IfErr result (FailsToSave draft.now.before draft.now.after
-        (state S.Store conn.old) (state S.Store conn.new)) }
+    ensures failed { conn.old.in_transaction ≡ false → RefusesSaving draft.now.before draft.now.after
+        (state S.Store conn.old) (state S.Store conn.new) result }
     ensures shut { (state S.Store conn.old).is_open ≡ false
         → Survives (state S.Store conn.old) (state S.Store conn.new) (λ _. ⊥) }
     ensures ended { conn.old.in_transaction ≡ false → conn.new.in_transaction ≡ false }

@@ -1,3 +1,4 @@
+-- The register went out whole and was flushed, or it broke off as `send_appeals` says.
 use Rattle.std.proofs.Common.{◌≡◌, ◌∙◌, Err, ap}
 use Rattle.exam_job.specs.Printed.{fault_of}
 use Rattle.exam_job.proofs.Streaming.{part, told, unknown_fault, whole}
