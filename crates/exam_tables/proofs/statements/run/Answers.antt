@@ -1,3 +1,5 @@
+-- What the database promises of the statement, where it succeeds and where it fails. Each of its errors is reported as
+-- a refusal of the store.
 use Rattle.exam_tables.proofs.Words.{cases_Bool, Ghosts, Row, Error, SqliteFailure, OutOfMemory, Held, state}
 use Rattle.exam_tables.proofs.Words.{refusal_of}
 use Rattle.std.proofs.Common.{◌≡◌, ℕ, false, List, Result, Err, inl, inr, refl, sym, subst}
