@@ -32,8 +32,7 @@
 -- - Parts: the facts and the plans that one command reads, and the office with them put back
 -- - Words: the words for the kinds, the states and the subjects of appeals
 -- - Examples: worked plans, computed by the check
--- - Headline: what an office promises for every session: everybody who sits is a member and has a hall that fits them
---   and a desk of their own in it, and no lawful plan seats more
+-- - Headline: what an office promises for every session
 -- - Between: lists of commands without an import or the closing of a hall
 -- - KeptRows: the rows that a command leaves in the tables: all except the opening that closing a hall takes away
 -- - Own: what the office shows of one candidate

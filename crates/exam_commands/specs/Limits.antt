@@ -3,7 +3,7 @@ use Rattle.std.specs.Prelude.{ℕ, ◌&&◌, nat_le, Bool, true, length}
 use Rattle.std.specs.List.{list_all}
 use Rattle.std.specs.Map.{keys_of}
 use Rattle.exam_types.specs.Features.{features_sum}
-use Rattle.exam_plan.specs.HallSets.{most_halls as most_openings}
+use Rattle.exam_plan.specs.HallSets.{most_halls}
 use Rattle.exam_plan.specs.Problems.{most_members}
 use Rattle.exam_rules.specs.declared.rows.Subject.{Subject}
 use Rattle.exam_rules.specs.declared.rows.Subject.TheVariants as subject
@@ -19,8 +19,8 @@ most_sessions = 400
 abbrev pub most_papers : ℕ
 most_papers = 2000
 
-abbrev pub most_halls : ℕ
-most_halls = 500
+abbrev pub most_office_halls : ℕ
+most_office_halls = 500
 
 abbrev pub most_candidates : ℕ
 most_candidates = 20000
@@ -38,7 +38,7 @@ abbrev pub papers_within : Relations → Bool
 papers_within r = nat_le (length r.papers) most_papers
 
 abbrev pub halls_within : Relations → Bool
-halls_within r = nat_le (length r.halls) most_halls
+halls_within r = nat_le (length r.halls) most_office_halls
 
 -- no session has more openings than so many
 abbrev pub openings_at_most : ℕ → Relations → Bool
@@ -46,7 +46,7 @@ openings_at_most most r = list_all (λ s. nat_le (length (open_halls r s)) most)
 
 -- for each session
 abbrev pub openings_within : Relations → Bool
-openings_within r = openings_at_most most_openings r
+openings_within r = openings_at_most most_halls r
 
 abbrev pub candidates_within : Relations → Bool
 candidates_within r = nat_le (length r.candidates) most_candidates
