@@ -66,7 +66,7 @@ fn answer_found<S: Alter>(
     request: &Request<'_>,
     found: Option<Found<'_>>,
 ) -> Answer
-    requires { option_map targets.shown found ≡ targets.reading request.now.target.now }
+    requires { option_map targets.target_of found ≡ targets.reading request.now.target.now }
     ensures { spec.AnswersFound S.Store today store.old (request_of request.now) result store.new }
 {
     let named = named_by(store, &found);
@@ -79,7 +79,7 @@ fn answer_found<S: Alter>(
 /// The candidate that a target names, if there is one.
 fn named_by<S: Alter>(store: &Store<S>, found: &Option<Found<'_>>) -> Option<Named>
     ensures { result ≡ option_map spec.named_as (option_and_then (own_of store.now.office)
-        (number_named (option_map targets.shown found.now))) }
+        (number_named (option_map targets.target_of found.now))) }
 {
     let number = candidate_of(found)?;
     let code = store.access_code(number)?;

@@ -20,13 +20,13 @@ use Rattle.exam_files.specs.declared.sheet_fault.SheetFault.TheVariants as fault
 use Rattle.exam_store.specs.InTurn.{FailsToRead}
 use Rattle.exam_store.specs.Stores.{OfficeIn}
 use Rattle.exam_job.specs.Printed.{Flushes, fault_of}
-use Rattle.exam_job.specs.Sheets.{BreaksOff, Streams}
+use Rattle.exam_job.specs.Sheets.{BreaksOffAppeals, Streams}
 use Rattle.exam_job.specs.declared.report.JobFault.{JobFault}
 use Rattle.exam_job.specs.declared.report.JobFault.TheVariants.{Refused}
 
 module _ {S : Type 0} (g : Ghosts S) (old new : OfficeIn S) where
   breaks : (fault : SheetFault) → registers.BreaksOff (FailsToRead g old new) ⊥ fault
-      → BreaksOff g old new (fault_of fault)
+      → BreaksOffAppeals g old new (fault_of fault)
   breaks faults.Write why = tt
   breaks (faults.Refused e) (inl short) = subst (FailsToRead g old new) (sym short) tt
   breaks (faults.Refused e) (inr (inl why)) = why.1
@@ -37,7 +37,7 @@ module _ {S : Type 0} (g : Ghosts S) (old new : OfficeIn S) where
     register = register_text s (appeals_of office.relations s)
 
     abbrev Sent : Result (List ℕ) Refusal → Result (Unit {0}) JobFault → W → Type 0
-    Sent text result after = Streams (BreaksOff g old new) contents text before result after
+    Sent text result after = Streams (BreaksOffAppeals g old new) contents text before result after
 
     -- of a session that there is, and of one that there is not
     of_row : (row : Option Session) (result : Result (Unit {0}) JobFault) (after : W)
@@ -54,7 +54,7 @@ module _ {S : Type 0} (g : Ghosts S) (old new : OfficeIn S) where
     flushed mid (Ok done) after whole held =
         Appends-kept (contents before) (contents mid) (contents after) register whole held
     flushed mid (Err e) after whole (is, held) = (
-      subst (BreaksOff g old new) (sym is) tt,
+      subst (BreaksOffAppeals g old new) (sym is) tt,
       (
         register,
         [],

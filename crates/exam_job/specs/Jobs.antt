@@ -38,10 +38,10 @@ pub record IsCarriedOut {S : Type 0} (g : Ghosts S) (done : Command) (today : �
       → Rekeeps old.office new.office (state g old.database).now (state g new.database).now
 
 -- the reply is printed on standard output; for a refusal nothing is
-abbrev pub TellsReply : {W : Type 0} → (W → Option (List ℕ)) → Result Reply Refusal
+abbrev pub PrintsReply : {W : Type 0} → (W → Option (List ℕ)) → Result Reply Refusal
     → W → Result (Unit {0}) JobFault → W → Type 0
-TellsReply contents (Ok reply) before result after = Prints contents (reply_text reply) before result after
-TellsReply contents (Err refusal) before result after = (result ≡ Err (Refused refusal)) × (after ≡ before)
+PrintsReply contents (Ok reply) before result after = Prints contents (reply_text reply) before result after
+PrintsReply contents (Err refusal) before result after = (result ≡ Err (Refused refusal)) × (after ≡ before)
 
 -- a command is carried out and its reply printed; or memory ran out before it, and nothing was done
 abbrev pub Commands : {S W : Type 0} → Ghosts S → (W → Option (List ℕ)) → Command → ℕ
@@ -49,7 +49,7 @@ abbrev pub Commands : {S W : Type 0} → Ghosts S → (W → Option (List ℕ)) 
 Commands g contents done today old before result new after =
     Stops (Refused NoMemory) old before result new after
     ⊎ ((answered : Result Reply Refusal) × IsCarriedOut g done today old answered new
-    × TellsReply contents answered before result after)
+    × PrintsReply contents answered before result after)
 
 -- the import that a file denotes is carried out, or its refusal is the answer
 abbrev pub Imports : {S W : Type 0} → Ghosts S → (W → Option (List ℕ)) → Result ImportRows Refusal → ℕ
@@ -74,17 +74,17 @@ pub data ImportsFile {S W : Type 0} (g : Ghosts S) (contents : W → Option (Lis
 
 -- What a line's job does. `init`, `migrate`, `check` and `serve` do nothing here: the program itself does them. Only an
 -- import reads the reader.
-abbrev pub Does : {S W : Type 0} → Ghosts S → (W → Option (List ℕ)) → Job → ℕ → Option (List ℕ)
+abbrev pub DoesJob : {S W : Type 0} → Ghosts S → (W → Option (List ℕ)) → Job → ℕ → Option (List ℕ)
     → Option (List ℕ) → OfficeIn S → W → Result (Unit {0}) JobFault → OfficeIn S → W → Type 0
-Does g contents (line.import kind file) today input rest old before result new after =
+DoesJob g contents (line.import kind file) today input rest old before result new after =
     ImportsFile g contents kind today input rest old before result new after
-Does g contents (line.apply done) today input rest old before result new after =
+DoesJob g contents (line.apply done) today input rest old before result new after =
     (rest ≡ input) × Commands g contents done today old before result new after
-Does g contents (line.print session sheet.Appeals) today input rest old before result new after =
+DoesJob g contents (line.print session sheet.Appeals) today input rest old before result new after =
     (rest ≡ input) × PrintsAppeals g contents session old before result new after
-Does g contents (line.print session which) today input rest old before result new after =
+DoesJob g contents (line.print session which) today input rest old before result new after =
     (rest ≡ input) × (new ≡ old) × PrintsSheet contents old.office session which before result after
-Does g contents other today input rest old before result new after =
+DoesJob g contents other today input rest old before result new after =
     (rest ≡ input) × (new ≡ old) × (result ≡ Ok tt) × (after ≡ before)
 
 -- a line is carried out and reported
@@ -92,5 +92,5 @@ abbrev pub Runs : {S O E : Type 0} → Ghosts S → (O → Option (List ℕ)) �
     → Option (List ℕ) → Option (List ℕ) → OfficeIn S → O → E → ℕ → OfficeIn S → O → E → Type 0
 Runs g contents errors said input rest old before untold status new after told =
     (result : Result (Unit {0}) JobFault)
-    × Does g contents said.job said.today input rest old before result new after
+    × DoesJob g contents said.job said.today input rest old before result new after
     × Reports errors result untold status told

@@ -31,8 +31,8 @@ TellsVersions contents (Ok versions) before result after =
 TellsVersions contents (Err refusal) before result after = (result ≡ Err (Refused refusal)) × (after ≡ before)
 
 -- a migration is carried out and its result printed
-abbrev pub Migrates : {S W : Type 0} → Ghosts S → (W → Option (List ℕ)) → Held S → W
+abbrev pub PrintsMigration : {S W : Type 0} → Ghosts S → (W → Option (List ℕ)) → Held S → W
     → Result (Unit {0}) JobFault → Held S → W → Type 0
-Migrates g contents old before result new after =
+PrintsMigration g contents old before result new after =
     (answered : Result (ℕ × ℕ) Refusal) × IsMigrated g old answered new
     × TellsVersions contents answered before result after

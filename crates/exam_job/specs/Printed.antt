@@ -11,7 +11,7 @@ use Rattle.exam_commands.specs.Words.{state_word}
 use Rattle.exam_commands.specs.declared.command.AppealState.{AppealState}
 use Rattle.exam_commands.specs.declared.command.Reply.{Reply}
 use Rattle.exam_commands.specs.declared.command.Reply.TheVariants as reply
-use Rattle.exam_files.specs.Places as places
+use Rattle.exam_files.specs.Places.{hall_word}
 use Rattle.exam_files.specs.declared.sheet_fault.SheetFault.{SheetFault}
 use Rattle.exam_files.specs.declared.sheet_fault.SheetFault.TheVariants as sheet
 use Rattle.exam_line.specs.declared.line.LineFault.{LineFault}
@@ -22,10 +22,6 @@ use Rattle.exam_job.specs.declared.report.JobFault.{JobFault}
 use Rattle.exam_job.specs.declared.report.JobFault.TheVariants as fault
 
 -- ---- their texts
-
--- a hall, or a dash for none
-abbrev pub hall_word : Option (List ℕ) → List ℕ
-hall_word = places.hall_word
 
 abbrev pub imported_text : ℕ → ℕ → ℕ → List ℕ
 imported_text added changed same =

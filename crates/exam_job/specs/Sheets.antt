@@ -74,11 +74,11 @@ Streams breaks contents (Ok text) before (Err fault) after =
 Streams breaks contents (Err refusal) before result after = (result ≡ Err (Refused refusal)) × (after ≡ before)
 
 -- why the appeals break off: one is not read, or a write fails
-abbrev pub BreaksOff : {S : Type 0} → Ghosts S → OfficeIn S → OfficeIn S → JobFault → Type 0
-BreaksOff g old new (Refused e) = FailsToRead g old new e
-BreaksOff g old new Write = ⊤
-BreaksOff g old new File = ⊥
-BreaksOff g old new Net = ⊥
+abbrev pub BreaksOffAppeals : {S : Type 0} → Ghosts S → OfficeIn S → OfficeIn S → JobFault → Type 0
+BreaksOffAppeals g old new (Refused e) = FailsToRead g old new e
+BreaksOffAppeals g old new Write = ⊤
+BreaksOffAppeals g old new File = ⊥
+BreaksOffAppeals g old new Net = ⊥
 
 -- memory ran out, and nothing was written
 abbrev pub IsShort : {W : Type 0} → W → Result (Unit {0}) JobFault → W → Type 0
@@ -102,7 +102,7 @@ PrintsSheet contents office s which before result after =
 -- database is only read.
 pub record PrintsAppeals {S W : Type 0} (g : Ghosts S) (contents : W → Option (List ℕ)) (s : Code)
     (old : OfficeIn S) (before : W) (result : Result (Unit {0}) JobFault) (new : OfficeIn S) (after : W) : Type 0 where
-  pub sheet : Streams (BreaksOff g old new) contents (register_of old.office s) before result after
+  pub sheet : Streams (BreaksOffAppeals g old new) contents (register_of old.office s) before result after
   pub unknown : has_row code_cmp old.office.relations.sessions s ≡ false
       → (result ≡ Err (Refused UnknownSession)) × (new ≡ old) × (after ≡ before)
   pub read : OnlyIsRead g old new

@@ -48,7 +48,7 @@ pub fn carry_out<S: Alter, R: Read, O: Write>(
     reader: &mut R,
     out: &mut O,
 ) -> Result<(), JobFault>
-    ensures does { spec.Does S.Store O.contents (job_shown line.now.job) line.now.today (R.remaining reader.old)
+    ensures does { spec.DoesJob S.Store O.contents (job_shown line.now.job) line.now.today (R.remaining reader.old)
         (R.remaining reader.new) store.old out.old result store.new out.new }
     ensures headline { (s : Code) → IsSeated store.new.office s }
 {
@@ -65,7 +65,7 @@ fn carry_out_job<S: Alter, R: Read, O: Write>(
     reader: &mut R,
     out: &mut O,
 ) -> Result<(), JobFault>
-    ensures { spec.Does S.Store O.contents (job_shown line.now.job) line.now.today (R.remaining reader.old)
+    ensures { spec.DoesJob S.Store O.contents (job_shown line.now.job) line.now.today (R.remaining reader.old)
         (R.remaining reader.new) store.old out.old result store.new out.new }
 {
     match &line.job {
@@ -112,7 +112,7 @@ fn carry_out_command<S: Alter, O: Write>(
 
 /// Prints what a command answered. A refusal is printed elsewhere.
 fn tell<O: Write>(answered: Result<Reply, Refusal>, out: &mut O) -> Result<(), JobFault>
-    ensures { spec.TellsReply O.contents answered out.old result out.new }
+    ensures { spec.PrintsReply O.contents answered out.old result out.new }
 {
     match answered {
         Ok(reply) => print(out, reply_line(&reply).as_slice()),

@@ -1,6 +1,7 @@
 //! The lines that the program prints. They take no memory, so they can report anything that happened.
 ghost use Rattle.std.specs.Prelude.{◌≡◌, ◌≤◌, ◌+◌, ◌++◌, length};
 ghost use Rattle.arrayvec.specs.ArrayVec.{array_vec_len};
+ghost use Rattle.exam_files.specs.Places.{hall_word};
 ghost use Rattle.exam_job.specs.Printed as spec;
 
 use crate::report::JobFault;
@@ -192,7 +193,7 @@ pub fn connection_fault_line(number: u16) -> ShortLine
 /// Appends the hall, or a dash for none.
 fn put_hall(line: &mut ShortLine, hall: &Option<HallCode>)
     requires { array_vec_len line.old + 8 ≤ 64 }
-    ensures text { line.new.items ≡ line.old.items ++ spec.hall_word hall.now }
+    ensures text { line.new.items ≡ line.old.items ++ hall_word hall.now }
     ensures len { array_vec_len line.new ≤ array_vec_len line.old + 8 }
 {
     match hall {

@@ -16,7 +16,7 @@ pub fn migrate_office<S: Alter, O: Write>(
     conn: &mut Connection<S>,
     out: &mut O,
 ) -> Result<(), JobFault>
-    ensures { spec.Migrates S.Store O.contents conn.old out.old result conn.new out.new }
+    ensures { spec.PrintsMigration S.Store O.contents conn.old out.old result conn.new out.new }
 {
     let (before, after) = migrate(alloc, conn)?;
     print(out, &migration_line(before, after))

@@ -111,8 +111,8 @@ paper_of = text_of is_paper_code (codes "paper")
 abbrev pub both : {X Y Z : Type 0} → (X → Y → Z) → Option X → Option Y → Option Z
 both make first second = option_and_then (λ x. option_map (make x) second) first
 
-abbrev pub import_of : List Row → Option Job
-import_of words = both import (value_of kind_in (codes "kind") words) (first_of (codes "file") words)
+abbrev pub import_job : List Row → Option Job
+import_job words = both import (value_of kind_in (codes "kind") words) (first_of (codes "file") words)
 
 -- a command about the entry of a candidate for a paper
 abbrev pub entry_job : (ℕ → Text → Command) → List Row → Option Job
@@ -160,7 +160,7 @@ plain_job_of name words =
     if bytes_eq name (codes "init") then Some init
     else (if bytes_eq name (codes "migrate") then Some migrate
     else (if bytes_eq name (codes "check") then Some check
-    else (if bytes_eq name (codes "import") then import_of words
+    else (if bytes_eq name (codes "import") then import_job words
     else (if bytes_eq name (codes "withdraw") then entry_job Withdraw words
     else (if bytes_eq name (codes "reinstate") then entry_job Reinstate words
     else (if bytes_eq name (codes "close-hall") then closing_of words

@@ -141,7 +141,7 @@ fn read_plain_job<'a>(today: Day, name: &str, words: &ArgMatches<'a>) -> Option<
 }
 
 fn import_of<'a>(words: &ArgMatches<'a>) -> Option<Job<'a>>
-    ensures job { option_map spec.job_shown result ≡ spec.import_of (spec.rows words.now) }
+    ensures job { option_map spec.job_shown result ≡ spec.import_job (spec.rows words.now) }
     ensures dated { (today : ℕ) → IfSome result (IsOn today) }
 {
     let kind = kind_of(words)?;

@@ -34,7 +34,7 @@ use Rattle.exam_http.specs.Answering as http
 use Rattle.exam_http.specs.Answering.{choice_in}
 use Rattle.exam_http.specs.Serving.{ServedOn}
 use Rattle.exam_http.specs.declared.serving.HttpFault.{HttpFault}
-use Rattle.exam_job.specs.Jobs.{Commands, Does, Imports, ImportsFile, denoted, unread, short}
+use Rattle.exam_job.specs.Jobs.{Commands, DoesJob, Imports, ImportsFile, denoted, unread, short}
 use Rattle.exam_job.specs.Printed.{Contents}
 use Rattle.exam_job.specs.declared.report.JobFault.{JobFault}
 use Rattle.exam_program.specs.Running.{CarriesOut, EndInTurn, ServesAfter, ServesOn}
@@ -132,12 +132,12 @@ module _ {S : Type 0} (g : Ghosts S) where
     imported kind input rest (short gave stops) = unchanged old new stops.1
 
     sheet_kept : (s : Code) (which : Sheet) (input rest : Option (List ℕ))
-        → Does g contents (line.print s which) today input rest old before result new after → KeepsOn old new
+        → DoesJob g contents (line.print s which) today input rest old before result new after → KeepsOn old new
     sheet_kept s sheet.Appeals input rest h = read_alone old new h.1.read
     sheet_kept s which input rest h = unchanged old new h.1
 
     done_keeps : (job : Job) (input rest : Option (List ℕ))
-        → Does g contents job today input rest old before result new after → KeepsOn old new
+        → DoesJob g contents job today input rest old before result new after → KeepsOn old new
     done_keeps (line.import kind path) input rest h = imported kind input rest h
     done_keeps (line.apply done) input rest h = commanded done h.1
     done_keeps (line.print s which) input rest h = sheet_kept s which input rest h

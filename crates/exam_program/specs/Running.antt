@@ -14,8 +14,8 @@ use Rattle.exam_store.specs.Kept.{IsKept}
 use Rattle.exam_store.specs.Stores.{OfficeIn}
 use Rattle.exam_http.specs.Serving.{ServedOn, http_fault_number}
 use Rattle.exam_http.specs.declared.serving.HttpFault.{HttpFault}
-use Rattle.exam_job.specs.Jobs.{Does}
-use Rattle.exam_job.specs.Migrations.{Migrates}
+use Rattle.exam_job.specs.Jobs.{DoesJob}
+use Rattle.exam_job.specs.Migrations.{PrintsMigration}
 use Rattle.exam_job.specs.Printed.{Contents, IsTold, Prints, connection_fault_text, ready_text, serving_text}
 use Rattle.exam_job.specs.declared.report.JobFault.{JobFault}
 use Rattle.exam_job.specs.declared.report.JobFault.TheVariants.{Net, Refused}
@@ -75,7 +75,7 @@ CarriesOut g contents errors (line.serve port) today old before untold result ne
 CarriesOut g contents errors job today old before untold result new after told =
     (told ≡ untold)
     × ((input : Option (List ℕ)) × (rest : Option (List ℕ))
-    × Does g contents job today input rest old before result new after)
+    × DoesJob g contents job today input rest old before result new after)
 
 -- ---- over an open database
 
@@ -119,7 +119,7 @@ abbrev pub RunsOn : {S O E : Type 0} → Ghosts S → Contents O → Contents E 
     → Result ℕ JobFault → Held S → Option Office → O → E → Type 0
 RunsOn g contents errors said line.migrate was before untold result now office after told =
     (told ≡ untold) × (office ≡ None)
-    × ((done : Result (Unit {0}) JobFault) × Migrates g contents was before done now after
+    × ((done : Result (Unit {0}) JobFault) × PrintsMigration g contents was before done now after
     × (result ≡ status_of 0 done))
 RunsOn g contents errors said line.check was before untold result now office after told =
     (told ≡ untold) × (office ≡ None) × Checks g contents was before result now after

@@ -14,8 +14,8 @@ pub record Target : Type 0 where
   pub reference : List ℕ
 
 -- what the program found, as a target
-abbrev pub shown : Found → Target
-shown f = record { route = f.route; number = f.number.now; reference = f.reference.now }
+abbrev pub target_of : Found → Target
+target_of f = record { route = f.route; number = f.number.now; reference = f.reference.now }
 
 -- the bytes before the first slash
 abbrev pub part : List ℕ → List ℕ

@@ -46,7 +46,7 @@ pub enum Choice {
 
 /// The candidate that a target names, whether the office has one of this number or not.
 pub fn candidate_of(found: &Option<Found<'_>>) -> Option<Number>
-    ensures { result ≡ spec.number_named (option_map targets.shown found.now) }
+    ensures { result ≡ spec.number_named (option_map targets.target_of found.now) }
 {
     match found {
         Some(found) => Number::parse(found.number),
@@ -62,7 +62,7 @@ pub fn choose(
     found: Option<Found<'_>>,
     named: Option<Named>,
 ) -> Result<Choice, Refusal>
-    requires { option_map targets.shown found ≡ targets.reading request.now.target.now }
+    requires { option_map targets.target_of found ≡ targets.reading request.now.target.now }
     ensures ok { IfOk result (λ choice. choice ≡ spec.choice_of (request_of request.now) named) }
     ensures memory { IfErr result (λ e. (e ≡ NoMemory) × spec.ReadsText (request_of request.now) named) }
 {
@@ -79,9 +79,9 @@ fn choose_at(
     named: Option<Named>,
 ) -> Result<Choice, Refusal>
     ensures ok { IfOk result (λ choice. choice
-        ≡ spec.choice_at (request_of request.now) named (targets.shown found.entry)) }
+        ≡ spec.choice_at (request_of request.now) named (targets.target_of found.entry)) }
     ensures memory { IfErr result (λ e. (e ≡ NoMemory) × spec.ShowsCode (request_of request.now) named
-        × spec.PostsText (request_of request.now) (targets.shown found.entry)) }
+        × spec.PostsText (request_of request.now) (targets.target_of found.entry)) }
 {
     if allows(found.route, request.method) {
         choose_known(alloc, request, found, named)
@@ -99,9 +99,9 @@ fn choose_known(
     named: Option<Named>,
 ) -> Result<Choice, Refusal>
     ensures ok { IfOk result (λ choice. choice
-        ≡ spec.choice_of_known (request_of request.now) (targets.shown found.entry) named) }
+        ≡ spec.choice_of_known (request_of request.now) (targets.target_of found.entry) named) }
     ensures memory { IfErr result (λ e. (e ≡ NoMemory) × spec.ShowsCode (request_of request.now) named
-        × spec.PostsText (request_of request.now) (targets.shown found.entry)) }
+        × spec.PostsText (request_of request.now) (targets.target_of found.entry)) }
 {
     let shows_code = has_code(request.code, code_of(&named));
     match named {
@@ -137,9 +137,9 @@ fn choose_own(
     number: Number,
 ) -> Result<Choice, Refusal>
     ensures ok { IfOk result (λ choice. choice
-        ≡ spec.choice_own (request_of request.now) number (targets.shown found.entry)) }
+        ≡ spec.choice_own (request_of request.now) number (targets.target_of found.entry)) }
     ensures memory { IfErr result (λ e. (e ≡ NoMemory)
-        × spec.PostsText (request_of request.now) (targets.shown found.entry)) }
+        × spec.PostsText (request_of request.now) (targets.target_of found.entry)) }
 {
     match found.route {
         Route::Seats => Ok(Choice::Show(number, Page::Seats)),

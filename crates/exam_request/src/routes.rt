@@ -3,7 +3,7 @@ ghost use Rattle.std.specs.Prelude.{◌≡◌, ◌↔◌, ◌≤◌, length, IfE
 ghost use Rattle.std.specs.Prelude.{option_map, ℕ};
 ghost use Rattle.matchit.specs.declared.error.InsertError.TheVariants.{OutOfMemory};
 ghost use Rattle.exam_request.specs.Table.{IsFree, table, with_route};
-ghost use Rattle.exam_request.specs.Targets.{HasParts, Target, part, reading, reference_in, shown};
+ghost use Rattle.exam_request.specs.Targets.{HasParts, Target, part, reading, reference_in, target_of};
 ghost use Rattle.exam_request.specs.Targets.{target_text};
 ghost use Rattle.matchit.specs.Level.{IsText};
 ghost use Rattle.matchit.specs.Seek.{first};
@@ -84,7 +84,7 @@ fn reference_at(route: Route, bytes: &[u8], number: usize) -> &[u8]
 /// What a target says.
 pub fn find<'t>(router: &Router<Route>, target: &'t str) -> Option<Found<'t>>
     requires { router.now ≡ table }
-    ensures { option_map shown result ≡ reading target.now }
+    ensures { option_map target_of result ≡ reading target.now }
 {
     let Ok(found) = router.at(target) else {
         return None;

@@ -1,5 +1,6 @@
 -- What a line does to an office in a store is what its order asks of the office.
-use Rattle.exam_theorem.proofs.Words.{Ghosts, Refusal, Command, Reply, Kind, ImportRows, import_of, Job, OfficeIn, Does}
+use Rattle.exam_theorem.proofs.Words.{Ghosts, Refusal, Command, Reply, Kind, ImportRows, import_of, Job, OfficeIn}
+use Rattle.exam_theorem.proofs.Words.{DoesJob}
 use Rattle.exam_theorem.proofs.Words.{JobFault, FollowsCommand, LineEnd, is_failure, told, command_of, import_command}
 use Rattle.exam_theorem.proofs.Words.{KeepsOn}
 use Rattle.std.proofs.Common.{◌≡◌, ℕ, List, Option, Some, refl, sym, ap, subst, inl, inr}
@@ -7,7 +8,7 @@ use Rattle.std.specs.Prelude.{Result, Ok, Err, IsTrue}
 use Rattle.exam_types.specs.declared.refusal.Refusal.TheVariants.{NoMemory}
 use Rattle.exam_commands.specs.declared.command.Command.TheVariants as command
 use Rattle.exam_line.specs.Lines as line
-use Rattle.exam_job.specs.Jobs.{Commands, Imports, ImportsFile, Stops, TellsReply, denoted, unread, short}
+use Rattle.exam_job.specs.Jobs.{Commands, Imports, ImportsFile, Stops, PrintsReply, denoted, unread, short}
 use Rattle.exam_job.specs.declared.report.JobFault.TheVariants.{File, Net, Refused, Write}
 use Rattle.exam_theorem.specs.Following.{Fails, IsDone, TellsAnswer}
 use Rattle.exam_theorem.proofs.KeptOffice.{committed, unchanged}
@@ -19,7 +20,7 @@ module _ {S W : Type 0} (g : Ghosts S) (contents : W → Option (List ℕ)) (tod
 
   -- the line ends as its step does
   answer : (answered : Result Reply Refusal) (result : Result (Unit {0}) JobFault)
-      → TellsReply contents answered before result after → TellsAnswer answered (told result)
+      → PrintsReply contents answered before result after → TellsAnswer answered (told result)
   answer (Ok reply) (Ok done) tells = inl refl
   answer (Ok reply) (Err Write) tells = inr refl
   answer (Ok reply) (Err (Refused e)) tells = absurd tells
@@ -79,7 +80,7 @@ module _ {S W : Type 0} (g : Ghosts S) (contents : W → Option (List ℕ)) (tod
   office_stays same = (ap (λ (o : OfficeIn S). o.office) same, unchanged g old new same)
 
   pub follows : (job : Job) (result : Result (Unit {0}) JobFault)
-      → Does g contents job today (Some file) rest old before result new after
+      → DoesJob g contents job today (Some file) rest old before result new after
       → FollowsCommand (command_of job file) today old.office (told result) new.office × KeepsOn g old new
   follows (line.import kind path) result h = imported kind result h
   follows (line.apply done) result h = commanded done result h.1

@@ -3,7 +3,7 @@ use Rattle.exam_theorem.proofs.Words.{Text, Refusal, Command, Reply, State, Step
 use Rattle.exam_theorem.proofs.Words.{Request, Choice, Fault, MayApply, is_store_refusal, choice_in, HttpFault}
 use Rattle.exam_theorem.proofs.Words.{AreFollowed, EndsInOne, Follows, FollowsCommand, FollowsLine, IsFailureOf}
 use Rattle.exam_theorem.proofs.Words.{LineEnd, is_failure, Given, command_of, line_of, of_line, of_request}
-use Rattle.exam_theorem.proofs.Words.{AnswersAsked, DoesCommand, Serves, Outcome}
+use Rattle.exam_theorem.proofs.Words.{AnswersInOffice, DoesCommandInOffice, ServesInOffice, Outcome}
 use Rattle.std.proofs.Common.{◌≡◌, ◌∙◌, ℕ, List, [], ◌∷◌, Option, None, Some, true, false, refl, sym, ap, subst, inl}
 use Rattle.std.proofs.Common.{inr}
 use Rattle.std.specs.Prelude.{Result, Ok, Err, IsTrue}
@@ -11,10 +11,10 @@ use Rattle.std.proofs.lemmas.List.Elements.{All-head, All-tail}
 use Rattle.exam_types.specs.declared.refusal.Refusal.TheVariants as refusal
 use Rattle.exam_commands.specs.declared.command.Command.TheVariants as command
 use Rattle.exam_request.specs.declared.choice.Choice.TheVariants as choice
-use Rattle.exam_http.specs.Alike.{IsFailure as IsFailureTold}
+use Rattle.exam_http.specs.Alike.{IsFailure}
 use Rattle.exam_http.specs.Answering.{TellsReply}
-use Rattle.exam_theorem.specs.Following.{IsDone, IsFailure, IsRefused, NoneFails, TellsAnswer}
-use Rattle.exam_theorem.specs.Requests.{Does}
+use Rattle.exam_theorem.specs.Following.{IsDone, MeetsFailure, IsRefused, NoneFails, TellsAnswer}
+use Rattle.exam_theorem.specs.Requests.{DoesInOffice}
 use Rattle.exam_theorem.specs.declared.orders.Outcome.TheVariants as outcome
 
 -- a command on a day has one result
@@ -85,13 +85,13 @@ module _ (one_result : OneResult) where
   -- ---- requests
 
   -- the answer to a refusal of the store is that to a failure
-  failed : (e : Refusal) (told : Told) → IsTrue (is_store_refusal e) → told ≡ refusal_told e → IsFailureTold told
+  failed : (e : Refusal) (told : Told) → IsTrue (is_store_refusal e) → told ≡ refusal_told e → IsFailure told
   failed refusal.NoMemory told is tells = inl tells
   failed refusal.Store told is tells = inr (inl tells)
   failed refusal.BadStore told is tells = inr (inr tells)
   failed e told is tells = absurd (let differ : false ≡ true = is in cc)
 
-  replied_none : (told : Told) → (IsFailureTold told → ⊥) → (p : Result Reply Refusal) → TellsReply p told
+  replied_none : (told : Told) → (IsFailure told → ⊥) → (p : Result Reply Refusal) → TellsReply p told
       → (e : Refusal) → p ≡ Err e → IsTrue (is_store_refusal e) → ⊥
   replied_none told fine (Ok reply) tells e is bad = let differ : ◌≡◌ {A = Result Reply Refusal} (Ok reply) (Err e) =
       is in cc
@@ -99,15 +99,16 @@ module _ (one_result : OneResult) where
       let same : r ≡ e = cc in
       fine (failed e told bad (tells ∙ ap refusal_told same))
 
-  module _ (today : ℕ) (before one other : State) (first second : Told) (none : IsFailureTold first → ⊥)
-      (neither : IsFailureTold second → ⊥) where
-    one_command_told : (done : Command) → DoesCommand today before done first one
-        → DoesCommand today before done second other → one ≡ other
+  module _ (today : ℕ) (before one other : State) (first second : Told) (none : IsFailure first → ⊥)
+      (neither : IsFailure second → ⊥) where
+    one_command_told : (done : Command) → DoesCommandInOffice today before done first one
+        → DoesCommandInOffice today before done second other → one ≡ other
     one_command_told done (p, may, tells) (q, might, says) =
         one_step done today before one other p q (replied_none first none p tells)
         (replied_none second neither q says) may might
 
-    one_choice : (chosen : Choice) → Does today before chosen first one → Does today before chosen second other
+    one_choice : (chosen : Choice) → DoesInOffice today before chosen first one
+        → DoesInOffice today before chosen second other
         → one ≡ other
     one_choice (choice.Lodge lodging) here there = one_command_told (command.Lodge lodging) here there
     one_choice (choice.Retract number reference) here there =
@@ -117,8 +118,8 @@ module _ (one_result : OneResult) where
     one_choice (choice.Refused e) here there = here.1 ∙ sym there.1
     one_choice (choice.Show number page) here there = here.1 ∙ sym there.1
 
-    one_asked : (asked : Result Request Fault) → AnswersAsked today before asked first one
-        → AnswersAsked today before asked second other → one ≡ other
+    one_asked : (asked : Result Request Fault) → AnswersInOffice today before asked first one
+        → AnswersInOffice today before asked second other → one ≡ other
     one_asked (Err fault) here there = here.1 ∙ sym there.1
     one_asked (Ok request) (inl busy) there = absurd (none (inl busy.0))
     one_asked (Ok request) (inr here) (inl busy) = absurd (neither (inl busy.0))
@@ -127,20 +128,20 @@ module _ (one_result : OneResult) where
   module _ (one_thing : OneAsked) where
     one_served : (bytes : List ℕ) (today : ℕ) (before one other : State) (p q : Result (Unit {0}) HttpFault)
         (first second : List ℕ)
-        → (IsFailureOf p first → ⊥) → (IsFailureOf q second → ⊥) → Serves bytes today before p first one
-        → Serves bytes today before q second other → one ≡ other
+        → (IsFailureOf p first → ⊥) → (IsFailureOf q second → ⊥) → ServesInOffice bytes today before p first one
+        → ServesInOffice bytes today before q second other → one ≡ other
     one_served bytes today before one other (Err e) q first second none neither here there = absurd (none tt)
     one_served bytes today before one other (Ok done) (Err e) first second none neither here there = absurd (neither tt)
     one_served bytes today before one other (Ok done) (Ok too) first second none neither (told, here, is)
         (said, there, was) =
         let same : here.asked ≡ there.asked = one_thing bytes here.asked there.asked here.asks there.asks in
         one_asked today before one other told said (λ f. none (told, f, is)) (λ f. neither (said, f, was)) there.asked
-        (subst (λ (asked : Result Request Fault). AnswersAsked today before asked told one) same here.answers)
+        (subst (λ (asked : Result Request Fault). AnswersInOffice today before asked told one) same here.answers)
         there.answers
 
     -- ---- orders
 
-    one_order : (order : Given) (before one other : State) (p q : Outcome) → (IsFailure p → ⊥) → (IsFailure q → ⊥)
+    one_order : (order : Given) (before one other : State) (p q : Outcome) → (MeetsFailure p → ⊥) → (MeetsFailure q → ⊥)
         → Follows order before p one → Follows order before q other → one ≡ other
     one_order (of_line words file) before one other (outcome.Line p) (outcome.Line q) none neither here there =
         one_line before one other p q none neither (line_of words) words file here there
@@ -164,11 +165,11 @@ module _ (one_result : OneResult) where
     one_office (x ∷ orders) before one other (p ∷ first) [] none neither here there = absurd there
     one_office (x ∷ orders) before one other (p ∷ first) (q ∷ second) none neither here there =
         let same : here.0 ≡ there.0 = one_order x before here.0 there.0 p q
-        (All-head (λ (o : Outcome). IsFailure o → ⊥) p first none)
-        (All-head (λ (o : Outcome). IsFailure o → ⊥) q second neither) here.1 there.1 in
+        (All-head (λ (o : Outcome). MeetsFailure o → ⊥) p first none)
+        (All-head (λ (o : Outcome). MeetsFailure o → ⊥) q second neither) here.1 there.1 in
         one_office orders there.0 one other first second
-        (All-tail (λ (o : Outcome). IsFailure o → ⊥) p first none)
-        (All-tail (λ (o : Outcome). IsFailure o → ⊥) q second neither)
+        (All-tail (λ (o : Outcome). MeetsFailure o → ⊥) p first none)
+        (All-tail (λ (o : Outcome). MeetsFailure o → ⊥) q second neither)
         (subst (λ (mid : State). AreFollowed orders mid first one) same here.2) there.2
 
     pub ends_in_one : (orders : List Given) (before after : State) (outcomes : List Outcome)

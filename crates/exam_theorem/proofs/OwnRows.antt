@@ -1,8 +1,9 @@
 -- A candidate's own rows decide what a request is answered.
 use Rattle.exam_theorem.proofs.Words.{Refusal, Command, Reply, IsGood, IsInOrder, State, Step, MayApply}
 use Rattle.exam_theorem.proofs.Words.{is_store_refusal, Told, answer_text, refusal_told, Asks, Request, Choice, Fault}
-use Rattle.exam_theorem.proofs.Words.{choice_in, HttpFault, Follows, IsFailureOf, of_request, AnswersAsked, DoesCommand}
-use Rattle.exam_theorem.proofs.Words.{Serves, Tells, Outcome}
+use Rattle.exam_theorem.proofs.Words.{choice_in, HttpFault, Follows, IsFailureOf, of_request, AnswersInOffice}
+use Rattle.exam_theorem.proofs.Words.{DoesCommandInOffice}
+use Rattle.exam_theorem.proofs.Words.{ServesInOffice, TellsInOffice, Outcome}
 use Rattle.std.proofs.Common.{◌≡◌, ◌⊎◌, ◌∙◌, ℕ, List, Option, None, Some, refl, sym, ap, subst, inl, inr}
 use Rattle.std.specs.Prelude.{Result, Ok, Err, IsTrue, IsSomeAnd, option_and_then}
 use Rattle.std.specs.Option.{option_map}
@@ -16,11 +17,11 @@ use Rattle.exam_request.specs.Bodies.{page_body}
 use Rattle.exam_request.specs.Choices.{IsBy, IsIdle, IsOwnChoice, candidate_named, choice_of}
 use Rattle.exam_request.specs.declared.choice.Choice.TheVariants as choice
 use Rattle.exam_request.specs.declared.choice.Named.{Named}
-use Rattle.exam_http.specs.Alike.{AreAlike, IsFailure as IsFailureTold}
+use Rattle.exam_http.specs.Alike.{AreAlike, IsFailure}
 use Rattle.exam_http.specs.Answering.{TellsReply, named_as, named_in, own_named}
-use Rattle.exam_theorem.specs.Following.{IsFailure}
+use Rattle.exam_theorem.specs.Following.{MeetsFailure}
 use Rattle.exam_theorem.specs.Life.{OwnRowsDecide, ShowSame, answer_of}
-use Rattle.exam_theorem.specs.Requests.{Does}
+use Rattle.exam_theorem.specs.Requests.{DoesInOffice}
 use Rattle.exam_theorem.specs.declared.orders.Answered.{Answered}
 use Rattle.exam_theorem.specs.declared.orders.Outcome.TheVariants as outcome
 use Rattle.exam_theorem.proofs.OneOffice.{OneAsked}
@@ -66,7 +67,7 @@ chosen_for own_choice office request =
 -- ---- a command
 
 -- a refusal of the store is a failure
-failed : (e : Refusal) (told : Told) → IsTrue (is_store_refusal e) → told ≡ refusal_told e → IsFailureTold told
+failed : (e : Refusal) (told : Told) → IsTrue (is_store_refusal e) → told ≡ refusal_told e → IsFailure told
 failed refusal.NoMemory told is tells = inl tells
 failed refusal.Store told is tells = inr (inl tells)
 failed refusal.BadStore told is tells = inr (inr tells)
@@ -90,7 +91,7 @@ stepped done today before after (Err e) (same, inl step) = inl (before, step)
 stepped done today before after (Err e) (same, inr is) = inr (e, refl, is)
 
 told_failure : (a : Result Reply Refusal) (e : Refusal) (told : Told) → a ≡ Err e → IsTrue (is_store_refusal e)
-    → TellsReply a told → IsFailureTold told
+    → TellsReply a told → IsFailure told
 told_failure a e told at is tells = failed e told is (subst (λ r. TellsReply r told) at tells)
 
 -- own rows are equal at an equal number
@@ -118,7 +119,7 @@ module _ (own_choice : OwnChoices) (today : ℕ) (one other one_after other_afte
   commanded : (done : Command)
       → ((a b : Result Reply Refusal) (end last : State) → Step done today one a end → Step done today other b last
       → a ≡ b)
-      → DoesCommand today one done first one_after → DoesCommand today other done second other_after
+      → DoesCommandInOffice today one done first one_after → DoesCommandInOffice today other done second other_after
       → AreAlike first second
   commanded done same (a, may, tells) (b, might, told) =
       joined done a b (same a b) tells told (stepped done today one one_after a may)
@@ -127,7 +128,8 @@ module _ (own_choice : OwnChoices) (today : ℕ) (one other one_after other_afte
   module _ (good : IsGood one) (up : IsInOrder one) (sound : IsGood other) (rise : IsInOrder other) where
     -- a choice for a number for which both show the same
     own_chosen : (c : Choice) (number : ℕ) → IsBy number c → own_of one number ≡ own_of other number
-        → Does today one c first one_after → Does today other c second other_after → AreAlike first second
+        → DoesInOffice today one c first one_after → DoesInOffice today other c second other_after
+        → AreAlike first second
     own_chosen (choice.Fault fault) number is same a b = absurd is
     own_chosen (choice.OtherMethod route) number is same a b = absurd is
     own_chosen (choice.Refused refused) number is same a b = absurd is
@@ -146,7 +148,8 @@ module _ (own_choice : OwnChoices) (today : ℕ) (one other one_after other_afte
         sound (at_number one other candidate number is same) step next)
         a b
 
-    idle_chosen : (c : Choice) → IsIdle c → Does today one c first one_after → Does today other c second other_after
+    idle_chosen : (c : Choice) → IsIdle c → DoesInOffice today one c first one_after
+        → DoesInOffice today other c second other_after
         → AreAlike first second
     idle_chosen (choice.Fault fault) idle a b = inr (inr (a.0 ∙ sym b.0))
     idle_chosen (choice.OtherMethod route) idle a b = inr (inr (a.0 ∙ sym b.0))
@@ -158,32 +161,32 @@ module _ (own_choice : OwnChoices) (today : ℕ) (one other one_after other_afte
     -- ---- a request
 
     module _ (request : Request) (same : own_named one request ≡ own_named other request) where
-      chosen : (c : Choice) → IsFor one request c → Does today one c first one_after
-          → Does today other c second other_after → AreAlike first second
+      chosen : (c : Choice) → IsFor one request c → DoesInOffice today one c first one_after
+          → DoesInOffice today other c second other_after → AreAlike first second
       chosen c (inl idle) a b = idle_chosen c idle a b
       chosen c (inr (rows, named, is_by)) a b =
           own_chosen c rows.number is_by
           (own_numbered one request rows named ∙ sym (own_numbered other request rows (sym same ∙ named))) a b
 
-      answered : AnswersAsked today one (Ok request) first one_after
-          → AnswersAsked today other (Ok request) second other_after → AreAlike first second
+      answered : AnswersInOffice today one (Ok request) first one_after
+          → AnswersInOffice today other (Ok request) second other_after → AreAlike first second
       answered (inl busy) b = inl (inl busy.0)
       answered a (inl busy) = inr (inl (inl busy.0))
       answered (inr a) (inr b) =
           chosen (choice_in one request) (chosen_for own_choice one request) a
-          (subst (λ own. Does today other (choice_of request (option_map named_as own)) second other_after)
+          (subst (λ own. DoesInOffice today other (choice_of request (option_map named_as own)) second other_after)
           (sym same) b)
 
     pub asked_alike : (asked : Result Request Fault)
         → ((request : Request) → asked ≡ Ok request → own_named one request ≡ own_named other request)
-        → AnswersAsked today one asked first one_after → AnswersAsked today other asked second other_after
+        → AnswersInOffice today one asked first one_after → AnswersInOffice today other asked second other_after
         → AreAlike first second
     asked_alike (Err fault) same a b = inr (inr (a.0 ∙ sym b.0))
     asked_alike (Ok request) same a b = answered request (same request refl) a b
 
 -- ---- the bytes of an answer
 
-no_failure : (first second : Told) → (IsFailureTold first → ⊥) → (IsFailureTold second → ⊥) → AreAlike first second
+no_failure : (first second : Told) → (IsFailure first → ⊥) → (IsFailure second → ⊥) → AreAlike first second
     → first ≡ second
 no_failure first second none neither (inl fails) = absurd (none fails)
 no_failure first second none neither (inr (inl fails)) = absurd (neither fails)
@@ -193,33 +196,35 @@ module _ (one_asked : OneAsked) (own_choice : OwnChoices) (bytes : List ℕ) (to
     (good : IsGood before) (up : IsInOrder before) where
   module _ (other other_after : State) (sound : IsGood other) (rise : IsInOrder other)
       (same : ShowSame bytes before other) where
-    told_same : (first second : Told) → (IsFailureTold first → ⊥) → (IsFailureTold second → ⊥)
-        → Tells bytes today before first after → Tells bytes today other second other_after → first ≡ second
+    told_same : (first second : Told) → (IsFailure first → ⊥) → (IsFailure second → ⊥)
+        → TellsInOffice bytes today before first after → TellsInOffice bytes today other second other_after
+        → first ≡ second
     told_same first second none neither here there =
         let one = one_asked bytes there.asked here.asked there.asks here.asks in
         no_failure first second none neither
         (asked_alike own_choice today before other after other_after first second good up sound rise here.asked
         (λ request is. same request (subst (Asks bytes) is here.asks)) here.answers
-        (subst (λ (asked : Result Request Fault). AnswersAsked today other asked second other_after) one there.answers))
+        (subst (λ (asked : Result Request Fault). AnswersInOffice today other asked second other_after) one
+        there.answers))
 
     served_same : (p q : Result (Unit {0}) HttpFault) (text words : List ℕ) → (IsFailureOf p text → ⊥)
-        → (IsFailureOf q words → ⊥) → Serves bytes today before p text after
-        → Serves bytes today other q words other_after → text ≡ words
+        → (IsFailureOf q words → ⊥) → ServesInOffice bytes today before p text after
+        → ServesInOffice bytes today other q words other_after → text ≡ words
     served_same (Err e) q text words none neither here there = absurd (none tt)
     served_same (Ok done) (Err e) text words none neither here there = absurd (neither tt)
     served_same (Ok done) (Ok too) text words none neither (told, here, is) (said, there, was) =
         is ∙ ap answer_text (told_same told said (λ f. none (told, f, is)) (λ f. neither (said, f, was)) here there)
         ∙ sym was
 
-    followed_same : (p : Answered) (second : Outcome) → Serves bytes today before p.served p.answer.items after
+    followed_same : (p : Answered) (second : Outcome) → ServesInOffice bytes today before p.served p.answer.items after
         → Follows (of_request bytes today) other second other_after
-        → (IsFailure (outcome.Request p) → ⊥) → (IsFailure second → ⊥)
+        → (MeetsFailure (outcome.Request p) → ⊥) → (MeetsFailure second → ⊥)
         → answer_of (outcome.Request p) ≡ answer_of second
     followed_same p (outcome.Request q) here there none neither =
         served_same p.served q.served p.answer.items q.answer.items none neither here there
     followed_same p (outcome.Line end) here there none neither = absurd there
 
-  pub own_decides : (p : Answered) → Serves bytes today before p.served p.answer.items after
+  pub own_decides : (p : Answered) → ServesInOffice bytes today before p.served p.answer.items after
       → OwnRowsDecide (of_request bytes today) before (outcome.Request p)
   own_decides p here =
       λ other other_after second sound rise same there none neither. followed_same other other_after sound rise same p

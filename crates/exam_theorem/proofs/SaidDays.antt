@@ -245,7 +245,7 @@ plain_said name words =
     either (bytes_eq name (codes "init")) (Some line.init) _ (job_said line.init tt)
     (either (bytes_eq name (codes "migrate")) (Some line.migrate) _ (job_said line.migrate tt)
     (either (bytes_eq name (codes "check")) (Some line.check) _ (job_said line.check tt)
-    (either (bytes_eq name (codes "import")) (line.import_of words) _
+    (either (bytes_eq name (codes "import")) (line.import_job words) _
     (of_two line.import (line.value_of line.kind_in (codes "kind") words) (first_of (codes "file") words)
     (λ k path. tt))
     (either (bytes_eq name (codes "withdraw")) (line.entry_job command.Withdraw words) _

@@ -1,7 +1,7 @@
 -- A request that is served over the office in a store is followed.
 use Rattle.exam_theorem.proofs.Words.{Database, state, Ghosts, Refusal, Command, Reply, State, IsSound, Keeps, OfficeIn}
 use Rattle.exam_theorem.proofs.Words.{Told, answer_text, Request, Choice, Fault, choice_in, HttpFault, Read, Write}
-use Rattle.exam_theorem.proofs.Words.{KeepsOn, AnswersAsked, DoesCommand, Serves, Tells}
+use Rattle.exam_theorem.proofs.Words.{KeepsOn, AnswersInOffice, DoesCommandInOffice, ServesInOffice, TellsInOffice}
 use Rattle.std.proofs.Common.{◌≡◌, ◌∙◌, ℕ, List, [], ◌++◌, Option, Some, sym, ap, subst, inl, inr}
 use Rattle.std.specs.Prelude.{Result, Ok, Err}
 use Rattle.std.specs.Io.KnownBytes.{Appends}
@@ -12,7 +12,7 @@ use Rattle.exam_send.specs.Sending.{AppendsPart}
 use Rattle.exam_request.specs.declared.choice.Choice.TheVariants as choice
 use Rattle.exam_http.specs.Answering as http
 use Rattle.exam_http.specs.Serving as serving
-use Rattle.exam_theorem.specs.Requests.{Does, IsPart}
+use Rattle.exam_theorem.specs.Requests.{DoesInOffice, IsPart}
 use Rattle.exam_theorem.proofs.KeptOffice.{committed, unchanged}
 use Rattle.exam_theorem.proofs.OneOffice.{OneResult}
 
@@ -34,12 +34,12 @@ module _ {S : Type 0} (g : Ghosts S) (one_result : OneResult) (today : ℕ) (old
       (subst (λ (db : Database). Keeps db old.office) (sym (applied.made.same sound).0) kept)
 
   commanded : (done : Command) (told : Told) → http.DoesCommand g today old done told new
-      → DoesCommand today old.office done told new.office × KeepsOn g old new
+      → DoesCommandInOffice today old.office done told new.office × KeepsOn g old new
   commanded done told (answered, applied, tells) =
       ((answered, applied.step, tells), committed g old new answered applied.made (rekeeps done answered applied))
 
   does : (chosen : Choice) (told : Told) → http.Does g today old chosen told new
-      → Does today old.office chosen told new.office × KeepsOn g old new
+      → DoesInOffice today old.office chosen told new.office × KeepsOn g old new
   does (choice.Fault fault) told h = ((h.0, office_stays h.1), unchanged g old new h.1)
   does (choice.OtherMethod route) told h = ((h.0, office_stays h.1), unchanged g old new h.1)
   does (choice.Refused refusal) told h = ((h.0, office_stays h.1), unchanged g old new h.1)
@@ -48,7 +48,7 @@ module _ {S : Type 0} (g : Ghosts S) (one_result : OneResult) (today : ℕ) (old
   does (choice.Retract number reference) told h = commanded (command.Retract number reference) told h
 
   answers : (asked : Result Request Fault) (told : Told) → http.AnswersAsked g today old asked told new
-      → AnswersAsked today old.office asked told new.office × KeepsOn g old new
+      → AnswersInOffice today old.office asked told new.office × KeepsOn g old new
   answers (Err fault) told h = ((h.0, office_stays h.1), unchanged g old new h.1)
   answers (Ok request) told (inl busy) = (inl (busy.0, office_stays busy.1), unchanged g old new busy.1)
   answers (Ok request) told (inr h) =
@@ -56,7 +56,7 @@ module _ {S : Type 0} (g : Ghosts S) (one_result : OneResult) (today : ℕ) (old
 
   module _ (bytes : List ℕ) (rest : Option (List ℕ)) where
     tells : (told : Told) → serving.Tells g today (Some bytes) rest old told new
-        → Tells bytes today old.office told new.office × KeepsOn g old new
+        → TellsInOffice bytes today old.office told new.office × KeepsOn g old new
     tells told h =
         let done = answers h.asked told h.answers in
         (record { asked = h.asked; asks = h.gave.known; answers = done.0 }, done.1)
@@ -72,7 +72,7 @@ module _ {S : Type 0} (g : Ghosts S) (one_result : OneResult) (today : ℕ) (old
 
       pub served : (result : Result (Unit {0}) HttpFault)
           → serving.Serves g contents today (Some bytes) rest old empty result new full
-          → Serves bytes today old.office result answer new.office × KeepsOn g old new
+          → ServesInOffice bytes today old.office result answer new.office × KeepsOn g old new
       served (Ok done) (told, h, sent) = let it = tells told h in ((told, it.0, appended (answer_text told) sent), it.1)
       served (Err Read) (gave, same, unsent) =
           let is : Some answer ≡ Some [] = sym some ∙ ap contents unsent ∙ none in

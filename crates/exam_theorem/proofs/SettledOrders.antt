@@ -2,8 +2,9 @@
 use Rattle.exam_theorem.proofs.Words.{Ghosts, IsDay, Refusal, Code, Command, Reply, Kind, ImportRows, State, import_of}
 use Rattle.exam_theorem.proofs.Words.{Job, Sheet, is_store_refusal, HasRowDays, OfficeIn, Told, answer_text}
 use Rattle.exam_theorem.proofs.Words.{refusal_told, Asks, Request, Choice, Fault, choice_in, HttpFault, Read, Write}
-use Rattle.exam_theorem.proofs.Words.{Does, JobFault, FollowsCommand, IsFailureOf, LineEnd, is_failure, told, KeepsOn}
-use Rattle.exam_theorem.proofs.Words.{command_of, import_command, Tells, Settles}
+use Rattle.exam_theorem.proofs.Words.{DoesJob, JobFault, FollowsCommand, IsFailureOf, LineEnd, is_failure, told}
+use Rattle.exam_theorem.proofs.Words.{KeepsOn}
+use Rattle.exam_theorem.proofs.Words.{command_of, import_command, TellsInOffice, Settles}
 use Rattle.std.proofs.Common.{◌≡◌, ℕ, List, [], Option, None, Some, refl, sym, subst, inl, inr}
 use Rattle.std.specs.Prelude.{Result, Ok, Err, IsTrue}
 use Rattle.std.specs.Io.KnownBytes.{Appends}
@@ -13,13 +14,13 @@ use Rattle.exam_line.specs.Lines as line
 use Rattle.exam_line.specs.declared.line.Sheet.TheVariants as sheet
 use Rattle.exam_request.specs.Answer.{state_told}
 use Rattle.exam_request.specs.declared.choice.Choice.TheVariants as choice
-use Rattle.exam_http.specs.Alike.{IsFailure as IsFailureTold}
+use Rattle.exam_http.specs.Alike.{IsFailure}
 use Rattle.exam_http.specs.Answering as http
 use Rattle.exam_http.specs.Answering.{state_after}
 use Rattle.exam_http.specs.Serving as serving
-use Rattle.exam_job.specs.Jobs.{Commands, Imports, ImportsFile, TellsReply, denoted, unread, short}
+use Rattle.exam_job.specs.Jobs.{Commands, Imports, ImportsFile, PrintsReply, denoted, unread, short}
 use Rattle.exam_job.specs.declared.report.JobFault.TheVariants.{Refused}
-use Rattle.exam_theorem.specs.Requests.{Does as DoesIn}
+use Rattle.exam_theorem.specs.Requests.{DoesInOffice}
 use Rattle.exam_theorem.proofs.OneOffice.{OneResult}
 use Rattle.exam_theorem.proofs.Settling.{DaysStay, IsSettled, applied_settles, reading_settles, unchanged_settles}
 
@@ -44,11 +45,11 @@ module _ {S W : Type 0} (g : Ghosts S) (settled : IsSettled g) (one_result : One
     Settled asked = Settles g Failed (Led asked) old new
 
     -- the line ends with a refusal of the store
-    told_failure : (answered : Result Reply Refusal) (e : Refusal) → TellsReply contents answered before result after
+    told_failure : (answered : Result Reply Refusal) (e : Refusal) → PrintsReply contents answered before result after
         → answered ≡ Err e → IsTrue (is_store_refusal e) → Failed
     told_failure answered e tells is bad =
         let ends : (result ≡ Err (Refused e)) × (after ≡ before) =
-        subst (λ (a : Result Reply Refusal). TellsReply contents a before result after) is tells in
+        subst (λ (a : Result Reply Refusal). PrintsReply contents a before result after) is tells in
         subst (λ (r : Result (Unit {0}) JobFault). IsTrue (is_failure (told r))) (sym ends.0) bad
 
     commanded : (done : Command) → HasRowDays done → Commands g contents done today old before result new after
@@ -76,13 +77,13 @@ module _ {S W : Type 0} (g : Ghosts S) (settled : IsSettled g) (one_result : One
         unchanged_settles g settled Failed (Led (Some (import_command (import_of kind file)))) old new stops.1
 
     printed : (s : Code) (which : Sheet)
-        → Does g contents (line.print s which) today (Some file) rest old before result new after
+        → DoesJob g contents (line.print s which) today (Some file) rest old before result new after
         → Settled (command_of (line.print s which) file)
     printed s sheet.Appeals h = reading_settles g settled Failed (Led None) old new h.1.read.office h.1.read.survives on
     printed s which h = unchanged_settles g settled Failed (Led None) old new h.1
 
     pub line_settles : (job : Job) → GivesDays (command_of job file)
-        → Does g contents job today (Some file) rest old before result new after → Settled (command_of job file)
+        → DoesJob g contents job today (Some file) rest old before result new after → Settled (command_of job file)
     line_settles (line.import kind path) days h = imported kind days h
     line_settles (line.apply done) days h = commanded done (days done refl) h.1
     line_settles (line.print s which) days h = printed s which h
@@ -91,7 +92,7 @@ module _ {S W : Type 0} (g : Ghosts S) (settled : IsSettled g) (one_result : One
   -- ---- a request
 
   -- the answer to a refusal of the store is that to a failure
-  failed : (e : Refusal) (said : Told) → IsTrue (is_store_refusal e) → said ≡ refusal_told e → IsFailureTold said
+  failed : (e : Refusal) (said : Told) → IsTrue (is_store_refusal e) → said ≡ refusal_told e → IsFailure said
   failed refusal.NoMemory said is tells = inl tells
   failed refusal.Store said is tells = inr (inl tells)
   failed refusal.BadStore said is tells = inr (inr tells)
@@ -99,7 +100,7 @@ module _ {S W : Type 0} (g : Ghosts S) (settled : IsSettled g) (one_result : One
 
   module _ (bytes : List ℕ) (old new : OfficeIn S) (on : KeepsOn g old new) (Failed : Type 0) where
     abbrev Told_to : State → Type 0
-    Told_to at = (said : Told) × Tells bytes today old.office said at
+    Told_to at = (said : Told) × TellsInOffice bytes today old.office said at
 
     abbrev Answered : Type 0
     Answered = Settles g Failed Told_to old new
@@ -108,12 +109,12 @@ module _ {S W : Type 0} (g : Ghosts S) (settled : IsSettled g) (one_result : One
     stays same = unchanged_settles g settled Failed Told_to old new same
 
     -- it is answered with a refusal of the store
-    answered_failure : (said : Told) → (IsFailureTold said → Failed) → (answered : Result Reply Refusal) (e : Refusal)
+    answered_failure : (said : Told) → (IsFailure said → Failed) → (answered : Result Reply Refusal) (e : Refusal)
         → http.TellsReply answered said → answered ≡ Err e → IsTrue (is_store_refusal e) → Failed
     answered_failure said fails answered e tells is bad =
         fails (failed e said bad (subst (λ (a : Result Reply Refusal). http.TellsReply a said) is tells))
 
-    does : (said : Told) → (IsFailureTold said → Failed) → (request : Request) → Asks bytes (Ok request) → (c : Choice)
+    does : (said : Told) → (IsFailure said → Failed) → (request : Request) → Asks bytes (Ok request) → (c : Choice)
         → c ≡ choice_in old.office request → http.Does g today old c said new → Answered
     does said fails request asks (choice.Fault fault) is h = stays h.1
     does said fails request asks (choice.OtherMethod route) is h = stays h.1
@@ -126,7 +127,8 @@ module _ {S W : Type 0} (g : Ghosts S) (settled : IsSettled g) (one_result : One
           record {
             asked = Ok request;
             asks = asks;
-            answers = inr (subst (λ (c : Choice). DoesIn today old.office c (state_told (state_after reply)) at) is
+            answers = inr (subst
+                (λ (c : Choice). DoesInOffice today old.office c (state_told (state_after reply)) at) is
                 (Ok reply, step, refl));
           },
         ))
@@ -139,19 +141,20 @@ module _ {S W : Type 0} (g : Ghosts S) (settled : IsSettled g) (one_result : One
           record {
             asked = Ok request;
             asks = asks;
-            answers = inr (subst (λ (c : Choice). DoesIn today old.office c (state_told (state_after reply)) at) is
+            answers = inr (subst
+                (λ (c : Choice). DoesInOffice today old.office c (state_told (state_after reply)) at) is
                 (Ok reply, step, refl));
           },
         ))
         answered (λ e at bad. answered_failure said fails answered e tells at bad) applied on
 
-    answers : (said : Told) → (IsFailureTold said → Failed) → (asked : Result Request Fault) → Asks bytes asked
+    answers : (said : Told) → (IsFailure said → Failed) → (asked : Result Request Fault) → Asks bytes asked
         → http.AnswersAsked g today old asked said new → Answered
     answers said fails (Err fault) asks h = stays h.1
     answers said fails (Ok request) asks (inl busy) = stays busy.1
     answers said fails (Ok request) asks (inr h) = does said fails request asks (choice_in old.office request) refl h
 
-    tells : (rest : Option (List ℕ)) (said : Told) → (IsFailureTold said → Failed)
+    tells : (rest : Option (List ℕ)) (said : Told) → (IsFailure said → Failed)
         → serving.Tells g today (Some bytes) rest old said new → Answered
     tells rest said fails h = answers said fails h.asked h.gave.known h.answers
 
@@ -163,7 +166,8 @@ module _ {S W : Type 0} (g : Ghosts S) (settled : IsSettled g) (one_result : One
 
     pub request_settles : (result : Result (Unit {0}) HttpFault)
         → serving.Serves g contents today (Some bytes) rest old empty result new full
-        → Settles g (IsFailureOf result answer) (λ at. (said : Told) × Tells bytes today old.office said at) old new
+        → Settles g (IsFailureOf result answer)
+        (λ at. (said : Told) × TellsInOffice bytes today old.office said at) old new
     request_settles (Ok done) (said, h, sent) =
         tells bytes old new on (IsFailureOf (Ok done) answer) rest said
         (λ fails. (said, fails, appended (answer_text said) sent)) h

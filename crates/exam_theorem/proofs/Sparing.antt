@@ -2,7 +2,7 @@
 use Rattle.exam_theorem.proofs.Words.{Text, Refusal, Code, Command, Reply, IsGood, IsInOrder, State, Step, Said, Told}
 use Rattle.exam_theorem.proofs.Words.{Request, Choice, Fault, MayApply, choice_in, HttpFault, Read, Write}
 use Rattle.exam_theorem.proofs.Words.{FollowsCommand, FollowsLine, LineEnd, command_of, line_of, of_line, of_request}
-use Rattle.exam_theorem.proofs.Words.{AnswersAsked, Serves}
+use Rattle.exam_theorem.proofs.Words.{AnswersInOffice, ServesInOffice}
 use Rattle.std.proofs.Common.{◌≡◌, ℕ, List, Option, None, Some, sym, ap, subst, inl, inr}
 use Rattle.std.specs.Prelude.{Result, Ok, Err, IsSome}
 use Rattle.exam_plan.specs.Matching.{Keeps, Plan, Seating}
@@ -14,7 +14,7 @@ use Rattle.exam_commands.specs.Steps.{SeatsOn, StepTo, change}
 use Rattle.exam_request.specs.declared.choice.Choice.TheVariants as choice
 use Rattle.exam_theorem.specs.Following.{FollowsWords, Spares}
 use Rattle.exam_theorem.specs.Orders.{CommandMayUnseat, GivenMayUnseat, LineMayUnseat}
-use Rattle.exam_theorem.specs.Requests.{Does}
+use Rattle.exam_theorem.specs.Requests.{DoesInOffice}
 
 -- nobody leaves a seat where all plans stay
 seats_stay : (Excepted : ℕ → Type 0) (before after : State) → after.seats ≡ before.seats → (s : Code)
@@ -114,7 +114,7 @@ module _ (lodging : LodgingMovesNobody) (retracting : RetractingMovesNobody) (be
       (change (command.Retract number reference) today before) may) may
   retracted number reference (Err e) may = same_seats may.0
 
-  chosen : (c : Choice) (told : Told) → Does today before c told after → after.seats ≡ before.seats
+  chosen : (c : Choice) (told : Told) → DoesInOffice today before c told after → after.seats ≡ before.seats
   chosen (choice.Lodge l) told (answered, may, tells) = lodged l answered may
   chosen (choice.Retract number reference) told (answered, may, tells) = retracted number reference answered may
   chosen (choice.Fault fault) told h = same_seats h.1
@@ -122,18 +122,18 @@ module _ (lodging : LodgingMovesNobody) (retracting : RetractingMovesNobody) (be
   chosen (choice.Refused refusal) told h = same_seats h.1
   chosen (choice.Show number page) told h = same_seats h.1
 
-  answered_stays : (asked : Result Request Fault) (told : Told) → AnswersAsked today before asked told after
+  answered_stays : (asked : Result Request Fault) (told : Told) → AnswersInOffice today before asked told after
       → after.seats ≡ before.seats
   answered_stays (Err fault) told h = same_seats h.1
   answered_stays (Ok request) told (inl busy) = same_seats busy.1
   answered_stays (Ok request) told (inr h) = chosen (choice_in before request) told h
 
   served_stays : (bytes : List ℕ) (result : Result (Unit {0}) HttpFault) (answer : List ℕ)
-      → Serves bytes today before result answer after → after.seats ≡ before.seats
+      → ServesInOffice bytes today before result answer after → after.seats ≡ before.seats
   served_stays bytes (Ok done) answer (told, h, is) = answered_stays h.asked told h.answers
   served_stays bytes (Err Read) answer h = same_seats h.1
   served_stays bytes (Err Write) answer (told, h, part) = answered_stays h.asked told h.answers
 
   pub request_spares : (bytes : List ℕ) (result : Result (Unit {0}) HttpFault) (answer : List ℕ)
-      → Serves bytes today before result answer after → Spares (of_request bytes today) before after
+      → ServesInOffice bytes today before result answer after → Spares (of_request bytes today) before after
   request_spares bytes result answer h = seats_stay (λ c. ⊥) before after (served_stays bytes result answer h)

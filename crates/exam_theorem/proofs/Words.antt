@@ -12,7 +12,7 @@ pub use Rattle.exam_files.specs.ImportFiles.{import_of}
 pub use Rattle.exam_http.specs.Answering.{choice_in}
 pub use Rattle.exam_http.specs.declared.serving.HttpFault.{HttpFault}
 pub use Rattle.exam_http.specs.declared.serving.HttpFault.TheVariants.{Read, Write}
-pub use Rattle.exam_job.specs.Jobs.{Does}
+pub use Rattle.exam_job.specs.Jobs.{DoesJob}
 pub use Rattle.exam_job.specs.declared.report.JobFault.{JobFault}
 pub use Rattle.exam_line.specs.Lines.{Answers, Job, Said, job_shown}
 pub use Rattle.exam_line.specs.declared.line.Line.{Line}
@@ -40,7 +40,7 @@ pub use Rattle.exam_theorem.specs.Keeping.{KeepsOn}
 unfoldable pub use Rattle.exam_theorem.specs.Orders.{line_of}
 pub use Rattle.exam_theorem.specs.Orders.{Given, command_of, import_command, of_line, of_request, sheet_of, shown}
 pub use Rattle.exam_theorem.specs.Printing.{PrintsAsked}
-pub use Rattle.exam_theorem.specs.Requests.{AnswersAsked, DoesCommand, Serves, Tells}
+pub use Rattle.exam_theorem.specs.Requests.{AnswersInOffice, DoesCommandInOffice, ServesInOffice, TellsInOffice}
 pub use Rattle.exam_theorem.specs.Resting.{BringsOver, HasOffice, IsAccepted, IsAtRest, IsVersioned, RestsOn, Settles}
 pub use Rattle.exam_theorem.specs.Resting.{StopsWith}
 pub use Rattle.exam_theorem.specs.declared.orders.Outcome.{Outcome}

@@ -15,7 +15,7 @@ use Rattle.exam_line.specs.declared.line.LineFault.{LineFault}
 use Rattle.exam_line.specs.declared.line.LineFault.TheVariants.{NoMemory}
 use Rattle.exam_request.specs.Answer.{Told, answer_text}
 use Rattle.exam_store.specs.Applied.{MayApply}
-use Rattle.exam_http.specs.Alike.{IsFailure as IsFailureTold}
+use Rattle.exam_http.specs.Alike.{IsFailure}
 use Rattle.exam_http.specs.declared.serving.HttpFault.{HttpFault}
 use Rattle.exam_tables.specs.Faults.{is_store_refusal}
 use Rattle.exam_job.specs.declared.report.JobFault.{JobFault}
@@ -130,16 +130,16 @@ EachSparesOthers = AreEach SparesOthers
 -- the request was not read, there was no room for its answer, or its answer is that to a failure
 abbrev pub IsFailureOf : Result (Unit {0}) HttpFault → List ℕ → Type 0
 IsFailureOf (Err fault) answer = ⊤
-IsFailureOf (Ok done) answer = (told : Told) × IsFailureTold told × (answer ≡ answer_text told)
+IsFailureOf (Ok done) answer = (told : Told) × IsFailure told × (answer ≡ answer_text told)
 
 -- a line or a request met a failure
-abbrev pub IsFailure : Outcome → Type 0
-IsFailure (outcome.Line end) = IsTrue (is_failure end)
-IsFailure (outcome.Request answered) = IsFailureOf answered.served answered.answer.items
+abbrev pub MeetsFailure : Outcome → Type 0
+MeetsFailure (outcome.Line end) = IsTrue (is_failure end)
+MeetsFailure (outcome.Request answered) = IsFailureOf answered.served answered.answer.items
 
 -- no order met a failure
 abbrev pub NoneFails : List Outcome → Type 0
-NoneFails outcomes = All (λ outcome. IsFailure outcome → ⊥) outcomes
+NoneFails outcomes = All (λ outcome. MeetsFailure outcome → ⊥) outcomes
 
 -- if the orders are followed again without a failure, they end in the same office
 abbrev pub EndsInOne : List Given → State → List Outcome → State → Type 0

@@ -20,11 +20,11 @@ use Rattle.exam_tables.specs.Transactions.{IsSound}
 use Rattle.exam_store.specs.Kept.{HaveSameTables, Keeps}
 use Rattle.exam_store.specs.Stops.{HasRowDays}
 use Rattle.exam_store.specs.Stores.{OfficeIn}
-use Rattle.exam_theorem.specs.Following.{AreFollowed, EachSparesOthers, EndsInOne, Follows, FollowsWords, IsFailure}
+use Rattle.exam_theorem.specs.Following.{AreFollowed, EachSparesOthers, EndsInOne, Follows, FollowsWords, MeetsFailure}
 use Rattle.exam_theorem.specs.Following.{LineEnd, Spares}
 use Rattle.exam_theorem.specs.Orders.{Given, of_line, of_request}
 use Rattle.exam_theorem.specs.Printing.{PrintsAsked}
-use Rattle.exam_theorem.specs.Requests.{Tells}
+use Rattle.exam_theorem.specs.Requests.{TellsInOffice}
 use Rattle.exam_theorem.specs.Resting.{HasOffice, IsAtRest, IsVersioned, LeavesOffice, Rests, Settles}
 use Rattle.exam_theorem.specs.declared.orders.Outcome.{Outcome}
 use Rattle.exam_theorem.specs.declared.orders.Outcome.TheVariants as outcome
@@ -40,7 +40,7 @@ HasJobDays other = Unit {0}
 -- the order may lead from the one office to the other, whatever is then printed or answered
 abbrev pub LeadsTo : Given → State → State → Type 0
 LeadsTo (of_line words file) before after = (end : LineEnd) × FollowsWords words file before end after
-LeadsTo (of_request bytes today) before after = (told : Told) × Tells bytes today before told after
+LeadsTo (of_request bytes today) before after = (told : Told) × TellsInOffice bytes today before told after
 
 -- the bytes of the answer; none to a command line
 abbrev pub answer_of : Outcome → List ℕ
@@ -58,7 +58,7 @@ abbrev pub OwnRowsDecide : Given → State → Outcome → Type 0
 OwnRowsDecide (of_line words file) before outcome = ⊤
 OwnRowsDecide (of_request bytes today) before outcome =
     (other after : State) (second : Outcome) → IsGood other → IsInOrder other → ShowSame bytes before other
-    → Follows (of_request bytes today) other second after → (IsFailure outcome → ⊥) → (IsFailure second → ⊥)
+    → Follows (of_request bytes today) other second after → (MeetsFailure outcome → ⊥) → (MeetsFailure second → ⊥)
     → answer_of outcome ≡ answer_of second
 
 -- the outcome of an order over an office in a store, and the office after it
@@ -71,7 +71,7 @@ pub record Passes {S : Type 0} (g : Ghosts S) (order : Given) (old : OfficeIn S)
   -- of a request the candidate's own rows decide the answer
   pub own : OwnRowsDecide order old.office outcome
   -- the tables follow; a stop leaves the office before the order or one after it
-  pub settles : Settles g (IsFailure outcome) (LeadsTo order old.office) old new
+  pub settles : Settles g (MeetsFailure outcome) (LeadsTo order old.office) old new
 
 -- ---- a life
 

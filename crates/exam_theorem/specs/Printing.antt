@@ -8,7 +8,7 @@ use Rattle.exam_line.specs.declared.line.LineFault.TheVariants.{NoMemory}
 use Rattle.exam_line.specs.declared.line.Sheet.{Sheet}
 use Rattle.exam_line.specs.declared.line.Sheet.TheVariants as sheet
 use Rattle.exam_store.specs.Stores.{OfficeIn}
-use Rattle.exam_job.specs.Sheets.{BreaksOff, PrintsSheet, Streams}
+use Rattle.exam_job.specs.Sheets.{BreaksOffAppeals, PrintsSheet, Streams}
 use Rattle.exam_job.specs.declared.report.JobFault.{JobFault}
 use Rattle.exam_theorem.specs.Following.{LineEnd, told}
 use Rattle.exam_theorem.specs.declared.orders.LineStop.TheVariants.{NoLine}
@@ -18,7 +18,7 @@ use Rattle.exam_theorem.specs.declared.orders.LineStop.TheVariants.{NoLine}
 abbrev pub PrintsOne : {S W : Type 0} → Ghosts S → (W → Option (List ℕ)) → OfficeIn S → OfficeIn S → Code → Sheet
     → W → Result (Unit {0}) JobFault → W → Type 0
 PrintsOne g contents old it s sheet.Appeals before result after =
-    Streams (BreaksOff g old it) contents (register_of it.office s) before result after
+    Streams (BreaksOffAppeals g old it) contents (register_of it.office s) before result after
 PrintsOne g contents old it s which before result after = PrintsSheet contents it.office s which before result after
 
 -- Words that ask for no sheet print nothing, and neither do words for which memory runs out. A sheet that the words ask

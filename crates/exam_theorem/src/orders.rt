@@ -88,7 +88,7 @@ fn follow<S: Alter>(alloc: Global, store: &mut Store<S>, order: &Order<'_>) -> O
     ensures follows { spec.Follows (shown order.now) store.old.office result store.new.office }
     ensures spares { spec.Spares (shown order.now) store.old.office store.new.office }
     ensures own { OwnRowsDecide (shown order.now) store.old.office result }
-    ensures settles { Settles S.Store (spec.IsFailure result) (LeadsTo (shown order.now) store.old.office)
+    ensures settles { Settles S.Store (spec.MeetsFailure result) (LeadsTo (shown order.now) store.old.office)
         store.old store.new }
     ensures headline { (s : Code) → IsSeated store.new.office s }
     ensures kept { KeepsOn S.Store store.old store.new }
