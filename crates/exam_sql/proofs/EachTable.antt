@@ -3,7 +3,7 @@ use Rattle.exam_sql.proofs.Words.{and_parts, not-true, value_cmp, everything, un
 use Rattle.exam_sql.proofs.Words.{is_free_name, same_name, same_rowid, IsLoad, made_schema, first_schema, made}
 use Rattle.exam_sql.proofs.Words.{store_schema, IsKeyed, list_all, holds, Row, Null, bare, places, same_key, first_key}
 use Rattle.std.proofs.Common.{Bool, [], ap, false, lit<, lit≤, refl, true, ◌||◌, ◌∷◌, ◌≡◌}
-use Rattle.exam_sql.proofs.Names.{Name, of, target, Session, Candidate, Arrangement, Standing}
+use Rattle.exam_sql.proofs.Names.{Name, each, of, target, Session, Candidate, Arrangement, Standing}
 use Rattle.exam_sql.proofs.Loads.{load_of}
 use Rattle.exam_sql.proofs.Keying.{by_index, by_rowid, or_false, or_twice}
 use Rattle.exam_sql.proofs.Making.{Adds, IsCreate, adds_by}
@@ -13,8 +13,12 @@ use Rattle.exam_sql.proofs.Terms.{key_terms}
 -- the text that makes it is understood, and nothing forbids the table
 create : (n : Name) → IsCreate (made (of n).at) (of n).create
 unfolding understood everything made
-create Session = (refl, refl, (refl, refl), (lit≤ tt, refl))
-create n = (refl, refl, (refl, refl), (lit≤ tt, refl))
+create = each (λ n. IsCreate (made (of n).at) (of n).create)
+    (refl, refl, (refl, refl), (lit≤ tt, refl)) (refl, refl, (refl, refl), (lit≤ tt, refl))
+    (refl, refl, (refl, refl), (lit≤ tt, refl)) (refl, refl, (refl, refl), (lit≤ tt, refl))
+    (refl, refl, (refl, refl), (lit≤ tt, refl)) (refl, refl, (refl, refl), (lit≤ tt, refl))
+    (refl, refl, (refl, refl), (lit≤ tt, refl)) (refl, refl, (refl, refl), (lit≤ tt, refl))
+    (refl, refl, (refl, refl), (lit≤ tt, refl)) (refl, refl, (refl, refl), (lit≤ tt, refl))
 
 pub adds : (n : Name) → Adds (of n)
 unfolding everything encode value_cmp fits_kind is_free_name same_name begins lib.Ieee.is_nan lib.Ieee.lt made

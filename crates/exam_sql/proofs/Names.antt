@@ -32,3 +32,17 @@ abbrev pub target : Name → List ℕ
 target Candidate = 0 ∷ []
 target Arrangement = 0 ∷ []
 target n = (of n).key
+
+-- What is proved of each table holds of any. The check is quicker so than by cases, where it computes each case twice.
+pub each : (P : Name → Type 0) → P Session → P Paper → P Hall → P Candidate → P Opening → P Entry → P Arrangement
+    → P Appeal → P Seat → P Standing → (n : Name) → P n
+each P a b c d e f g h i j Session = a
+each P a b c d e f g h i j Paper = b
+each P a b c d e f g h i j Hall = c
+each P a b c d e f g h i j Candidate = d
+each P a b c d e f g h i j Opening = e
+each P a b c d e f g h i j Entry = f
+each P a b c d e f g h i j Arrangement = g
+each P a b c d e f g h i j Appeal = h
+each P a b c d e f g h i j Seat = i
+each P a b c d e f g h i j Standing = j
