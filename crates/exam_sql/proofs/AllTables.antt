@@ -5,31 +5,23 @@ use Rattle.sqlite_schema.specs.Names.{same_name}
 use Rattle.exam_sql.specs.Made.{lists_marks}
 use Rattle.exam_sql.specs.Tables.{first_tables}
 use Rattle.exam_sql.specs.Tables as tables
-use Rattle.exam_sql.proofs.OfAppeal as appeal
-use Rattle.exam_sql.proofs.OfArrangement as arrangement
-use Rattle.exam_sql.proofs.OfCandidate as candidate
-use Rattle.exam_sql.proofs.OfEntry as entry
-use Rattle.exam_sql.proofs.OfHall as hall
 use Rattle.exam_sql.proofs.OfOffice as office
-use Rattle.exam_sql.proofs.OfOpening as opening
-use Rattle.exam_sql.proofs.OfPaper as paper
-use Rattle.exam_sql.proofs.OfSeat as seat
-use Rattle.exam_sql.proofs.OfSession as session
-use Rattle.exam_sql.proofs.OfStanding as standing
+use Rattle.exam_sql.proofs.EachTable.{adds}
 use Rattle.exam_sql.proofs.Making.{AddsTable}
+use Rattle.exam_sql.proofs.Names.{Session, Paper, Hall, Candidate, Opening, Entry, Arrangement, Appeal, Seat, Standing}
 
 -- each of the first tables is added to those before it
 pub each_added : (k : ℕ) → k < 10 → AddsTable (made k) (made (k + 1)) (get_or first_tables k tables.office)
 each_added zero below = office.adds
-each_added (suc zero) below = session.adds
-each_added (suc (suc zero)) below = paper.adds
-each_added (suc (suc (suc zero))) below = hall.adds
-each_added (suc (suc (suc (suc zero)))) below = candidate.adds
-each_added (suc (suc (suc (suc (suc zero))))) below = opening.adds
-each_added (suc (suc (suc (suc (suc (suc zero)))))) below = entry.adds
-each_added (suc (suc (suc (suc (suc (suc (suc zero))))))) below = arrangement.adds
-each_added (suc (suc (suc (suc (suc (suc (suc (suc zero)))))))) below = appeal.adds
-each_added (suc (suc (suc (suc (suc (suc (suc (suc (suc zero))))))))) below = seat.adds
+each_added (suc zero) below = adds Session
+each_added (suc (suc zero)) below = adds Paper
+each_added (suc (suc (suc zero))) below = adds Hall
+each_added (suc (suc (suc (suc zero)))) below = adds Candidate
+each_added (suc (suc (suc (suc (suc zero))))) below = adds Opening
+each_added (suc (suc (suc (suc (suc (suc zero)))))) below = adds Entry
+each_added (suc (suc (suc (suc (suc (suc (suc zero))))))) below = adds Arrangement
+each_added (suc (suc (suc (suc (suc (suc (suc (suc zero)))))))) below = adds Appeal
+each_added (suc (suc (suc (suc (suc (suc (suc (suc (suc zero))))))))) below = adds Seat
 each_added (suc (suc (suc (suc (suc (suc (suc (suc (suc (suc k)))))))))) below = absurd (omega arith)
 
 pub first_is : made 10 ≡ first_schema
@@ -43,7 +35,7 @@ last_is = refl
 -- The table of marks is added to the ten tables of version 1, whatever rows they have: they keep them, and it has none.
 pub standing_added : AddsTable first_schema store_schema tables.standing
 standing_added = subst (λ s. AddsTable s store_schema tables.standing) first_is
-    (subst (λ s. AddsTable (made 10) s tables.standing) last_is standing.adds)
+    (subst (λ s. AddsTable (made 10) s tables.standing) last_is (adds Standing))
 
 pub marks_listed : (lists_marks store_schema ≡ true) × (lists_marks first_schema ≡ false)
 unfolding store_schema first_schema same_name

@@ -4,6 +4,8 @@ pub mod Constant
 pub mod CreateFails
 pub mod Creates
 pub mod Deletes
+pub mod EachRow
+pub mod EachTable
 pub mod Edits
 pub mod Failing
 pub mod Fits
@@ -13,17 +15,8 @@ pub mod KeysHold
 pub mod Listed
 pub mod Loads
 pub mod Making
-pub mod OfAppeal
-pub mod OfArrangement
-pub mod OfCandidate
-pub mod OfEntry
-pub mod OfHall
+pub mod Names
 pub mod OfOffice
-pub mod OfOpening
-pub mod OfPaper
-pub mod OfSeat
-pub mod OfSession
-pub mod OfStanding
 pub mod OneAppeal
 pub mod Queries
 pub mod QueryFails

@@ -1,6 +1,6 @@
 -- The appeal with a key: what its text means, and what it shows.
 use Rattle.exam_sql.proofs.Words.{list_all, IsPermutation, IsPermutation-map, IsPermutation-sym, IsPermutation-trans}
-use Rattle.exam_sql.proofs.Words.{Null, Row, first_key, Trees, filter-map, map-map, IsPermutation-filter, eval_all}
+use Rattle.exam_sql.proofs.Words.{Null, Row, Trees, filter-map, map-map, IsPermutation-filter, eval_all}
 use Rattle.exam_sql.proofs.Words.{holds, overlay, Select, everything, Error, SqliteFailure, OutOfMemory, understood}
 use Rattle.exam_sql.proofs.Words.{reads_listing, State, FailsToQuery, Shown, IsPlain, command_of, ContainsIn, bare}
 use Rattle.exam_sql.proofs.Words.{places, same_key, one_table, is_failure, store_schema}
@@ -14,7 +14,8 @@ use Rattle.exam_sql.proofs.Quiet.{IsQuery}
 use Rattle.exam_sql.proofs.Statements.{held_at}
 use Rattle.exam_sql.proofs.Loads.{column_terms}
 use Rattle.exam_sql.proofs.Terms.{key_terms}
-use Rattle.exam_sql.proofs.OfAppeal as appeal
+use Rattle.exam_sql.proofs.EachTable.{key_means, keyed}
+use Rattle.exam_sql.proofs.Names.{Appeal}
 
 query_is : command_of (understood store_schema find_appeal)
     ≡ Select (record {
@@ -42,12 +43,6 @@ find_is_query schema base = refl
 abbrev pub has_key : Row → Row → Bool
 has_key key row = same_key tables.appeal.key row (Null ∷ key)
 
-key_means : (key r : Row)
-    → list_all (holds (key ∷ r ∷ [])) (key_terms tables.appeal.table)
-    ≡ has_key key (bare (places tables.appeal.table) r)
-unfolding first_key
-key_means key r = refl
-
 -- it shows the rows that have the key
 pub shows_key : (key : Row) (old new : State) (rows : List Row) (all : Trees) → ContainsIn store_schema old.now all
     → Shown find_appeal key old new rows
@@ -56,7 +51,7 @@ shows_key key old new rows all was shown =
     let read = reads_as find_appeal key old new store_schema was.schema_is _ query_is query_plain query_unlisted rows
     shown in
     let held = held_at store_schema 8 tables.appeal.table (1 ∷ 2 ∷ [])
-    (1 ∷ 2 ∷ []) appeal.keyed old.now.trees all was.rows in
+    (1 ∷ 2 ∷ []) (keyed Appeal) old.now.trees all was.rows in
     let show = λ (r : Row). eval_all (column_terms tables.appeal.table) (key ∷ r ∷ []) in
     let test = λ (r : Row). list_all (holds (key ∷ r ∷ [])) (key_terms tables.appeal.table) in
     let columns = bare (places tables.appeal.table) in
@@ -67,7 +62,7 @@ shows_key key old new rows all was shown =
     let bared : map (λ (row : Row). Null ∷ row) (map show passed) ≡ map columns passed =
     map-map (λ (row : Row). Null ∷ row) show passed ∙ map_same (λ r. Null ∷ show r) columns (λ r. refl) passed in
     let tested : passed ≡ filter (λ (r : Row). has_key key (columns r)) (old.now.trees 13) =
-    ap (λ (p : Row → Bool). filter p (old.now.trees 13)) (λ i r. key_means key r i) in
+    ap (λ (p : Row → Bool). filter p (old.now.trees 13)) (λ i r. key_means Appeal key r i) in
     let chosen : map (λ (row : Row). Null ∷ row) (map show passed)
     ≡ filter (has_key key) (map columns (old.now.trees 13)) =
     bared ∙ ap (map columns) tested ∙ sym (filter-map (has_key key) columns (old.now.trees 13)) in

@@ -1,14 +1,13 @@
 -- The terms of the statements that put a row of a table.
-use Rattle.exam_sql.proofs.Words.{list_all, Int, Null, Row, rowid, Term, col, eval_all, holds, Delete, InsertOr, Abort}
-use Rattle.exam_sql.proofs.Words.{Replace, Values, Table, shown, bare, places, same_key, same_rowid, on_conflict}
-use Rattle.exam_sql.proofs.Words.{one_table, Described, store_schema}
+use Rattle.exam_sql.proofs.Words.{list_all, Int, Null, Row, rowid, Term, col, eval_all, holds}
+use Rattle.exam_sql.proofs.Words.{Table, shown, bare, places, same_key, same_rowid}
+use Rattle.exam_sql.proofs.Words.{Described}
 use Rattle.std.proofs.Common.{◌≡◌, ◌+◌, ◌-◌, ◌++◌, true, ℕ, ℤ, List, [], ◌∷◌, length, map, Option, None, Some}
 use Rattle.std.specs.List.{range_with_len}
 use Rattle.sqlite_value.specs.declared.keys.Collation.TheVariants.{Binary}
 use Rattle.sqlite_sql.specs.Term.{lit, op2}
 use Rattle.sqlite_sql.specs.declared.ops.BinaryOp.TheVariants.{Compare}
 use Rattle.sqlite_sql.specs.declared.ops.CompareOp.TheVariants.{Eq}
-use Rattle.exam_sql.proofs.Edits.{Means}
 
 -- what a statement gives for the rowid and for each column; a column that is the rowid is kept as NULL
 abbrev pub given_terms : Table → List Term
@@ -37,35 +36,15 @@ changed_terms table =
 abbrev pub key_terms : Table → List Term
 key_terms table = map (λ (p : ℕ). op2 (Compare Eq Binary) (col 1 p) (col 0 (p - 1))) table.primary
 
--- the text deletes the row with the key
-abbrev pub Deletes : Described → List ℕ → Type 0
-Deletes d text =
-    Means store_schema text
-    (Delete d.at (record { lets = []; body = one_table d.table.tree (key_terms d.table) (col 1 0 ∷ []) [] }))
-    (length d.table.primary)
-
--- the text replaces the row with the key
-abbrev pub Replaces : Described → Type 0
-Replaces d =
-    Means store_schema d.put
-    (InsertOr d.at Replace (Values (given_terms d.table) (length d.table.columns + 1)) []) (length d.table.columns)
-
--- the text changes the row with the key, whose places in a stored row these are
-abbrev pub Changes : Described → List ℕ → Type 0
-Changes d target =
-    Means store_schema d.put
-    (InsertOr d.at Abort (Values (given_terms d.table) (length d.table.columns + 1))
-    (on_conflict target d.table.tree (found_terms d.table) (changed_terms d.table) ∷ [])) (length d.table.columns)
-
 -- the row that is changed is the one with the rowid
 abbrev pub Finds : Described → Row → Row → Type 0
 Finds d columns row = (t r : Row) (id : ℤ)
     → list_all (holds ((row ++ rowid t ∷ shown d.table (Int id ∷ columns)) ∷ r ∷ [])) (found_terms d.table)
     ≡ same_rowid r t
 
--- the row that has the key becomes the one that is given
-abbrev pub Becomes : Described → Row → Row → Type 0
-Becomes d columns row = (t : Row) (id : ℤ)
+-- by these terms the row that has the key becomes the one that is given
+abbrev pub BecomesBy : List Term → Described → Row → Row → Type 0
+BecomesBy changed d columns row = (t : Row) (id : ℤ)
     → same_key d.key (bare (places d.table) t) (Null ∷ row) ≡ true
-    → eval_all (changed_terms d.table) ((row ++ rowid t ∷ shown d.table (Int id ∷ columns)) ∷ t ∷ [])
+    → eval_all changed ((row ++ rowid t ∷ shown d.table (Int id ∷ columns)) ∷ t ∷ [])
     ≡ rowid t ∷ rowid t ∷ columns

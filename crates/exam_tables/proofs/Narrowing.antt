@@ -4,8 +4,7 @@ use Rattle.exam_tables.proofs.Words.{row_put, Contains, Write, delete_of, appeal
 use Rattle.std.proofs.Common.{pos, ℕ, Option, Ordering, List, [], ◌∷◌, ◌++◌, map}
 use Rattle.exam_sql.specs.Refusals.{Refuses, RefusesRows}
 use Rattle.exam_sql.specs.Texts.{delete_opening, delete_seat}
-use Rattle.exam_sql.proofs.OfOpening as opening
-use Rattle.exam_sql.proofs.OfSeat as seat
+use Rattle.exam_sql.proofs.EachRow.{deletes_opening, deletes_seat}
 use Rattle.exam_sql.proofs.References.{AllRefer}
 use Rattle.exam_tables.specs.declared.writing.Changes.{Changes}
 use Rattle.exam_tables.specs.Forms.{IsOurTable, openings, seats, with_put}
@@ -35,12 +34,12 @@ puts_narrow {form = form} ours rows =
 openings_delete_narrow : (c : Changes) → AllByRecursion Narrows (openings_deleted c)
 openings_delete_narrow c =
     every (λ k. delete_of delete_opening openings.tree openings.places (opening_key k.now))
-    (λ y. (opening.deletes y.now.0 y.now.1).narrows) c.openings.delete.items
+    (λ y. (deletes_opening y.now.0 y.now.1).narrows) c.openings.delete.items
 
 seats_delete_narrow : (c : Changes) → AllByRecursion Narrows (seats_deleted c)
 seats_delete_narrow c =
     every (λ k. delete_of delete_seat seats.tree seats.places (seat_key k.now))
-    (λ y. (seat.deletes y.now.0 (pos y.now.1)).narrows) c.seats.delete.items
+    (λ y. (deletes_seat y.now.0 (pos y.now.1)).narrows) c.seats.delete.items
 
 pub all_narrow : (c : Changes) → AllByRecursion Narrows (all_saved c)
 all_narrow c = together (all_put c) (all_deleted c)

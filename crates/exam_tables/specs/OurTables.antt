@@ -18,17 +18,10 @@ use Rattle.exam_types.specs.Features.{features_sum}
 use Rattle.exam_sql.specs.Made.{ContainsMade, made_schema}
 use Rattle.exam_sql.specs.Tables.{store_schema}
 use Rattle.exam_sql.specs.Texts.{load_texts, load_office}
+use Rattle.exam_sql.proofs.EachRow.{puts}
+use Rattle.exam_sql.proofs.EachTable.{is_query, loads}
 use Rattle.exam_sql.proofs.Keys.{equal_itself, int_same, text_itself, text_same}
-use Rattle.exam_sql.proofs.OfAppeal as appeal
-use Rattle.exam_sql.proofs.OfArrangement as arrangement
-use Rattle.exam_sql.proofs.OfCandidate as candidate
-use Rattle.exam_sql.proofs.OfEntry as entry
-use Rattle.exam_sql.proofs.OfHall as hall
-use Rattle.exam_sql.proofs.OfOpening as opening
-use Rattle.exam_sql.proofs.OfPaper as paper
-use Rattle.exam_sql.proofs.OfSeat as seat
-use Rattle.exam_sql.proofs.OfSession as session
-use Rattle.exam_sql.proofs.OfStanding as standing
+use Rattle.exam_sql.proofs.Names.{Session, Paper, Hall, Candidate, Opening, Entry, Arrangement, Appeal, Seat, Standing}
 use Rattle.exam_rules.specs.Relations.{Code, code_cmp}
 use Rattle.exam_tables.specs.Forms as forms
 use Rattle.exam_tables.specs.Forms.{IsOurTable}
@@ -87,103 +80,103 @@ newest_made db all was = record { has_marks = true; contains = was; unmarked = �
 pub sessions_ours : IsOurTable forms.sessions.cmp forms.sessions
 sessions_ours = record {
   keys = record { rows = λ a b. one_part _ _ (text_key a.0 b.0) };
-  puts = λ k x. session.puts k (day_text x.day) (pos x.start);
+  puts = λ k x. puts Session k (day_text x.day) (pos x.start);
   loads = (1, lit< tt, refl);
-  query = session.is_query;
+  query = is_query Session;
   newest = newest_made;
-  shows = λ db all was. (made_schema was.has_marks, was.contains, session.loads was.has_marks);
+  shows = λ db all was. (made_schema was.has_marks, was.contains, loads Session was.has_marks);
 }
 
 pub papers_ours : IsOurTable forms.papers.cmp forms.papers
 papers_ours = record {
   keys = record { rows = λ a b. one_part _ _ (text_key a.0 b.0) };
-  puts = λ k x. paper.puts k x.title x.session (pos x.minutes) (pos (features_sum x.required));
+  puts = λ k x. puts Paper k x.title x.session (pos x.minutes) (pos (features_sum x.required));
   loads = (2, lit< tt, refl);
-  query = paper.is_query;
+  query = is_query Paper;
   newest = newest_made;
-  shows = λ db all was. (made_schema was.has_marks, was.contains, paper.loads was.has_marks);
+  shows = λ db all was. (made_schema was.has_marks, was.contains, loads Paper was.has_marks);
 }
 
 pub halls_ours : IsOurTable forms.halls.cmp forms.halls
 halls_ours = record {
   keys = record { rows = λ a b. one_part _ _ (text_key a.0 b.0) };
-  puts = λ k x. hall.puts k x.title (pos (features_sum x.features));
+  puts = λ k x. puts Hall k x.title (pos (features_sum x.features));
   loads = (3, lit< tt, refl);
-  query = hall.is_query;
+  query = is_query Hall;
   newest = newest_made;
-  shows = λ db all was. (made_schema was.has_marks, was.contains, hall.loads was.has_marks);
+  shows = λ db all was. (made_schema was.has_marks, was.contains, loads Hall was.has_marks);
 }
 
 pub candidates_ours : IsOurTable forms.candidates.cmp forms.candidates
 candidates_ours = record {
   keys = record { rows = λ a b. one_part _ _ (whole_key a.0 b.0) };
-  puts = λ k x. candidate.puts (pos k) x.name x.code;
+  puts = λ k x. puts Candidate (pos k) x.name x.code;
   loads = (4, lit< tt, refl);
-  query = candidate.is_query;
+  query = is_query Candidate;
   newest = newest_made;
-  shows = λ db all was. (made_schema was.has_marks, was.contains, candidate.loads was.has_marks);
+  shows = λ db all was. (made_schema was.has_marks, was.contains, loads Candidate was.has_marks);
 }
 
 pub openings_ours : IsOurTable forms.openings.cmp forms.openings
 openings_ours = record {
   keys = record { rows = λ a b. two_parts _ _ _ _ (text_key a.0.0 b.0.0) (text_key a.0.1 b.0.1) };
-  puts = λ k x. opening.puts k.0 k.1 (pos x.desks) (pos x.until) (pos (if x.reserved then 1 else 0));
+  puts = λ k x. puts Opening k.0 k.1 (pos x.desks) (pos x.until) (pos (if x.reserved then 1 else 0));
   loads = (5, lit< tt, refl);
-  query = opening.is_query;
+  query = is_query Opening;
   newest = newest_made;
-  shows = λ db all was. (made_schema was.has_marks, was.contains, opening.loads was.has_marks);
+  shows = λ db all was. (made_schema was.has_marks, was.contains, loads Opening was.has_marks);
 }
 
 pub entries_ours : IsOurTable forms.entries.cmp forms.entries
 entries_ours = record {
   keys = record { rows = λ a b. two_parts _ _ _ _ (whole_key a.0.0 b.0.0) (text_key a.0.1 b.0.1) };
-  puts = λ k x. entry.puts (pos k.0) k.1 (pos (if x.live then 1 else 0));
+  puts = λ k x. puts Entry (pos k.0) k.1 (pos (if x.live then 1 else 0));
   loads = (6, lit< tt, refl);
-  query = entry.is_query;
+  query = is_query Entry;
   newest = newest_made;
-  shows = λ db all was. (made_schema was.has_marks, was.contains, entry.loads was.has_marks);
+  shows = λ db all was. (made_schema was.has_marks, was.contains, loads Entry was.has_marks);
 }
 
 pub arrangements_ours : IsOurTable forms.arrangements.cmp forms.arrangements
 arrangements_ours = record {
   keys = record { rows = λ a b. one_part _ _ (whole_key a.0 b.0) };
-  puts = λ k x. arrangement.puts (pos k) (pos (features_sum x.needs)) (pos x.extra);
+  puts = λ k x. puts Arrangement (pos k) (pos (features_sum x.needs)) (pos x.extra);
   loads = (7, lit< tt, refl);
-  query = arrangement.is_query;
+  query = is_query Arrangement;
   newest = newest_made;
-  shows = λ db all was. (made_schema was.has_marks, was.contains, arrangement.loads was.has_marks);
+  shows = λ db all was. (made_schema was.has_marks, was.contains, loads Arrangement was.has_marks);
 }
 
 pub appeals_ours : IsOurTable forms.appeals.cmp forms.appeals
 appeals_ours = record {
   keys = record { rows = λ a b. two_parts _ _ _ _ (whole_key a.0.0 b.0.0) (text_key a.0.1 b.0.1) };
-  puts = λ k x. appeal.puts (pos k.0) k.1 x.session (pos (kind_number x.subject)) (target_of x.subject)
+  puts = λ k x. puts Appeal (pos k.0) k.1 x.session (pos (kind_number x.subject)) (target_of x.subject)
       (pos (needs_of x.subject)) (pos (extra_of x.subject)) x.reason (pos (state_number x.status)) (answer_of x.status)
       (day_text x.lodged);
   loads = (8, lit< tt, refl);
-  query = appeal.is_query;
+  query = is_query Appeal;
   newest = newest_made;
-  shows = λ db all was. (made_schema was.has_marks, was.contains, appeal.loads was.has_marks);
+  shows = λ db all was. (made_schema was.has_marks, was.contains, loads Appeal was.has_marks);
 }
 
 pub seats_ours : IsOurTable forms.seats.cmp forms.seats
 seats_ours = record {
   keys = record { rows = λ a b. two_parts _ _ _ _ (text_key a.0.0 b.0.0) (whole_key a.0.1 b.0.1) };
-  puts = λ k x. seat.puts k.0 (pos k.1) x;
+  puts = λ k x. puts Seat k.0 (pos k.1) x;
   loads = (9, lit< tt, refl);
-  query = seat.is_query;
+  query = is_query Seat;
   newest = newest_made;
-  shows = λ db all was. (made_schema was.has_marks, was.contains, seat.loads was.has_marks);
+  shows = λ db all was. (made_schema was.has_marks, was.contains, loads Seat was.has_marks);
 }
 
 pub standing_ours : IsOurTable forms.standing.cmp forms.standing
 standing_ours = record {
   keys = record { rows = λ a b. two_parts _ _ _ _ (whole_key a.0.0 b.0.0) (text_key a.0.1 b.0.1) };
-  puts = λ k x. standing.puts (pos k.0) k.1;
+  puts = λ k x. puts Standing (pos k.0) k.1;
   loads = (10, lit< tt, refl);
-  query = standing.is_query;
+  query = is_query Standing;
   newest = λ db all was. was;
-  shows = λ db all was. (store_schema, was, standing.loads);
+  shows = λ db all was. (store_schema, was, loads Standing);
 }
 
 -- the text that loads the version
