@@ -1,17 +1,13 @@
 -- An accepted command passed the checks on the facts as they were, and its change is what it makes of them.
 use Rattle.exam_laws.proofs.Words.{option_or, Refusal, Relations, Command, unless, early_refusal, facts_made, State}
 use Rattle.exam_laws.proofs.Words.{change, neither}
-use Rattle.std.proofs.Common.{◌≡◌, ℕ, Option, None, Some, Ok, refl, sym}
+use Rattle.std.proofs.Common.{◌≡◌, ℕ, Option, None, Some, Ok, refl}
 use Rattle.exam_commands.specs.declared.command.Command.TheVariants as command
-
-pub made : (o : Option Refusal) (r t : Relations) → unless o r ≡ Ok t → r ≡ t
-made None r t is = cc
-made (Some e) r t is = absurd (let differ : unless (Some e) r ≡ Ok t = is in cc)
 
 -- facts that are not refused
 pub unrefused : (o : Option Refusal) (r t : Relations) → unless o r ≡ Ok t → (t ≡ r) × (o ≡ None)
-unrefused None r t is = (sym (made None r t is), refl)
-unrefused (Some e) r t is = absurd (let differ : unless (Some e) r ≡ Ok t = is in cc)
+unrefused None r t is = (cc, refl)
+unrefused (Some e) r t is = absurd cc
 
 -- facts that neither the first checks nor the limits refuse
 within_too : (o limits : Option Refusal) (r t : Relations) → unless (option_or o limits) r ≡ Ok t

@@ -11,7 +11,7 @@ use Rattle.exam_laws.proofs.Words.{papers_within, halls_within, openings_within,
 use Rattle.exam_laws.proofs.Words.{AreSingle, SingleKey, same_single_key, single_key, State, SameSeating, unborne}
 use Rattle.exam_laws.proofs.Words.{passed, there}
 use Rattle.std.proofs.Common.{◌≡◌, ℕ, ◌==◌, ◌&&◌, not, Bool, true, false, cond, [], ◌∷◌, ◌++◌, length, nat_le, Option}
-use Rattle.std.proofs.Common.{None, Some, is_some, is_none, IsSome, IfSome, IsTrue, refl, ap, sym, subst, ◌∙◌}
+use Rattle.std.proofs.Common.{None, Some, is_some, is_none, IsSome, IfSome, IsTrue, arith, refl, ap, sym, subst, ◌∙◌}
 use Rattle.exam_types.specs.declared.refusal.Refusal.TheVariants as refusal
 use Rattle.exam_plan.specs.Matching.{Keeps}
 use Rattle.exam_rules.specs.declared.fit.Room.{Room}
@@ -26,6 +26,7 @@ use Rattle.exam_commands.specs.Appeals.{has_open_appeal}
 use Rattle.exam_commands.specs.Good.{may_bear, subject_refers}
 use Rattle.exam_commands.specs.Lodgings as spec
 use Rattle.exam_laws.proofs.Appealing.{apart_from_all, open_as, open_key, put_seating_same, single_flips, with_appeals}
+use Rattle.exam_laws.proofs.ByCase.{after_lodging, after_retraction}
 use Rattle.exam_commands.proofs.Borne.{closed_unborne, put_borne}
 use Rattle.exam_laws.proofs.Commanding.{ArePlansRepaired, DoListsRise}
 use Rattle.exam_commands.proofs.LodgingChecks.{both_passed}
@@ -67,13 +68,10 @@ module _ (before after : State) (good : IsGood before) (t : Relations)
 -- ---- what a lodging names is there
 
 known_first : {X Y : Type 0} (f : X → Option Y) (o : Option X) → is_some (option_and_then f o) ≡ true → is_some o ≡ true
-known_first f None at = at
-known_first f (Some x) at = refl
+known_first f o at = grind arith
 
 suits_some : (t : Option Terms) (o : Option Room) → suits_opened t o ≡ true → is_some o ≡ true
-suits_some t (Some room) at = refl
-suits_some (Some terms) None at = at
-suits_some None None at = at
+suits_some t o at = grind arith
 
 paper_known : (r : Relations) (s : Code) (c : ℕ) (p : Code) → is_live_paper r s c p ≡ true
     → has_row code_cmp r.papers p ≡ true
@@ -81,8 +79,7 @@ paper_known r s c p at = inner (row_at code_cmp r.papers p) (and_parts (is_live 
   where
     inner : (o : Option Paper) → option_map_or (λ (paper : Paper). same_code paper.session s) o false ≡ true
         → is_some o ≡ true
-    inner None here = here
-    inner (Some paper) here = refl
+    inner o here = grind arith
 
 module _ (before : State) (good : IsGood before) (today : ℕ) (l : Lodging) where
   hall_known : (h : Code) → option_map_or (same_code h) (plan_of before.seats l.session l.number) false ≡ true
@@ -91,7 +88,7 @@ module _ (before : State) (good : IsGood before) (today : ℕ) (l : Lodging) whe
     where
       inner : (o : Option Code) → plan_of before.seats l.session l.number ≡ o
           → option_map_or (same_code h) o false ≡ true → has_row code_cmp before.relations.halls h ≡ true
-      inner None is here = absurd (let differ : false ≡ true = here in cc)
+      inner None is here = absurd cc
       inner (Some k) is here =
           let r = before.relations in
           let s = l.session in
@@ -124,8 +121,7 @@ module _ (before : State) (good : IsGood before) (today : ℕ) (l : Lodging) whe
   subject_known (subject.Arrangement a) ok = refl
 
   session_known : (o : Option Session) → (spec.closing_check l.subject today o).0 ≡ false → is_some o ≡ true
-  session_known None past = sym past
-  session_known (Some x) past = refl
+  session_known o past = grind arith
 
   record IsSound : Type 0 where
     candidate : has_row nat_cmp before.relations.candidates l.number ≡ true
@@ -186,16 +182,15 @@ module _ (before : State) (good : IsGood before) (today : ℕ) (l : Lodging) whe
             (apart_from_all l.session l.number l.subject r.appeals s.alone)) good.single;
         marks = put_borne r.appeals k made r.standing
             (unborne r.appeals r.standing k good.marks (ap (λ o. option_map_or may_bear o false) none)) good.marks;
-        seated = put_seating_same r k made refl (λ b at. absurd (let differ : None ≡ Some b = sym none ∙ at in cc));
+        seated = put_seating_same r k made refl (λ b at. absurd cc);
       }
 
   pub lodging_settled : (t : Relations) → IsChecked → t ≡ spec.with_lodging before.relations today l
       → IsSettled before.relations t
-  lodging_settled t ok is = subst (IsSettled before.relations) (sym is) (inner stored refl)
-    where
-      inner : (o : Option Appeal) → stored ≡ o → IsSettled before.relations (spec.with_lodging before.relations today l)
-      inner None none = subst (IsSettled before.relations) (sym (new_facts none)) (new_settled (sound ok none) none)
-      inner (Some a) at = subst (IsSettled before.relations) (sym (same_facts a at)) (same_relations before good)
+  lodging_settled t ok is =
+      subst (IsSettled before.relations) (sym is)
+      (after_lodging before.relations (IsSettled before.relations) today l (λ none. new_settled (sound ok none) none)
+      (λ a at. same_relations before good))
 
   -- ---- the limits
 
@@ -234,11 +229,7 @@ count_same r k a b up at =
     && (members_within r && list_all (λ c. nat_le (count c) most_appeals) (keys_of r.candidates))))))) counts
 
 pub closed_granted : (st : Status) → (not (is_open st) && not (is_retracted st)) ≡ false → is_granted st ≡ false
-closed_granted status.Pending ok = refl
-closed_granted (status.Granted answer) ok = ok
-closed_granted (status.Refused answer) ok = refl
-closed_granted status.Retracted ok = refl
-closed_granted (status.Superseded answer) ok = refl
+closed_granted st ok = grind arith
 
 module _ (before : State) (good : IsGood before) (c : ℕ) (reference : Code) where
   abbrev there_is : Option Appeal
@@ -252,11 +243,13 @@ module _ (before : State) (good : IsGood before) (c : ℕ) (reference : Code) wh
     pub within : within_limits t ≡ true
 
   put_settled : AreInOrder before.relations → (a : Appeal) → there_is ≡ Some a
-      → (not (is_open a.status) && not (is_retracted a.status)) ≡ false
+      → is_open a.status ≡ true
       → IsSettledWithin (spec.with_retracted_appeal before.relations c reference a)
-  put_settled up a at closed =
+  put_settled up a at open_yet =
       let r = before.relations in
       let k : ℕ × Code = (c, reference) in
+      let closed : (not (is_open a.status) && not (is_retracted a.status)) ≡ false =
+      ap (λ b. not b && not (is_retracted a.status)) open_yet in
       let new : Appeal = record a { status = status.Retracted } in
       let known : (has_row nat_cmp r.candidates c && appeal_refers r a) ≡ true =
       all_at_row appeal_cmp appeals_exact
@@ -269,15 +262,14 @@ module _ (before : State) (good : IsGood before) (c : ℕ) (reference : Code) wh
               (λ x. has_row nat_cmp r.candidates x.0.0 && appeal_refers r x.1) r.appeals k new
               (stored_refer r good.refer) known);
           single = put_distinct appeal_cmp appeals_exact single_key same_single_key single_flips r.appeals k new
-              (λ x is. absurd (let none : Option SingleKey = None in let differ : none ≡ Some x = is in cc))
+              (λ x is. absurd cc)
               good.single;
           marks = put_borne r.appeals k new r.standing
               (unborne r.appeals r.standing k good.marks
               (ap (λ o. option_map_or may_bear o false) at
               ∙ closed_unborne a.status (is_some (asked_arrangement a.subject)) closed)) good.marks;
           seated = put_seating_same r k new refl
-              (λ b is. let same : a ≡ b =
-              (let both : Some a ≡ Some b = sym at ∙ is in cc) in
+              (λ b is. let same : a ≡ b = cc in
               ap (λ (x : Appeal). is_granted x.status) (sym same) ∙ closed_granted a.status closed);
         };
         within = count_same r k new a up at ∙ good.limits;
@@ -285,23 +277,9 @@ module _ (before : State) (good : IsGood before) (c : ℕ) (reference : Code) wh
 
   pub retraction_within : AreInOrder before.relations → IsRetractable
       → IsSettledWithin (spec.with_retraction before.relations c reference)
-  retraction_within up ok = inner there_is refl
-    where
-      by_status : (a : Appeal) → there_is ≡ Some a → (b : Bool) → is_retracted a.status ≡ b
-          → IsSettledWithin (cond b before.relations (spec.with_retracted_appeal before.relations c reference a))
-      by_status a at true is = record { settled = same_relations before good; within = good.limits }
-      by_status a at false is =
-          let check : first_refusal (spec.retraction_checks (Some a)) ≡ None =
-          ap (λ o. first_refusal (spec.retraction_checks o)) (sym at) ∙ ok in
-          put_settled up a at (passed
-          (not (is_open a.status) && not (is_retracted a.status)) refusal.NotOpenAppeal [] check).0
-
-      inner : (o : Option Appeal) → there_is ≡ o → IsSettledWithin (spec.with_retraction before.relations c reference)
-      inner None none = absurd
-          (let differ : Some refusal.UnknownAppeal ≡ None =
-          ap (λ o. first_refusal (spec.retraction_checks o)) (sym none) ∙ ok in cc)
-      inner (Some a) at = subst IsSettledWithin (sym (ap (spec.with_retracted before.relations c reference) at))
-          (by_status a at (is_retracted a.status) refl)
+  retraction_within up ok =
+      after_retraction before.relations IsSettledWithin c reference ok
+      (λ a at was. record { settled = same_relations before good; within = good.limits }) (put_settled up)
 
   abbrev pub IsWithout : Relations → Type 0
   IsWithout t = t ≡ spec.with_retraction before.relations c reference

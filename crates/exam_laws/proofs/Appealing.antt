@@ -7,8 +7,9 @@ use Rattle.exam_laws.proofs.Words.{is_granted_appeal, is_live_paper, is_marked, 
 use Rattle.exam_laws.proofs.Words.{standing_grant, standing_grants, fits, opened_room, seating, suits_opened}
 use Rattle.exam_laws.proofs.Words.{appeals_exact, put_passed_over, is_open, SingleKey, same_single_key, single_key}
 use Rattle.exam_laws.proofs.Words.{SameSeating}
-use Rattle.std.proofs.Common.{◌≡◌, ℕ, ◌&&◌, ◌||◌, not, Bool, true, false, List, [], ◌∷◌, map, nat_eq, Option, None}
-use Rattle.std.proofs.Common.{Some, refl, ap, sym, ◌∙◌}
+use Rattle.std.proofs.Common.{◌≡◌, ℕ, ◌&&◌, not, Bool, false, List, [], ◌∷◌, map, nat_eq, Option, None}
+use Rattle.std.proofs.Common.{Some, arith, refl, ap, sym, ◌∙◌}
+use Rattle.std.proofs.lemmas.Bool.{or_parts}
 use Rattle.exam_rules.specs.declared.rows.Status.TheVariants as status
 use Rattle.exam_rules.specs.declared.rows.Subject.TheVariants as subject
 use Rattle.exam_rules.specs.declared.standing.StandingGrant.{StandingGrant}
@@ -66,14 +67,11 @@ module _ (r : Relations) (appeals : Appeals) (marks : Marks) (s : Code) where
 
 -- what is not granted counts for nothing
 pub not_granted : (mine here : Bool) → (mine && (here && false)) ≡ false
-not_granted true true = refl
-not_granted true false = refl
-not_granted false here = refl
+not_granted mine here = grind arith
 
 -- ungranted, marked or not
 pub never_marked : (mine marked : Bool) → (mine && (false && marked)) ≡ false
-never_marked true marked = refl
-never_marked false marked = refl
+never_marked mine marked = grind arith
 
 -- an appeal that is put leaves the standing grants as they are, if it is not granted and replaces no granted one
 pub put_standing_same : (r : Relations) (k : ℕ × Code) (a : Appeal) → is_granted a.status ≡ false
@@ -114,44 +112,15 @@ open_key k a pending = ap (λ st. key_with a.session k.0 (single_as st a.subject
   where
     inner : (asked : Subject)
         → key_with a.session k.0 (single_as status.Pending asked) ≡ Some (a.session, k.0, open_as asked)
-    inner (subject.Hall h) = refl
-    inner (subject.Clash p) = refl
-    inner (subject.Arrangement x) = refl
-
-no_more : (b : Bool) → false ≡ (b && false)
-no_more true = refl
-no_more false = refl
+    inner asked = grind arith
 
 -- the key of an open appeal of its kind
 same_open : (asked : Subject) (st : Status) (other : Subject)
     → option_map_or (same_single (open_as asked)) (single_as st other) false ≡ (same_kind other asked && is_open st)
-same_open (subject.Hall h) status.Pending (subject.Hall k) = refl
-same_open (subject.Hall h) status.Pending (subject.Clash q) = refl
-same_open (subject.Hall h) status.Pending (subject.Arrangement b) = refl
-same_open (subject.Clash p) status.Pending (subject.Hall k) = refl
-same_open (subject.Clash p) status.Pending (subject.Clash q) = refl
-same_open (subject.Clash p) status.Pending (subject.Arrangement b) = refl
-same_open (subject.Arrangement a) status.Pending (subject.Hall k) = refl
-same_open (subject.Arrangement a) status.Pending (subject.Clash q) = refl
-same_open (subject.Arrangement a) status.Pending (subject.Arrangement b) = refl
-same_open asked (status.Granted answer) (subject.Hall k) = no_more (same_kind (subject.Hall k) asked)
-same_open (subject.Hall h) (status.Granted answer) (subject.Clash q) = refl
-same_open (subject.Clash p) (status.Granted answer) (subject.Clash q) = refl
-same_open (subject.Arrangement a) (status.Granted answer) (subject.Clash q) = refl
-same_open (subject.Hall h) (status.Granted answer) (subject.Arrangement b) = refl
-same_open (subject.Clash p) (status.Granted answer) (subject.Arrangement b) = refl
-same_open (subject.Arrangement a) (status.Granted answer) (subject.Arrangement b) = refl
-same_open asked (status.Refused answer) other = no_more (same_kind other asked)
-same_open asked status.Retracted other = no_more (same_kind other asked)
-same_open asked (status.Superseded answer) other = no_more (same_kind other asked)
+same_open asked st other = grind arith
 
 kind_flips : (a b : Single) → same_single a b ≡ same_single b a
-kind_flips single.GrantedClash single.GrantedClash = refl
-kind_flips single.GrantedArrangement single.GrantedArrangement = refl
-kind_flips single.OpenHall single.OpenHall = refl
-kind_flips single.OpenClash single.OpenClash = refl
-kind_flips single.OpenArrangement single.OpenArrangement = refl
-kind_flips a b = refl
+kind_flips a b = grind arith
 
 pub single_flips : (x y : SingleKey) → same_single_key x y ≡ same_single_key y x
 single_flips x y =
@@ -165,9 +134,7 @@ module _ (s : Code) (c : ℕ) (asked : Subject) where
   is_tied a = option_map_or (same_single_key (s, c, open_as asked)) (single_key a) false
 
   turned : (here mine tied : Bool) → (here && (mine && tied)) ≡ (mine && (here && tied))
-  turned true mine tied = refl
-  turned false true tied = refl
-  turned false false tied = refl
+  turned here mine tied = grind arith
 
   tied_open : (a : (ℕ × Code) × Appeal) → is_tied a ≡ is_open_appeal c s asked a
   tied_open a =
@@ -179,15 +146,10 @@ module _ (s : Code) (c : ℕ) (asked : Subject) where
       ∙ ap (λ b. nat_eq a.0.0 c && (b && (same_kind a.1.subject asked && is_open a.1.status)))
       (code_flips s a.1.session)
     where
-      none : (here mine : Bool) → false ≡ (here && (mine && false))
-      none true true = refl
-      none true false = refl
-      none false mine = refl
-
       at : (o : Option Single)
           → option_map_or (same_single_key (s, c, open_as asked)) (key_with a.1.session a.0.0 o) false
           ≡ (same_code s a.1.session && (nat_eq c a.0.0 && option_map_or (same_single (open_as asked)) o false))
-      at None = none (same_code s a.1.session) (nat_eq c a.0.0)
+      at None = sym (not_granted (same_code s a.1.session) (nat_eq c a.0.0))
       at (Some kind) = refl
 
   -- if none is open, the key of one differs from all
@@ -195,13 +157,9 @@ module _ (s : Code) (c : ℕ) (asked : Subject) where
       → AllByRecursion (λ z. same_single_key (s, c, open_as asked) z ≡ false) (filter_map single_key rows)
   apart_from_all [] none = tt
   apart_from_all (a ∷ rows) none =
-      let parts = neither_any (is_open_appeal c s asked a) (list_any (is_open_appeal c s asked) rows) none in
+      let parts = or_parts (is_open_appeal c s asked a) (list_any (is_open_appeal c s asked) rows) none in
       inner (single_key a) refl parts.0 (apart_from_all rows parts.1)
     where
-      neither_any : (x y : Bool) → (x || y) ≡ false → (x ≡ false) × (y ≡ false)
-      neither_any true y e = absurd (let differ : true ≡ false = e in cc)
-      neither_any false y e = (refl, e)
-
       inner : (o : Option SingleKey) → single_key a ≡ o → is_open_appeal c s asked a ≡ false
           → AllByRecursion (λ z. same_single_key (s, c, open_as asked) z ≡ false) (filter_map single_key rows)
           → AllByRecursion (λ z. same_single_key (s, c, open_as asked) z ≡ false)

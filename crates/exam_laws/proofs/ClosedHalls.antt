@@ -19,14 +19,12 @@ module _ {K X : Type 0} (test : K → Bool) (p : K × X → Bool) where
   removed_fewer (e ∷ es) = inner (test e.0) (removed_fewer es)
     where
       one_less : (b : Bool) → length (filter p es) ≤ length (cond b (e ∷ filter p es) (filter p es))
-      one_less true = omega arith
-      one_less false = omega arith
+      one_less b = grind arith
 
       both : (b : Bool) → length (filter p (remove_entry test es)) ≤ length (filter p es)
           → length (cond b (e ∷ filter p (remove_entry test es)) (filter p (remove_entry test es))) ≤ length
           (cond b (e ∷ filter p es) (filter p es))
-      both true rest = omega (arith, rest)
-      both false rest = rest
+      both b rest = grind arith
 
       inner : (b : Bool) → length (filter p (remove_entry test es)) ≤ length (filter p es)
           → length (filter p (cond b es (e ∷ remove_entry test es))) ≤ length (filter p (e ∷ es))

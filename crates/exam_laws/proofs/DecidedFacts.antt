@@ -1,13 +1,13 @@
 -- What a decision leaves: references, limits, the appeals that a candidate may have only once, and the halls that fit
 -- everybody else.
 use Rattle.exam_laws.proofs.Words.{fun_ext, filter_map, list_all, keys_of, is_at, option_map, option_map_or, Ordering}
-use Rattle.exam_laws.proofs.Words.{nat_cmp, and_parts, not-false, Appeal, Arrangement, Status, Subject, KeysRise, Code}
+use Rattle.exam_laws.proofs.Words.{nat_cmp, and_parts, not-false, Appeal, Arrangement, Subject, KeysRise, Code}
 use Rattle.exam_laws.proofs.Words.{Relations, appeal_cmp, has_row, is_row_of, put_row, row_at, same_code, appeal_count}
 use Rattle.exam_laws.proofs.Words.{asked_arrangement, is_granted, is_granted_appeal, is_marked, is_standing}
 use Rattle.exam_laws.proofs.Words.{standing_grant, standing_grants, fits, all_at_row, appeals_exact, appeals_total}
 use Rattle.exam_laws.proofs.Words.{put_found, Decision, Outcome, appeal_at, bears_mark, decided, is_open, superseded}
-use Rattle.exam_laws.proofs.Words.{first_refusal, decision_checks, decision_refusal, gives_way, giving_way}
-use Rattle.exam_laws.proofs.Words.{grant_checks, is_made, is_too_late, not_arrangement, open_checks, with_decision}
+use Rattle.exam_laws.proofs.Words.{decision_refusal, gives_way, giving_way}
+use Rattle.exam_laws.proofs.Words.{grant_checks, is_made, is_too_late, not_arrangement, with_decision}
 use Rattle.exam_laws.proofs.Words.{with_decided, with_outcome, with_superseded, most_appeals, within_limits}
 use Rattle.exam_laws.proofs.Words.{sessions_within, papers_within, halls_within, openings_within, candidates_within}
 use Rattle.exam_laws.proofs.Words.{members_within, AreSingle, SingleKey, same_single_key, single_key, unborne, passed}
@@ -16,7 +16,7 @@ use Rattle.std.proofs.Common.{nat_eq, nat_le, not, is_some, Option, None, Some, 
 use Rattle.std.specs.List.{IsDistinct}
 use Rattle.std.specs.List.Sorted.{IsStrictlySortedBy}
 use Rattle.std.specs.Prelude.{is_none}
-use Rattle.std.proofs.lemmas.Bool.{eqb-true}
+use Rattle.std.proofs.lemmas.Bool.{cond_both, eqb-true, false_from_ne_true, true≢false}
 use Rattle.exam_rules.specs.declared.rows.Status.TheVariants as status
 use Rattle.exam_types.specs.declared.refusal.Refusal.TheVariants as refusal
 use Rattle.exam_rules.specs.Seatings.{desks}
@@ -30,6 +30,8 @@ use Rattle.exam_commands.specs.Decisions.{with_mark, without_mark}
 use Rattle.exam_commands.specs.Good as good
 use Rattle.exam_commands.specs.Singles.{single_as}
 use Rattle.exam_laws.proofs.Appealing.{fits_same, single_flips}
+use Rattle.exam_laws.proofs.ByCase.{after_decision}
+use Rattle.exam_commands.proofs.Referring.{stored_refer}
 use Rattle.exam_commands.proofs.Borne.{borne_in, key_elsewhere, mark_gone, open_unborne, other_mark_kept, put_borne}
 use Rattle.exam_commands.proofs.Borne.{unmarked_same}
 use Rattle.exam_commands.proofs.PutRows.{IsApartFrom, IsFresh, mapped_filtered, mapped_keys, put_distinct}
@@ -47,7 +49,7 @@ all_mapped p g same (d ∷ ds) =
 mapped_there : {K X : Type 0} (cmp : K → K → Ordering) (g : K × X → K × X) → ((row : K × X) → (g row).0 ≡ row.0)
     → (rows : List (K × X)) (k : K) (x : X) → row_at cmp rows k ≡ Some x
     → (y : X) × (row_at cmp (map g rows) k ≡ Some y)
-mapped_there cmp g keyed [] k x at = absurd (let differ : None ≡ Some x = at in cc)
+mapped_there cmp g keyed [] k x at = absurd cc
 mapped_there {K} {X} cmp g keyed (d ∷ ds) k x at = inner (is_at (cmp k) d.0) refl at (mapped_there cmp g keyed ds k x)
   where
     head : (b : Bool) → is_at (cmp k) d.0 ≡ b
@@ -76,6 +78,11 @@ count_keys {B} {X} c (d ∷ ds) = inner (d.0.0 == c) (count_keys c ds)
 
 -- ---- the appeals that gave way
 
+-- which keep their keys
+pub given_keyed : (c : ℕ) (s : Code) (asked : Subject) (row : (ℕ × Code) × Appeal)
+    → (giving_way c s asked row).0 ≡ row.0
+given_keyed c s asked row = grind arith
+
 module _ (r : Relations) (c : ℕ) (a : Appeal) where
   abbrev given : (ℕ × Code) × Appeal → (ℕ × Code) × Appeal
   given row = giving_way c a.session a.subject row
@@ -83,43 +90,31 @@ module _ (r : Relations) (c : ℕ) (a : Appeal) where
   abbrev refers_at : (ℕ × Code) × Appeal → Bool
   refers_at x = has_row nat_cmp r.candidates x.0.0 && good.appeal_refers r x.1
 
-  given_keyed : (row : (ℕ × Code) × Appeal) → (given row).0 ≡ row.0
-  given_keyed row = inner (gives_way c a.session a.subject row)
-    where
-      inner : (b : Bool) → (cond b (row.0, record row.1 { status = superseded row.1.status }) row).0 ≡ row.0
-      inner true = refl
-      inner false = refl
+  keyed : (row : (ℕ × Code) × Appeal) → (given row).0 ≡ row.0
+  keyed row = given_keyed c a.session a.subject row
 
   given_refers : (row : (ℕ × Code) × Appeal) → refers_at (given row) ≡ refers_at row
-  given_refers row = inner (gives_way c a.session a.subject row)
-    where
-      inner : (b : Bool) → refers_at (cond b (row.0, record row.1 { status = superseded row.1.status }) row)
-          ≡ refers_at row
-      inner true = refl
-      inner false = refl
+  given_refers row =
+      cond_both (gives_way c a.session a.subject row) _ row (λ x. refers_at x ≡ refers_at row) (λ e. refl) (λ e. refl)
 
   rows_refer : (o : Outcome) → list_all refers_at r.appeals ≡ true
       → list_all refers_at (with_superseded c a o r.appeals) ≡ true
-  rows_refer outcome.Grant every = all_mapped refers_at given given_refers r.appeals ∙ every
-  rows_refer outcome.Standing every = all_mapped refers_at given given_refers r.appeals ∙ every
   rows_refer outcome.Refuse every = every
+  rows_refer _ every = all_mapped refers_at given given_refers r.appeals ∙ every
 
   rows_keyed : (o : Outcome) → keys_of (with_superseded c a o r.appeals) ≡ keys_of r.appeals
-  rows_keyed outcome.Grant = mapped_keys given given_keyed r.appeals
-  rows_keyed outcome.Standing = mapped_keys given given_keyed r.appeals
   rows_keyed outcome.Refuse = refl
+  rows_keyed _ = mapped_keys given keyed r.appeals
 
   rows_there : (o : Outcome) (k : ℕ × Code) (x : Appeal) → row_at appeal_cmp r.appeals k ≡ Some x
       → (y : Appeal) × (row_at appeal_cmp (with_superseded c a o r.appeals) k ≡ Some y)
-  rows_there outcome.Grant k x at = mapped_there appeal_cmp given given_keyed r.appeals k x at
-  rows_there outcome.Standing k x at = mapped_there appeal_cmp given given_keyed r.appeals k x at
   rows_there outcome.Refuse k x at = (x, at)
+  rows_there _ k x at = mapped_there appeal_cmp given keyed r.appeals k x at
 
   rows_distinct : (o : Outcome) → AreSingle r
       → IsDistinct same_single_key (filter_map single_key (with_superseded c a o r.appeals))
-  rows_distinct outcome.Grant distinct = given_distinct c a.session a.subject r.appeals distinct
-  rows_distinct outcome.Standing distinct = given_distinct c a.session a.subject r.appeals distinct
   rows_distinct outcome.Refuse distinct = distinct
+  rows_distinct _ distinct = given_distinct c a.session a.subject r.appeals distinct
 
   -- the key of the decided appeal, if it has one
   abbrev single_if : Outcome → Code → Option SingleKey
@@ -133,7 +128,7 @@ module _ (r : Relations) (c : ℕ) (a : Appeal) where
       inner : (o : Option Single) → single_as (status.Granted answer) a.subject ≡ o
           → option_map {U = SingleKey} (λ kind. (a.session, c, kind)) o ≡ Some x
           → IsApartFrom same_single_key x (filter_map single_key (map given r.appeals))
-      inner None e at = absurd (let none : Option SingleKey = None in let differ : none ≡ Some x = at in cc)
+      inner None e at = absurd cc
       inner (Some kind) e at =
           let whole : SingleKey = (a.session, c, kind) in
           let one : whole ≡ x = cc in
@@ -142,22 +137,16 @@ module _ (r : Relations) (c : ℕ) (a : Appeal) where
 
   rows_fresh : (o : Outcome) (answer : Code)
       → IsFresh same_single_key (single_if o answer) (filter_map single_key (with_superseded c a o r.appeals))
-  rows_fresh outcome.Grant answer x is = granted_fresh answer x is
-  rows_fresh outcome.Standing answer x is = granted_fresh answer x is
-  rows_fresh outcome.Refuse answer x is =
-      absurd (let none : Option SingleKey = None in let differ : none ≡ Some x = is in cc)
+  rows_fresh outcome.Refuse answer x is = absurd cc
+  rows_fresh _ answer x is = granted_fresh answer x is
 
   -- appeals of another candidate stay
   module _ (s : Code) (n : ℕ) (other : nat_eq c n ≡ false) where
     apart : (row : (ℕ × Code) × Appeal) → (row.0.0 == n) ≡ true → given row ≡ row
     apart row own = ap (λ b. cond (b && (same_code row.1.session a.session && supersedes a.subject row.1.subject))
-        (row.0, record row.1 { status = superseded row.1.status }) row) (away (row.0.0 == c) refl)
-      where
-        away : (b : Bool) → (row.0.0 == c) ≡ b → b ≡ false
-        away true here = absurd
-            (let is : c ≡ n = sym (eqb-true row.0.0 c here) ∙ eqb-true row.0.0 n own in let differ : true ≡ false =
-            sym (subst (λ m. nat_eq m n ≡ true) (eqb-true row.0.0 c here) own) ∙ other in cc)
-        away false e = refl
+        (row.0, record row.1 { status = superseded row.1.status }) row)
+        (false_from_ne_true (row.0.0 == c)
+        (λ here. true≢false (sym own ∙ ap (λ m. m == n) (eqb-true row.0.0 c here) ∙ other)))
 
     given_filtered : filter (is_granted_appeal s n) (map given r.appeals) ≡ filter (is_granted_appeal s n) r.appeals
     given_filtered = mapped_filtered (is_granted_appeal s n) given kept out r.appeals
@@ -173,7 +162,7 @@ module _ (r : Relations) (c : ℕ) (a : Appeal) where
             inner true own = ap (is_granted_appeal s n) (apart row own) ∙ is
             inner false away = ap
                 (λ (k : ℕ × Code). (k.0 == n)
-                && (same_code (given row).1.session s && is_granted (given row).1.status)) (given_keyed row)
+                && (same_code (given row).1.session s && is_granted (given row).1.status)) (keyed row)
                 ∙ ap (λ b. b && (same_code (given row).1.session s && is_granted (given row).1.status)) away
 
     given_standing : filter (is_standing r n) (map given r.appeals) ≡ filter (is_standing r n) r.appeals
@@ -189,21 +178,19 @@ module _ (r : Relations) (c : ℕ) (a : Appeal) where
             inner true own = ap (is_standing r n) (apart row own) ∙ is
             inner false away = ap
                 (λ (k : ℕ × Code). (k.0 == n) && (is_granted (given row).1.status && is_marked r (given row).0))
-                (given_keyed row)
+                (keyed row)
                 ∙ ap (λ b. b && (is_granted (given row).1.status && is_marked r (given row).0)) away
 
     rows_filtered : (o : Outcome)
         → filter (is_granted_appeal s n) (with_superseded c a o r.appeals) ≡ filter (is_granted_appeal s n) r.appeals
     rows_filtered outcome.Refuse = refl
-    rows_filtered outcome.Grant = given_filtered
-    rows_filtered outcome.Standing = given_filtered
+    rows_filtered _ = given_filtered
 
     -- nor do their standing grants change
     rows_standing : (o : Outcome)
         → filter (is_standing r n) (with_superseded c a o r.appeals) ≡ filter (is_standing r n) r.appeals
     rows_standing outcome.Refuse = refl
-    rows_standing outcome.Grant = given_standing
-    rows_standing outcome.Standing = given_standing
+    rows_standing _ = given_standing
 
 -- ---- marks
 
@@ -251,8 +238,8 @@ module _ (r : Relations) (d : Decision) where
           inner : (b : Bool) → nat_eq x.0.0 n ≡ b
               → (b && (is_granted x.1.status && has_row appeal_cmp (with_mark d r.standing) x.0))
               ≡ (b && (is_granted x.1.status && is_marked r x.0))
-          inner true own = ap (λ m. is_granted x.1.status && m) (marked_still x.0 (λ same.
-              let differ : true ≡ false = sym own ∙ ap (λ (k : ℕ × Code). nat_eq k.0 n) same ∙ other in cc))
+          inner true own = ap (λ m. is_granted x.1.status && m)
+              (marked_still x.0 (λ same. true≢false (sym own ∙ ap (λ (k : ℕ × Code). nat_eq k.0 n) same ∙ other)))
           inner false away = refl
 
   pub unmarked_open : (a : Appeal) → good.marks_were_granted r ≡ true → appeal_at r d.number d.reference ≡ Some a
@@ -264,19 +251,7 @@ module _ (r : Relations) (d : Decision) where
   -- what gave way may bear its mark as before
   given_bears : (c : ℕ) (s : Code) (asked : Subject) (row : (ℕ × Code) × Appeal)
       → good.may_bear (giving_way c s asked row).1 ≡ good.may_bear row.1
-  given_bears c s asked row = inner (gives_way c s asked row)
-    where
-      granted_yet : (st : Status) → good.was_granted (superseded st) ≡ good.was_granted st
-      granted_yet status.Pending = refl
-      granted_yet (status.Granted answer) = refl
-      granted_yet (status.Refused answer) = refl
-      granted_yet status.Retracted = refl
-      granted_yet (status.Superseded answer) = refl
-
-      inner : (b : Bool) → good.may_bear (cond b (row.0, record row.1 { status = superseded row.1.status }) row).1
-          ≡ good.may_bear row.1
-      inner true = ap (λ g. is_some (asked_arrangement row.1.subject) && g) (granted_yet row.1.status)
-      inner false = refl
+  given_bears c s asked row = grind arith
 
   mapped_borne : (c : ℕ) (a : Appeal) (rows : List ((ℕ × Code) × Appeal)) (m : (ℕ × Code) × Unit {0})
       → borne_in (map (giving_way c a.session a.subject) rows) m ≡ borne_in rows m
@@ -284,7 +259,8 @@ module _ (r : Relations) (d : Decision) where
   mapped_borne c a (row ∷ rows) m =
       ap (λ k. option_map_or good.may_bear
       (cond (is_at (appeal_cmp m.0) k) (Some (giving_way c a.session a.subject row).1)
-      (row_at appeal_cmp (map (giving_way c a.session a.subject) rows) m.0)) false) (given_keyed r c a row)
+      (row_at appeal_cmp (map (giving_way c a.session a.subject) rows) m.0)) false)
+      (given_keyed c a.session a.subject row)
       ∙ inner (is_at (appeal_cmp m.0) row.0) (mapped_borne c a rows m)
     where
       inner : (b : Bool) → borne_in (map (giving_way c a.session a.subject) rows) m ≡ borne_in rows m
@@ -297,9 +273,8 @@ module _ (r : Relations) (d : Decision) where
 
   rows_borne : (a : Appeal) (o : Outcome) (m : (ℕ × Code) × Unit {0})
       → borne_in (with_superseded d.number a o r.appeals) m ≡ borne_in r.appeals m
-  rows_borne a outcome.Grant m = mapped_borne d.number a r.appeals m
-  rows_borne a outcome.Standing m = mapped_borne d.number a r.appeals m
   rows_borne a outcome.Refuse m = refl
+  rows_borne a _ m = mapped_borne d.number a r.appeals m
 
   marks_after : (a : Appeal) → good.marks_were_granted r ≡ true → appeal_at r d.number d.reference ≡ Some a
       → is_open a.status ≡ true
@@ -319,19 +294,10 @@ module _ (r : Relations) (d : Decision) where
           (ap (λ p. list_all p r.standing) (fun_ext (rows_borne a d.outcome)) ∙ stand)
 
       asked : (wanted : Option Arrangement) → (true && is_none wanted) ≡ false → (is_some wanted && true) ≡ true
-      asked None off = absurd (let differ : true ≡ false = off in cc)
-      asked (Some wanted) off = refl
+      asked wanted off = grind arith
 
       inner : (o : Outcome) → d.outcome ≡ o → (bears_mark o && is_none (asked_arrangement a.subject)) ≡ false
           → good.marks_were_granted (with_outcome r d a) ≡ true
-      inner outcome.Grant is fits_mark =
-          ap (λ o. list_all after
-          (cond (bears_mark o) (put_row appeal_cmp r.standing key tt) (without_mark key r.standing))) is
-          ∙ ap (list_all after) (unmarked_same r.standing key (unmarked_open a stand at open_yet)) ∙ old
-      inner outcome.Refuse is fits_mark =
-          ap (λ o. list_all after
-          (cond (bears_mark o) (put_row appeal_cmp r.standing key tt) (without_mark key r.standing))) is
-          ∙ ap (list_all after) (unmarked_same r.standing key (unmarked_open a stand at open_yet)) ∙ old
       inner outcome.Standing is fits_mark =
           ap (λ o. list_all after
           (cond (bears_mark o) (put_row appeal_cmp r.standing key tt) (without_mark key r.standing))) is
@@ -340,35 +306,30 @@ module _ (r : Relations) (d : Decision) where
           (put_found appeal_cmp appeals_total (with_superseded d.number a d.outcome r.appeals) key v)
           ∙ ap (λ o. is_some (asked_arrangement a.subject) && good.was_granted (decided o d.answer)) is
           ∙ asked (asked_arrangement a.subject) fits_mark)
+      inner _ is fits_mark =
+          ap (λ o. list_all after
+          (cond (bears_mark o) (put_row appeal_cmp r.standing key tt) (without_mark key r.standing))) is
+          ∙ ap (list_all after) (unmarked_same r.standing key (unmarked_open a stand at open_yet)) ∙ old
 
   pub decision_marks : (today : ℕ) → good.marks_were_granted r ≡ true → decision_refusal r today d ≡ None
       → good.marks_were_granted (with_decision r d) ≡ true
-  decision_marks today stand ok = inner (appeal_at r d.number d.reference) refl ok
-    where
-      by_case : (a : Appeal) → appeal_at r d.number d.reference ≡ Some a → (b : Bool)
-          → first_refusal (cond b [] (open_checks r today d a)) ≡ None
-          → good.marks_were_granted (cond b r (with_outcome r d a)) ≡ true
-      by_case a at true checked = stand
-      by_case a at false checked =
-          let opened = passed (not (is_open a.status)) refusal.NotOpenAppeal
-          ((is_too_late r a.session today, refusal.TooLate) ∷ not_arrangement a d.outcome
-          ∷ grant_checks r d.number a d.outcome) checked in
-          let timely = passed (is_too_late r a.session today) refusal.TooLate
-          (not_arrangement a d.outcome ∷ grant_checks r d.number a d.outcome) opened.1 in
-          let suited = passed (not_arrangement a d.outcome).0 refusal.NotArrangement
-          (grant_checks r d.number a d.outcome) timely.1 in
-          marks_after a stand at (not-false (is_open a.status) opened.0) d.outcome refl suited.0
-
-      inner : (o : Option Appeal) → appeal_at r d.number d.reference ≡ o
-          → first_refusal (decision_checks r today d o) ≡ None → good.marks_were_granted (with_decided r d o) ≡ true
-      inner None at checked = stand
-      inner (Some a) at checked = by_case a at (is_made r d a) checked
+  decision_marks today stand ok =
+      after_decision r (λ t. good.marks_were_granted t ≡ true) today d ok (λ a at made. stand)
+      (λ a at checked.
+      let opened = passed (not (is_open a.status)) refusal.NotOpenAppeal
+      ((is_too_late r a.session today, refusal.TooLate) ∷ not_arrangement a d.outcome
+      ∷ grant_checks r d.number a d.outcome) checked in
+      let timely = passed (is_too_late r a.session today) refusal.TooLate
+      (not_arrangement a d.outcome ∷ grant_checks r d.number a d.outcome) opened.1 in
+      let suited = passed (not_arrangement a d.outcome).0 refusal.NotArrangement
+      (grant_checks r d.number a d.outcome) timely.1 in
+      marks_after a stand at (not-false (is_open a.status) opened.0) d.outcome refl suited.0)
 
 -- ---- a decision
 
 module _ (r : Relations) (d : Decision) where
   -- what holds before, and for each appeal with a new decision, holds after
-  either : (P : Relations → Type 0) → P r
+  pub either : (P : Relations → Type 0) → P r
       → ((a : Appeal) → appeal_at r d.number d.reference ≡ Some a → P (with_outcome r d a)) → P (with_decision r d)
   either P before anew = inner (appeal_at r d.number d.reference) refl
     where
@@ -384,14 +345,7 @@ module _ (r : Relations) (d : Decision) where
   decision_refers every = either (λ t. good.refers t ≡ true) every anew
     where
       old : good.appeals_refer r ≡ true
-      old =
-          let past_papers = (and_parts (good.papers_refer r)
-          (good.openings_refer r && (good.entries_refer r && (good.arrangements_refer r && good.appeals_refer r)))
-          every).1 in
-          let past_openings = (and_parts (good.openings_refer r)
-          (good.entries_refer r && (good.arrangements_refer r && good.appeals_refer r)) past_papers).1 in
-          (and_parts (good.arrangements_refer r) (good.appeals_refer r)
-          (and_parts (good.entries_refer r) (good.arrangements_refer r && good.appeals_refer r) past_openings).1).1
+      old = stored_refer r every
 
       anew : (a : Appeal) → appeal_at r d.number d.reference ≡ Some a → good.refers (with_outcome r d a) ≡ true
       anew a stored =

@@ -46,28 +46,23 @@ module _ (today : ℕ) (before : State) (good : IsGood before) (up : AreInOrder 
       (with_rows before.relations import.rows)) ok
       ∙ ap (λ o. unless o (with_rows before.relations import.rows))
       (limits_refusal before.relations import.rows false past)
-  past_limit (command.Withdraw c p) may ok past = absurd (let differ : false ≡ true = may in cc)
   past_limit (command.Reinstate c p) may ok past =
       let new : Relations = with_live before.relations c p true in
       ap (λ o. unless o new) (commanding.reinstatement_limits before good c p false past)
       ∙ ap (λ o. unless (option_or o (Some refusal.TooMany)) new) ok
-  past_limit (command.CloseHall s h) may ok past = absurd (let differ : false ≡ true = may in cc)
   past_limit (command.Lodge l) may ok past =
       ap (λ o. unless o (lodgings.with_lodging before.relations today l))
       (limit_refusal before good today l ok true (within_as before good today l false past))
-  past_limit (command.Retract c reference) may ok past = absurd (let differ : false ≡ true = may in cc)
-  past_limit (command.Decide d) may ok past = absurd (let differ : false ≡ true = may in cc)
+  past_limit _ may ok past = absurd cc
 
   -- the other commands pass none
   pub within_still : (done : Command) → may_pass_limit done ≡ false → early_refusal done today before ≡ None
       → within_limits (facts_made done today before) ≡ true
-  within_still (command.Import import) not_one ok = absurd (let differ : true ≡ false = not_one in cc)
   within_still (command.Withdraw c p) not_one ok = withdrawal_within before.relations c p good.limits
-  within_still (command.Reinstate c p) not_one ok = absurd (let differ : true ≡ false = not_one in cc)
   within_still (command.CloseHall s h) not_one ok = closing_within before.relations s h good.limits
-  within_still (command.Lodge l) not_one ok = absurd (let differ : true ≡ false = not_one in cc)
   within_still (command.Retract c reference) not_one ok = (retraction_within before good c reference up ok).within
   within_still (command.Decide d) not_one ok = decision_within before.relations d (up table.Appeals) ∙ good.limits
+  within_still _ not_one ok = absurd cc
 
   -- what they refer to is there
   pub made_refers : (done : Command) → early_refusal done today before ≡ None
@@ -89,13 +84,11 @@ module _ (today : ℕ) (before : State) (good : IsGood before) (up : AreInOrder 
   made_single (command.Import import) ok =
       subst (λ appeals. IsDistinct same_single_key (filter_map single_key appeals))
       (sym (import_appeals before.relations import.rows)) good.single
-  made_single (command.Withdraw c p) ok = good.single
-  made_single (command.Reinstate c p) ok = good.single
-  made_single (command.CloseHall s h) ok = good.single
   made_single (command.Lodge l) ok =
       (lodging_settled before good today l (lodgings.with_lodging before.relations today l) ok refl).single
   made_single (command.Retract c reference) ok = (retraction_within before good c reference up ok).settled.single
   made_single (command.Decide d) ok = decision_single before.relations d good.single
+  made_single _ ok = good.single
 
   -- and so do the marks
   pub made_marks : (done : Command) → early_refusal done today before ≡ None
@@ -104,13 +97,11 @@ module _ (today : ℕ) (before : State) (good : IsGood before) (up : AreInOrder 
       ap (λ rows. list_all (borne_in rows) (with_rows before.relations import.rows).standing)
       (import_appeals before.relations import.rows)
       ∙ ap (list_all (borne_in before.relations.appeals)) (import_standing before.relations import.rows) ∙ good.marks
-  made_marks (command.Withdraw c p) ok = good.marks
-  made_marks (command.Reinstate c p) ok = good.marks
-  made_marks (command.CloseHall s h) ok = good.marks
   made_marks (command.Lodge l) ok =
       (lodging_settled before good today l (lodgings.with_lodging before.relations today l) ok refl).marks
   made_marks (command.Retract c reference) ok = (retraction_within before good c reference up ok).settled.marks
   made_marks (command.Decide d) ok = decision_marks before.relations d today good.marks ok
+  made_marks _ ok = good.marks
 
 -- refused by the checks on the facts as they are, the command is refused
 pub early_is_change : (today : ℕ) (before : State) (done : Command) (e : Refusal)

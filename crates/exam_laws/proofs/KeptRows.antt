@@ -1,14 +1,13 @@
 -- No command takes a row away from the facts, but that the closing of a hall takes its opening.
-use Rattle.exam_laws.proofs.Words.{is_at, not-false, Appeal, Subject, Code, Relations, appeal_cmp, entry_cmp}
+use Rattle.exam_laws.proofs.Words.{is_at, Appeal, Subject, Code, Relations, appeal_cmp, entry_cmp}
 use Rattle.exam_laws.proofs.Words.{opening_cmp, has_row, put_row, row_at, appeals_total, entries_total, openings_exact}
-use Rattle.exam_laws.proofs.Words.{Command, Decision, Lodging, Outcome, Reply, appeal_at, is_open, is_retracted}
-use Rattle.exam_laws.proofs.Words.{superseded, first_refusal, with_live, with_rows, decision_checks, decision_refusal}
-use Rattle.exam_laws.proofs.Words.{gives_way, giving_way, grant_checks, is_made, is_too_late, not_arrangement}
-use Rattle.exam_laws.proofs.Words.{open_checks, with_decided, with_decision, with_outcome, with_superseded}
-use Rattle.exam_laws.proofs.Words.{early_refusal, facts_made, IsGood, State, Step, passed}
-use Rattle.std.proofs.Common.{◌≡◌, ℕ, Bool, true, false, not, cond, List, [], ◌∷◌, map, Option, None, Some, Ok, is_none}
-use Rattle.std.proofs.Common.{is_some, refl, ap, sym, subst, ◌∙◌}
-use Rattle.exam_types.specs.declared.refusal.Refusal.TheVariants as refusal
+use Rattle.exam_laws.proofs.Words.{Command, Decision, Lodging, Outcome, Reply}
+use Rattle.exam_laws.proofs.Words.{with_live, with_rows, decision_refusal}
+use Rattle.exam_laws.proofs.Words.{giving_way}
+use Rattle.exam_laws.proofs.Words.{with_decision, with_outcome, with_superseded}
+use Rattle.exam_laws.proofs.Words.{early_refusal, facts_made, IsGood, State, Step}
+use Rattle.std.proofs.Common.{◌≡◌, ℕ, Bool, true, false, cond, List, [], ◌∷◌, map, None, Some, Ok}
+use Rattle.std.proofs.Common.{is_some, true≢false, refl, ap, sym, subst, ◌∙◌}
 use Rattle.exam_rules.specs.Tables as table
 use Rattle.exam_commands.proofs.KeyedRows.{has_put, key_apart}
 use Rattle.exam_commands.proofs.KeyedRows.{removed_elsewhere}
@@ -17,7 +16,8 @@ use Rattle.exam_commands.specs.declared.command.Outcome.TheVariants as outcome
 use Rattle.exam_commands.specs.Good as good
 use Rattle.exam_commands.specs.KeptRows.{KeepsKeys, KeepsOpenings, KeepsRows}
 use Rattle.exam_commands.specs.Lodgings as spec
-use Rattle.exam_laws.proofs.DecidedFacts.{marked_still, unmarked_open}
+use Rattle.exam_laws.proofs.ByCase.{after_decision, after_lodging, after_retraction, was_open}
+use Rattle.exam_laws.proofs.DecidedFacts.{given_keyed, marked_still, unmarked_open}
 use Rattle.exam_laws.proofs.Lasting.{step_made}
 use Rattle.exam_commands.proofs.Entering.{Keeps, keeps_rows}
 
@@ -44,74 +44,49 @@ put_appeal r k a = keeps_appeals r (put_row appeal_cmp r.appeals k a) r.standing
     (λ q h. has_put appeal_cmp appeals_total r.appeals k q a h) (λ q h. h)
 
 lodging_keeps : (r : Relations) (day : ℕ) (l : Lodging) → Keeps r (spec.with_lodging r day l)
-lodging_keeps r day l = inner (is_none (appeal_at r l.number l.reference))
-  where
-    inner : (b : Bool) → Keeps r (cond b (spec.with_appeal r day l) r)
-    inner true = put_appeal r (l.number, l.reference) _
-    inner false = keeps_itself r
+lodging_keeps r day l =
+    after_lodging r (Keeps r) day l (λ none. put_appeal r (l.number, l.reference) _) (λ a at. keeps_itself r)
 
-retraction_keeps : (r : Relations) (c : ℕ) (reference : Code) → Keeps r (spec.with_retraction r c reference)
-retraction_keeps r c reference = inner (appeal_at r c reference)
-  where
-    by_status : (a : Appeal) (b : Bool) → Keeps r (cond b r (spec.with_retracted_appeal r c reference a))
-    by_status a true = keeps_itself r
-    by_status a false = put_appeal r (c, reference) _
-
-    inner : (o : Option Appeal) → Keeps r (spec.with_retracted r c reference o)
-    inner None = keeps_itself r
-    inner (Some a) = by_status a (is_retracted a.status)
+retraction_keeps : (r : Relations) (c : ℕ) (reference : Code) → spec.retraction_refusal r c reference ≡ None
+    → Keeps r (spec.with_retraction r c reference)
+retraction_keeps r c reference ok =
+    after_retraction r (Keeps r) c reference ok (λ a at was. keeps_itself r)
+    (λ a at open_yet. put_appeal r (c, reference) _)
 
 -- the superseded appeals stay
 given_keeps : (c : ℕ) (s : Code) (asked : Subject) (rows : List ((ℕ × Code) × Appeal))
     → KeepsKeys appeal_cmp rows (map (giving_way c s asked) rows)
 given_keeps c s asked [] k has = has
-given_keeps c s asked (d ∷ ds) k has = inner (gives_way c s asked d) (given_keeps c s asked ds k)
+given_keeps c s asked (d ∷ ds) k has =
+    ap (λ q. is_some (cond (is_at (appeal_cmp k) q) (Some (giving_way c s asked d).1)
+    (row_at appeal_cmp (map (giving_way c s asked) ds) k))) (given_keyed c s asked d)
+    ∙ found (is_at (appeal_cmp k) d.0) has (given_keeps c s asked ds k)
   where
-    found : (b : Bool) (a : Appeal)
+    found : (b : Bool) → is_some (cond b (Some d.1) (row_at appeal_cmp ds k)) ≡ true
         → (has_row appeal_cmp ds k ≡ true → has_row appeal_cmp (map (giving_way c s asked) ds) k ≡ true)
-        → is_some (cond b (Some d.1) (row_at appeal_cmp ds k)) ≡ true
-        → is_some (cond b (Some a) (row_at appeal_cmp (map (giving_way c s asked) ds) k)) ≡ true
-    found true a later h = refl
-    found false a later h = later h
-
-    inner : (b : Bool) → (has_row appeal_cmp ds k ≡ true → has_row appeal_cmp (map (giving_way c s asked) ds) k ≡ true)
-        → has_row appeal_cmp
-        (cond b (d.0, record d.1 { status = superseded d.1.status }) d ∷ map (giving_way c s asked) ds) k ≡ true
-    inner true later = found (is_at (appeal_cmp k) d.0) (record d.1 { status = superseded d.1.status }) later has
-    inner false later = found (is_at (appeal_cmp k) d.0) d.1 later has
+        → is_some (cond b (Some (giving_way c s asked d).1) (row_at appeal_cmp (map (giving_way c s asked) ds) k))
+        ≡ true
+    found true h later = refl
+    found false h later = later h
 
 superseding_keeps : (c : ℕ) (a : Appeal) (o : Outcome) (rows : List ((ℕ × Code) × Appeal))
     → KeepsKeys appeal_cmp rows (with_superseded c a o rows)
-superseding_keeps c a outcome.Grant rows = given_keeps c a.session a.subject rows
-superseding_keeps c a outcome.Standing rows = given_keeps c a.session a.subject rows
 superseding_keeps c a outcome.Refuse rows = λ k h. h
+superseding_keeps c a _ rows = given_keeps c a.session a.subject rows
 
 -- an open appeal has no mark that its decision could take away
 decision_keeps : (r : Relations) (day : ℕ) (d : Decision) → good.marks_were_granted r ≡ true
     → decision_refusal r day d ≡ None → Keeps r (with_decision r d)
-decision_keeps r day d stand ok = inner (appeal_at r d.number d.reference) refl
-  where
-    was_open : (a : Appeal) → first_refusal (open_checks r day d a) ≡ None → is_open a.status ≡ true
-    was_open a none = not-false (is_open a.status)
-        (passed (not (is_open a.status)) refusal.NotOpenAppeal
-        ((is_too_late r a.session day, refusal.TooLate) ∷ not_arrangement a d.outcome
-        ∷ grant_checks r d.number a d.outcome) none).0
-
-    by_case : (a : Appeal) → appeal_at r d.number d.reference ≡ Some a → (b : Bool)
-        → first_refusal (cond b [] (open_checks r day d a)) ≡ None → Keeps r (cond b r (with_outcome r d a))
-    by_case a at true none = keeps_itself r
-    by_case a at false none =
-        keeps_appeals r (with_outcome r d a).appeals (with_outcome r d a).standing
-        (λ k h. has_put appeal_cmp appeals_total (with_superseded d.number a d.outcome r.appeals)
-        (d.number, d.reference) k _
-        (superseding_keeps d.number a d.outcome r.appeals k h))
-        (λ k h. marked_still r d k
-        (λ same. let differ : true ≡ false = sym h ∙ ap (has_row appeal_cmp r.standing) same
-        ∙ unmarked_open r d a stand at (was_open a none) in cc) ∙ h)
-
-    inner : (o : Option Appeal) → appeal_at r d.number d.reference ≡ o → Keeps r (with_decided r d o)
-    inner None at = keeps_itself r
-    inner (Some a) at = by_case a at (is_made r d a) (ap (λ o. first_refusal (decision_checks r day d o)) (sym at) ∙ ok)
+decision_keeps r day d stand ok =
+    after_decision r (Keeps r) day d ok (λ a at made. keeps_itself r)
+    (λ a at passed.
+    keeps_appeals r (with_outcome r d a).appeals (with_outcome r d a).standing
+    (λ k h. has_put appeal_cmp appeals_total (with_superseded d.number a d.outcome r.appeals)
+    (d.number, d.reference) k _
+    (superseding_keeps d.number a d.outcome r.appeals k h))
+    (λ k h. marked_still r d k
+    (λ same. true≢false (sym h ∙ ap (has_row appeal_cmp r.standing) same
+    ∙ unmarked_open r d a stand at (was_open r day d a passed))) ∙ h))
 
 -- what keeps all keys keeps those that stay
 all_stay : (done : Command) (r t : Relations) → Keeps r t → KeepsRows r t × KeepsOpenings done r t
@@ -131,7 +106,7 @@ made_keeps (command.Reinstate c p) day before fine ok =
     (keeps_entries before.relations c p true)
 made_keeps (command.CloseHall s h) day before fine ok = (
   elim [
-    | table.Openings ↦ λ stays. absurd (let differ : true ≡ false = stays in cc)
+    | table.Openings ↦ λ stays. absurd cc
     | _ ↦ λ stays k has. has
   ],
   λ k apart has. ap is_some
@@ -143,7 +118,7 @@ made_keeps (command.Lodge l) day before fine ok =
     (lodging_keeps before.relations day l)
 made_keeps (command.Retract c reference) day before fine ok =
     all_stay (command.Retract c reference) before.relations (spec.with_retraction before.relations c reference)
-    (retraction_keeps before.relations c reference)
+    (retraction_keeps before.relations c reference ok)
 made_keeps (command.Decide d) day before fine ok =
     all_stay (command.Decide d) before.relations (with_decision before.relations d)
     (decision_keeps before.relations day d fine.marks ok)

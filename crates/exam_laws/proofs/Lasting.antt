@@ -11,9 +11,9 @@ use Rattle.exam_laws.proofs.Words.{gives_way, giving_way, grant_checks, is_made,
 use Rattle.exam_laws.proofs.Words.{open_checks, with_decided, with_decision, with_outcome, with_superseded}
 use Rattle.exam_laws.proofs.Words.{first_refusal, unless, with_live, with_rows, without_opening, early_refusal}
 use Rattle.exam_laws.proofs.Words.{facts_made, IsGood, within_limits, IsInOrder, State, MayStep, Run, SameSeating, Step}
-use Rattle.exam_laws.proofs.Words.{StepTo, change, passed}
+use Rattle.exam_laws.proofs.Words.{StepTo, change, passed, there}
 use Rattle.std.proofs.Common.{◌≡◌, ℕ, ◌&&◌, not, Bool, true, false, cond, List, [], ◌∷◌, map, Option, None, Some}
-use Rattle.std.proofs.Common.{Result, Ok, Err, is_none, eq-eqb, refl, ap, sym, subst, ◌∙◌, ◌⊎◌, inl, inr}
+use Rattle.std.proofs.Common.{Result, Ok, Err, is_none, arith, eq-eqb, refl, ap, sym, subst, ◌∙◌, ◌⊎◌, inl, inr}
 use Rattle.exam_types.proofs.FeatureFacts.{same_features-itself}
 use Rattle.exam_types.specs.declared.refusal.Refusal.TheVariants as refusal
 use Rattle.exam_rules.specs.declared.rows.Status.TheVariants as status
@@ -25,10 +25,10 @@ use Rattle.exam_commands.specs.declared.command.Reply.TheVariants as reply
 use Rattle.exam_commands.specs.Appeals.{is_decided, same_subject, state_of}
 use Rattle.exam_commands.specs.declared.command.AppealState.TheVariants as state
 use Rattle.exam_commands.specs.Lodgings as spec
-pub use Rattle.exam_laws.proofs.Accepted.{made}
 use Rattle.exam_laws.proofs.Accepted.{change_made}
+use Rattle.exam_laws.proofs.ByCase.{after_decision, after_lodging, after_retraction, was_open}
 use Rattle.exam_laws.proofs.AppealSteps.{lodging_settled, retraction_settled}
-use Rattle.exam_laws.proofs.DecidedFacts.{marked_as_made, marked_still}
+use Rattle.exam_laws.proofs.DecidedFacts.{given_keyed, marked_as_made, marked_still}
 use Rattle.exam_commands.proofs.Referring.{import_appeals, import_candidates, import_standing}
 
 -- ---- the later states of an appeal
@@ -68,49 +68,26 @@ settled_on a b on m answer marked (inr is) = inr (on.superseded is)
 -- what is open is neither decided nor superseded
 open_undecided : {A : Type 0} (m : Outcome) (answer : List ℕ) (marked : Bool) (st : Status) → is_open st ≡ true
     → is_decided m answer marked st ≡ true → A
-open_undecided m answer marked status.Pending open_yet is = absurd (never m (not marked) marked is)
-  where
-    none : (b : Bool) → (b && false) ≡ true → ⊥
-    none true e = let differ : false ≡ true = e in cc
-    none false e = let differ : false ≡ true = e in cc
-
-    never : (o : Outcome) (b c : Bool) → is_decided o answer marked status.Pending ≡ true → ⊥
-    never outcome.Grant b c e = none (not marked) e
-    never outcome.Standing b c e = none marked e
-    never outcome.Refuse b c e = let differ : false ≡ true = e in cc
-open_undecided m answer marked (status.Granted stored) open_yet is = absurd (let differ : false ≡ true = open_yet in cc)
-open_undecided m answer marked (status.Refused stored) open_yet is = absurd (let differ : false ≡ true = open_yet in cc)
-open_undecided m answer marked status.Retracted open_yet is = absurd (let differ : false ≡ true = open_yet in cc)
-open_undecided m answer marked (status.Superseded stored) open_yet is =
-    absurd (let differ : false ≡ true = open_yet in cc)
+open_undecided m answer marked st open_yet is = absurd (grind arith)
 
 open_not_superseded : {A : Type 0} (st : Status) → is_open st ≡ true → state_of st ≡ state.Superseded → A
-open_not_superseded status.Pending open_yet is = absurd (let differ : state.Pending ≡ state.Superseded = is in cc)
-open_not_superseded (status.Granted stored) open_yet is = absurd (let differ : false ≡ true = open_yet in cc)
-open_not_superseded (status.Refused stored) open_yet is = absurd (let differ : false ≡ true = open_yet in cc)
-open_not_superseded status.Retracted open_yet is = absurd (let differ : false ≡ true = open_yet in cc)
-open_not_superseded (status.Superseded stored) open_yet is = absurd (let differ : false ≡ true = open_yet in cc)
+open_not_superseded st open_yet is = absurd (grind arith)
 
 -- so a stored appeal of this kind is not open
 settled_closed : (m : Outcome) (answer : List ℕ) (marked : Bool) (st : Status) → IsSettled m answer marked st
     → is_open st ≡ false
-settled_closed m answer marked st is_settled = inner (is_open st) refl is_settled
-  where
-    inner : (b : Bool) → is_open st ≡ b → IsSettled m answer marked st → b ≡ false
-    inner false closed is_settled = refl
-    inner true open_yet (inl is) = open_undecided m answer marked st open_yet is
-    inner true open_yet (inr is) = open_not_superseded st open_yet is
+settled_closed m answer marked st is_settled = grind arith
 
--- an appeal at the key, which continues this one
-record GoesOn (r : Relations) (k : ℕ × Code) (a : Appeal) : Type 0 where
+-- an appeal among these at the key, which continues this one
+record GoesOn (rows : List ((ℕ × Code) × Appeal)) (k : ℕ × Code) (a : Appeal) : Type 0 where
   then : Appeal
-  stored : row_at appeal_cmp r.appeals k ≡ Some then
+  stored : row_at appeal_cmp rows k ≡ Some then
   continues : Continues a then
 
 -- every candidate and every appeal is there still, and one that is decided keeps its mark, or that it has none
 record Carries (r t : Relations) : Type 0 where
   candidates : (c : ℕ) → has_row nat_cmp r.candidates c ≡ true → has_row nat_cmp t.candidates c ≡ true
-  appeals : (k : ℕ × Code) (a : Appeal) → row_at appeal_cmp r.appeals k ≡ Some a → GoesOn t k a
+  appeals : (k : ℕ × Code) (a : Appeal) → row_at appeal_cmp r.appeals k ≡ Some a → GoesOn t.appeals k a
   marks : (k : ℕ × Code) (a : Appeal) → row_at appeal_cmp r.appeals k ≡ Some a → is_open a.status ≡ false
       → is_marked t k ≡ is_marked r k
 
@@ -157,7 +134,7 @@ carries_put r k new continues =
     }
   where
     inner : (q : ℕ × Code) (a : Appeal) → row_at appeal_cmp r.appeals q ≡ Some a → (b : Bool)
-        → is_at (appeal_cmp k) q ≡ b → GoesOn (record r { appeals = put_row appeal_cmp r.appeals k new }) q a
+        → is_at (appeal_cmp k) q ≡ b → GoesOn (put_row appeal_cmp r.appeals k new) q a
     inner q a at true here =
         let same : k ≡ q = appeals_exact k q ((Equal-is (appeal_cmp k q)).0 here) in
         record {
@@ -169,7 +146,7 @@ carries_put r k new continues =
     inner q a at false away = record {
       then = a;
       stored = put_stays appeal_cmp appeals_total r.appeals k q new a
-          (λ here. absurd (let differ : true ≡ false = sym here ∙ away in cc)) at;
+          (λ here. absurd cc) at;
       continues = continues_itself a;
     }
 
@@ -186,74 +163,36 @@ carries_import r t grows same marked = record {
 }
 
 lodging_carries : (r : Relations) (day : ℕ) (l : Lodging) → Carries r (spec.with_lodging r day l)
-lodging_carries r day l = inner (appeal_at r l.number l.reference) refl
-  where
-    inner : (o : Option Appeal) → appeal_at r l.number l.reference ≡ o
-        → Carries r (cond (is_none o) (spec.with_appeal r day l) r)
-    inner None none = carries_put r (l.number, l.reference) _
-        (λ a at. absurd (let differ : None ≡ Some a = sym none ∙ at in cc))
-    inner (Some a) at = carries_itself r
-
--- what passes and is not retracted is open
-retracting_open : (st : Status) → is_retracted st ≡ false
-    → cond (not (is_open st) && not (is_retracted st)) (Some refusal.NotOpenAppeal) None ≡ None → is_open st ≡ true
-retracting_open status.Pending not_so ok = refl
-retracting_open (status.Granted stored) not_so ok = absurd (let differ : Some refusal.NotOpenAppeal ≡ None = ok in cc)
-retracting_open (status.Refused stored) not_so ok = absurd (let differ : Some refusal.NotOpenAppeal ≡ None = ok in cc)
-retracting_open status.Retracted not_so ok = absurd (let differ : true ≡ false = not_so in cc)
-retracting_open (status.Superseded stored) not_so ok =
-    absurd (let differ : Some refusal.NotOpenAppeal ≡ None = ok in cc)
+lodging_carries r day l =
+    after_lodging r (Carries r) day l (λ none. carries_put r (l.number, l.reference) _ (λ a at. absurd cc))
+    (λ a at. carries_itself r)
 
 retraction_carries : (r : Relations) (c : ℕ) (reference : Code) → spec.retraction_refusal r c reference ≡ None
     → Carries r (spec.with_retraction r c reference)
-retraction_carries r c reference ok = inner (appeal_at r c reference) refl
-  where
-    by_status : (a : Appeal) → appeal_at r c reference ≡ Some a
-        → (is_retracted a.status ≡ false → is_open a.status ≡ true) → (b : Bool) → is_retracted a.status ≡ b
-        → Carries r (cond b r (spec.with_retracted_appeal r c reference a))
-    by_status a at opens true was = carries_itself r
-    by_status a at opens false was = carries_put r (c, reference) (record a { status = status.Retracted }) (λ b is.
-        let both : Some a ≡ Some b = sym at ∙ is in
-        let same : a ≡ b = cc in
-        record {
-          session = ap (λ (x : Appeal). x.session) same;
-          subject = ap (λ (x : Appeal). x.subject) same;
-          reason = ap (λ (x : Appeal). x.reason) same;
-          retracted = λ before. refl;
-          decided = λ m answer marked is. open_undecided m answer marked a.status (opens was)
-              (ap (λ (x : Appeal). is_decided m answer marked x.status) same ∙ is);
-          closed = λ is. refl;
-          superseded = λ is. open_not_superseded a.status (opens was)
-              (ap (λ (x : Appeal). state_of x.status) same ∙ is);
-        })
-
-    inner : (o : Option Appeal) → appeal_at r c reference ≡ o → Carries r (spec.with_retracted r c reference o)
-    inner None none = carries_itself r
-    inner (Some a) at = by_status a at
-        (λ was. retracting_open a.status was (ap (λ o. first_refusal (spec.retraction_checks o)) (sym at) ∙ ok))
-        (is_retracted a.status) refl
+retraction_carries r c reference ok =
+    after_retraction r (Carries r) c reference ok (λ a at was. carries_itself r)
+    (λ a at open_yet. carries_put r (c, reference) (record a { status = status.Retracted }) (λ b is.
+    let same : a ≡ b = cc in
+    record {
+      session = ap (λ (x : Appeal). x.session) same;
+      subject = ap (λ (x : Appeal). x.subject) same;
+      reason = ap (λ (x : Appeal). x.reason) same;
+      retracted = λ before. refl;
+      decided = λ m answer marked is. open_undecided m answer marked a.status open_yet
+          (ap (λ (x : Appeal). is_decided m answer marked x.status) same ∙ is);
+      closed = λ is. refl;
+      superseded = λ is. open_not_superseded a.status open_yet (ap (λ (x : Appeal). state_of x.status) same ∙ is);
+    }))
 
 superseding : (m : Outcome) (answer : List ℕ) (marked : Bool) (st : Status) → is_decided m answer marked st ≡ true
     → IsSettled m answer marked (superseded st)
-superseding m answer marked (status.Granted stored) is = inr refl
-superseding m answer marked status.Pending is = inl is
-superseding m answer marked (status.Refused stored) is = inl is
-superseding m answer marked status.Retracted is = inl is
-superseding m answer marked (status.Superseded stored) is = inl is
+superseding m answer marked st is = grind arith
 
 superseded_closed : (st : Status) → is_open st ≡ false → is_open (superseded st) ≡ false
-superseded_closed status.Pending is = is
-superseded_closed (status.Granted stored) is = refl
-superseded_closed (status.Refused stored) is = refl
-superseded_closed status.Retracted is = refl
-superseded_closed (status.Superseded stored) is = refl
+superseded_closed st is = grind arith
 
 superseded_stays : (st : Status) → state_of st ≡ state.Superseded → state_of (superseded st) ≡ state.Superseded
-superseded_stays status.Pending is = is
-superseded_stays (status.Granted stored) is = refl
-superseded_stays (status.Refused stored) is = is
-superseded_stays status.Retracted is = is
-superseded_stays (status.Superseded stored) is = is
+superseded_stays st is = grind arith
 
 -- a superseded appeal asks for the same, and a grant does not make it open
 superseded_goes_on : (c : ℕ) (s : Code) (asked : Subject) (row : (ℕ × Code) × Appeal)
@@ -272,35 +211,22 @@ superseded_goes_on c s asked row = inner (gives_way c s asked row)
     }
     inner false = continues_itself row.1
 
-giving_way_keyed : (c : ℕ) (s : Code) (asked : Subject) (row : (ℕ × Code) × Appeal)
-    → (giving_way c s asked row).0 ≡ row.0
-giving_way_keyed c s asked row = inner (gives_way c s asked row)
-  where
-    inner : (b : Bool) → (cond b (row.0, record row.1 { status = superseded row.1.status }) row).0 ≡ row.0
-    inner true = refl
-    inner false = refl
-
 -- what an appeal at the key has become, among these
-record GoesOnAmong (rows : List ((ℕ × Code) × Appeal)) (k : ℕ × Code) (a : Appeal) : Type 0 where
-  then : Appeal
-  stored : row_at appeal_cmp rows k ≡ Some then
-  continues : Continues a then
-
 mapped_goes_on : (c : ℕ) (s : Code) (asked : Subject) (rows : List ((ℕ × Code) × Appeal)) (k : ℕ × Code) (a : Appeal)
-    → row_at appeal_cmp rows k ≡ Some a → GoesOnAmong (map (giving_way c s asked) rows) k a
-mapped_goes_on c s asked [] k a at = absurd (let differ : None ≡ Some a = at in cc)
+    → row_at appeal_cmp rows k ≡ Some a → GoesOn (map (giving_way c s asked) rows) k a
+mapped_goes_on c s asked [] k a at = absurd cc
 mapped_goes_on c s asked (d ∷ ds) k a at = inner (is_at (appeal_cmp k) d.0) refl at (mapped_goes_on c s asked ds k a)
   where
     head : (b : Bool) → is_at (appeal_cmp k) d.0 ≡ b
         → row_at appeal_cmp (map (giving_way c s asked) (d ∷ ds)) k
         ≡ cond b (Some (giving_way c s asked d).1) (row_at appeal_cmp (map (giving_way c s asked) ds) k)
     head b is = ap (λ q. cond (is_at (appeal_cmp k) q) (Some (giving_way c s asked d).1)
-        (row_at appeal_cmp (map (giving_way c s asked) ds) k)) (giving_way_keyed c s asked d)
+        (row_at appeal_cmp (map (giving_way c s asked) ds) k)) (given_keyed c s asked d)
         ∙ ap (λ t. cond t (Some (giving_way c s asked d).1) (row_at appeal_cmp (map (giving_way c s asked) ds) k)) is
 
     inner : (b : Bool) → is_at (appeal_cmp k) d.0 ≡ b → cond b (Some d.1) (row_at appeal_cmp ds k) ≡ Some a
-        → (row_at appeal_cmp ds k ≡ Some a → GoesOnAmong (map (giving_way c s asked) ds) k a)
-        → GoesOnAmong (map (giving_way c s asked) (d ∷ ds)) k a
+        → (row_at appeal_cmp ds k ≡ Some a → GoesOn (map (giving_way c s asked) ds) k a)
+        → GoesOn (map (giving_way c s asked) (d ∷ ds)) k a
     inner true here is rest =
         let one : d.1 ≡ a = cc in
         record {
@@ -312,33 +238,26 @@ mapped_goes_on c s asked (d ∷ ds) k a at = inner (is_at (appeal_cmp k) d.0) re
         rest is in record { then = later.then; stored = head false away ∙ later.stored; continues = later.continues }
 
 rows_go_on : (c : ℕ) (a : Appeal) (o : Outcome) (rows : List ((ℕ × Code) × Appeal)) (k : ℕ × Code) (x : Appeal)
-    → row_at appeal_cmp rows k ≡ Some x → GoesOnAmong (with_superseded c a o rows) k x
-rows_go_on c a outcome.Grant rows k x at = mapped_goes_on c a.session a.subject rows k x at
-rows_go_on c a outcome.Standing rows k x at = mapped_goes_on c a.session a.subject rows k x at
+    → row_at appeal_cmp rows k ≡ Some x → GoesOn (with_superseded c a o rows) k x
 rows_go_on c a outcome.Refuse rows k x at = record { then = x; stored = at; continues = continues_itself x }
+rows_go_on c a _ rows k x at = mapped_goes_on c a.session a.subject rows k x at
 
 outcome_carries : (r : Relations) (d : Decision) (a : Appeal) → appeal_at r d.number d.reference ≡ Some a
     → is_open a.status ≡ true → Carries r (with_outcome r d a)
 outcome_carries r d a stored open_yet = record {
   candidates = λ c has. has;
   appeals = λ q x at. inner q x at (is_at (appeal_cmp (d.number, d.reference)) q) refl;
-  marks = λ q x at closed. marked_still r d q (λ same.
-      let both : Some a ≡ Some x = sym stored ∙ ap (λ z. row_at appeal_cmp r.appeals z) (sym same) ∙ at in
-      let one : a ≡ x = cc in
-      let differ : true ≡ false = sym open_yet ∙ ap (λ (y : Appeal). is_open y.status) one ∙ closed in cc);
+  marks = λ q x at closed. marked_still r d q (λ same. cc);
 }
   where
     decided_closed : (o : Outcome) → is_open (decided o d.answer) ≡ false
-    decided_closed outcome.Grant = refl
-    decided_closed outcome.Standing = refl
-    decided_closed outcome.Refuse = refl
+    decided_closed o = grind arith
 
     inner : (q : ℕ × Code) (x : Appeal) → row_at appeal_cmp r.appeals q ≡ Some x → (b : Bool)
-        → is_at (appeal_cmp (d.number, d.reference)) q ≡ b → GoesOn (with_outcome r d a) q x
+        → is_at (appeal_cmp (d.number, d.reference)) q ≡ b → GoesOn (with_outcome r d a).appeals q x
     inner q x at true here =
         let same : (d.number, d.reference) ≡ q =
         appeals_exact (d.number, d.reference) q ((Equal-is (appeal_cmp (d.number, d.reference) q)).0 here) in
-        let both : Some a ≡ Some x = sym stored ∙ ap (λ z. row_at appeal_cmp r.appeals z) same ∙ at in
         let one : a ≡ x = cc in
         let new : Appeal = record a { status = decided d.outcome d.answer } in
         record {
@@ -353,7 +272,7 @@ outcome_carries r d a stored open_yet = record {
                 session = refl;
                 subject = refl;
                 reason = refl;
-                retracted = λ is. absurd (let differ : true ≡ false = sym open_yet ∙ ap is_open is in cc);
+                retracted = λ is. absurd cc;
                 decided = λ m answer marked is. open_undecided m answer marked a.status open_yet is;
                 closed = λ is. decided_closed d.outcome;
                 superseded = λ is. open_not_superseded a.status open_yet is;
@@ -365,28 +284,15 @@ outcome_carries r d a stored open_yet = record {
           then = on.then;
           stored = put_stays appeal_cmp appeals_total (with_superseded d.number a d.outcome r.appeals)
               (d.number, d.reference) q (record a { status = decided d.outcome d.answer }) on.then
-              (λ here. absurd (let differ : true ≡ false = sym here ∙ away in cc)) on.stored;
+              (λ here. absurd cc) on.stored;
           continues = on.continues;
         }
 
 decision_carries : (r : Relations) (day : ℕ) (d : Decision) → decision_refusal r day d ≡ None
     → Carries r (with_decision r d)
-decision_carries r day d ok = inner (appeal_at r d.number d.reference) refl
-  where
-    was_open : (a : Appeal) → first_refusal (open_checks r day d a) ≡ None → is_open a.status ≡ true
-    was_open a none = not-false (is_open a.status)
-        (passed (not (is_open a.status)) refusal.NotOpenAppeal
-        ((is_too_late r a.session day, refusal.TooLate) ∷ not_arrangement a d.outcome
-        ∷ grant_checks r d.number a d.outcome) none).0
-
-    by_case : (a : Appeal) → appeal_at r d.number d.reference ≡ Some a → (b : Bool)
-        → first_refusal (cond b [] (open_checks r day d a)) ≡ None → Carries r (cond b r (with_outcome r d a))
-    by_case a at true none = carries_itself r
-    by_case a at false none = outcome_carries r d a at (was_open a none)
-
-    inner : (o : Option Appeal) → appeal_at r d.number d.reference ≡ o → Carries r (with_decided r d o)
-    inner None at = carries_itself r
-    inner (Some a) at = by_case a at (is_made r d a) (ap (λ o. first_refusal (decision_checks r day d o)) (sym at) ∙ ok)
+decision_carries r day d ok =
+    after_decision r (Carries r) day d ok (λ a at made. carries_itself r)
+    (λ a at passed. outcome_carries r d a at (was_open r day d a passed))
 
 made_carries : (done : Command) (day : ℕ) (before : State) → early_refusal done day before ≡ None
     → Carries before.relations (facts_made done day before)
@@ -440,7 +346,7 @@ new_facts done day before answer after step = inner (change done day before) ref
     inner : (o : Result Relations Refusal) → change done day before ≡ o → StepTo done before (Ok answer) after o
         → o ≡ Ok after.relations
     inner (Ok t) is to = ap Ok (sym to.0)
-    inner (Err e) is to = absurd (let differ : Ok answer ≡ Err e = to.0 in cc)
+    inner (Err e) is to = absurd cc
 
 -- an accepted command passed the checks, and these are the facts that it makes
 pub step_made : (done : Command) (day : ℕ) (before : State) (answer : Reply) (after : State)
@@ -489,40 +395,27 @@ module _ (l : Lodging) where
 
   lodged_then : (day : ℕ) (before : State) → spec.lodging_refusal_but_limits before.relations before.seats day l ≡ None
       → IsLodged (spec.with_lodging before.relations day l) l
-  lodged_then day before ok = inner (appeal_at before.relations l.number l.reference) refl
-    where
-      inner : (o : Option Appeal) → appeal_at before.relations l.number l.reference ≡ o
-          → IsLodged (spec.with_lodging before.relations day l) l
-      inner None none =
-          let first = passed (not (has_row nat_cmp before.relations.candidates l.number)) refusal.UnknownCandidate
-          (spec.lodging_checks before.relations before.seats day l
-          (appeal_at before.relations l.number l.reference)) ok in
-          let new : Appeal = record
-          { session = l.session; subject = l.subject; reason = l.reason; status = status.Pending; lodged = day } in
-          subst (λ t. IsLodged t l)
-          (sym (ap (λ o. cond (is_none o) (spec.with_appeal before.relations day l) before.relations) none))
-          (record {
-            candidate = not-false (has_row nat_cmp before.relations.candidates l.number) first.0;
-            appeal = new;
-            stored = put_found appeal_cmp appeals_total before.relations.appeals (l.number, l.reference) new;
-            same = and_from _ _ (same_code_itself l.session)
-                (and_from _ _ (subject_itself l.subject) (same_code_itself l.reason));
-          })
-      inner (Some a) at =
-          let first = passed (not (has_row nat_cmp before.relations.candidates l.number)) refusal.UnknownCandidate
-          (spec.lodging_checks before.relations before.seats day l
-          (appeal_at before.relations l.number l.reference)) ok in
-          let checks : first_refusal (spec.lodging_checks before.relations before.seats day l (Some a)) ≡ None =
-          ap (λ o. first_refusal (spec.lodging_checks before.relations before.seats day l o)) (sym at) ∙ first.1 in
-          subst (λ t. IsLodged t l)
-          (sym (ap (λ o. cond (is_none o) (spec.with_appeal before.relations day l) before.relations) at))
-          (record {
-            candidate = not-false (has_row nat_cmp before.relations.candidates l.number) first.0;
-            appeal = a;
-            stored = at;
-            same = not-false (spec.is_same_lodging l a)
-                (passed (not (spec.is_same_lodging l a)) refusal.RefTaken [] checks).0;
-          })
+  lodged_then day before ok =
+      let r = before.relations in
+      let checks = spec.lodging_checks r before.seats day l in
+      let first = passed (not (has_row nat_cmp r.candidates l.number)) refusal.UnknownCandidate
+      (checks (appeal_at r l.number l.reference)) ok in
+      let known = not-false (has_row nat_cmp r.candidates l.number) first.0 in
+      after_lodging r (λ t. IsLodged t l) day l
+      (λ none. record {
+        candidate = known;
+        appeal = _;
+        stored = put_found appeal_cmp appeals_total r.appeals (l.number, l.reference) _;
+        same = and_from _ _ (same_code_itself l.session)
+            (and_from _ _ (subject_itself l.subject) (same_code_itself l.reason));
+      })
+      (λ a at. record {
+        candidate = known;
+        appeal = a;
+        stored = at;
+        same = there (spec.is_same_lodging l a) refusal.RefTaken []
+            (ap (λ o. first_refusal (checks o)) (sym at) ∙ first.1);
+      })
 
   lodged_again : (day : ℕ) (late : State) → IsLodged late.relations l
       → change (command.Lodge l) day late ≡ Ok late.relations
@@ -570,11 +463,7 @@ record IsRetractedAt (r : Relations) (c : ℕ) (reference : Code) : Type 0 where
   retracted : appeal.status ≡ status.Retracted
 
 retracted_is : (st : Status) → is_retracted st ≡ true → st ≡ status.Retracted
-retracted_is status.Pending is = absurd (let differ : false ≡ true = is in cc)
-retracted_is (status.Granted answer) is = absurd (let differ : false ≡ true = is in cc)
-retracted_is (status.Refused answer) is = absurd (let differ : false ≡ true = is in cc)
-retracted_is status.Retracted is = refl
-retracted_is (status.Superseded answer) is = absurd (let differ : false ≡ true = is in cc)
+retracted_is st is = grind arith
 
 module _ (c : ℕ) (reference : Code) where
   retracted_still : (r t : Relations) → Carries r t → IsRetractedAt r c reference → IsRetractedAt t c reference
@@ -584,24 +473,14 @@ module _ (c : ℕ) (reference : Code) where
 
   retracted_then : (r : Relations) → spec.retraction_refusal r c reference ≡ None
       → IsRetractedAt (spec.with_retraction r c reference) c reference
-  retracted_then r ok = inner (appeal_at r c reference) refl
-    where
-      by_status : (a : Appeal) → appeal_at r c reference ≡ Some a → (b : Bool) → is_retracted a.status ≡ b
-          → IsRetractedAt (cond b r (spec.with_retracted_appeal r c reference a)) c reference
-      by_status a at true is = record { appeal = a; stored = at; retracted = retracted_is a.status is }
-      by_status a at false is = record {
-        appeal = record a { status = status.Retracted };
+  retracted_then r ok =
+      after_retraction r (λ t. IsRetractedAt t c reference) c reference ok
+      (λ a at was. record { appeal = a; stored = at; retracted = retracted_is a.status was })
+      (λ a at open_yet. record {
+        appeal = _;
         stored = put_found appeal_cmp appeals_total r.appeals (c, reference) (record a { status = status.Retracted });
         retracted = refl;
-      }
-
-      inner : (o : Option Appeal) → appeal_at r c reference ≡ o
-          → IsRetractedAt (spec.with_retraction r c reference) c reference
-      inner None none = absurd
-          (let differ : Some refusal.UnknownAppeal ≡ None =
-          ap (λ o. first_refusal (spec.retraction_checks o)) (sym none) ∙ ok in cc)
-      inner (Some a) at = subst (λ t. IsRetractedAt t c reference) (sym (ap (spec.with_retracted r c reference) at))
-          (by_status a at (is_retracted a.status) refl)
+      })
 
   retracted_again : (day : ℕ) (late : State) → IsRetractedAt late.relations c reference
       → change (command.Retract c reference) day late ≡ Ok late.relations
@@ -637,36 +516,26 @@ record IsDecidedAt (r : Relations) (d : Decision) : Type 0 where
 
 decided_itself : (m : Outcome) (answer : List ℕ) → is_decided m answer (bears_mark m) (decided m answer) ≡ true
 decided_itself outcome.Grant answer = same_code_itself answer
-decided_itself outcome.Standing answer = same_code_itself answer
-decided_itself outcome.Refuse answer = same_code_itself answer
+decided_itself _ answer = same_code_itself answer
 
 -- what a superseded appeal answers
 over_refused : (r : Relations) (d : Decision) (day : ℕ) (a : Appeal) → state_of a.status ≡ state.Superseded
     → first_refusal (decision_checks r day d (Some a)) ≡ Some refusal.NotOpenAppeal
-over_refused r d day a is = inner a.status is
+over_refused r d day a is =
+    ap (λ b. first_refusal (cond b [] (open_checks r day d a)))
+    (never d.outcome d.answer (is_marked r (d.number, d.reference)) a.status is)
+    ∙ ap (λ b. cond (not b) (Some refusal.NotOpenAppeal) (first_refusal rest)) (closed a.status is)
   where
-    rest : Status → List (Bool × Refusal)
-    rest st = (not (is_open st), refusal.NotOpenAppeal) ∷ (is_too_late r a.session day, refusal.TooLate)
-        ∷ not_arrangement a d.outcome ∷ grant_checks r d.number a d.outcome
+    rest : List (Bool × Refusal)
+    rest = (is_too_late r a.session day, refusal.TooLate) ∷ not_arrangement a d.outcome
+        ∷ grant_checks r d.number a d.outcome
 
-    never : (o : Outcome) (marked : Bool) (stored : List ℕ)
-        → is_decided o d.answer marked (status.Superseded stored) ≡ false
-    never outcome.Grant true stored = refl
-    never outcome.Grant false stored = refl
-    never outcome.Standing true stored = refl
-    never outcome.Standing false stored = refl
-    never outcome.Refuse marked stored = refl
+    never : (o : Outcome) (answer : List ℕ) (marked : Bool) (st : Status) → state_of st ≡ state.Superseded
+        → is_decided o answer marked st ≡ false
+    never o answer marked st is = grind arith
 
-    inner : (st : Status) → state_of st ≡ state.Superseded
-        → first_refusal (cond (is_decided d.outcome d.answer (is_marked r (d.number, d.reference)) st) [] (rest st))
-        ≡ Some refusal.NotOpenAppeal
-    inner (status.Superseded stored) is =
-        ap (λ b. first_refusal (cond b [] (rest (status.Superseded stored))))
-        (never d.outcome (is_marked r (d.number, d.reference)) stored)
-    inner status.Pending is = absurd (let differ : state.Pending ≡ state.Superseded = is in cc)
-    inner (status.Granted stored) is = absurd (let differ : state.Granted ≡ state.Superseded = is in cc)
-    inner (status.Refused stored) is = absurd (let differ : state.Refused ≡ state.Superseded = is in cc)
-    inner status.Retracted is = absurd (let differ : state.Retracted ≡ state.Superseded = is in cc)
+    closed : (st : Status) → state_of st ≡ state.Superseded → is_open st ≡ false
+    closed st is = grind arith
 
 module _ (d : Decision) where
   decided_still : (r t : Relations) → Carries r t → IsDecidedAt r d → IsDecidedAt t d
@@ -684,25 +553,16 @@ module _ (d : Decision) where
       }
 
   decided_then : (r : Relations) (day : ℕ) → decision_refusal r day d ≡ None → IsDecidedAt (with_decision r d) d
-  decided_then r day ok = inner (appeal_at r d.number d.reference) refl
-    where
-      by_case : (a : Appeal) → appeal_at r d.number d.reference ≡ Some a → (b : Bool) → is_made r d a ≡ b
-          → IsDecidedAt (cond b r (with_outcome r d a)) d
-      by_case a at true is = record { appeal = a; stored = at; is_settled = inl is }
-      by_case a at false is = record {
-        appeal = record a { status = decided d.outcome d.answer };
+  decided_then r day ok =
+      after_decision r (λ t. IsDecidedAt t d) day d ok
+      (λ a at made. record { appeal = a; stored = at; is_settled = inl made })
+      (λ a at passed. record {
+        appeal = _;
         stored = put_found appeal_cmp appeals_total (with_superseded d.number a d.outcome r.appeals)
             (d.number, d.reference) (record a { status = decided d.outcome d.answer });
         is_settled = inl (subst (λ marked. is_decided d.outcome d.answer marked (decided d.outcome d.answer) ≡ true)
             (sym (marked_as_made r d a)) (decided_itself d.outcome d.answer));
-      }
-
-      inner : (o : Option Appeal) → appeal_at r d.number d.reference ≡ o → IsDecidedAt (with_decision r d) d
-      inner None none = absurd
-          (let differ : Some refusal.UnknownAppeal ≡ None =
-          ap (λ o. first_refusal (decision_checks r day d o)) (sym none) ∙ ok in cc)
-      inner (Some a) at = subst (λ t. IsDecidedAt t d) (sym (ap (with_decided r d) at))
-          (by_case a at (is_made r d a) refl)
+      })
 
   -- decided so still
   again_unchanged : (day : ℕ) (late : State) (a : Appeal) → appeal_at late.relations d.number d.reference ≡ Some a

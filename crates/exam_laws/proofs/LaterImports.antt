@@ -1,11 +1,12 @@
 -- An accepted import repeated later, if no import came between and no hall was closed: its rows are still stored, so it
 -- is accepted, changes nothing, and finds every row the same.
 use Rattle.exam_laws.proofs.Words.{AllByRecursion, nat_cmp, Refusal, Appeal, Code, Relations, code_cmp, entry_cmp}
-use Rattle.exam_laws.proofs.Words.{row_at, entries_total, Command, Decision, Lodging, Reply, Row, appeal_at}
-use Rattle.exam_laws.proofs.Words.{is_retracted, imported, rows_refusal, with_live, with_rows, is_made, with_decided}
-use Rattle.exam_laws.proofs.Words.{with_decision, with_outcome, facts_made, IsGood, within_limits, IsInOrder, State}
+use Rattle.exam_laws.proofs.Words.{row_at, entries_total, Command, Decision, Lodging, Reply, Row}
+use Rattle.exam_laws.proofs.Words.{imported, rows_refusal, with_live, with_rows}
+use Rattle.exam_laws.proofs.Words.{with_decision, with_outcome, early_refusal, facts_made, IsGood, within_limits}
+use Rattle.exam_laws.proofs.Words.{IsInOrder, State}
 use Rattle.exam_laws.proofs.Words.{MayStep, Run, Step, StepTo, change}
-use Rattle.std.proofs.Common.{Bool, Err, List, None, Ok, Option, Result, Some, [], ap, cond, false, inl, inr, is_none}
+use Rattle.std.proofs.Common.{Bool, Err, List, None, Ok, Option, Result, Some, [], ap, false, inl, inr}
 use Rattle.std.proofs.Common.{is_some, length, refl, subst, sym, true, ℕ, ◌∙◌, ◌∷◌, ◌≡◌}
 use Rattle.std.proofs.lemmas.List.Elements.{All-head, All-tail}
 use Rattle.exam_commands.proofs.KeyedRows.{has_put}
@@ -16,6 +17,8 @@ use Rattle.exam_commands.specs.Between.{NoneImportsOrCloses, imports_or_closes}
 use Rattle.exam_commands.specs.Imports.{ImportRows, distinct_rows, is_consistent}
 use Rattle.exam_commands.specs.Lodgings as spec
 use Rattle.exam_laws.proofs.Accepted.{change_made}
+use Rattle.exam_laws.proofs.ByCase.{after_lodging, after_retraction}
+use Rattle.exam_laws.proofs.DecidedFacts.{either}
 use Rattle.exam_laws.proofs.Lasting.{same_office, step_made}
 use Rattle.exam_commands.proofs.Referring.{Grows, import_refers_still, rows_refer_still}
 use Rattle.exam_laws.proofs.RepeatedImports.{stored_reply}
@@ -51,43 +54,29 @@ holds_live r c p live x at = at
 -- ---- by a command
 
 lodging_holds : (r : Relations) (day : ℕ) (l : Lodging) → Holds r (spec.with_lodging r day l)
-lodging_holds r day l = inner (is_none (appeal_at r l.number l.reference))
-  where
-    inner : (b : Bool) → Holds r (cond b (spec.with_appeal r day l) r)
-    inner true = holds_appeals r (spec.with_appeal r day l).appeals
-    inner false = holds_itself r
+lodging_holds r day l =
+    after_lodging r (Holds r) day l (λ none. holds_appeals r (spec.with_appeal r day l).appeals)
+    (λ a at. holds_itself r)
 
-retraction_holds : (r : Relations) (c : ℕ) (reference : Code) → Holds r (spec.with_retraction r c reference)
-retraction_holds r c reference = inner (appeal_at r c reference)
-  where
-    by_status : (a : Appeal) (b : Bool) → Holds r (cond b r (spec.with_retracted_appeal r c reference a))
-    by_status a true = holds_itself r
-    by_status a false = holds_appeals r (spec.with_retracted_appeal r c reference a).appeals
-
-    inner : (o : Option Appeal) → Holds r (spec.with_retracted r c reference o)
-    inner None = holds_itself r
-    inner (Some a) = by_status a (is_retracted a.status)
+retraction_holds : (r : Relations) (c : ℕ) (reference : Code) → spec.retraction_refusal r c reference ≡ None
+    → Holds r (spec.with_retraction r c reference)
+retraction_holds r c reference ok =
+    after_retraction r (Holds r) c reference ok (λ a at was. holds_itself r)
+    (λ a at open_yet. holds_appeals r (spec.with_retracted_appeal r c reference a).appeals)
 
 decision_holds : (r : Relations) (d : Decision) → Holds r (with_decision r d)
-decision_holds r d = inner (appeal_at r d.number d.reference)
-  where
-    by_case : (a : Appeal) (b : Bool) → Holds r (cond b r (with_outcome r d a))
-    by_case a true = holds_itself r
-    by_case a false = holds_decisions r (with_outcome r d a).appeals (with_outcome r d a).standing
+decision_holds r d =
+    either r d (Holds r) (holds_itself r)
+    (λ a at. holds_decisions r (with_outcome r d a).appeals (with_outcome r d a).standing)
 
-    inner : (o : Option Appeal) → Holds r (with_decided r d o)
-    inner None = holds_itself r
-    inner (Some a) = by_case a (is_made r d a)
-
-made_holds : (done : Command) (day : ℕ) (before : State) → imports_or_closes done ≡ false
-    → Holds before.relations (facts_made done day before)
-made_holds (command.Import import) day before leaves = absurd (let differ : true ≡ false = leaves in cc)
-made_holds (command.Withdraw c p) day before leaves = holds_live before.relations c p false
-made_holds (command.Reinstate c p) day before leaves = holds_live before.relations c p true
-made_holds (command.CloseHall s h) day before leaves = absurd (let differ : true ≡ false = leaves in cc)
-made_holds (command.Lodge l) day before leaves = lodging_holds before.relations day l
-made_holds (command.Retract c reference) day before leaves = retraction_holds before.relations c reference
-made_holds (command.Decide d) day before leaves = decision_holds before.relations d
+made_holds : (done : Command) (day : ℕ) (before : State) → early_refusal done day before ≡ None
+    → imports_or_closes done ≡ false → Holds before.relations (facts_made done day before)
+made_holds (command.Withdraw c p) day before ok leaves = holds_live before.relations c p false
+made_holds (command.Reinstate c p) day before ok leaves = holds_live before.relations c p true
+made_holds (command.Lodge l) day before ok leaves = lodging_holds before.relations day l
+made_holds (command.Retract c reference) day before ok leaves = retraction_holds before.relations c reference ok
+made_holds (command.Decide d) day before ok leaves = decision_holds before.relations d
+made_holds _ day before ok leaves = absurd cc
 
 -- what a command keeps of an office's facts; an office in order stays in order
 record GoesOn (before after : State) : Type 0 where
@@ -105,9 +94,9 @@ step_goes_on done day before answer after leaves step = inner (change done day b
     inner : (o : Result Relations Refusal) → change done day before ≡ o → StepTo done before answer after o
         → GoesOn before after
     inner (Ok t) is to =
+        let made = change_made done day before t is in
         record {
-          holds = subst (Holds before.relations) (sym (to.0 ∙ (change_made done day before t is).0))
-              (made_holds done day before leaves);
+          holds = subst (Holds before.relations) (sym (to.0 ∙ made.0)) (made_holds done day before made.1 leaves);
           order = λ up. to.3;
         }
     inner (Err e) is to = goes_on_itself before after to.1
@@ -139,7 +128,7 @@ in_order_then done day before answer after step = inner (change done day before)
   where
     inner : (o : Result Relations Refusal) → StepTo done before (Ok answer) after o → IsInOrder after
     inner (Ok t) to = to.3
-    inner (Err e) to = absurd (let differ : Ok answer ≡ Err e = to.0 in cc)
+    inner (Err e) to = absurd cc
 
 -- ---- the rows of the import
 
@@ -150,8 +139,8 @@ module _ (r t : Relations) (holds : Holds r t) where
 
   found_still : {X : Type 0} (o p : Option X) → ((x : X) → o ≡ Some x → p ≡ Some x) → is_some o ≡ true
       → is_some p ≡ true
-  found_still None p stays has = absurd (let differ : false ≡ true = has in cc)
   found_still (Some x) p stays has = ap is_some (stays x refl)
+  found_still None p stays has = absurd cc
 
   grows_still : Grows r t
   grows_still = record {

@@ -1,4 +1,5 @@
 pub mod Accepted
+pub mod ByCase
 pub mod Stepping
 pub mod Commanding
 pub mod Appealing

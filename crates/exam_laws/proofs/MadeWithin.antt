@@ -1,7 +1,8 @@
 -- Which limits the facts that a command has made can pass.
 use Rattle.exam_laws.proofs.Words.{AreInOrder, Relations, appeal_count, Command, Lodging, most_appeals, within_limits}
-use Rattle.std.proofs.Common.{◌≡◌, Bool, true, false, refl, ap, sym, subst, ◌∙◌}
+use Rattle.std.proofs.Common.{◌≡◌, true, false, ap, sym, subst, ◌∙◌}
 use Rattle.std.specs.Prelude.{nat_le}
+use Rattle.std.proofs.lemmas.Bool.{true_from_ne_false, true≢false}
 use Rattle.exam_commands.specs.declared.command.Command.TheVariants as command
 use Rattle.exam_commands.specs.FactsMade.{WasMade, may_pass_limit}
 use Rattle.exam_laws.proofs.FactsMade.{within_still}
@@ -23,8 +24,5 @@ lodged_within l r t was =
 -- if they pass one, the command is of a kind that may
 pub past_may : (done : Command) (r t : Relations) → WasMade done r t → within_limits t ≡ false
     → may_pass_limit done ≡ true
-past_may done r t was past = inner (may_pass_limit done) refl
-  where
-    inner : (b : Bool) → may_pass_limit done ≡ b → b ≡ true
-    inner true may = refl
-    inner false not_one = absurd (let differ : true ≡ false = sym (still_within done r t was not_one) ∙ past in cc)
+past_may done r t was past =
+    true_from_ne_false (may_pass_limit done) (λ not_one. true≢false (sym (still_within done r t was not_one) ∙ past))

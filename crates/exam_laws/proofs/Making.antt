@@ -7,7 +7,7 @@ use Rattle.exam_laws.proofs.Words.{within_limits, moved, IsInOrder, IsRepaired, 
 use Rattle.exam_laws.proofs.Words.{change, first_seated, ends_standing, grant_reaches, is_appeal_for, touches}
 use Rattle.exam_laws.proofs.Words.{same_code_itself}
 use Rattle.std.proofs.Common.{◌≡◌, ◌↔◌, ◌⊎◌, ◌&&◌, ◌||◌, ℕ, Bool, true, false, cond, IsTrue, List, Contains, Option}
-use Rattle.std.proofs.Common.{None, Some, Ok, Err, refl, ap, sym, subst, ◌∙◌, inl, inr}
+use Rattle.std.proofs.Common.{arith, true≢false, None, Some, Ok, Err, refl, ap, sym, subst, ◌∙◌, inl, inr}
 use Rattle.exam_types.specs.declared.refusal.Refusal.TheVariants.{NoMemory}
 use Rattle.exam_commands.specs.declared.command.Command.TheVariants as command
 use Rattle.exam_commands.specs.declared.command.Outcome.TheVariants as outcome
@@ -58,10 +58,6 @@ made_same (command.Decide d) today office part same = ap (λ (r : Relations). wi
 
 -- a command that changes no plan touches no session
 pub none_touched : (done : Command) (r : Relations) (s : Code) → keeps_plans done ≡ true → touches r done s ≡ false
-none_touched (command.Import import) r s keeps = absurd (let differ : false ≡ true = keeps in cc)
-none_touched (command.Withdraw c p) r s keeps = absurd (let differ : false ≡ true = keeps in cc)
-none_touched (command.Reinstate c p) r s keeps = absurd (let differ : false ≡ true = keeps in cc)
-none_touched (command.CloseHall named h) r s keeps = absurd (let differ : false ≡ true = keeps in cc)
 none_touched (command.Lodge l) r s keeps = and_none (has_row code_cmp r.sessions s)
 none_touched (command.Retract c reference) r s keeps = and_none (has_row code_cmp r.sessions s)
 none_touched (command.Decide d) r s keeps =
@@ -70,14 +66,12 @@ none_touched (command.Decide d) r s keeps =
     inner : (o : Outcome) → refuses o ≡ true
         → (is_grant o && option_map_or (λ (a : Appeal). grant_reaches r d a s)
         (appeal_at r d.number d.reference) false) ≡ false
-    inner outcome.Grant grants = absurd (let differ : false ≡ true = grants in cc)
-    inner outcome.Standing grants = absurd (let differ : false ≡ true = grants in cc)
-    inner outcome.Refuse grants = refl
+    inner outcome.Refuse refusing = refl
+    inner _ refusing = absurd cc
+none_touched _ r s keeps = absurd cc
 
 among : (a e b : Bool) → ((a && e) || (e && (a || b))) ≡ (e && (a || b))
-among true true b = refl
-among true false b = refl
-among false e b = refl
+among a e b = grind arith
 
 -- a grant touches the session of the appeal, if that exists
 pub grant_is_for : (r : Relations) (d : Decision) (s : Code) (o : Option Appeal)
@@ -92,12 +86,7 @@ grant_is_for r d s (Some a) =
 -- any other reads those that it touches
 read_touched : (done : Command) (r : Relations) (s : Code) → keeps_plans done ≡ false
     → reads r done s ≡ touches r done s
-read_touched (command.Import import) r s changes = refl
-read_touched (command.Withdraw c p) r s changes = refl
-read_touched (command.Reinstate c p) r s changes = refl
-read_touched (command.CloseHall named h) r s changes = refl
-read_touched (command.Lodge l) r s changes = absurd (let differ : true ≡ false = changes in cc)
-read_touched (command.Retract c reference) r s changes = refl
+read_touched (command.Lodge l) r s changes = absurd cc
 read_touched (command.Decide d) r s changes = inner d.outcome changes
   where
     inner : (o : Outcome) → refuses o ≡ false
@@ -108,21 +97,15 @@ read_touched (command.Decide d) r s changes = inner d.outcome changes
         ≡ (has_row code_cmp r.sessions s
         && (is_grant o && option_map_or (λ (a : Appeal). grant_reaches r d a s)
         (appeal_at r d.number d.reference) false))
-    inner outcome.Grant grants = grant_is_for r d s (appeal_at r d.number d.reference)
-    inner outcome.Standing grants = grant_is_for r d s (appeal_at r d.number d.reference)
-    inner outcome.Refuse grants = absurd (let differ : true ≡ false = grants in cc)
+    inner outcome.Refuse grants = absurd cc
+    inner _ grants = grant_is_for r d s (appeal_at r d.number d.reference)
+read_touched _ r s changes = refl
 
 -- ---- the reply
 
 replied : (done : Command) (part new : State)
     → last_reply done (newly_decided part.relations done)
     (first_reply done part.relations new.relations) new.relations part.seats new.seats ≡ reply_of done part new
-replied (command.Import import) part new = refl
-replied (command.Withdraw c p) part new = refl
-replied (command.Reinstate c p) part new = refl
-replied (command.CloseHall s h) part new = refl
-replied (command.Lodge l) part new = refl
-replied (command.Retract c reference) part new = refl
 replied (command.Decide d) part new = inner (appeal_at part.relations d.number d.reference)
   where
     by : (a : Appeal) (b : Bool)
@@ -130,8 +113,7 @@ replied (command.Decide d) part new = inner (appeal_at part.relations d.number d
         ≡ cond b reply.Unchanged
         (reply.Decided (stored_state new.relations d.number d.reference) (plan_of new.seats a.session d.number)
         (moved part.seats new.seats d.number))
-    by a true = refl
-    by a false = refl
+    by a b = grind arith
 
     inner : (o : Option Appeal)
         → reply_unless_repeated d
@@ -139,6 +121,7 @@ replied (command.Decide d) part new = inner (appeal_at part.relations d.number d
         ≡ reply_to part new d o
     inner None = refl
     inner (Some a) = by a (decisions.is_made part.relations d a)
+replied _ part new = refl
 
 -- ---- the command over the part
 
@@ -179,8 +162,7 @@ module _ (done : Command) (today : ℕ) (office part : State) (good : IsGood off
           (first_reply done part.relations new.relations) new.relations part.seats new.seats)
       is_made None keeps stay = record {
         changed = changed;
-        repaired = λ s touched. absurd
-            (let differ : true ≡ false = sym touched ∙ none_touched done part.relations s keeps in cc);
+        repaired = λ s touched. absurd (cc (none_touched done part.relations s keeps));
         stays = λ s away read c. ap (λ (seats : Seats). plan_of seats s c) stay;
         told = replied done part new;
       }
@@ -189,8 +171,7 @@ module _ (done : Command) (today : ℕ) (office part : State) (good : IsGood off
         repaired = λ s touched. subst
             (λ (seats : Seats). IsRepaired new.relations (first_seated done) part.seats seats s) (sym put)
             (found.1.repaired s ((exact s).1 touched));
-        stays = λ s away read. absurd
-            (let differ : true ≡ false = sym read ∙ read_touched done part.relations s found.0 ∙ away in cc);
+        stays = λ s away read. absurd (cc (read_touched done part.relations s found.0));
         told = replied done part new;
       }
 
@@ -224,7 +205,7 @@ plans_back done r t sessions old new exact (Some next) found (Some kept) put = (
   put.1,
   λ s c away.
       ap (λ (seats : Seats). plan_of seats s c) put.0
-      ∙ found.1.others s c (λ among. let differ : true ≡ false = sym ((exact s).0 among) ∙ away in cc),
+      ∙ found.1.others s c (λ among. true≢false (sym ((exact s).0 among) ∙ away)),
 )
 
 -- ---- a refusal, of the office

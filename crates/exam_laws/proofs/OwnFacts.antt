@@ -1,16 +1,16 @@
 -- What a candidate sees of themselves determines what the office looks up about them: their appeal with a reference,
 -- their session, their live papers, whether one of their appeals is open, and how many they have.
 use Rattle.exam_laws.proofs.Words.{list_all, list_any, cons_option, filter_map, is_at, Equal-is, nat_cmp_total}
-use Rattle.exam_laws.proofs.Words.{nat_list_cmp_total, keys_of, option_and_then, option_map_or, nat_cmp, Ordering, Less}
+use Rattle.exam_laws.proofs.Words.{nat_list_cmp_total, keys_of, option_and_then, option_map_or, nat_cmp, Ordering}
 use Rattle.exam_laws.proofs.Words.{and_parts, sorted_head, sorted_tail, exact_bytes, exact_unsigned, exact_unsigned_eq}
 use Rattle.exam_laws.proofs.Words.{Appeal, Entry, Session, Subject, KeysRise, Code, Relations, appeal_cmp, code_cmp}
 use Rattle.exam_laws.proofs.Words.{entry_cmp, has_row, is_row_of, row_at, same_code, is_live_entry, is_paper_of}
 use Rattle.exam_laws.proofs.Words.{entries_total, is_open, OwnSessionRow}
 use Rattle.std.proofs.Common.{◌≡◌, ℕ, ◌&&◌, ◌||◌, Bool, true, false, cond, List, [], ◌∷◌, filter, map, nat_eq, Option}
-use Rattle.std.proofs.Common.{None, Some, is_some, eq-eqb, refl, ap, sym, ◌∙◌}
+use Rattle.std.proofs.Common.{None, Some, arith, true≢false, is_some, eq-eqb, refl, ap, sym, ◌∙◌}
 use Rattle.std.specs.Cmp.Lexicographic.{texts_ties}
 use Rattle.std.specs.Ordering.{is_eq, ordering_then}
-use Rattle.std.specs.declared.cmp.Ordering.TheVariants.{Equal, Greater}
+use Rattle.std.specs.declared.cmp.Ordering.TheVariants.{Equal}
 use Rattle.std.proofs.lemmas.Cmp.{tied_itself}
 use Rattle.exam_rules.specs.Sessions.{live_papers_in}
 use Rattle.exam_commands.proofs.KeyedRows.{past_all}
@@ -25,11 +25,8 @@ other_key : (c n : ℕ) (p q : Code) → nat_eq n c ≡ false → is_eq (orderin
 other_key c n p q other = inner (nat_cmp c n) refl
   where
     inner : (o : Ordering) → nat_cmp c n ≡ o → is_eq (ordering_then o (code_cmp p q)) ≡ false
-    inner Less is = refl
-    inner Equal is = absurd
-        (let same : c ≡ n = exact_unsigned c n is in
-        let f : true ≡ false = sym (eq-eqb n n refl) ∙ ap (nat_eq n) (sym same) ∙ other in cc)
-    inner Greater is = refl
+    inner Equal is = absurd (true≢false (sym (eq-eqb n c (sym (exact_unsigned c n is))) ∙ other))
+    inner _ is = refl
 
 -- of keys of one candidate the second parts decide
 own_key : (c n : ℕ) (p q : Code) → nat_eq n c ≡ true
@@ -229,10 +226,7 @@ all_but_one {X} p b c (e ∷ es) every =
     with_it t rest = ap (λ x. b && x) rest ∙ twice t b
       where
         twice : (t x : Bool) → (x && cond t x true) ≡ x
-        twice true true = refl
-        twice true false = refl
-        twice false true = refl
-        twice false false = refl
+        twice t x = grind arith
 
     inner : (t : Bool) → nat_eq e.0 c ≡ t → p e.0 ≡ true → all_others ≡ cond (has_row nat_cmp es c) b true
         → (cond t b (p e.0) && all_others) ≡ cond (has_row nat_cmp (e ∷ es) c) b true
@@ -245,8 +239,5 @@ all_but_one {X} p b c (e ∷ es) every =
         turn : (r : Ordering) → nat_cmp c e.0 ≡ r
             → cond (is_some (cond (is_eq r) (Some e.1) (row_at nat_cmp es c))) b true
             ≡ cond (has_row nat_cmp es c) b true
-        turn Less is = refl
-        turn Equal is = absurd
-            (let same : c ≡ e.0 = exact_unsigned c e.0 is in
-            let f : true ≡ false = sym (eq-eqb e.0 e.0 refl) ∙ ap (nat_eq e.0) (sym same) ∙ other in cc)
-        turn Greater is = refl
+        turn Equal is = absurd (true≢false (sym (eq-eqb e.0 c (sym (exact_unsigned c e.0 is))) ∙ other))
+        turn _ is = refl

@@ -13,6 +13,7 @@ use Rattle.std.proofs.Common.{length, map, nat_eq, nat_le, nat_lt, Option, None,
 use Rattle.std.proofs.Common.{is_some, eq-eqb, refl, ap, sym, ◌∙◌}
 use Rattle.exam_types.specs.declared.refusal.Refusal.TheVariants as refusal
 use Rattle.exam_rules.specs.declared.rows.Subject.TheVariants as subject
+use Rattle.std.proofs.lemmas.Bool.{false_from_ne_true, true≢false}
 use Rattle.exam_rules.specs.Sessions.{clash_papers, finish, live_papers}
 use Rattle.exam_rules.specs.Sessions.{sitting}
 use Rattle.exam_rules.proofs.Sitters.{known_listed}
@@ -68,16 +69,13 @@ refusal_shown l today (Some own) = known_shown l today own (row_at code_cmp (map
 -- ---- the limits
 
 number_flips : (n m : ℕ) → nat_eq n m ≡ false → nat_eq m n ≡ false
-number_flips n m other = inner (nat_eq m n) refl
-  where
-    inner : (b : Bool) → nat_eq m n ≡ b → b ≡ false
-    inner true is = absurd (let f : true ≡ false = sym (eq-eqb n m (sym (exact_unsigned_eq m n is))) ∙ other in cc)
-    inner false is = refl
+number_flips n m other =
+    false_from_ne_true (nat_eq m n) (λ is. true≢false (sym (eq-eqb n m (sym (exact_unsigned_eq m n is))) ∙ other))
 
 -- beside what holds, only the last counts
 beside : (a x y q : Bool) → (a && x) ≡ true → (x ≡ true → y ≡ q) → (a && y) ≡ q
 beside true x y q both last = last both
-beside false x y q both last = absurd (let f : false ≡ true = both in cc)
+beside false x y q both last = absurd cc
 
 module _ (r : Relations) (today : ℕ) (l : Lodging) (none : appeal_at r l.number l.reference ≡ None) where
   abbrev more : Relations
@@ -102,7 +100,7 @@ module _ (r : Relations) (today : ℕ) (l : Lodging) (none : appeal_at r l.numbe
       ap (λ (rows : List ((ℕ × Code) × Appeal)). nat_le (length rows) most_appeals)
       (put_passed_over appeal_cmp appeals_exact (is_row_of d) r.appeals (l.number, l.reference) _
       (number_flips d l.number other)
-      (λ b at. absurd (let differ : None ≡ Some b = sym none ∙ at in cc)))
+      (λ b at. absurd cc))
 
   pub within_told : within_limits r ≡ true → has_row nat_cmp r.candidates l.number ≡ true
       → within_limits more ≡ is_below
@@ -127,10 +125,9 @@ module _ (office : State) (c : ℕ) where
       inner : (o : Option Code) (n : Option ℕ)
           → option_and_then (λ paper. option_map (session_row office c held paper) n) o ≡ Some own
           → own.session ≡ held.0
-      inner None n is = absurd (let differ : None ≡ Some own = is in cc)
-      inner (Some p) None is = absurd (let differ : None ≡ Some own = is in cc)
       inner (Some p) (Some n) is = let same : session_row office c held p n ≡ own =
           cc in ap (λ (x : OwnSessionRow). x.session) (sym same)
+      inner _ _ is = absurd cc
 
   -- what a member sees of the session
   pub record IsSeen (s : Code) (x : Session) : Type 0 where
@@ -149,8 +146,6 @@ module _ (office : State) (c : ℕ) where
     where
       inner : (o : Option Code) → sitting office.relations s c ≡ o → IsSome o → (n : Option ℕ)
           → finish office.relations s c ≡ n → IsSome n → IsSeen s x
-      inner None sits some n ends ended = absurd (let f : false ≡ true = some in cc)
-      inner (Some p) sits some None ends ended = absurd (let f : false ≡ true = ended in cc)
       inner (Some p) sits some (Some n) ends ended = record {
         paper = p;
         end = n;
@@ -160,6 +155,7 @@ module _ (office : State) (c : ℕ) where
             (λ paper. option_map (session_row office c (s, x) paper) (finish office.relations s c)) o) sits
             ∙ ap (λ (m : Option ℕ). option_map (session_row office c (s, x) p) m) ends;
       }
+      inner _ sits some _ ends ended = absurd cc
 
 -- ---- the refusal
 
@@ -212,9 +208,6 @@ module _ (office : State) (today : ℕ) (l : Lodging) (good : IsGood office) (up
     where
       inner : (b : Bool) → is_member r s c ≡ b → (o : Option Session) → row_at code_cmp r.sessions s ≡ o
           → new_by b o ≡ new_shown l today (own_among c r.appeals) (seen_by b o)
-      inner true member None held = refl
-      inner false member None held = refl
-      inner false member (Some x) held = refl
       inner true member (Some x) held =
           let live : has_live_entry r s c ≡ true = ap (λ (b : Bool). b && has_live_entry r s c) (sym there) ∙ member in
           let seen = member_sees office c s x there (ap (λ (o : Option Session). is_some o) held) live in
@@ -228,6 +221,9 @@ module _ (office : State) (today : ℕ) (l : Lodging) (good : IsGood office) (up
           (list_any (is_own_open s l.subject) (own_among c r.appeals)) b)
           (within_told r today l none good.limits there)
           ∙ ap (new_shown l today (own_among c r.appeals)) (sym seen.made)
+      inner true member None held = refl
+      inner false member None held = refl
+      inner false member (Some x) held = refl
 
   -- by the candidate's row and by the appeal that is stored under the reference
   abbrev refusal_by : Option Candidate → Option Appeal → Option Refusal

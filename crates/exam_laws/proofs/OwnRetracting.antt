@@ -3,7 +3,7 @@ use Rattle.exam_laws.proofs.Words.{option_and_then, option_map, nat_cmp, and_par
 use Rattle.exam_laws.proofs.Words.{appeal_cmp, code_cmp, has_row, row_at, all_at_row, appeals_exact, Reply, appeal_at}
 use Rattle.exam_laws.proofs.Words.{first_refusal, unless, IsGood, appeal_refers, OwnRows, own_of, own_rows, State, Step}
 use Rattle.exam_laws.proofs.Words.{StepTo}
-use Rattle.std.proofs.Common.{◌≡◌, ℕ, ◌&&◌, true, false, map, Option, None, Some, Result, Ok, Err, is_some, refl, ap}
+use Rattle.std.proofs.Common.{◌≡◌, ℕ, ◌&&◌, map, Option, None, Some, Result, Ok, Err, refl, ap}
 use Rattle.std.proofs.Common.{sym, ◌∙◌}
 use Rattle.exam_commands.specs.declared.command.Command.TheVariants as command
 use Rattle.exam_commands.specs.declared.command.Reply.TheVariants as reply
@@ -28,9 +28,8 @@ appeal_told office c reference good = inner (row_at nat_cmp office.relations.can
         let refers = all_at_row appeal_cmp appeals_exact
         (λ x. has_row nat_cmp office.relations.candidates x.0.0 && appeal_refers office.relations x.1)
         office.relations.appeals (c, reference) a (stored_refer office.relations good.refer) at in
-        absurd (let differ : false ≡ true = sym (ap (λ o. is_some o) away)
-        ∙ (and_parts (has_row nat_cmp office.relations.candidates c) (appeal_refers office.relations a) refers).0
-        in cc)
+        absurd (cc (and_parts (has_row nat_cmp office.relations.candidates c)
+        (appeal_refers office.relations a) refers).0)
 
     inner : (o : Option Candidate) → row_at nat_cmp office.relations.candidates c ≡ o
         → appeal_at office.relations c reference ≡ shown_appeal reference (option_map (own_rows office c) o)

@@ -4,9 +4,10 @@ use Rattle.exam_laws.proofs.Words.{nat_cmp, and_parts, length-map, exact_bytes, 
 use Rattle.exam_laws.proofs.Words.{code_cmp, has_row, row_at, has_live_entry, is_member, IsGood, OwnRows, OwnSessionRow}
 use Rattle.exam_laws.proofs.Words.{own_of, own_rows, own_sessions, State}
 use Rattle.std.proofs.Common.{◌≡◌, ◌↔◌, ℕ, Bool, true, false, cond, List, [], ◌∷◌, map, filter, length, Contains}
-use Rattle.std.proofs.Common.{Option, None, Some, is_some, refl, ap, sym, subst, ◌∙◌}
+use Rattle.std.proofs.Common.{Option, None, Some, arith, is_some, refl, ap, sym, subst, ◌∙◌}
 use Rattle.std.specs.Cmp.{tied_itself}
 use Rattle.std.specs.Ordering.{is_eq}
+use Rattle.std.proofs.lemmas.Bool.{cond_both}
 use Rattle.std.proofs.lemmas.Cmp.{eq_by_cmp_equiv}
 use Rattle.std.proofs.lemmas.Map.Entries.{lookup-filter-keys}
 use Rattle.std.proofs.lemmas.Map.Views.{Contains-keys_from_lookup, IsSome-lookup_from_Contains, tells_apart}
@@ -20,11 +21,9 @@ has_first row rows = let at : is_at (code_cmp row.0) row.0 ≡ true =
 
 has_later : (row : Code × Session) (rows : List (Code × Session)) (k : Code) → has_row code_cmp rows k ≡ true
     → has_row code_cmp (row ∷ rows) k ≡ true
-has_later row rows k there = by (is_at (code_cmp k) row.0)
-  where
-    by : (b : Bool) → is_some (cond b (Some row.1) (row_at code_cmp rows k)) ≡ true
-    by true = refl
-    by false = there
+has_later row rows k there =
+    cond_both (is_at (code_cmp k) row.0) (Some row.1) (row_at code_cmp rows k) (λ o. is_some o ≡ true) (λ e. refl)
+    (λ e. there)
 
 module _ (office : State) (c : ℕ) where
   abbrev r : Relations
@@ -60,7 +59,7 @@ module _ (office : State) (c : ℕ) where
     -- the candidate has a row, and these are their rows
     found : (o : Option Candidate) → row_at nat_cmp r.candidates c ≡ o → option_map (own_rows office c) o ≡ Some own
         → (has_row nat_cmp r.candidates c ≡ true) × (own.sessions ≡ own_sessions office c)
-    found None at shown = absurd (let differ : None ≡ Some own = shown in cc)
+    found None at shown = absurd cc
     found (Some row) at shown =
         let same : own_rows office c row ≡ own = cc in
         (ap is_some at, sym (ap (λ (rows : OwnRows). rows.sessions) same))
@@ -93,8 +92,7 @@ module _ (office : State) (c : ℕ) where
             ∙ of_member r good.refer s c member))
 
         inner : (b : Bool) → is_some (cond b (row_at code_cmp r.sessions s) None) ≡ true → b ≡ true
-        inner true some = refl
-        inner false some = some
+        inner b some = grind arith
 
         from : Contains (named own.sessions) s → is_member r s c ≡ true
         from among =

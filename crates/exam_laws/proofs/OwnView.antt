@@ -1,23 +1,22 @@
 -- What a candidate sees after a lodging or a retraction: if the appeal is their own, it is put among theirs; otherwise
 -- all is as it was.
 use Rattle.exam_laws.proofs.Words.{filter_map, AllByRecursion, keys_of, option_and_then, option_map, option_map_or}
-use Rattle.exam_laws.proofs.Words.{option_or, nat_cmp, Ordering, Less, fun_ext, sorted_head, sorted_tail}
+use Rattle.exam_laws.proofs.Words.{Status, option_or, nat_cmp, Ordering, Less, fun_ext, sorted_head, sorted_tail}
 use Rattle.exam_laws.proofs.Words.{exact_unsigned, exact_unsigned_eq, Refusal, Appeal, Arrangement, Candidate, Paper}
 use Rattle.exam_laws.proofs.Words.{Session, Subject, KeysRise, Code, Relations, appeal_cmp, code_cmp, is_row_of}
 use Rattle.exam_laws.proofs.Words.{put_row, row_at, same_code, arrangement_by, asked_arrangement, granted_subjects}
 use Rattle.exam_laws.proofs.Words.{is_granted, is_granted_appeal, is_live_paper, is_marked, is_member, option_filter}
 use Rattle.exam_laws.proofs.Words.{session_day, standing_grants, plan_of, seating, appeals_exact, put_passed_over}
-use Rattle.exam_laws.proofs.Words.{Lodging, Reply, appeal_at, is_open, is_retracted, first_refusal, unless, IsGood}
+use Rattle.exam_laws.proofs.Words.{Lodging, Reply, appeal_at, is_open, is_retracted, unless, IsGood}
 use Rattle.exam_laws.proofs.Words.{IsInOrder, OwnRows, OwnSessionRow, own_of, own_rows, own_sessions, Seats, State}
-use Rattle.exam_laws.proofs.Words.{Step, StepTo, unborne, passed}
+use Rattle.exam_laws.proofs.Words.{Step, StepTo, unborne}
 use Rattle.std.proofs.Common.{◌≡◌, ℕ, ◌+◌, ◌<◌, ◌&&◌, not, Bool, true, false, cond, List, [], ◌∷◌, count_by, filter}
-use Rattle.std.proofs.Common.{map, nat_eq, Option, None, Some, Result, is_none, is_some, eq-eqb, refl, ap, sym, subst}
+use Rattle.std.proofs.Common.{map, nat_eq, Option, None, Some, Result, is_some, eq-eqb, refl, ap, sym, subst}
 use Rattle.std.proofs.Common.{◌∙◌, arith}
 use Rattle.std.specs.BTreeMap.{insert_entry}
 use Rattle.std.specs.Ordering.{is_lt, match_ordering, ordering_then}
 use Rattle.std.specs.declared.cmp.Ordering.TheVariants.{Equal, Greater}
 use Rattle.std.proofs.lemmas.Cmp.{ranked}
-use Rattle.exam_types.specs.declared.refusal.Refusal.TheVariants as refusal
 use Rattle.exam_plan.specs.Matching.{occupants}
 use Rattle.exam_rules.specs.declared.rows.Status.TheVariants as status
 use Rattle.exam_rules.specs.declared.standing.StandingGrant.{StandingGrant}
@@ -36,7 +35,8 @@ use Rattle.exam_laws.proofs.OwnFacts.{AppealRows, map_twice}
 use Rattle.exam_laws.proofs.OwnLodging.{same_lodging_refusal}
 use Rattle.exam_laws.proofs.OwnRetracting.{same_appeal, same_retraction_refusal}
 use Rattle.exam_laws.proofs.AppealSteps.{closed_granted}
-use Rattle.std.proofs.lemmas.Bool.{ne_eqb}
+use Rattle.std.proofs.lemmas.Bool.{false_from_ne_true, ne_eqb}
+use Rattle.exam_laws.proofs.ByCase.{after_lodging, after_retraction}
 
 abbrev state_of : Relations → Seats → State
 state_of r seats = record { relations = r; seats = seats }
@@ -117,7 +117,8 @@ granted_stay r k a put = fun_ext (λ (s : Code). fun_ext (λ (c : ℕ).
 
 above_not : (c n m : ℕ) (p q : Code) → nat_cmp c n ≡ Less → ordering_then (nat_cmp n m) (code_cmp p q) ≡ Less
     → nat_eq m c ≡ false
-above_not c n m p q less rise = inner (nat_eq m c) refl
+above_not c n m p q less rise =
+    false_from_ne_true (nat_eq m c) (λ same. turn (nat_cmp n m) refl rise (exact_unsigned_eq m c same))
   where
     below : c < n
     below = ranked c n Less (sym less)
@@ -127,11 +128,7 @@ above_not c n m p q less rise = inner (nat_eq m c) refl
         below in omega (arith, same)
     turn Equal is up same = let one : n ≡ m = ranked n m Equal (sym is) in let first : c < n =
         below in omega (arith, same)
-    turn Greater is up same = let f : Greater ≡ Less = up in cc
-
-    inner : (b : Bool) → nat_eq m c ≡ b → b ≡ false
-    inner true same = absurd (turn (nat_cmp n m) refl rise (exact_unsigned_eq m c same))
-    inner false other = refl
+    turn Greater is up same = cc
 
 -- no appeal of the candidate comes after a later candidate's
 none_own : (c n : ℕ) (p : Code) (rows : AppealRows) → nat_cmp c n ≡ Less
@@ -163,10 +160,6 @@ module _ (r : Relations) (c : ℕ) where
     own_put [] up = ap (λ b. listed b ((c, reference), new) []) (eq-eqb c c refl)
     own_put (a ∷ rows) up = inner (nat_cmp c a.0.0) refl (own_put rows (sorted_tail appeal_cmp a.0 (keys_of rows) up))
       where
-        apart : (b : Bool) → nat_eq a.0.0 c ≡ b → (a.0.0 ≡ c → ⊥) → b ≡ false
-        apart true same other = absurd (other (exact_unsigned_eq a.0.0 c same))
-        apart false same other = refl
-
         later : keyed (put_row appeal_cmp rows (c, reference) new) ≡ put_keyed (keyed rows)
             → nat_eq a.0.0 c ≡ false
             → keyed (a ∷ put_row appeal_cmp rows (c, reference) new) ≡ put_keyed (keyed (a ∷ rows))
@@ -198,8 +191,7 @@ module _ (r : Relations) (c : ℕ) where
         inner Less is rest =
             let none : keyed (a ∷ rows) ≡ [] =
             ap (λ t. listed t a rows)
-            (apart (nat_eq a.0.0 c) refl
-            (λ one. let below : c < a.0.0 = ranked c a.0.0 Less (sym is) in omega (arith, one)))
+            (ne_eqb a.0.0 c (λ one. let below : c < a.0.0 = ranked c a.0.0 Less (sym is) in omega (arith, one)))
             ∙ ap (map shown_under) (none_own c a.0.0 a.0.1 rows is (sorted_head appeal_cmp a.0 (keys_of rows) up)) in
             ap (λ t. listed t ((c, reference), new) (a ∷ rows)) (eq-eqb c c refl)
             ∙ ap (λ t. shown_under ((c, reference), new) ∷ t) none ∙ ap put_keyed (sym none)
@@ -207,7 +199,7 @@ module _ (r : Relations) (c : ℕ) where
             let own : nat_eq a.0.0 c ≡ true = eq-eqb a.0.0 c (sym (exact_unsigned c a.0.0 is)) in
             by_code (code_cmp reference a.0.1) refl is own rest ∙ ap (λ t. put_keyed (listed t a rows)) (sym own)
         inner Greater is rest =
-            later rest (apart (nat_eq a.0.0 c) refl
+            later rest (ne_eqb a.0.0 c
             (λ one. let below : a.0.0 < c = ranked c a.0.0 Greater (sym is) in omega (arith, one)))
 
 -- ---- all that is shown
@@ -293,6 +285,9 @@ abbrev view_or : Option OwnRows → Option OwnRows → Option Refusal → Option
 view_or new old None = new
 view_or new old (Some e) = old
 
+either_view : (own : Option OwnRows) (o : Option Refusal) → view_or own own o ≡ own
+either_view own o = grind arith
+
 -- ---- a lodging
 
 abbrev made : Lodging → ℕ → Appeal
@@ -319,30 +314,24 @@ module _ (office : State) (day : ℕ) (l : Lodging) (good : IsGood office) where
     unmarked = unborne office.relations.appeals office.relations.standing (l.number, l.reference) good.marks
         (ap (λ o. option_map_or may_bear o false) none);
     new = refl;
-    old = λ b at. absurd (let differ : None ≡ Some b = sym none ∙ at in cc);
+    old = λ b at. absurd cc;
   }
 
   lodged_own : IsInOrder office
       → own_of lodged_office l.number
       ≡ lodged_view l day (appeal_at office.relations l.number l.reference) (own_of office l.number)
-  lodged_own up = inner (appeal_at office.relations l.number l.reference) refl
-    where
-      inner : (o : Option Appeal) → appeal_at office.relations l.number l.reference ≡ o
-          → own_of (state_of (cond (is_none o) (spec.with_appeal office.relations day l) office.relations)
-          office.seats) l.number ≡ lodged_view l day o (own_of office l.number)
-      inner None none = put_own office.relations office.seats (l.number, l.reference) (made l day) (lodging_put none)
-          (up.tables table.Appeals)
-      inner (Some a) at = refl
+  lodged_own up =
+      let seen : Option Appeal → Option OwnRows = λ o. lodged_view l day o (own_of office l.number) in
+      after_lodging office.relations
+      (λ t. own_of (state_of t office.seats) l.number ≡ seen (appeal_at office.relations l.number l.reference)) day l
+      (λ none. put_own office.relations office.seats (l.number, l.reference) (made l day) (lodging_put none)
+      (up.tables table.Appeals) ∙ sym (ap seen none)) (λ a at. sym (ap seen at))
 
   lodged_other : (c : ℕ) → nat_eq l.number c ≡ false → own_of lodged_office c ≡ own_of office c
-  lodged_other c other = inner (appeal_at office.relations l.number l.reference) refl
-    where
-      inner : (o : Option Appeal) → appeal_at office.relations l.number l.reference ≡ o
-          → own_of (state_of (cond (is_none o) (spec.with_appeal office.relations day l) office.relations)
-          office.seats) c ≡ own_of office c
-      inner None none = put_other office.relations office.seats (l.number, l.reference) (made l day)
-          (lodging_put none) c other
-      inner (Some a) at = refl
+  lodged_other c other =
+      after_lodging office.relations (λ t. own_of (state_of t office.seats) c ≡ own_of office c) day l
+      (λ none. put_other office.relations office.seats (l.number, l.reference) (made l day) (lodging_put none) c other)
+      (λ a at. refl)
 
   module _ (after : State) (answer : Result Reply Refusal) (up : IsInOrder office) (up_after : IsInOrder after)
       (step : Step (command.Lodge l) day office answer after) where
@@ -367,11 +356,7 @@ module _ (office : State) (day : ℕ) (l : Lodging) (good : IsGood office) where
     lodging_shows_others c other =
         lodging_led c ∙ ap (λ (v : Option OwnRows). view_or v (own_of office c)
         (spec.lodging_refusal office.relations office.seats day l)) (lodged_other c (ne_eqb l.number c other))
-        ∙ either (spec.lodging_refusal office.relations office.seats day l)
-      where
-        either : (o : Option Refusal) → view_or (own_of office c) (own_of office c) o ≡ own_of office c
-        either None = refl
-        either (Some e) = refl
+        ∙ either_view (own_of office c) (spec.lodging_refusal office.relations office.seats day l)
 
     lodging_shown : own_of after l.number
         ≡ view_or (lodged_view l day (appeal_at office.relations l.number l.reference) (own_of office l.number))
@@ -414,56 +399,46 @@ module _ (office : State) (c : ℕ) (reference : Code) (good : IsGood office) wh
   abbrev IsRetractable : Type 0
   IsRetractable = spec.retraction_refusal office.relations c reference ≡ None
 
-  retraction_put : IsRetractable → (a : Appeal) → appeal_at office.relations c reference ≡ Some a
+  retraction_put : (a : Appeal) → appeal_at office.relations c reference ≡ Some a → is_open a.status ≡ true
       → IsPutUngranted office.relations (c, reference) (retracted_one a)
-  retraction_put ok a at =
-      let check : first_refusal (spec.retraction_checks (Some a)) ≡ None =
-      ap (λ (o : Option Appeal). first_refusal (spec.retraction_checks o)) (sym at) ∙ ok in
+  retraction_put a at open_yet =
       let free : (not (is_open a.status) && not (is_retracted a.status)) ≡ false =
-      (passed (not (is_open a.status) && not (is_retracted a.status)) refusal.NotOpenAppeal [] check).0 in
+      ap (λ b. not b && not (is_retracted a.status)) open_yet in
       let closed : is_granted a.status ≡ false = closed_granted a.status free in
       record {
         unmarked = unborne office.relations.appeals office.relations.standing (c, reference) good.marks
             (ap (λ o. option_map_or may_bear o false) at
             ∙ closed_unborne a.status (is_some (asked_arrangement a.subject)) free);
         new = refl;
-        old = λ b is. let both : Some a ≡ Some b = sym at ∙ is in let one : a ≡ b =
-            cc in ap (λ (x : Appeal). is_granted x.status) (sym one) ∙ closed;
+        old = λ b is. let one : a ≡ b = cc in ap (λ (x : Appeal). is_granted x.status) (sym one) ∙ closed;
       }
 
   retracted_own : IsInOrder office → IsRetractable
       → own_of retracted_office c ≡ retracted_view reference (appeal_at office.relations c reference) (own_of office c)
-  retracted_own up ok = inner (appeal_at office.relations c reference) refl
+  retracted_own up ok =
+      after_retraction office.relations
+      (λ t. own_of (state_of t office.seats) c
+      ≡ retracted_view reference (appeal_at office.relations c reference) (own_of office c)) c reference ok
+      (λ a at was. sym (seen a at true was))
+      (λ a at open_yet. put_own office.relations office.seats (c, reference) (retracted_one a)
+      (retraction_put a at open_yet) (up.tables table.Appeals) ∙ sym (seen a at false (unretracted a.status open_yet)))
     where
-      by_status : (a : Appeal) → appeal_at office.relations c reference ≡ Some a → (b : Bool)
-          → own_of (state_of (cond b office.relations (spec.with_retracted_appeal office.relations c reference a))
-          office.seats) c
-          ≡ cond b (own_of office c) (option_map (with_one reference (retracted_one a)) (own_of office c))
-      by_status a at true = refl
-      by_status a at false =
-          put_own office.relations office.seats (c, reference) (retracted_one a) (retraction_put ok a at)
-          (up.tables table.Appeals)
+      unretracted : (st : Status) → is_open st ≡ true → is_retracted st ≡ false
+      unretracted st open_yet = grind arith
 
-      inner : (o : Option Appeal) → appeal_at office.relations c reference ≡ o
-          → own_of (state_of (spec.with_retracted office.relations c reference o) office.seats) c
-          ≡ retracted_view reference o (own_of office c)
-      inner None none = refl
-      inner (Some a) at = by_status a at (is_retracted a.status)
+      seen : (a : Appeal) → appeal_at office.relations c reference ≡ Some a → (b : Bool) → is_retracted a.status ≡ b
+          → retracted_view reference (appeal_at office.relations c reference) (own_of office c)
+          ≡ cond b (own_of office c) (option_map (with_one reference (retracted_one a)) (own_of office c))
+      seen a at b was =
+          ap (λ o. retracted_view reference o (own_of office c)) at
+          ∙ ap (λ t. cond t (own_of office c) (option_map (with_one reference (retracted_one a)) (own_of office c))) was
 
   retracted_other : IsRetractable → (d : ℕ) → nat_eq c d ≡ false → own_of retracted_office d ≡ own_of office d
-  retracted_other ok d other = inner (appeal_at office.relations c reference) refl
-    where
-      by_status : (a : Appeal) → appeal_at office.relations c reference ≡ Some a → (b : Bool)
-          → own_of (state_of (cond b office.relations (spec.with_retracted_appeal office.relations c reference a))
-          office.seats) d ≡ own_of office d
-      by_status a at true = refl
-      by_status a at false =
-          put_other office.relations office.seats (c, reference) (retracted_one a) (retraction_put ok a at) d other
-
-      inner : (o : Option Appeal) → appeal_at office.relations c reference ≡ o
-          → own_of (state_of (spec.with_retracted office.relations c reference o) office.seats) d ≡ own_of office d
-      inner None none = refl
-      inner (Some a) at = by_status a at (is_retracted a.status)
+  retracted_other ok d other =
+      after_retraction office.relations (λ t. own_of (state_of t office.seats) d ≡ own_of office d) c reference ok
+      (λ a at was. refl)
+      (λ a at open_yet. put_other office.relations office.seats (c, reference) (retracted_one a)
+      (retraction_put a at open_yet) d other)
 
   module _ (day : ℕ) (after : State) (answer : Result Reply Refusal) (up : IsInOrder office)
       (up_after : IsInOrder after) (step : Step (command.Retract c reference) day office answer after) where
@@ -489,11 +464,7 @@ module _ (office : State) (c : ℕ) (reference : Code) (good : IsGood office) wh
     pub retraction_shows_others : (d : ℕ) → (c ≡ d → ⊥) → own_of after d ≡ own_of office d
     retraction_shows_others d other =
         retraction_led d (own_of office d) (λ ok. retracted_other ok d (ne_eqb c d other))
-        ∙ either (spec.retraction_refusal office.relations c reference)
-      where
-        either : (o : Option Refusal) → view_or (own_of office d) (own_of office d) o ≡ own_of office d
-        either None = refl
-        either (Some e) = refl
+        ∙ either_view (own_of office d) (spec.retraction_refusal office.relations c reference)
 
     retraction_shown : own_of after c
         ≡ view_or (retracted_view reference (appeal_at office.relations c reference) (own_of office c))

@@ -10,6 +10,7 @@ use Rattle.exam_laws.proofs.Words.{first_seated, is_appeal_for, touches}
 use Rattle.std.proofs.Common.{◌≡◌, ℕ, ◌==◌, ◌&&◌, ◌||◌, not, Bool, true, false, cond, List, [], ◌∷◌, ◌++◌, filter}
 use Rattle.std.proofs.Common.{length, Option, None, Some, Ok, Err, refl, ap, sym, subst, ◌∙◌, inl, inr}
 use Rattle.std.specs.Cmp.{IsTotalOrder}
+use Rattle.std.proofs.lemmas.Bool.{and_right, or_right}
 use Rattle.std.proofs.lemmas.List.Sums.{length-filter}
 use Rattle.std.proofs.lemmas.Map.Lookups.{CmpEqualImpliesEq}
 use Rattle.exam_types.specs.declared.refusal.Refusal.TheVariants as refusal
@@ -97,10 +98,6 @@ module _ (p : Code → Bool) (n : ℕ) (one other after then : Seats) (up : Keys
       ∙ inner (p k.0) refl
       ∙ sym (passing_at seat_cmp seats_total seats_exact (is_move then n) other k upper)
     where
-      and_false : (b : Bool) → (b && false) ≡ false
-      and_false true = refl
-      and_false false = refl
-
       none_moves : p k.0 ≡ false → (o : Option Code) → row_at seat_cmp one k ≡ o
           → option_filter (λ x. is_move after n (k, x)) o ≡ None
       none_moves out None is = refl
@@ -108,7 +105,7 @@ module _ (p : Code → Bool) (n : ℕ) (one other after then : Seats) (up : Keys
           let still : is_elsewhere after (k, h) ≡ false =
           ap (λ o. option_map_or (λ j. not (same_code j h)) o false) (stays k.0 out k.1 ∙ is)
           ∙ ap not (same_code_itself h) in
-          ap (λ b. cond b (Some h) None) (ap (λ b. not (k.1 == n) && b) still ∙ and_false (not (k.1 == n)))
+          ap (λ b. cond b (Some h) None) (and_right (not (k.1 == n)) _ still)
 
       inner : (b : Bool) → p k.0 ≡ b
           → option_filter (λ x. is_move after n (k, x)) (row_at seat_cmp one k)
@@ -136,8 +133,7 @@ asked_same : (r : Relations) (a b : Seats) (s : Code) (c : ℕ) → plan_of a s 
     → lodgings.subject_checks r a s c asked ≡ lodgings.subject_checks r b s c asked
 asked_same r a b s c same (subject.Hall h) =
     ap (λ (o : Option Code). (not (option_map_or (same_code h) o false), refusal.NotSeatedThere) ∷ []) same
-asked_same r a b s c same (subject.Clash p) = refl
-asked_same r a b s c same (subject.Arrangement x) = refl
+asked_same r a b s c same _ = refl
 
 pub lodging_refusal_same : (r : Relations) (a b : Seats) (today : ℕ) (l : Lodging)
     → plan_of a l.session l.number ≡ plan_of b l.session l.number
@@ -174,18 +170,9 @@ change_same (command.Retract c reference) today office part agrees =
 change_same (command.Decide d) today office part agrees = ap (λ (r : Relations). decision_made r today d) agrees.facts
 
 pub touched_read : (done : Command) (r : Relations) (s : Code) → touches r done s ≡ true → reads r done s ≡ true
-touched_read (command.Import import) r s is = is
-touched_read (command.Withdraw c p) r s is = is
-touched_read (command.Reinstate c p) r s is = is
-touched_read (command.CloseHall named h) r s is = is
-touched_read (command.Lodge l) r s is =
-    absurd (let differ : false ≡ true = sym (and_none (has_row code_cmp r.sessions s)) ∙ is in cc)
-touched_read (command.Retract c reference) r s is = is
-touched_read (command.Decide d) r s is = inner (is_appeal_for r (appeal_at r d.number d.reference) s)
-  where
-    inner : (b : Bool) → (b || touches r (command.Decide d) s) ≡ true
-    inner true = refl
-    inner false = is
+touched_read (command.Lodge l) r s is = absurd (cc (and_none (has_row code_cmp r.sessions s)))
+touched_read (command.Decide d) r s is = or_right (is_appeal_for r (appeal_at r d.number d.reference) s) _ is
+touched_read _ r s is = is
 
 -- who the new plans seat for certain
 kept_on : (done : Command) (today : ℕ) (office after : State) (t : Relations) → IsGood office → IsInOrder office
@@ -255,12 +242,8 @@ module _ (today : ℕ) (office part after : State) (good : IsGood office) (up : 
     reply_same : (done : Command) → Agrees done office part → IsPutBack done office new after
         → reply_of done part new ≡ reply_of done office after
     reply_same (command.Import import) agrees put = ap (λ (r : Relations). import_reply r import.rows) agrees.facts
-    reply_same (command.Withdraw c p) agrees put = refl
-    reply_same (command.Reinstate c p) agrees put = refl
-    reply_same (command.CloseHall s h) agrees put = refl
     reply_same (command.Lodge l) agrees put =
         ap (λ (r : Relations). reply.Lodged (stored_state r l.number l.reference)) (sym put.facts)
-    reply_same (command.Retract c reference) agrees put = refl
     reply_same (command.Decide d) agrees put =
         ap (λ (r : Relations). reply_to part new d (appeal_at r d.number d.reference)) agrees.facts
         ∙ inner (appeal_at office.relations d.number d.reference) refl
@@ -291,6 +274,7 @@ module _ (today : ℕ) (office part after : State) (good : IsGood office) (up : 
             ∙ ap (λ (n : ℕ). cond (is_made office.relations d a) reply.Unchanged
             (reply.Decided (stored_state after.relations d.number d.reference)
             (plan_of after.seats a.session d.number) n)) (sym moves)
+    reply_same _ agrees put = refl
 
     -- changed, it leaves the office after the command
     pub made_back : (done : Command) (told : Reply) → Agrees done office part → IsPutBack done office new after

@@ -7,7 +7,7 @@ use Rattle.exam_laws.proofs.Words.{bears_mark, is_grant, appeal_refers, refers, 
 use Rattle.exam_laws.proofs.Words.{grant_reaches, is_appeal_for, touches}
 use Rattle.std.proofs.Common.{◌≡◌, ℕ, ◌&&◌, ◌||◌, Bool, true, false, List, [], ◌∷◌, nat_eq, Option, None, Some, is_some}
 use Rattle.std.proofs.Common.{inl, inr, refl, ap, sym, ◌∙◌}
-use Rattle.std.proofs.lemmas.Bool.{or_cases}
+use Rattle.std.proofs.lemmas.Bool.{and_right, false_from_ne_true, or_cases, or_parts, true≢false}
 use Rattle.exam_rules.specs.Tables as table
 use Rattle.exam_commands.specs.Good.{subject_refers}
 use Rattle.exam_commands.specs.declared.command.Command.TheVariants as command
@@ -17,8 +17,7 @@ use Rattle.exam_commands.specs.Touched.{stands_in}
 use Rattle.exam_commands.proofs.Referring.{parted}
 
 pub and_none : (b : Bool) → (b && false) ≡ false
-and_none true = refl
-and_none false = refl
+and_none b = and_right b false refl
 
 module _ (r : Relations) (refer : refers r ≡ true) where
   appeal_known : (key : ℕ × Code) (a : Appeal) → row_at appeal_cmp r.appeals key ≡ Some a
@@ -134,16 +133,11 @@ module _ (r : Relations) (refer : refers r ≡ true) (s : Code) where
 
   -- what a command does not touch it neither sets nor reaches
   pub untouched_is_unset : (done : Command) → touches r done s ≡ false → is_set_by done s ≡ false
-  untouched_is_unset done away = inner (is_set_by done s) away
-    where
-      inner : (b : Bool) → (b || (has_row code_cmp r.sessions s && reaches r done s)) ≡ false → b ≡ false
-      inner true out = out
-      inner false out = refl
+  untouched_is_unset done away =
+      (or_parts (is_set_by done s) (has_row code_cmp r.sessions s && reaches r done s) away).0
 
   pub untouched_is_unreached : (done : Command) → touches r done s ≡ false → reaches r done s ≡ false
-  untouched_is_unreached done away = inner (is_set_by done s) (reaches r done s) refl away
-    where
-      inner : (a b : Bool) → reaches r done s ≡ b → (a || (has_row code_cmp r.sessions s && b)) ≡ false → b ≡ false
-      inner a false is out = refl
-      inner true true is out = out
-      inner false true is out = sym (ap (λ e. e && true) (reached done is)) ∙ out
+  untouched_is_unreached done away =
+      let unreached = (or_parts (is_set_by done s) (has_row code_cmp r.sessions s && reaches r done s) away).1 in
+      false_from_ne_true (reaches r done s) (λ is. true≢false (sym
+      (and_from (has_row code_cmp r.sessions s) (reaches r done s) (reached done is) is) ∙ unreached))

@@ -4,7 +4,7 @@ use Rattle.exam_laws.proofs.Words.{Entry, Opening, Paper, Session, AreInOrder, R
 use Rattle.exam_laws.proofs.Words.{same_code_itself, Reply, Row, first_refusal, imported, rows_refusal, too_many}
 use Rattle.exam_laws.proofs.Words.{with_rows, within_limits, IsInOrder, State, Step, StepTo, neither, there}
 use Rattle.std.proofs.Common.{◌≡◌, ℕ, not, Bool, true, false, cond, List, [], ◌∷◌, length, filter, nat_eq, Option, None}
-use Rattle.std.proofs.Common.{Some, Result, Ok, is_some, is_none, eq-eqb, refl, ap, sym, subst, ◌∙◌}
+use Rattle.std.proofs.Common.{Some, arith, Result, Ok, is_some, is_none, eq-eqb, refl, ap, sym, subst, ◌∙◌}
 use Rattle.std.specs.Bool.{beq}
 use Rattle.exam_types.proofs.FeatureFacts.{same_features-itself}
 use Rattle.exam_types.specs.declared.refusal.Refusal.TheVariants.{TooMany}
@@ -29,8 +29,7 @@ number_itself : (n : ℕ) → nat_eq n n ≡ true
 number_itself n = eq-eqb n n refl
 
 flag_itself : (b : Bool) → beq b b ≡ true
-flag_itself true = refl
-flag_itself false = refl
+flag_itself b = grind arith
 
 session_itself : (x : Session) → contents.same_session x x ≡ true
 session_itself x = and_from _ _ (number_itself x.day) (number_itself x.start)
@@ -65,8 +64,7 @@ row_same r (row.OfCandidate c x) at = found_same contents.same_candidate x _ at 
 row_same r (row.OfEntry c p) at = inner (row_at entry_cmp r.entries (c, p)) at
   where
     inner : (o : Option Entry) → is_some o ≡ true → option_map (λ _. true) o ≡ Some true
-    inner None has = cc
-    inner (Some e) has = refl
+    inner o has = grind arith
 row_same r (row.OfArrangement c x) at = found_same contents.same_arrangement x _ at (arrangement_itself x)
 
 -- ---- the counts

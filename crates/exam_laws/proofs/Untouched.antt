@@ -1,6 +1,7 @@
 -- A session that a command does not touch keeps its seating.
 use Rattle.exam_laws.proofs.Words.{filter_map, list_all, list_any, keys_of, option_map, option_map_or, is_at, Equal-is}
-use Rattle.exam_laws.proofs.Words.{nat_cmp_total, nat_list_cmp_total, nat_cmp, and_parts, not-false, exact_bytes}
+use Rattle.exam_laws.proofs.Words.{nat_cmp_total, nat_list_cmp_total, nat_cmp, and_from, and_parts}
+use Rattle.exam_laws.proofs.Words.{exact_bytes}
 use Rattle.exam_laws.proofs.Words.{exact_unsigned, SamePlan, Appeal, Entry, Paper, Session, Status, Subject, KeysRise}
 use Rattle.exam_laws.proofs.Words.{Code, Relations, appeal_cmp, code_cmp, entry_cmp, opening_cmp, has_row, put_row}
 use Rattle.exam_laws.proofs.Words.{row_at, same_code, arrangement_by, granted_subjects, has_live_entry, is_granted}
@@ -9,14 +10,15 @@ use Rattle.exam_laws.proofs.Words.{session_day, standing_grant, standing_grants,
 use Rattle.exam_laws.proofs.Words.{suits_opened, same_code_exact, same_code_itself, appeals_exact, openings_exact}
 use Rattle.exam_laws.proofs.Words.{put_found, put_passed_over, Command, Decision, Outcome, Reply, Row, appeal_at}
 use Rattle.exam_laws.proofs.Words.{bears_mark, decided, is_grant, is_open, superseded, first_refusal, rows_refusal}
-use Rattle.exam_laws.proofs.Words.{with_live, with_rows, without_opening, decision_checks, decision_refusal, gives_way}
-use Rattle.exam_laws.proofs.Words.{giving_way, grant_checks, is_made, is_too_late, not_arrangement, open_checks}
-use Rattle.exam_laws.proofs.Words.{with_decided, with_decision, with_outcome, with_superseded, early_refusal}
+use Rattle.exam_laws.proofs.Words.{with_live, with_rows, without_opening, decision_refusal, gives_way}
+use Rattle.exam_laws.proofs.Words.{giving_way}
+use Rattle.exam_laws.proofs.Words.{with_decision, with_outcome, with_superseded, early_refusal}
 use Rattle.exam_laws.proofs.Words.{facts_made, IsGood, marks_were_granted, refers, IsInOrder, State, SameSeating, Step}
-use Rattle.exam_laws.proofs.Words.{StepTo, change, ends_standing, grant_reaches, touches, neither, passed, there}
+use Rattle.exam_laws.proofs.Words.{StepTo, change, ends_standing, grant_reaches, touches, neither, there}
 use Rattle.std.proofs.Common.{◌≡◌, ℕ, ◌==◌, ◌&&◌, ◌||◌, not, Bool, true, false, cond, List, [], ◌∷◌, map, filter}
-use Rattle.std.proofs.Common.{nat_eq, Option, None, Some, Ok, is_some, refl, ap, sym, subst, ◌∙◌}
-use Rattle.std.proofs.lemmas.Bool.{eqb-true}
+use Rattle.std.proofs.Common.{inl, inr, arith, true≢false, nat_eq, Option, None, Some, Ok, is_some, refl, ap, sym}
+use Rattle.std.proofs.Common.{subst, ◌∙◌}
+use Rattle.std.proofs.lemmas.Bool.{and_left, and_right, cond_both, eqb-true, false_from_ne_true, or_cases, or_parts}
 use Rattle.exam_types.specs.declared.refusal.Refusal.TheVariants as refusal
 use Rattle.exam_rules.specs.declared.rows.Status.TheVariants as status
 use Rattle.exam_rules.specs.Sessions.{barred_halls, granted_arrangement}
@@ -38,9 +40,10 @@ use Rattle.exam_commands.specs.Touched.{is_of_sessions, is_set_by, names, reache
 use Rattle.exam_commands.proofs.Alike.{SpeakAlike, alike_itself, alike_seating}
 use Rattle.exam_laws.proofs.Appealing.{fits_same, never_marked, not_granted, put_seating_same, seating_by, with_appeals}
 use Rattle.exam_laws.proofs.Appealing.{with_decisions}
+use Rattle.exam_laws.proofs.ByCase.{after_decision, was_open}
 use Rattle.exam_laws.proofs.AppealSteps.{lodging_settled, retraction_settled}
 use Rattle.exam_commands.proofs.Borne.{unmarked_same}
-use Rattle.exam_laws.proofs.DecidedFacts.{others_standing_grants, unmarked_open}
+use Rattle.exam_laws.proofs.DecidedFacts.{given_keyed, others_standing_grants, unmarked_open}
 use Rattle.exam_laws.proofs.Accepted.{change_made}
 use Rattle.exam_laws.proofs.Lasting.{new_facts}
 use Rattle.exam_commands.proofs.PutRows.{mapped_filtered}
@@ -50,9 +53,9 @@ use Rattle.exam_commands.proofs.Entering.{rows_with_by, table_in_order}
 
 -- ---- rows at other keys
 
-neither_any : (a b : Bool) → (a || b) ≡ false → (a ≡ false) × (b ≡ false)
-neither_any true b e = absurd (let differ : true ≡ false = e in cc)
-neither_any false b e = (refl, e)
+-- what is not beside something true does not hold
+only_first : (x y : Bool) → y ≡ true → (x && y) ≡ false → x ≡ false
+only_first x y on off = grind arith
 
 -- the new number does not pass the filter
 numbers_filtered : {X : Type 0} (p : ℕ → Bool) (rows : List (ℕ × X)) (c : ℕ) (x : X) → p c ≡ false
@@ -66,8 +69,14 @@ numbers_filtered p rows c x out =
 
 -- a code that does not name the session is another
 other_code : (s t : Code) → same_code t s ≡ false → s ≡ t → ⊥
-other_code s t away same = let differ : true ≡ false =
-    sym (same_code_itself s) ∙ ap (λ z. same_code z s) same ∙ away in cc
+other_code s t away same = true≢false (sym (same_code_itself s) ∙ ap (λ z. same_code z s) same ∙ away)
+
+-- a session that is there but not named is another
+unnamed : (r : Relations) (s named : Code) → has_row code_cmp r.sessions named ≡ true → names r named s ≡ false
+    → same_code named s ≡ false
+unnamed r s named known out =
+    false_from_ne_true (same_code named s) (λ same. true≢false (sym (and_from (same_code named s) _ same
+    (ap (has_row code_cmp r.sessions) (sym (same_code_exact named s same)) ∙ known)) ∙ out))
 
 -- ---- who has a live entry is a candidate
 
@@ -78,25 +87,17 @@ module _ (r : Relations)
       → list_all (λ (x : (ℕ × Code) × Entry). has_row nat_cmp r.candidates x.0.0 && has_row code_cmp r.papers x.0.1) es
       ≡ true
       → list_any (is_live_entry r s c) es ≡ true → has_row nat_cmp r.candidates c ≡ true
-  entered_among c [] every some = absurd (let differ : false ≡ true = some in cc)
+  entered_among c [] every some = absurd cc
   entered_among c (e ∷ es) every some =
       let both = and_parts (has_row nat_cmp r.candidates e.0.0 && has_row code_cmp r.papers e.0.1)
       (list_all (λ (x : (ℕ × Code) × Entry). has_row nat_cmp r.candidates x.0.0 && has_row code_cmp r.papers x.0.1)
       es) every in
-      inner (is_live_entry r s c e) refl some (entered_among c es both.1)
-    where
-      inner : (b : Bool) → is_live_entry r s c e ≡ b → (b || list_any (is_live_entry r s c) es) ≡ true
-          → (list_any (is_live_entry r s c) es ≡ true → has_row nat_cmp r.candidates c ≡ true)
-          → has_row nat_cmp r.candidates c ≡ true
-      inner true is any rest =
-          let known : has_row nat_cmp r.candidates e.0.0 ≡ true =
-          (and_parts (has_row nat_cmp r.candidates e.0.0) (has_row code_cmp r.papers e.0.1)
-          (and_parts (has_row nat_cmp r.candidates e.0.0 && has_row code_cmp r.papers e.0.1)
-          (list_all (λ (x : (ℕ × Code) × Entry). has_row nat_cmp r.candidates x.0.0
-          && has_row code_cmp r.papers x.0.1) es) every).0).0 in
-          ap (has_row nat_cmp r.candidates)
-          (sym (eqb-true e.0.0 c (and_parts (nat_eq e.0.0 c) (e.1.live && is_paper_of r s e.0.1) is).0)) ∙ known
-      inner false is any rest = rest any
+      elim (or_cases (is_live_entry r s c e) (list_any (is_live_entry r s c) es) some) [
+        | inl is ↦ ap (has_row nat_cmp r.candidates)
+            (sym (eqb-true e.0.0 c (and_parts (nat_eq e.0.0 c) (e.1.live && is_paper_of r s e.0.1) is).0))
+            ∙ (and_parts (has_row nat_cmp r.candidates e.0.0) (has_row code_cmp r.papers e.0.1) both.0).0
+        | inr later ↦ entered_among c es both.1 later
+      ]
 
   entered_known : (c : ℕ) → has_live_entry r s c ≡ true → has_row nat_cmp r.candidates c ≡ true
   entered_known c some = entered_among c r.entries good some
@@ -106,15 +107,13 @@ none_standing : (r : Relations) (s : Code) (c : ℕ) → is_member r s c ≡ tru
     → list_any (stands_in r s) rows ≡ false → filter (is_standing r c) rows ≡ []
 none_standing r s c member [] none = refl
 none_standing r s c member (a ∷ rows) none =
-    let parts = neither_any (stands_in r s a) (list_any (stands_in r s) rows) none in
+    let parts = or_parts (stands_in r s a) (list_any (stands_in r s) rows) none in
     ap (λ b. cond b (a ∷ filter (is_standing r c) rows) (filter (is_standing r c) rows))
     (inner (nat_eq a.0.0 c) refl (is_granted a.1.status && is_marked r a.0) parts.0)
     ∙ none_standing r s c member rows parts.1
   where
     inner : (own : Bool) → nat_eq a.0.0 c ≡ own → (b : Bool) → (b && is_member r s a.0.0) ≡ false → (own && b) ≡ false
-    inner true mine true out =
-        absurd (let differ : true ≡ false = sym (ap (is_member r s) (eqb-true a.0.0 c mine) ∙ member) ∙ out in cc)
-    inner true mine false out = refl
+    inner true mine b out = only_first b (is_member r s a.0.0) (ap (is_member r s) (eqb-true a.0.0 c mine) ∙ member) out
     inner false mine b out = refl
 
 -- ---- imports
@@ -185,23 +184,15 @@ module _ (r0 : Relations) (refer : refers r0 ≡ true) (s : Code) where
   }
     where
       parts : (is_paper_of r0 s p ≡ false) × (names r0 x.session s ≡ false)
-      parts = neither_any (is_paper_of r0 s p) (names r0 x.session s) away
+      parts = or_parts (is_paper_of r0 s p) (names r0 x.session s) away
 
       other : (q : Code) → is_paper_of r0 s q ≡ true → q ≡ p → ⊥
-      other q of same = let differ : true ≡ false = sym of ∙ ap (is_paper_of r0 s) same ∙ parts.0 in cc
+      other q of same = true≢false (sym of ∙ ap (is_paper_of r0 s) same ∙ parts.0)
 
       -- the new session is there, and is another
       moved : same_code x.session s ≡ false
-      moved = inner (same_code x.session s) refl
-        where
-          inner : (b : Bool) → same_code x.session s ≡ b → b ≡ false
-          inner true same =
-              let there_is : has_row code_cmp r0.sessions s ≡ true =
-              ap (has_row code_cmp r0.sessions) (sym (same_code_exact x.session s same))
-              ∙ there (has_row code_cmp r0.sessions x.session) refusal.UnknownSession [] ok in
-              absurd (let differ : true ≡ false = sym (ap (λ b. b && has_row code_cmp r0.sessions s) same ∙ there_is)
-              ∙ parts.1 in cc)
-          inner false same = refl
+      moved = unnamed r0 s x.session (there (has_row code_cmp r0.sessions x.session) refusal.UnknownSession [] ok)
+          parts.1
 
       papers : (q : Code) (b : Bool) → is_at (code_cmp q) p ≡ b
           → option_map_or (λ (paper : Paper). same_code paper.session s)
@@ -224,8 +215,8 @@ module _ (r0 : Relations) (refer : refers r0 ≡ true) (s : Code) where
     openings = so.alike.openings;
     halls = λ k opened. put_elsewhere code_cmp nat_list_cmp_total r.halls h k x
         (key_apart code_cmp exact_bytes k h
-        (λ same. let differ : true ≡ false =
-        sym opened ∙ ap (λ z. has_row opening_cmp r0.openings (s, z)) same ∙ away in cc)) ∙ so.alike.halls k opened;
+        (λ same. true≢false (sym opened ∙ ap (λ z. has_row opening_cmp r0.openings (s, z)) same ∙ away)))
+        ∙ so.alike.halls k opened;
     candidates = so.alike.candidates;
     in_force = so.alike.in_force;
     granted = so.alike.granted;
@@ -244,16 +235,9 @@ module _ (r0 : Relations) (refer : refers r0 ≡ true) (s : Code) where
     granted = so.alike.granted;
   }
     where
-      there_is : has_row code_cmp r0.sessions named ≡ true
-      there_is = not-false (has_row code_cmp r0.sessions named)
-          (passed (not (has_row code_cmp r0.sessions named)) refusal.UnknownSession (no_hall r0 h ∷ []) ok).0
-
       other : s ≡ named → ⊥
-      other same =
-          let one : same_code named s ≡ true = ap (λ z. same_code named z) same ∙ same_code_itself named in
-          let differ : true ≡ false =
-          sym (ap (λ b. b && has_row code_cmp r0.sessions s) one ∙ ap (has_row code_cmp r0.sessions) same
-          ∙ there_is) ∙ away in cc
+      other = other_code s named (unnamed r0 s named
+          (there (has_row code_cmp r0.sessions named) refusal.UnknownSession (no_hall r0 h ∷ []) ok) away)
   spared_row r so (row.OfCandidate c x) unset away ok = record {
     session = so.alike.session;
     papers = so.alike.papers;
@@ -275,8 +259,8 @@ module _ (r0 : Relations) (refer : refers r0 ≡ true) (s : Code) where
           (put_keys nat_cmp nat_cmp_total r.candidates c x stored.0 so.rising stored.1)
         where
           there_at : {A : Type 0} (o : Option A) → is_some o ≡ true → (a : A) × (o ≡ Some a)
-          there_at None some = absurd (let differ : false ≡ true = some in cc)
           there_at (Some a) some = (a, refl)
+          there_at None some = absurd cc
       candidates false out = numbers_filtered (has_live_entry r0 s) r.candidates c x out
   spared_row r so (row.OfEntry c p) unset away ok = record {
     session = so.alike.session;
@@ -315,15 +299,15 @@ module _ (r0 : Relations) (refer : refers r0 ≡ true) (s : Code) where
       other : (d : ℕ) → has_live_entry r0 s d ≡ true → d ≡ c → ⊥
       other d entered same =
           let member : is_member r0 s d ≡ true = ap (λ b. b && has_live_entry r0 s d) (known d entered) ∙ entered in
-          let differ : true ≡ false = sym member ∙ ap (is_member r0 s) same ∙ away in cc
+          true≢false (sym member ∙ ap (is_member r0 s) same ∙ away)
 
   spared_rows : (r : Relations) → IsSpared r → (rows : List Row) → list_any (sets_session s) rows ≡ false
       → list_any (λ (x : Row). row_reaches r0 x s) rows ≡ false → rows_refusal r0 rows ≡ None
       → SpeakAlike r0 (with_rows r rows) s
   spared_rows r so [] unset away ok = so.alike
   spared_rows r so (x ∷ rows) unset away ok =
-      let others = neither_any (sets_session s x) (list_any (sets_session s) rows) unset in
-      let apart = neither_any (row_reaches r0 x s) (list_any (λ (x : Row). row_reaches r0 x s) rows) away in
+      let others = or_parts (sets_session s x) (list_any (sets_session s) rows) unset in
+      let apart = or_parts (row_reaches r0 x s) (list_any (λ (x : Row). row_reaches r0 x s) rows) away in
       let checked = neither (first_refusal (row_checks r0 x)) (rows_refusal r0 rows) ok in
       let next : IsSpared (with_row r x) = record {
         alike = spared_row r so x others.0 apart.0 checked.0;
@@ -378,11 +362,7 @@ closing_spares r named h s away = record {
 -- ---- decisions
 
 open_ungranted : (st : Status) → is_open st ≡ true → is_granted st ≡ false
-open_ungranted status.Pending open_yet = refl
-open_ungranted (status.Granted answer) open_yet = absurd (let differ : false ≡ true = open_yet in cc)
-open_ungranted (status.Refused answer) open_yet = refl
-open_ungranted status.Retracted open_yet = refl
-open_ungranted (status.Superseded answer) open_yet = refl
+open_ungranted st open_yet = grind arith
 
 module _ (c : ℕ) (own s : Code) (asked : Subject) (away : same_code own s ≡ false) where
   abbrev given : (ℕ × Code) × Appeal → (ℕ × Code) × Appeal
@@ -390,59 +370,36 @@ module _ (c : ℕ) (own s : Code) (asked : Subject) (away : same_code own s ≡ 
 
   -- an appeal for the session is not superseded
   kept : (n : ℕ) (row : (ℕ × Code) × Appeal) → is_granted_appeal s n row ≡ true → given row ≡ row
-  kept n row is = inner (same_code row.1.session own) refl
+  kept n row is =
+      ap (λ b. cond b (row.0, record row.1 { status = superseded row.1.status }) row)
+      (and_right (nat_eq row.0.0 c) _ (and_left _ (supersedes asked row.1.subject) other))
     where
       here : same_code row.1.session s ≡ true
       here = (and_parts (same_code row.1.session s) (is_granted row.1.status)
           (and_parts (nat_eq row.0.0 n) (same_code row.1.session s && is_granted row.1.status) is).1).0
 
-      no_way : (mine : Bool) → (mine && (false && supersedes asked row.1.subject)) ≡ false
-      no_way true = refl
-      no_way false = refl
-
-      inner : (b : Bool) → same_code row.1.session own ≡ b → given row ≡ row
-      inner true same =
-          let one : same_code own s ≡ true =
-          ap (λ z. same_code z s) (sym (same_code_exact row.1.session own same)) ∙ here in
-          absurd (let differ : true ≡ false = sym one ∙ away in cc)
-      inner false other = ap
-          (λ b. cond (nat_eq row.0.0 c && (b && supersedes asked row.1.subject))
-          (row.0, record row.1 { status = superseded row.1.status }) row) other
-          ∙ ap (λ b. cond b (row.0, record row.1 { status = superseded row.1.status }) row) (no_way (nat_eq row.0.0 c))
+      other : same_code row.1.session own ≡ false
+      other = false_from_ne_true (same_code row.1.session own)
+          (λ same. true≢false (sym here ∙ ap (λ z. same_code z s) (same_code_exact row.1.session own same) ∙ away))
 
   out : (n : ℕ) (row : (ℕ × Code) × Appeal) → is_granted_appeal s n row ≡ false
       → is_granted_appeal s n (given row) ≡ false
-  out n row is = inner (gives_way c own asked row)
-    where
-      inner : (b : Bool) → is_granted_appeal s n
-          (cond b (row.0, record row.1 { status = superseded row.1.status }) row) ≡ false
-      inner true = ap (λ g. nat_eq row.0.0 n && (same_code row.1.session s && g)) (superseded_ungranted row.1.status)
-          ∙ not_granted (nat_eq row.0.0 n) (same_code row.1.session s)
-      inner false = is
-
-  given_keyed : (row : (ℕ × Code) × Appeal) → (given row).0 ≡ row.0
-  given_keyed row = inner (gives_way c own asked row)
-    where
-      inner : (b : Bool) → (cond b (row.0, record row.1 { status = superseded row.1.status }) row).0 ≡ row.0
-      inner true = refl
-      inner false = refl
+  out n row is =
+      cond_both (gives_way c own asked row) _ row (λ x. is_granted_appeal s n x ≡ false)
+      (λ e. ap (λ g. nat_eq row.0.0 n && (same_code row.1.session s && g)) (superseded_ungranted row.1.status)
+      ∙ not_granted (nat_eq row.0.0 n) (same_code row.1.session s)) (λ e. is)
 
   given_for : (row : (ℕ × Code) × Appeal) → (given row).1.session ≡ row.1.session
-  given_for row = inner (gives_way c own asked row)
-    where
-      inner : (b : Bool) → (cond b (row.0, record row.1 { status = superseded row.1.status }) row).1.session
-          ≡ row.1.session
-      inner true = refl
-      inner false = refl
+  given_for row = grind arith
 
   -- what is stored at the key is for the same session
   still_for : (rows : List ((ℕ × Code) × Appeal)) (k : ℕ × Code) (a b : Appeal) → row_at appeal_cmp rows k ≡ Some a
       → row_at appeal_cmp (map given rows) k ≡ Some b → b.session ≡ a.session
-  still_for [] k a b at then = absurd (let differ : None ≡ Some a = at in cc)
+  still_for [] k a b at then = absurd cc
   still_for (row ∷ rows) k a b at then =
       inner (is_at (appeal_cmp k) row.0) at
       (ap (λ q. cond (is_at (appeal_cmp k) q) (Some (given row).1) (row_at appeal_cmp (map given rows) k))
-      (sym (given_keyed row)) ∙ then) (still_for rows k a b)
+      (sym (given_keyed c own asked row)) ∙ then) (still_for rows k a b)
     where
       inner : (here : Bool) → cond here (Some row.1) (row_at appeal_cmp rows k) ≡ Some a
           → cond here (Some (given row).1) (row_at appeal_cmp (map given rows) k) ≡ Some b
@@ -465,13 +422,8 @@ module _ (c : ℕ) (own s : Code) (asked : Subject) (away : same_code own s ≡ 
       (λ b then. elsewhere b (ap (λ z. same_code z s) (still_for r.appeals k a b at then ∙ mine) ∙ away))
       ∙ mapped_filtered (is_granted_appeal s n) given (kept n) (out n) r.appeals)
     where
-      none : (b g : Bool) → (b && (false && g)) ≡ false
-      none true g = refl
-      none false g = refl
-
       elsewhere : (x : Appeal) → same_code x.session s ≡ false → is_granted_appeal s n (k, x) ≡ false
-      elsewhere x other = ap (λ b. nat_eq k.0 n && (b && is_granted x.status)) other
-          ∙ none (nat_eq k.0 n) (is_granted x.status)
+      elsewhere x other = and_right (nat_eq k.0 n) _ (and_left _ (is_granted x.status) other)
 
 -- if no standing grant of another appeal is superseded, none is, since the appeal itself bears no mark
 module _ (r : Relations) (d : Decision) (a : Appeal) (unmarked_own : is_marked r (d.number, d.reference) ≡ false) where
@@ -479,37 +431,28 @@ module _ (r : Relations) (d : Decision) (a : Appeal) (unmarked_own : is_marked r
       → (is_earlier d.number a.session a.subject row && is_marked r row.0) ≡ false
   no_other row = by (same_code row.0.1 d.reference) refl
     where
-      off : (b : Bool) → (b && false) ≡ false
-      off true = refl
-      off false = refl
-
-      alone : (b : Bool) → (b && true) ≡ false → b ≡ false
-      alone true is = is
-      alone false is = refl
-
       of_own : (b : Bool) → nat_eq row.0.0 d.number ≡ b → row.0.1 ≡ d.reference
           → (((b && (same_code row.1.session a.session && supersedes a.subject row.1.subject))
           && is_granted row.1.status) && is_marked r row.0) ≡ false
       of_own true mine same =
-          ap (λ m. ((same_code row.1.session a.session && supersedes a.subject row.1.subject)
-          && is_granted row.1.status) && m)
+          and_right ((same_code row.1.session a.session && supersedes a.subject row.1.subject)
+          && is_granted row.1.status) _
           (ap (λ (n : ℕ). is_marked r (n, row.0.1)) (eqb-true row.0.0 d.number mine)
           ∙ ap (λ (t : Code). is_marked r (d.number, t)) same ∙ unmarked_own)
-          ∙ off ((same_code row.1.session a.session && supersedes a.subject row.1.subject) && is_granted row.1.status)
       of_own false other same = refl
 
       by : (b : Bool) → same_code row.0.1 d.reference ≡ b
           → ((is_earlier d.number a.session a.subject row && is_marked r row.0) && not b) ≡ false
           → (is_earlier d.number a.session a.subject row && is_marked r row.0) ≡ false
       by true same is = of_own (nat_eq row.0.0 d.number) refl (same_code_exact row.0.1 d.reference same)
-      by false other is = alone (is_earlier d.number a.session a.subject row && is_marked r row.0) is
+      by false other is = only_first (is_earlier d.number a.session a.subject row && is_marked r row.0) true refl is
 
   none_ended : (rows : List ((ℕ × Code) × Appeal)) → list_any (is_ended r d a) rows ≡ false
       → list_any (λ (e : (ℕ × Code) × Appeal). is_earlier d.number a.session a.subject e && is_marked r e.0) rows
       ≡ false
   none_ended [] none = refl
   none_ended (row ∷ rows) none =
-      let parts = neither_any (is_ended r d a row) (list_any (is_ended r d a) rows) none in
+      let parts = or_parts (is_ended r d a row) (list_any (is_ended r d a) rows) none in
       ap (λ b. b || list_any
       (λ (e : (ℕ × Code) × Appeal). is_earlier d.number a.session a.subject e && is_marked r e.0) rows)
       (no_other row parts.0) ∙ none_ended rows parts.1
@@ -521,7 +464,7 @@ module _ (r : Relations) (c : ℕ) (own : Code) (asked : Subject) where
       → filter (is_standing r c) (map (giving_way c own asked) rows) ≡ filter (is_standing r c) rows
   still_standing [] none = refl
   still_standing (row ∷ rows) none =
-      let parts = neither_any (is_earlier c own asked row && is_marked r row.0)
+      let parts = or_parts (is_earlier c own asked row && is_marked r row.0)
       (list_any (λ (e : (ℕ × Code) × Appeal). is_earlier c own asked e && is_marked r e.0) rows) none in
       inner (gives_way c own asked row) refl parts.0 (still_standing rows parts.1)
     where
@@ -536,8 +479,7 @@ module _ (r : Relations) (c : ℕ) (own : Code) (asked : Subject) where
 
       unmarked : (mine granted marked : Bool) → ((true && granted) && marked) ≡ false
           → (mine && (granted && marked)) ≡ false
-      unmarked true granted marked off = off
-      unmarked false granted marked off = refl
+      unmarked mine granted marked off = and_right mine (granted && marked) off
 
       inner : (b : Bool) → gives_way c own asked row ≡ b → ((b && is_granted row.1.status) && is_marked r row.0) ≡ false
           → filter (is_standing r c) (map (giving_way c own asked) rows) ≡ filter (is_standing r c) rows
@@ -594,7 +536,7 @@ module _ (r : Relations) (refer : refers r ≡ true) (stand : marks_were_granted
     where
       parts : (same_code a.session s ≡ false)
           × (((bears_mark d.outcome || ends_standing r d a) && is_member r s d.number) ≡ false)
-      parts = neither_any (same_code a.session s)
+      parts = or_parts (same_code a.session s)
           ((bears_mark d.outcome || ends_standing r d a) && is_member r s d.number) untouched
 
       t : Relations
@@ -615,9 +557,8 @@ module _ (r : Relations) (refer : refers r ≡ true) (stand : marks_were_granted
               → with_decisions r (put_row appeal_cmp (with_superseded d.number a u r.appeals) key
               (record a { status = decided u d.answer })) (with_mark d r.standing)
               ≡ with_decisions r (put_row appeal_cmp given_rows key granted_row) (with_mark d r.standing)
-          by_outcome outcome.Grant granting = refl
-          by_outcome outcome.Standing granting = refl
-          by_outcome outcome.Refuse granting = absurd (let differ : false ≡ true = granting in cc)
+          by_outcome outcome.Refuse granting = absurd cc
+          by_outcome _ granting = refl
 
       -- the appellant, if they are a member
       of_member : (h : Code) → has_live_entry r s d.number ≡ true → fits t s d.number h ≡ fits r s d.number h
@@ -625,7 +566,7 @@ module _ (r : Relations) (refer : refers r ≡ true) (stand : marks_were_granted
           let member : is_member r s d.number ≡ true =
           ap (λ b. b && has_live_entry r s d.number)
           (entered_known r (parted r refer table.Entries) s d.number entered) ∙ entered in
-          let none = neither_any (bears_mark d.outcome) (ends_standing r d a)
+          let none = or_parts (bears_mark d.outcome) (ends_standing r d a)
           (only_first (bears_mark d.outcome || ends_standing r d a) (is_member r s d.number) member parts.1) in
           fits_same r (put_row appeal_cmp given_rows key granted_row) (with_mark d r.standing) s d.number
           (granted_same d.number)
@@ -636,10 +577,6 @@ module _ (r : Relations) (refer : refers r ≡ true) (stand : marks_were_granted
           (with_decisions r (put_row appeal_cmp given_rows key granted_row) marks) d.number)
           (unmarked_same r.standing key unmarked)
           ∙ own_standing none.1) h
-        where
-          only_first : (x y : Bool) → y ≡ true → (x && y) ≡ false → x ≡ false
-          only_first true y member off = absurd (let differ : true ≡ false = sym member ∙ off in cc)
-          only_first false y member off = refl
 
       of_appellant : (h : Code) (b : Bool) → has_live_entry r s d.number ≡ b → fits t s d.number h ≡ fits r s d.number h
       of_appellant h true entered = of_member h entered
@@ -655,32 +592,10 @@ module _ (r : Relations) (refer : refers r ≡ true) (stand : marks_were_granted
 
   outcome_spares : (o : Outcome) → d.outcome ≡ o → (is_grant o && grant_reaches r d a s) ≡ false
       → SameSeating (seating r s) (seating (with_outcome r d a) s)
-  outcome_spares outcome.Grant is away =
-      subst (λ (u : Relations). SameSeating (seating r s) (seating u s)) (sym (made_as outcome.Grant is))
-      (grant_seating outcome.Grant is refl away)
-    where
-      made_as : (o : Outcome) → d.outcome ≡ o
-          → with_outcome r d a
-          ≡ with_decisions r (put_row appeal_cmp (with_superseded d.number a o r.appeals) key
-          (record a { status = decided o d.answer })) (with_mark d r.standing)
-      made_as o e = ap (λ (u : Outcome). with_decisions r
-          (put_row appeal_cmp (with_superseded d.number a u r.appeals) key (record a { status = decided u d.answer }))
-          (with_mark d r.standing)) e
-  outcome_spares outcome.Standing is away =
-      subst (λ (u : Relations). SameSeating (seating r s) (seating u s)) (sym (made_as outcome.Standing is))
-      (grant_seating outcome.Standing is refl away)
-    where
-      made_as : (o : Outcome) → d.outcome ≡ o
-          → with_outcome r d a
-          ≡ with_decisions r (put_row appeal_cmp (with_superseded d.number a o r.appeals) key
-          (record a { status = decided o d.answer })) (with_mark d r.standing)
-      made_as o e = ap (λ (u : Outcome). with_decisions r
-          (put_row appeal_cmp (with_superseded d.number a u r.appeals) key (record a { status = decided u d.answer }))
-          (with_mark d r.standing)) e
   outcome_spares outcome.Refuse is away =
       subst (λ (u : Relations). SameSeating (seating r s) (seating u s)) (sym made_as)
       (put_seating_same r key (record a { status = status.Refused d.answer }) refl
-      (λ b there_is. let same : a ≡ b = (let both : Some a ≡ Some b = sym at ∙ there_is in cc) in
+      (λ b there_is. let same : a ≡ b = cc in
       ap (λ (x : Appeal). is_granted x.status) (sym same) ∙ open_ungranted a.status open_yet) s)
     where
       made_as : with_outcome r d a
@@ -690,33 +605,22 @@ module _ (r : Relations) (refer : refers r ≡ true) (stand : marks_were_granted
           (cond (bears_mark u) (put_row appeal_cmp r.standing key tt) (without_mark key r.standing))) is
           ∙ ap (with_decisions r (put_row appeal_cmp r.appeals key (record a { status = status.Refused d.answer })))
           (unmarked_same r.standing key unmarked)
+  outcome_spares o is away =
+      subst (λ (u : Relations). SameSeating (seating r s) (seating u s))
+      (sym (ap (λ (u : Outcome). with_decisions r
+      (put_row appeal_cmp (with_superseded d.number a u r.appeals) key (record a { status = decided u d.answer }))
+      (with_mark d r.standing)) is)) (grant_seating o is refl away)
 
 module _ (r : Relations) (refer : refers r ≡ true) (stand : marks_were_granted r ≡ true) (today : ℕ) (d : Decision)
     (s : Code) where
   pub decision_spares : decision_refusal r today d ≡ None → decision_reaches r d s ≡ false
       → SameSeating (seating r s) (seating (with_decision r d) s)
-  decision_spares ok away = inner (appeal_at r d.number d.reference) refl ok
-    where
-      same : SameSeating (seating r s) (seating r s)
-      same = record { members = refl; fits = λ c h. refl; desks = λ h. refl }
-
-      by_case : (a : Appeal) → appeal_at r d.number d.reference ≡ Some a → (b : Bool)
-          → first_refusal (cond b [] (open_checks r today d a)) ≡ None
-          → SameSeating (seating r s) (seating (cond b r (with_outcome r d a)) s)
-      by_case a at true checked = same
-      by_case a at false checked =
-          outcome_spares r refer stand d s a at
-          (there (is_open a.status) refusal.NotOpenAppeal
-          ((is_too_late r a.session today, refusal.TooLate) ∷ not_arrangement a d.outcome
-          ∷ grant_checks r d.number a d.outcome) checked) d.outcome refl
-          (ap (λ o. is_grant d.outcome && option_map_or (λ (x : Appeal). grant_reaches r d x s) o false) (sym at)
-          ∙ away)
-
-      inner : (o : Option Appeal) → appeal_at r d.number d.reference ≡ o
-          → first_refusal (decision_checks r today d o) ≡ None
-          → SameSeating (seating r s) (seating (with_decided r d o) s)
-      inner None none checked = same
-      inner (Some a) at checked = by_case a at (is_made r d a) checked
+  decision_spares ok away =
+      let same : SameSeating (seating r s) (seating r s) =
+      record { members = refl; fits = λ c h. refl; desks = λ h. refl } in
+      after_decision r (λ t. SameSeating (seating r s) (seating t s)) today d ok (λ a at made. same)
+      (λ a at passed. outcome_spares r refer stand d s a at (was_open r today d a passed) d.outcome refl
+      (ap (λ o. is_grant d.outcome && option_map_or (λ (x : Appeal). grant_reaches r d x s) o false) (sym at) ∙ away))
 
 -- ---- any command
 
@@ -728,7 +632,7 @@ module _ (before : State) (good : IsGood before) (up : IsInOrder before) (today 
       let r = before.relations in
       alike_seating r (with_rows r import.rows) s
       (import_spares r good.refer s (up.tables table.Candidates) import.rows unset
-      (neither_any (list_any (λ (x : Row). row_reaches r x s) import.rows)
+      (or_parts (list_any (λ (x : Row). row_reaches r x s) import.rows)
       (is_of_sessions import.kind && has_standing_member r s) away).0 ok)
   made_spares (command.Withdraw c p) ok unset away =
       let r = before.relations in
@@ -741,15 +645,7 @@ module _ (before : State) (good : IsGood before) (up : IsInOrder before) (today 
       let known : has_row code_cmp r.sessions named ≡ true =
       there (has_row code_cmp r.sessions named) refusal.UnknownSession (no_hall r h ∷ not_opened r named h ∷ []) ok in
       alike_seating r (without_opening r named h) s
-      (closing_spares r named h s (unnamed r known (same_code named s) refl away))
-    where
-      unnamed : (r : Relations) → has_row code_cmp r.sessions named ≡ true → (b : Bool) → same_code named s ≡ b
-          → names r named s ≡ false → b ≡ false
-      unnamed r known true same out =
-          absurd (let differ : true ≡ false =
-          sym (ap (λ b. b && has_row code_cmp r.sessions s) same
-          ∙ ap (has_row code_cmp r.sessions) (sym (same_code_exact named s same)) ∙ known) ∙ out in cc)
-      unnamed r known false same out = refl
+      (closing_spares r named h s (unnamed r s named known away))
   made_spares (command.Lodge l) ok unset away =
       (lodging_settled before good today l (lodgings.with_lodging before.relations today l) ok refl).seated s
   made_spares (command.Retract c reference) ok unset away =

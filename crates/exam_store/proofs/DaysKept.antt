@@ -1,6 +1,7 @@
 -- The days of sessions and of appeals: those of an opened office, and what a command makes of them.
-use Rattle.std.proofs.Common.{All, ◌≡◌, ℕ, Bool, true, false, if◌then◌else◌, Option, Some, None, List, [], ◌∷◌, map, Ok}
-use Rattle.std.proofs.Common.{subst}
+use Rattle.std.proofs.Common.{All, ℕ, Bool, if◌then◌else◌, Option, Some, None, List, [], ◌∷◌, map, Ok}
+use Rattle.std.proofs.Common.{subst, sym}
+use Rattle.std.proofs.lemmas.Bool.{cond_both}
 use Rattle.std.specs.Prelude.{is_none}
 use Rattle.std.specs.List.{AllByRecursion}
 use Rattle.std.specs.Map.{values_of}
@@ -23,13 +24,14 @@ use Rattle.exam_commands.specs.declared.command.Outcome.{Outcome}
 use Rattle.exam_commands.specs.declared.command.Reply.{Reply}
 use Rattle.exam_commands.specs.declared.import_row.Row.{Row}
 use Rattle.exam_commands.specs.declared.import_row.Row.TheVariants as row
-use Rattle.exam_commands.specs.Appeals.{appeal_at, is_grant, is_retracted, superseded}
+use Rattle.exam_commands.specs.Appeals.{appeal_at, is_grant, is_retracted}
 use Rattle.exam_commands.specs.Changes.{with_row, with_rows}
 use Rattle.exam_commands.specs.Decisions.{gives_way, giving_way, is_made, with_decided, with_outcome, with_superseded}
 use Rattle.exam_commands.specs.Lodgings.{with_appeal, with_lodging, with_retracted, with_retracted_appeal}
 use Rattle.exam_commands.specs.State.{State, empty_state}
-use Rattle.exam_commands.specs.Steps.{Step, change}
-use Rattle.exam_laws.proofs.Lasting.{made, new_facts}
+use Rattle.exam_commands.specs.FactsMade.{facts_made}
+use Rattle.exam_commands.specs.Steps.{Step}
+use Rattle.exam_laws.proofs.Lasting.{step_made}
 use Rattle.exam_tables.specs.Rows.{IsAppeal, IsSession}
 use Rattle.exam_store.specs.Refused.{HoldsFormed}
 use Rattle.exam_store.specs.Stops.{HasDays, HasRowDay, HasRowDays}
@@ -68,8 +70,7 @@ formed_days all office formed =
 -- ---- the change of a command
 
 one_of : (b : Bool) (r t : Relations) → HasDays r → HasDays t → HasDays (if b then r else t)
-one_of true r t here there = here
-one_of false r t here there = there
+one_of b r t here there = cond_both b r t HasDays (λ is. here) (λ is. there)
 
 with_row_days : (r : Relations) (x : Row) → HasDays r → HasRowDay x → HasDays (with_row r x)
 with_row_days r (row.OfSession s x) days day =
@@ -112,21 +113,15 @@ given_way : (c : ℕ) (s : Code) (asked : Subject) (es : List ((ℕ × Code) × 
 given_way c s asked [] days = days
 given_way c s asked (e ∷ es) days =
     All-cons OfAppeal (giving_way c s asked e).1 (values_of (map (giving_way c s asked) es))
-    (inner (gives_way c s asked e) (All-head OfAppeal e.1 (values_of es) days))
+    (cond_both (gives_way c s asked e) _ e (λ x. OfAppeal x.1) (λ is. All-head OfAppeal e.1 (values_of es) days)
+    (λ is. All-head OfAppeal e.1 (values_of es) days))
     (given_way c s asked es (All-tail OfAppeal e.1 (values_of es) days))
-  where
-    inner : (b : Bool) → IsDay e.1.lodged
-        → OfAppeal (if b then (e.0, record e.1 { status = superseded e.1.status }) else e).1
-    inner true day = day
-    inner false day = day
 
 superseded_days : (c : ℕ) (a : Appeal) (o : Outcome) (es : List ((ℕ × Code) × Appeal)) → All OfAppeal (values_of es)
     → All OfAppeal (values_of (with_superseded c a o es))
-superseded_days c a o es days = inner (is_grant o)
-  where
-    inner : (b : Bool) → All OfAppeal (values_of (if b then map (giving_way c a.session a.subject) es else es))
-    inner true = given_way c a.session a.subject es days
-    inner false = days
+superseded_days c a o es days =
+    cond_both (is_grant o) _ es (λ rows. All OfAppeal (values_of rows))
+    (λ is. given_way c a.session a.subject es days) (λ is. days)
 
 decision_days : (r : Relations) (d : Decision) (found : Option Appeal) → HasDays r → IfSome found OfAppeal
     → HasDays (with_decided r d found)
@@ -140,28 +135,19 @@ decision_days r d (Some a) days day =
           (superseded_days d.number a d.outcome r.appeals days.appeals) day;
     })
 
-changed_days : (done : Command) (today : ℕ) (before : State) (r : Relations) → HasDays before.relations → IsDay today
-    → HasRowDays done → change done today before ≡ Ok r → HasDays r
-changed_days (command.Import import) today before r days day rows is =
-    subst HasDays (made _ _ r is) (with_rows_days before.relations import.rows days rows)
-changed_days (command.Withdraw c p) today before r days day rows is =
-    subst HasDays (made _ _ r is) (record { sessions = days.sessions; appeals = days.appeals })
-changed_days (command.Reinstate c p) today before r days day rows is =
-    subst HasDays (made _ _ r is) (record { sessions = days.sessions; appeals = days.appeals })
-changed_days (command.CloseHall s h) today before r days day rows is =
-    subst HasDays (made _ _ r is) (record { sessions = days.sessions; appeals = days.appeals })
-changed_days (command.Lodge l) today before r days day rows is =
-    subst HasDays (made _ _ r is) (lodging_days before.relations today l days day)
-changed_days (command.Retract c reference) today before r days day rows is =
-    subst HasDays (made _ _ r is)
-    (retraction_days before.relations c reference (appeal_at before.relations c reference) days
-    (stored before.relations c reference days))
-changed_days (command.Decide d) today before r days day rows is =
-    subst HasDays (made _ _ r is)
-    (decision_days before.relations d (appeal_at before.relations d.number d.reference) days
-    (stored before.relations d.number d.reference days))
+made_days : (done : Command) (today : ℕ) (before : State) → HasDays before.relations → IsDay today → HasRowDays done
+    → HasDays (facts_made done today before)
+made_days (command.Import import) today before days day rows = with_rows_days before.relations import.rows days rows
+made_days (command.Lodge l) today before days day rows = lodging_days before.relations today l days day
+made_days (command.Retract c reference) today before days day rows =
+    retraction_days before.relations c reference (appeal_at before.relations c reference) days
+    (stored before.relations c reference days)
+made_days (command.Decide d) today before days day rows =
+    decision_days before.relations d (appeal_at before.relations d.number d.reference) days
+    (stored before.relations d.number d.reference days)
+made_days _ today before days day rows = record { sessions = days.sessions; appeals = days.appeals }
 
 pub command_days : (done : Command) (today : ℕ) (before after : State) (reply : Reply) → HasDays before.relations
     → IsDay today → HasRowDays done → Step done today before (Ok reply) after → HasDays after.relations
 command_days done today before after reply days day rows step =
-    changed_days done today before after.relations days day rows (new_facts done today before reply after step)
+    subst HasDays (sym (step_made done today before reply after step).0) (made_days done today before days day rows)

@@ -10,7 +10,7 @@ use Rattle.std.proofs.lemmas.List.{length-map}
 use Rattle.std.proofs.lemmas.List.Filters.{length-filter_both}
 use Rattle.std.proofs.lemmas.Map.Lookups.{exact_unsigned}
 use Rattle.std.specs.Cmp.{Equal-is}
-use Rattle.std.proofs.lemmas.Bool.{eq-eqb}
+use Rattle.std.proofs.lemmas.Bool.{eq-eqb, false_from_ne_true, true≢false}
 use Rattle.exam_rules.specs.declared.rows.Candidate.{Candidate}
 use Rattle.exam_rules.specs.Relations.{Code, Relations, has_row, is_row_of, same_code}
 use Rattle.exam_rules.specs.Sessions.{appeal_count}
@@ -29,12 +29,7 @@ fewer {A} p q (x ∷ xs) = by (q x) (p x) refl (fewer p q xs)
     by : (kept passes : Bool) → p x ≡ passes → length (filter p (filter q xs)) ≤ length (filter p xs)
         → length (filter p (cond kept (x ∷ filter q xs) (filter q xs))) ≤ length
         (cond passes (x ∷ filter p xs) (filter p xs))
-    by true true is less = let whole =
-        ap (λ b. length (cond b (x ∷ filter p (filter q xs)) (filter p (filter q xs)))) is in omega (arith, whole, less)
-    by true false is less = let whole =
-        ap (λ b. length (cond b (x ∷ filter p (filter q xs)) (filter p (filter q xs)))) is in omega (arith, whole, less)
-    by false true is less = omega (arith, less)
-    by false false is less = omega (arith, less)
+    by kept passes is less = grind arith
 
 -- as many as one candidate may have, for each of these numbers
 abbrev HaveFew : List KeyedAppeal → List ℕ → Type 0
@@ -51,12 +46,10 @@ few_kept q appeals (n ∷ numbers) few =
 module _ (c : ℕ) (x : Candidate) (rows : List (ℕ × Candidate)) where
   -- a number that is another one
   other_row : (n : ℕ) → nat_eq n c ≡ false → has_row nat_cmp ((c, x) ∷ rows) n ≡ has_row nat_cmp rows n
-  other_row n other = by (is_eq (nat_cmp n c)) refl
-    where
-      by : (b : Bool) → is_eq (nat_cmp n c) ≡ b → has_row nat_cmp ((c, x) ∷ rows) n ≡ has_row nat_cmp rows n
-      by true same = absurd
-          (let e : true ≡ false = sym (eq-eqb n c (exact_unsigned n c ((Equal-is (nat_cmp n c)).0 same))) ∙ other in cc)
-      by false apart = rw apart refl
+  other_row n other =
+      let apart : is_eq (nat_cmp n c) ≡ false = false_from_ne_true (is_eq (nat_cmp n c))
+      (λ same. true≢false (sym (eq-eqb n c (exact_unsigned n c ((Equal-is (nat_cmp n c)).0 same))) ∙ other)) in
+      rw apart refl
 
   others_refer : (appeals : List KeyedAppeal)
       → list_all (λ (a : KeyedAppeal). has_row nat_cmp ((c, x) ∷ rows) a.0.0) appeals ≡ true

@@ -1,6 +1,6 @@
 -- The table of marks is there since version 2.
-use Rattle.std.proofs.Common.{◌≡◌, ◌≢◌, ◌++◌, ℕ, Bool, true, false, not, if◌then◌else◌, true≢false, List, [], ◌∷◌, inl}
-use Rattle.std.proofs.Common.{inr, IsTrue, refl, sym, ap, subst, ◌∙◌}
+use Rattle.std.proofs.Common.{◌≡◌, ◌≢◌, ◌++◌, ℕ, Bool, true, false, not, if◌then◌else◌, List, [], ◌∷◌, inl}
+use Rattle.std.proofs.Common.{inr, arith, IsTrue, refl, sym, ap, subst, ◌∙◌}
 use Rattle.std.specs.Bool.{beq}
 use Rattle.sqlite_value.specs.declared.value.Value.TheVariants.{Null}
 use Rattle.sqlite_trees.specs.Tree.{Trees}
@@ -47,7 +47,7 @@ one_version v w all a b = let same : (Null ∷ version_row v) ∷ [] ≡ (Null �
 
 -- so are those of this version
 pub of_newest : (db : Database) (all : Trees) → Contains db all → ContainsOf version db all
-of_newest db all was = (was, λ none. absurd (let e : true ≡ false = none in cc))
+of_newest db all was = (was, λ none. absurd cc)
 
 -- a version's number says whether it has the marks
 pub known_marks : (v : Version) → IsKnown v → v.has_marks ≡ marks_since v.number
@@ -98,13 +98,7 @@ opens_as e told = told
 
 -- two flags that a test finds equal, and two that it finds different
 pub found_equal : (a b : Bool) → not (beq a b) ≡ false → a ≡ b
-found_equal true true same = refl
-found_equal true false same = absurd (true≢false same)
-found_equal false true same = absurd (true≢false same)
-found_equal false false same = refl
+found_equal a b same = grind arith
 
 pub found_different : (a b : Bool) → not (beq a b) ≡ true → a ≡ b → ⊥
-found_different true true other same = true≢false (sym other)
-found_different true false other same = true≢false same
-found_different false true other same = true≢false (sym same)
-found_different false false other same = true≢false (sym other)
+found_different a b other same = grind arith

@@ -1,7 +1,7 @@
 -- What turns a part of a table into another turns the whole table too, where the rest of it stays.
 use Rattle.std.proofs.Common.{map, Ok, Err, Result, IfOk, OnOk, ◌≡◌, ℕ, ◌||◌, Bool, true, false, not, cond, List, []}
 use Rattle.std.proofs.Common.{◌∷◌, ◌++◌, Option, None, Some, Ordering, refl, sym, ap, ap₂, subst, subst₂, ◌∙◌}
-use Rattle.std.proofs.Common.{append_assoc}
+use Rattle.std.proofs.Common.{append_assoc, arith}
 use Rattle.std.specs.Prelude.{is_some}
 use Rattle.std.specs.Cmp.{Equal-is, IsTotalOrder}
 use Rattle.std.specs.List.{filter, list_any}
@@ -51,8 +51,7 @@ filtered_keys p (e ∷ rows) = inner (p e.0) (filtered_keys p rows)
     inner false rest = rest
 
 absent : {X : Type 0} (o : Option X) → is_some o ≡ false → o ≡ None
-absent None is = refl
-absent (Some x) is = cc
+absent o is = grind arith
 
 module _ {K X : Type 0} {cmp : K → K → Ordering} (total : IsTotalOrder cmp) (exact : CmpEqualImpliesEq cmp) where
   pub key_is_row : (rows : List (K × X)) (k : K) → has_key cmp rows k ≡ has_row cmp rows k

@@ -1,6 +1,6 @@
 -- What is put turns a table that loses no key: nothing is deleted of it.
 use Rattle.std.proofs.Common.{◌≡◌, ◌||◌, Bool, true, false, not, cond, List, [], ◌∷◌, ◌++◌, None, Ordering, is_some}
-use Rattle.std.proofs.Common.{refl, sym, ap, ap₂, subst, ◌∙◌}
+use Rattle.std.proofs.Common.{refl, sym, true≢false, ap, ap₂, subst, ◌∙◌}
 use Rattle.std.specs.Cmp.{IsTotalOrder}
 use Rattle.std.specs.List.{filter}
 use Rattle.std.specs.List.Sorted.{IsPermutation}
@@ -37,11 +37,9 @@ module _ {K X : Type 0} {cmp : K → K → Ordering} (total : IsTotalOrder cmp) 
           ∙ ap₂ (λ a b. is_some (cond (not (a || b)) (row_at cmp old k) None)) away is
 
       inner : (b : Bool) → has_key cmp puts k ≡ b → (d : Bool) → is_one_of cmp deletes k ≡ d → (b || d) ≡ (b || false)
-      inner true put d is = refl
-      inner false away false is = refl
-      inner false away true is =
-          absurd (let differ : true ≡ false = sym here ∙ list_any-append (λ (e : K × X). is_eq (cmp k e.0)) puts left
-          ∙ ap₂ ◌||◌ away (gone away is) in cc)
+      inner false away true is = absurd (true≢false (sym here
+          ∙ list_any-append (λ (e : K × X). is_eq (cmp k e.0)) puts left ∙ ap₂ ◌||◌ away (gone away is)))
+      inner _ put _ is = refl
 
   same_left : (rows : List (K × X)) → KeepsKeys cmp rows new
       → filter (stays cmp puts deletes) rows ≡ filter (stays cmp puts []) rows

@@ -1,6 +1,7 @@
 -- In tables that hold a good office, each row has what it refers to.
 use Rattle.std.proofs.Common.{◌≡◌, ◌&&◌, inl, inr, ℕ, pos, List, [], ◌∷◌, map, cond, Bool, true, false, Option, Some}
-use Rattle.std.proofs.Common.{None, is_some, option_map, option_and_then, IfSome, IsTrue, Ordering, refl, sym, ap}
+use Rattle.std.proofs.Common.{arith, is_some, option_map, option_and_then, IfSome, IsTrue, Ordering, refl, sym}
+use Rattle.std.proofs.Common.{ap}
 use Rattle.std.proofs.Common.{subst}
 use Rattle.std.specs.BTreeMap.{is_at}
 use Rattle.std.specs.Cmp.{Equal-is}
@@ -130,15 +131,11 @@ module _ {K X L Y : Type 0} (child_row : K → X → Row) (parent_row : L → Y 
 opened : (terms : Option Terms) (hall : Option Hall) (opening : Option Opening)
     → suits_opened terms (option_and_then (λ hall. option_map (room_of hall) opening) hall) ≡ true
     → is_some opening ≡ true
-opened terms hall (Some o) suits = refl
-opened None hall None suits = absurd cc
-opened (Some t) None None suits = absurd cc
-opened (Some t) (Some hall) None suits = absurd cc
+opened terms hall opening suits = grind arith
 
 -- what bears a mark is there
 borne : (appeal : Option Appeal) → option_map_or may_bear appeal false ≡ true → is_some appeal ≡ true
-borne (Some a) bears = refl
-borne None bears = absurd cc
+borne appeal bears = grind arith
 
 module _ (all : Trees) (office : State) (good : IsGood office) (rises : KeysRise seat_cmp office.seats)
     (held : HoldsOffice all office) where

@@ -1,6 +1,6 @@
 -- The rows that a table has at some keys, put, turn it into itself from what it was at these keys.
 use Rattle.std.proofs.Common.{◌≡◌, ◌||◌, Bool, true, false, not, cond, List, [], ◌∷◌, ◌++◌, Option, None, Some}
-use Rattle.std.proofs.Common.{Ordering, is_some, refl, sym, ap, subst, ◌∙◌, append_assoc}
+use Rattle.std.proofs.Common.{Ordering, arith, is_some, refl, sym, ap, subst, ◌∙◌, append_assoc}
 use Rattle.std.specs.Cmp.{Equal-is, IsTotalOrder}
 use Rattle.std.specs.List.{AllByRecursion, cons_option, filter}
 use Rattle.std.specs.List.Sorted.{IsPermutation, IsStrictlySortedBy}
@@ -118,8 +118,7 @@ module _ {K X : Type 0} {cmp : K → K → Ordering} (total : IsTotalOrder cmp) 
       ∙ sym (row_left total exact (λ j. not (inside j)) after k))
     where
       no_row : (o : Option (Option X)) (x : Option X) → is_some o ≡ false → or_row o x ≡ x
-      no_row None x away = refl
-      no_row (Some o) x away = cc
+      no_row o x away = grind arith
 
       inner : (k : K) (b : Bool) → inside k ≡ b
           → cond (not b) (row_at cmp before k) None ≡ cond (not b) (row_at cmp after k) None

@@ -1,4 +1,4 @@
-use Rattle.std.proofs.Common.{◌≡◌, true, false, ◌++◌, ◌∷◌, [], None, Some, ap, sym, ◌∙◌}
+use Rattle.std.proofs.Common.{◌≡◌, true≢false, ◌++◌, ◌∷◌, [], None, Some, ap, sym, ◌∙◌}
 use Rattle.std.specs.Option.{option_copied}
 use Rattle.std.specs.Prelude.{is_some}
 use Rattle.exam_rules.specs.Relations.{row_at}
@@ -21,5 +21,5 @@ returns g c old exact up has same =
           rw (put, c.new.ensures.items) (row_turns g.met.K.Ord.total key row.now exact.keys old new up same at)
       | in_default w ↦
           let none : row_at g.K.Ord.cmp new key ≡ None = sym c.get.ensures.value ∙ ap option_copied w.in_default.is in
-          absurd (let differ : false ≡ true = sym (ap is_some none) ∙ has in cc)
+          absurd (true≢false (sym has ∙ ap is_some none))
     ]

@@ -1,4 +1,4 @@
-use Rattle.std.proofs.Common.{◌≡◌, true, false, inl, inr, sym, ◌∙◌}
+use Rattle.std.proofs.Common.{true≢false, inl, inr, sym, ◌∙◌}
 use Rattle.std.proofs.lemmas.Bool.{both_ways}
 use Rattle.std.proofs.lemmas.Result.{IfOk-weaker, IfErr-weaker}
 use Rattle.exam_sql.proofs.Listed.{listed_newest}
@@ -15,7 +15,7 @@ returns-in-Ok-clause-refused g c =
     let it = c.in-Ok.ensures in
     IfErr-weaker c.store_of.result _ _
     (λ e is. rw is.1 (record {
-      blank = λ clean blank. absurd (let differ : true ≡ false = sym is.2 ∙ (it.empty blank).1 in cc);
+      blank = λ clean blank. absurd (true≢false (sym is.2 ∙ (it.empty blank).1));
       other = λ there. record {
         refusal = λ clean. inl (is.0, is.2);
         unlisted = λ clean none. absurd (both_ways _ none (listed_newest _ ((it.found there).listed clean)));
