@@ -11,7 +11,8 @@ use Rattle.sqlite.specs.Kind.TheVariants.{Integer, Text as KindText}
 use Rattle.sqlite.specs.Values.{or_null}
 use Rattle.sqlite_schema.specs.declared.schema.Column.{Column}
 use Rattle.exam_sql.specs.Texts.{delete_opening, delete_seat}
-use Rattle.exam_sql.proofs.Names.{Name, each, of, target, Candidate, Opening, Entry, Arrangement, Appeal, Seat, Standing}
+use Rattle.exam_sql.proofs.Names.{Name, each, of, target, Candidate, Opening, Entry, Arrangement, Appeal, Seat}
+use Rattle.exam_sql.proofs.Names.{Standing}
 use Rattle.exam_sql.proofs.EachTable.{keyed, key_means}
 use Rattle.exam_sql.proofs.Edits.{Edits, Means, PutsRow, removes, replaces, upserts}
 use Rattle.exam_sql.proofs.Fits.{Fits, fits_chosen, fits_given}

@@ -30,7 +30,8 @@ defined = each (λ n. table_defined_by (of n).create ≡ Ok (unplaced (of n))) r
 pub adds : (n : Name) → Adds (of n)
 unfolding everything encode value_cmp fits_kind is_free_name same_name begins lib.Ieee.is_nan lib.Ieee.lt made
 adds Session =
-    adds_by (of Session) (create Session) (defined Session) refl refl refl refl refl refl ((of Session).create, (refl, refl))
+    adds_by (of Session) (create Session) (defined Session) refl refl refl refl refl refl
+    ((of Session).create, (refl, refl))
     ((of Session).table.name, (refl, refl)) refl (lit< tt) (lit< tt) refl refl refl (lit< tt)
 adds n =
     adds_by (of n) (create n) (defined n) refl refl refl refl refl refl ((of n).create, (refl, refl))
