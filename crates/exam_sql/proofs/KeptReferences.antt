@@ -274,7 +274,8 @@ module _ {X : Type 0} (change : X → Trees → Trees) where
             known_by ways ways tree all next known
             (λ u other. (ap (λ (a : Trees). a u) does ∙ set_elsewhere all tree u rows other, refl))
             (subst₂ (Between (keys tree) (before tree) (mid tree) (after tree)) (sym here) (sym is)
-            (one (subst (Between (keys tree) (before tree) (mid tree) (after tree) (all tree)) is (known.each tree)))) in
+            (one (subst (Between (keys tree) (before tree) (mid tree) (after tree) (all tree)) is (known.each tree))))
+            in
             (refers_all ways next sound known_next, known_next, here)
 
         puts_go : (ways : ℕ → Way) → is_sound ways ≡ true → ways tree ≡ putting
