@@ -5,8 +5,7 @@ use Rattle.exam_sql.proofs.Words.{Schema, Table, Database, places, Holds, Contai
 use Rattle.std.proofs.Common.{◌≡◌, inl, inr, ℕ, true, false, not, ◌||◌, ◌==◌, List, [], ◌∷◌, ◌++◌, filter, refl, sym}
 use Rattle.std.proofs.Common.{ap, ap₂, subst, ◌∙◌, append_assoc}
 use Rattle.std.proofs.lemmas.List.Elements.{filter-append}
-use Rattle.std.proofs.lemmas.List.Sorted.{IsPermutation-append_left}
-use Rattle.std.proofs.lemmas.List.Sorted.{IsPermutation-append_comm}
+use Rattle.std.proofs.lemmas.List.Sorted.{IsPermutation-append_left, IsPermutation-append_comm}
 use Rattle.exam_sql.specs.Changes.{put_all, delete_all, with_puts, with_deletes, is_among, AreApart}
 use Rattle.exam_sql.proofs.RowLemmas.{twice}
 

@@ -15,8 +15,7 @@ use Rattle.sqlite_catalog.specs.Calls.{RefusesTable, IsLongTable}
 use Rattle.sqlite_catalog.specs.Change.{is_used, is_reserved, automatics}
 use Rattle.sqlite_catalog.specs.Listing.{is_fit, is_formed}
 use Rattle.sqlite.specs.Does.{Defines, MakesTable, MakesSequence}
-use Rattle.exam_sql.proofs.Failing.{IsWhole}
-use Rattle.exam_sql.proofs.StatementFails.{IsQuiet, fails_by}
+use Rattle.exam_sql.proofs.StatementFails.{IsQuiet, IsWhole, fails_by}
 use Rattle.exam_sql.proofs.KeysHold.{first_of}
 
 -- nothing forbids the table: its name is free, and its text and its columns are neither too long nor too many

@@ -1,6 +1,6 @@
 -- What the texts that put and delete a row do, for each of the ten tables.
 use Rattle.exam_sql.proofs.Words.{and_parts, cast, Int, Null, Text, Value, Row, rowid, Term, Trees, col}
-use Rattle.exam_sql.proofs.Words.{overlay, Abort, Replace, InsertOr, Values, everything, understood}
+use Rattle.exam_sql.proofs.Words.{Command, overlay, Abort, Replace, InsertOr, Values, everything, understood}
 use Rattle.exam_sql.proofs.Words.{first_key, on_conflict, store_schema, without_row}
 use Rattle.std.proofs.Common.{Bool, List, Option, None, Some, [], ap, ap₂, drop, false, length, lit≤, map, refl, true}
 use Rattle.std.proofs.Common.{ℕ, ℤ, ◌+◌, ◌/◌, ◌∷◌, ◌≡◌}
@@ -11,7 +11,8 @@ use Rattle.sqlite.specs.Kind.TheVariants.{Integer, Text as KindText}
 use Rattle.sqlite.specs.Values.{or_null}
 use Rattle.sqlite_schema.specs.declared.schema.Column.{Column}
 use Rattle.exam_sql.specs.Texts.{delete_opening, delete_seat}
-use Rattle.exam_sql.proofs.Names.{Name, of, target, Candidate, Opening, Entry, Arrangement, Appeal, Seat, Standing}
+use Rattle.exam_sql.proofs.Names.{Name, each, of, target, Candidate, Opening, Entry, Arrangement, Appeal, Seat}
+use Rattle.exam_sql.proofs.Names.{Standing}
 use Rattle.exam_sql.proofs.EachTable.{keyed, key_means}
 use Rattle.exam_sql.proofs.Edits.{Edits, Means, PutsRow, removes, replaces, upserts}
 use Rattle.exam_sql.proofs.Fits.{Fits, fits_chosen, fits_given}
@@ -56,9 +57,37 @@ cast_maybe : (o : Option (List ℕ)) → cast KindText (or_null Text o) ≡ or_n
 cast_maybe None = refl
 cast_maybe (Some t) = refl
 
--- an appeal's number is written too, since SQL takes 1 and 1.0 for equal
-abbrev appeal_terms : List Term
-appeal_terms = col 1 0 ∷ col 1 0 ∷ col 0 13 ∷ col 1 2 ∷ map (col 0) (range_with_len 15 9)
+-- The terms by which a row changes the one with its key, where it does not replace it. An appeal's number is written
+-- too, since SQL takes 1 and 1.0 for equal.
+abbrev changed : Name → Option (List Term)
+changed Appeal = Some (col 1 0 ∷ col 1 0 ∷ col 0 13 ∷ col 1 2 ∷ map (col 0) (range_with_len 15 9))
+changed Entry = None
+changed Arrangement = None
+changed Seat = None
+changed Standing = None
+changed n = Some (changed_terms (of n).table)
+
+module _ (n : Name) where
+  abbrev width : ℕ
+  width = length (of n).table.columns + 1
+
+  abbrev terms : List Term
+  terms = given_terms (of n).table
+
+  abbrev command : Option (List Term) → Command
+  command None = InsertOr (of n).at Replace (Values terms width) []
+  command (Some changed) =
+      InsertOr (of n).at Abort (Values terms width)
+      (on_conflict (target n) (of n).table.tree (found_terms (of n).table) changed ∷ [])
+
+put_means : (n : Name) → Means store_schema (of n).put (command n (changed n)) (length (of n).table.columns)
+unfolding understood everything store_schema
+put_means = each (λ n. Means store_schema (of n).put (command n (changed n)) (length (of n).table.columns))
+    (refl, (refl, refl), (lit≤ tt, refl)) (refl, (refl, refl), (lit≤ tt, refl))
+    (refl, (refl, refl), (lit≤ tt, refl)) (refl, (refl, refl), (lit≤ tt, refl))
+    (refl, (refl, refl), (lit≤ tt, refl)) (refl, (refl, refl), (lit≤ tt, refl))
+    (refl, (refl, refl), (lit≤ tt, refl)) (refl, (refl, refl), (lit≤ tt, refl))
+    (refl, (refl, refl), (lit≤ tt, refl)) (refl, (refl, refl), (lit≤ tt, refl))
 
 module _ (n : Name) (x : Fields (of n).table.columns) where
   abbrev row : Row
@@ -82,53 +111,45 @@ fits Appeal x =
 fits n x = fits_chosen (of n).table (of n).key (row n x) refl (simp (cast_int)) (λ v. refl)
 
 module _ (n : Name) (x : Fields (of n).table.columns) where
-  abbrev width : ℕ
-  width = length (of n).table.columns + 1
-
-  abbrev terms : List Term
-  terms = given_terms (of n).table
-
   abbrev Puts : Type 0
   Puts = PutsRow (of n).table.tree (of n).key (of n).put (row n x)
 
   abbrev IsSource : Type 0
-  IsSource = value_rows (row n x) width (length terms / width) terms ≡ (first n x ∷ kept n x) ∷ []
+  IsSource = value_rows (row n x) (width n) (length (terms n) / width n) (terms n) ≡ (first n x ∷ kept n x) ∷ []
 
-  replacing : IsSource
-      → Means store_schema (of n).put (InsertOr (of n).at Replace (Values terms width) []) (length (row n x)) → Puts
-  replacing = replaces (keyed n) (of n).put terms width (first n x) (kept n x) (row n x) (fits n x)
+  abbrev MeansBy : Option (List Term) → Type 0
+  MeansBy by = Means store_schema (of n).put (command n by) (length (row n x))
 
-  changing : (changed : List Term) → IsSource
-      → Means store_schema (of n).put
-      (InsertOr (of n).at Abort (Values terms width)
-      (on_conflict (target n) (of n).table.tree (found_terms (of n).table) changed ∷ [])) (length (row n x))
+  replacing : IsSource → MeansBy None → Puts
+  replacing = replaces (keyed n) (of n).put (terms n) (width n) (first n x) (kept n x) (row n x) (fits n x)
+
+  changing : (by : List Term) → IsSource → MeansBy (Some by)
       → ((db : Trees) → overlay db [] (of n).table.tree ≡ db (of n).table.tree)
-      → Finds (of n) (kept n x) (row n x) → BecomesBy changed (of n) (kept n x) (row n x) → Puts
-  changing changed source =
-      upserts (keyed n) (of n).put terms width (first n x) (kept n x) (row n x) (fits n x) source
-      (found_terms (of n).table) changed
+      → Finds (of n) (kept n x) (row n x) → BecomesBy by (of n) (kept n x) (row n x) → Puts
+  changing by source =
+      upserts (keyed n) (of n).put (terms n) (width n) (first n x) (kept n x) (row n x) (fits n x) source
+      (found_terms (of n).table) by
 
 puts_fields : (n : Name) (x : Fields (of n).table.columns) → Puts n x
-unfolding understood everything store_schema first_key
-puts_fields Entry x = replacing Entry x refl (refl, (refl, refl), (lit≤ tt, refl))
-puts_fields Arrangement x = replacing Arrangement x refl (refl, (refl, refl), (lit≤ tt, refl))
-puts_fields Seat x = replacing Seat x refl (refl, (refl, refl), (lit≤ tt, refl))
-puts_fields Standing x = replacing Standing x refl (refl, (refl, refl), (lit≤ tt, refl))
+unfolding first_key
+puts_fields Entry x = replacing Entry x refl (put_means Entry)
+puts_fields Arrangement x = replacing Arrangement x refl (put_means Arrangement)
+puts_fields Seat x = replacing Seat x refl (put_means Seat)
+puts_fields Standing x = replacing Standing x refl (put_means Standing)
 puts_fields Appeal x =
-    changing Appeal x appeal_terms refl (refl, (refl, refl), (lit≤ tt, refl)) (λ db. refl) (λ t r id. refl)
+    changing Appeal x _ refl (put_means Appeal) (λ db. refl) (λ t r id. refl)
     (λ t id same. ap (λ v. rowid t ∷ rowid t ∷ Int x.0 ∷ v ∷ row_of (drop 2 (of Appeal).table.columns) x.1.1)
     (text_same _ _ (and_parts _ _ (and_parts _ _ same).1).0))
 puts_fields Candidate x =
-    changing Candidate x (changed_terms (of Candidate).table) refl (refl, (refl, refl), (lit≤ tt, refl)) (λ db. refl)
-    (λ t r id. refl) (λ t id same. refl)
+    changing Candidate x _ refl (put_means Candidate) (λ db. refl) (λ t r id. refl) (λ t id same. refl)
 puts_fields Opening x =
-    changing Opening x (changed_terms (of Opening).table) refl (refl, (refl, refl), (lit≤ tt, refl)) (λ db. refl)
+    changing Opening x _ refl (put_means Opening) (λ db. refl)
     (λ t r id. refl) (λ t id same. let both = and_parts _ _ same in
     ap₂ (λ v w. rowid t ∷ rowid t ∷ v ∷ w ∷ row_of (drop 2 (of Opening).table.columns) x.1.1) (text_same _ _ both.0)
     (text_same _ _ (and_parts _ _ both.1).0))
 puts_fields n x =
-    changing n x (changed_terms (of n).table) refl (refl, (refl, refl), (lit≤ tt, refl)) (λ db. refl)
-    (λ t r id. refl) (λ t id same. ap (λ v. rowid t ∷ rowid t ∷ v ∷ row_of (drop 1 (of n).table.columns) x.1)
+    changing n x _ refl (put_means n) (λ db. refl) (λ t r id. refl)
+    (λ t id same. ap (λ v. rowid t ∷ rowid t ∷ v ∷ row_of (drop 1 (of n).table.columns) x.1)
     (text_same _ _ (and_parts _ _ same).0))
 
 -- The row replaces the one with its key.

@@ -1,12 +1,13 @@
 -- What the check computes of each of the ten tables: how it is made, that it has one key, and how it is loaded.
 use Rattle.exam_sql.proofs.Words.{and_parts, not-true, value_cmp, everything, understood, encode, begins, fits_kind}
+use Rattle.exam_sql.proofs.Words.{table_defined_by}
 use Rattle.exam_sql.proofs.Words.{is_free_name, same_name, same_rowid, IsLoad, made_schema, first_schema, made}
 use Rattle.exam_sql.proofs.Words.{store_schema, IsKeyed, list_all, holds, Row, Null, bare, places, same_key, first_key}
-use Rattle.std.proofs.Common.{Bool, [], ap, false, lit<, lit≤, refl, true, ◌||◌, ◌∷◌, ◌≡◌}
+use Rattle.std.proofs.Common.{Bool, Ok, [], ap, false, lit<, lit≤, refl, true, ◌||◌, ◌∷◌, ◌≡◌}
 use Rattle.exam_sql.proofs.Names.{Name, each, of, target, Session, Candidate, Arrangement, Standing}
 use Rattle.exam_sql.proofs.Loads.{load_of}
 use Rattle.exam_sql.proofs.Keying.{by_index, by_rowid, or_false, or_twice}
-use Rattle.exam_sql.proofs.Making.{Adds, IsCreate, adds_by}
+use Rattle.exam_sql.proofs.Making.{Adds, IsCreate, adds_by, unplaced}
 use Rattle.exam_sql.proofs.Quiet.{IsQuery}
 use Rattle.exam_sql.proofs.Terms.{key_terms}
 
@@ -20,13 +21,20 @@ create = each (λ n. IsCreate (made (of n).at) (of n).create)
     (refl, refl, (refl, refl), (lit≤ tt, refl)) (refl, refl, (refl, refl), (lit≤ tt, refl))
     (refl, refl, (refl, refl), (lit≤ tt, refl)) (refl, refl, (refl, refl), (lit≤ tt, refl))
 
+-- it defines the table
+defined : (n : Name) → table_defined_by (of n).create ≡ Ok (unplaced (of n))
+unfolding everything encode value_cmp fits_kind is_free_name same_name begins lib.Ieee.is_nan lib.Ieee.lt
+defined = each (λ n. table_defined_by (of n).create ≡ Ok (unplaced (of n))) refl refl refl refl refl refl refl refl refl
+    refl
+
 pub adds : (n : Name) → Adds (of n)
 unfolding everything encode value_cmp fits_kind is_free_name same_name begins lib.Ieee.is_nan lib.Ieee.lt made
 adds Session =
-    adds_by (of Session) (create Session) refl refl refl refl refl refl refl ((of Session).create, (refl, refl))
+    adds_by (of Session) (create Session) (defined Session) refl refl refl refl refl refl
+    ((of Session).create, (refl, refl))
     ((of Session).table.name, (refl, refl)) refl (lit< tt) (lit< tt) refl refl refl (lit< tt)
 adds n =
-    adds_by (of n) (create n) refl refl refl refl refl refl refl ((of n).create, (refl, refl))
+    adds_by (of n) (create n) (defined n) refl refl refl refl refl refl ((of n).create, (refl, refl))
     ((of n).table.name, (refl, refl)) refl (lit< tt) (lit< tt) refl refl refl (lit< tt)
 
 -- it has one key, and no foreign key acts on its rows

@@ -10,7 +10,8 @@ use Rattle.sqlite.specs.Effect.{value_rows}
 use Rattle.exam_sql.specs.Changes.{with_row}
 use Rattle.exam_sql.specs.Refusals.{RefusesRows}
 use Rattle.exam_sql.proofs.Deletes.{delete_by, delete_takes}
-use Rattle.exam_sql.proofs.Failing.{Answers, IsWhole, answers}
+use Rattle.exam_sql.proofs.Failing.{Answers, answers}
+use Rattle.exam_sql.proofs.StatementFails.{IsWhole}
 use Rattle.exam_sql.proofs.Fits.{Fits}
 use Rattle.exam_sql.proofs.KeysHold.{delete_refused, put_refused}
 use Rattle.exam_sql.proofs.References.{AllRefer, refers}

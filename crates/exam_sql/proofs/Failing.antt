@@ -3,12 +3,11 @@ use Rattle.exam_sql.proofs.Words.{Row, Trees, rowid, Conflict, Abort, Replace, U
 use Rattle.exam_sql.proofs.Words.{Values, Schema, Table, cast_row, edit_of, with_rowid, ids_of, Given, Compiled}
 use Rattle.exam_sql.proofs.Words.{CompileError, Error, Database, Then, Task, Edited, Written, Puts, Clears, Tries}
 use Rattle.exam_sql.proofs.Words.{TriesEach, InsertsOr, nothing, shown, count_of, mended, Does, OnRows, AtPlace, Tally}
-use Rattle.exam_sql.proofs.Words.{timed, State, Executes, IsNotRun, ExecutesInside, Escapes, IsMisplaced, text_of}
-use Rattle.exam_sql.proofs.Words.{mode_of, understood, IsPlain, command_of, Refuses, Fails, is_failure}
-use Rattle.std.proofs.Common.{◌≡◌, ◌≤◌, inl, inr, ℕ, ℤ, List, [], ◌∷◌, ◌++◌, length, Bool, true, false, ◌||◌, MatchBool}
-use Rattle.std.proofs.Common.{IsTrue, Some, None, Option, option_map, Ok, Err, Result, refl, sym, ap, subst, ◌∙◌}
-use Rattle.std.proofs.Common.{append-nil}
-use Rattle.sqlite_trees.specs.declared.error.StoreError.TheVariants.{OutOfMemory, Io, Corrupt, Full, Broken, Unstorable}
+use Rattle.exam_sql.proofs.Words.{timed, State, Executes, ExecutesInside, Escapes, IsMisplaced, text_of}
+use Rattle.exam_sql.proofs.Words.{mode_of, understood, IsPlain, command_of, statement_of, Refuses, Fails, is_failure}
+use Rattle.std.proofs.Common.{◌≡◌, inl, inr, ℕ, ℤ, List, [], ◌∷◌, ◌++◌, length, Bool, true, false, ◌||◌, MatchBool}
+use Rattle.std.proofs.Common.{IsTrue, Some, None, Option, option_map, Ok, Err, Result, refl, sym, ap, subst, subst₂}
+use Rattle.std.proofs.Common.{◌∙◌, append-nil}
 use Rattle.sqlite_schema.specs.declared.command.Conflict.TheVariants.{Ignore}
 use Rattle.sqlite_schema.specs.declared.command.Source.{Source}
 use Rattle.sqlite_schema.specs.declared.command.Source.TheVariants.{Query}
@@ -25,9 +24,9 @@ use Rattle.sqlite.specs.Rows.{Part, Gives, Queried, Sourced, Counter, CounterIn,
 use Rattle.sqlite.specs.Rows.{Meets, Upserts, Judged, Deletes, passes_over, sequence, joined, higher, rowids_for}
 use Rattle.sqlite.specs.Rows.{stamped}
 use Rattle.sqlite.specs.Does.{Concludes}
-use Rattle.sqlite.specs.State as state
-use Rattle.sqlite.specs.State.{ExecutesIn, IsStatement, EndsScope, shows_rows, is_pragma, Runs, RunsCommand}
+use Rattle.sqlite.specs.State.{ExecutesIn, shows_rows, is_pragma, Runs, RunsCommand}
 use Rattle.exam_sql.specs.Refusals.{RunsTo}
+use Rattle.exam_sql.proofs.StatementFails.{IsQuiet, IsWhole, fails_by}
 
 -- ---- the errors by which a part of a statement is refused
 
@@ -227,49 +226,42 @@ does_named limit mode params db text (Delete at q) rows =
     (λ table. on_delete (task_on limit mode params db table) mode at q db.trees)
 does_named limit mode params db text _ rows = absurd rows
 
-module _ (old new : State) (Refused : Type 0) where
-  -- the disk, the memory or a row that is too big
-  pub cause : (e : Error) (TooBig : Type 0) → state.Fails old new TooBig e → (TooBig → Refused)
-      → Fails old new Refused e
-  cause e TooBig (OutOfMemory, same, why, back, tells) big = inl same
-  cause e TooBig (Io, same, why, back, tells) big = inr (is e _ same refl, inl (inl why))
-  cause e TooBig (Corrupt, same, why, back, tells) big = inr (is e _ same refl, inl (inl why))
-  cause e TooBig (Full, same, why, back, tells) big = inr (is e _ same refl, inl (inl why))
-  cause e TooBig (Broken, same, why, back, tells) big = inr (is e _ same refl, inl (inr why))
-  cause e TooBig (Unstorable, same, why, back, tells) big = inr (is e _ same refl, inr (big why))
-
 -- what follows from the answer of a statement: the database does it, or why it fails
 pub record Answers (sql : List ℕ) (params : Row) (old new : State) : Type 0 where
   pub done : (count : ℕ) → Executes sql params old new (Ok count) → RunsTo old.step_limit sql params old.now new.now
   pub fails : (e : Error) → ExecutesInside 0 sql params old new (Err e)
       → Fails old new (Refuses old.step_limit old.now sql params) e
 
--- the text is one statement with so many parameters
-abbrev pub IsWhole : List ℕ → ℕ → Result Compiled CompileError → Type 0
-IsWhole text count (Ok c) = (length text ≤ c.tail) × (count ≡ length c.names)
-IsWhole text count (Err fault) = ⊥
+quiet_on_rows : (command : Command) → IsOnRows command → IsQuiet command
+quiet_on_rows command rows = record { placed = misplaced; stays = escapes; rowless = rowless command rows }
+  where
+    rowless : (command : Command) → IsOnRows command → (is_query command || (is_pragma command || false)) ≡ false
+    rowless (InsertOr at way from clauses) rows = refl
+    rowless (Delete at q) rows = refl
+    rowless _ rows = absurd rows
+
+    misplaced : (s : State) (e : Error) → IsMisplaced s command e → ⊥
+    misplaced s e (inl (same, inl (it, going))) = subst IsOnRows it rows
+    misplaced s e (inl (same, inr (inl it, out))) = subst IsOnRows it rows
+    misplaced s e (inl (same, inr (inr it, out))) = subst IsOnRows it rows
+    misplaced s e (inr (same, name, inl it, none)) = subst IsOnRows it rows
+    misplaced s e (inr (same, name, inr it, none)) = subst IsOnRows it rows
+
+    escapes : (s : State) → Escapes 0 s command → ⊥
+    escapes s (inl (inl it)) = subst IsOnRows it rows
+    escapes s (inl (inr it)) = subst IsOnRows it rows
+    escapes s (inr (name, inl it, held)) = subst IsOnRows it rows
+    escapes s (inr (name, inr it, held)) = subst IsOnRows it rows
 
 module _ (sql : List ℕ) (params : Row) (old new : State) (schema : Schema) (has : old.now.schema ≡ schema)
     (command : Command) (commands : command_of (understood schema sql) ≡ command) (writes : IsOnRows command)
     (plain : IsPlain (understood schema sql)) (whole : IsWhole sql (length params) (understood schema sql)) where
-  abbrev Why : Error → Type 0
-  Why = Fails old new (Refuses old.step_limit old.now sql params)
-
   module _ (c : Compiled) (known : understood schema sql ≡ Ok c) where
     its_plain : (c.returning ≡ None) × (c.formats ≡ [])
     its_plain = subst IsPlain known plain
 
-    its_whole : (length sql ≤ c.tail) × (length params ≡ length c.names)
-    its_whole = subst (IsWhole sql (length params)) known whole
-
     its_rows : IsOnRows c.command
     its_rows = subst IsOnRows (sym commands ∙ ap command_of known) writes
-
-    refused : (now : ℕ) (stop : Option Error)
-        → Does old.step_limit (mode_of old) (timed params c.formats now) old.now (text_of sql c) c.returning c.command
-        (Err stop) → Refuses old.step_limit old.now sql params
-    refused now stop does =
-        (c, ap (λ s. understood s sql) has ∙ known, stop, rw (its_plain.1, append-nil params) at does)
 
     -- what it was done by
     tally_of : (k : Command) → IsOnRows k → (given : Row) (count : ℕ)
@@ -292,66 +284,31 @@ module _ (sql : List ℕ) (params : Row) (old new : State) (schema : Schema) (ha
         let it = tally_of c.command its_rows (timed params c.formats now) count ran in
         reached now it.0 it.1
 
-  -- it shows no rows
-  quiet : (c : Compiled) → IsOnRows c.command → c.returning ≡ None → shows_rows false c ≡ false
-  quiet c rows none = rw none (of_command c.command rows)
-    where
-      of_command : (command : Command) → IsOnRows command → (is_query command || (is_pragma command || false)) ≡ false
-      of_command (InsertOr at way from clauses) rows = refl
-      of_command (Delete at q) rows = refl
-      of_command _ rows = absurd rows
-
-  misplaced : (command : Command) → IsOnRows command → (e : Error) → IsMisplaced old command e → ⊥
-  misplaced command rows e (inl (same, inl (it, going))) = subst IsOnRows it rows
-  misplaced command rows e (inl (same, inr (inl it, out))) = subst IsOnRows it rows
-  misplaced command rows e (inl (same, inr (inr it, out))) = subst IsOnRows it rows
-  misplaced command rows e (inr (same, name, inl it, none)) = subst IsOnRows it rows
-  misplaced command rows e (inr (same, name, inr it, none)) = subst IsOnRows it rows
-
-  escapes : (command : Command) → IsOnRows command → Escapes 0 old command → ⊥
-  escapes command rows (inl (inl it)) = subst IsOnRows it rows
-  escapes command rows (inl (inr it)) = subst IsOnRows it rows
-  escapes command rows (inr (name, inl it, held)) = subst IsOnRows it rows
-  escapes command rows (inr (name, inr it, held)) = subst IsOnRows it rows
-
-  -- what the database has of the text is what the schema has of it
-  from_schema : {r : Result Compiled CompileError} → understood old.now.schema sql ≡ r → understood schema sql ≡ r
-  from_schema it = ap (λ s. understood s sql) (sym has) ∙ it
-
-  command_fails : (c : Compiled) (known : understood schema sql ≡ Ok c) (now : ℕ) (e : Error)
-      → RunsCommand old new sql c (timed params c.formats now) (Err e) → Why e
-  command_fails c known now e (inl (inl wrong, same)) = absurd (misplaced c.command (its_rows c known) e wrong)
-  command_fails c known now e (inl (inr (may, does), same)) =
-      let named = rw ((its_plain c known).0) at does in
-      inr (
-        does_named old.step_limit (mode_of old) (timed params c.formats now) old.now (text_of sql c) c.command
-            (its_rows c known) e named,
-        inr (refused c known now (Some e) does),
-      )
-  command_fails c known now e (inr failed) = cause old new _ e _ failed (λ big. refused c known now None big)
-
   done_as : (count : ℕ) → Executes sql params old new (Ok count) → RunsTo old.step_limit sql params old.now new.now
   unfolding ExecutesIn
   done_as count (c, it, ran) =
-      let known = from_schema it.is in
-      command_done c known it.now count (rw (quiet c (its_rows c known) (its_plain c known).0) at ran)
+      let known : understood schema sql ≡ Ok c = ap (λ s. understood s sql) (sym has) ∙ it.is in
+      let quiet : shows_rows false c ≡ false =
+      rw ((its_plain c known).0) ((quiet_on_rows c.command (its_rows c known)).rowless) in
+      command_done c known it.now count (rw quiet at ran)
 
-  fails_as : (e : Error) → Executes sql params old new (Err e) → Why e
-  unfolding ExecutesIn IsNotRun
-  fails_as e (inl (inl (inl unknown, same))) = absurd (subst IsPlain (from_schema unknown.1) plain)
-  fails_as e (inl (inl (inr (c, known, inl many), same))) = absurd (many.0 (its_whole c (from_schema known)).0)
-  fails_as e (inl (inl (inr (c, known, inr (inl given)), same))) = absurd (given.0 (its_whole c (from_schema known)).1)
-  fails_as e (inl (inl (inr (c, known, inr (inr timeless)), same))) =
-      absurd (timeless.0 (its_plain c (from_schema known)).1)
-  fails_as e (inl (inr failed)) = cause old new _ e _ failed (λ big. absurd big)
-  fails_as e (inr (c, it, ran)) =
-      let known = from_schema it.is in
-      command_fails c known it.now e (rw (quiet c (its_rows c known) (its_plain c known).0) at ran)
-
-  fails_inside : (e : Error) → ExecutesInside 0 sql params old new (Err e) → Why e
-  unfolding EndsScope
-  fails_inside e (inl (ran, same)) = fails_as e ran
-  fails_inside e (inr ((c, it, ends), told_as, same)) = absurd (escapes c.command (its_rows c (from_schema it.is)) ends)
+  refused : (r : Result Compiled CompileError) → understood schema sql ≡ r → (stop : Option Error)
+      → Does old.step_limit (mode_of old) params old.now (statement_of sql r) None command (Err stop)
+      → Refuses old.step_limit old.now sql params
+  refused (Ok c) known stop does = (
+    c,
+    ap (λ s. understood s sql) has ∙ known,
+    stop,
+    subst₂ (λ shown k. Does old.step_limit (mode_of old) params old.now (text_of sql c) shown k (Err stop))
+        (sym (its_plain c known).0) (sym commands ∙ ap command_of known) does,
+  )
+  refused (Err fault) known stop does = absurd (subst IsPlain known plain)
 
   pub answers : Answers sql params old new
-  answers = record { done = done_as; fails = fails_inside }
+  answers = record {
+    done = done_as;
+    fails = fails_by sql params old new schema has command commands (quiet_on_rows command writes) plain whole
+        (Refuses old.step_limit old.now sql params)
+        (λ e does. does_named old.step_limit (mode_of old) params old.now _ command writes e does)
+        (refused _ refl);
+  }

@@ -262,6 +262,22 @@ module _ {X : Type 0} (change : X → Trees → Trees) where
           (along_both xs ys all a.0 b.0, subst (Known last) (sym (made_both xs ys all)) b.1)
 
       module _ {Y : Type 0} (tree : ℕ) (g : Y → X) (row : Y → Row) where
+        -- one change more, which leaves what is known of its table
+        step : (ways : ℕ → Way) (way : Way) → is_sound ways ≡ true → ways tree ≡ way → (all next : Trees)
+            (rows : List Row) → next ≡ with_tree all tree rows → Known ways all
+            → (Between (keys tree) (before tree) (mid tree) (after tree) (all tree) way
+            → Between (keys tree) (before tree) (mid tree) (after tree) rows way)
+            → AllRefer next × Known ways next × (next tree ≡ rows)
+        step ways way sound is all next rows does known one =
+            let here : next tree ≡ rows = ap (λ (a : Trees). a tree) does ∙ set_here all tree rows in
+            let known_next : Known ways next =
+            known_by ways ways tree all next known
+            (λ u other. (ap (λ (a : Trees). a u) does ∙ set_elsewhere all tree u rows other, refl))
+            (subst₂ (Between (keys tree) (before tree) (mid tree) (after tree)) (sym here) (sym is)
+            (one (subst (Between (keys tree) (before tree) (mid tree) (after tree) (all tree)) is (known.each tree))))
+            in
+            (refers_all ways next sound known_next, known_next, here)
+
         puts_go : (ways : ℕ → Way) → is_sound ways ≡ true → ways tree ≡ putting
             → ((y : Y) (all : Trees) → change (g y) all ≡ with_tree all tree (put (keys tree) (row y) (all tree)))
             → (ys : List Y) → ((r : Row) → Has (map row ys) r → Has (after tree) r) → (all : Trees) → Known ways all
@@ -270,20 +286,10 @@ module _ {X : Type 0} (change : X → Trees → Trees) where
         puts_go ways sound is does [] come all known = (tt, known, refl)
         puts_go ways sound is does (y ∷ ys) come all known =
             let next = change (g y) all in
-            let here : next tree ≡ put (keys tree) (row y) (all tree) =
-            ap (λ (a : Trees). a tree) (does y all) ∙ set_here all tree _ in
-            let one = put_one (keys tree) (before tree) (mid tree) (after tree) (row y) (all tree)
-            (come (row y) (inl refl))
-            (subst (Between (keys tree) (before tree) (mid tree) (after tree) (all tree)) is (known.each tree)) in
-            let known_next : Known ways next =
-            known_by ways ways tree all next known
-            (λ u other. (ap (λ (a : Trees). a u) (does y all) ∙ set_elsewhere all tree u _ other, refl))
-            (subst₂ (Between (keys tree) (before tree) (mid tree) (after tree)) (sym here) (sym is) one) in
-            let rest = puts_go ways sound is does ys (λ r h. come r (inr h)) next known_next in (
-              (refers_all ways next sound known_next, rest.0),
-              rest.1,
-              rest.2 ∙ ap (put_all (keys tree) (map row ys)) here,
-            )
+            let one = step ways putting sound is all next (put (keys tree) (row y) (all tree)) (does y all) known
+            (put_one (keys tree) (before tree) (mid tree) (after tree) (row y) (all tree) (come (row y) (inl refl))) in
+            let rest = puts_go ways sound is does ys (λ r h. come r (inr h)) next one.1 in
+            ((one.0, rest.0), rest.1, rest.2 ∙ ap (put_all (keys tree) (map row ys)) one.2)
 
         deletes_go : (ways : ℕ → Way) → is_sound ways ≡ true → ways tree ≡ deleting
             → ((y : Y) (all : Trees) → change (g y) all ≡ with_tree all tree (delete (keys tree) (row y) (all tree)))
@@ -292,19 +298,13 @@ module _ {X : Type 0} (change : X → Trees → Trees) where
         deletes_go ways sound is does [] all ends known = (tt, known, sym ends)
         deletes_go ways sound is does (y ∷ ys) all ends known =
             let next = change (g y) all in
-            let here : next tree ≡ delete (keys tree) (row y) (all tree) =
-            ap (λ (a : Trees). a tree) (does y all) ∙ set_here all tree _ in
             let stay = λ (r : Row) (h : Has (after tree) r). left_was (keys tree) (map row ys)
             (delete (keys tree) (row y) (all tree)) r (subst (λ l. Has l r) ends h) in
-            let one = delete_one (keys tree) (before tree) (mid tree) (after tree) (row y) (all tree) stay
-            (subst (Between (keys tree) (before tree) (mid tree) (after tree) (all tree)) is (known.each tree)) in
-            let known_next : Known ways next =
-            known_by ways ways tree all next known
-            (λ u other. (ap (λ (a : Trees). a u) (does y all) ∙ set_elsewhere all tree u _ other, refl))
-            (subst₂ (Between (keys tree) (before tree) (mid tree) (after tree)) (sym here) (sym is) one) in
+            let one = step ways deleting sound is all next (delete (keys tree) (row y) (all tree)) (does y all) known
+            (delete_one (keys tree) (before tree) (mid tree) (after tree) (row y) (all tree) stay) in
             let rest = deletes_go ways sound is does ys next
-            (ends ∙ ap (delete_all (keys tree) (map row ys)) (sym here)) known_next in
-            ((refers_all ways next sound known_next, rest.0), rest.1, rest.2)
+            (ends ∙ ap (delete_all (keys tree) (map row ys)) (sym one.2)) one.1 in
+            ((one.0, rest.0), rest.1, rest.2)
 
         -- one table is only now so
         turn : (ways : ℕ → Way) (way : Way) (all : Trees) → Known ways all

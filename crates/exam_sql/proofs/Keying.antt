@@ -7,6 +7,7 @@ use Rattle.std.specs.List.{filter_map}
 use Rattle.sqlite_schema.specs.Rules.{differ, parent_key}
 use Rattle.sqlite_rules.specs.Action.{Work, works, work_by, deed_for, pairs}
 use Rattle.sqlite_rules.specs.Keys.{conflicts}
+use Rattle.exam_sql.specs.Keyed.{IsAlone}
 use Rattle.exam_sql.proofs.Keys.{alone_by_index, alone_by_rowid}
 
 pub or_false : (b : Bool) → (b || false) ≡ b
@@ -44,37 +45,29 @@ module _ (d : Described) (place : slice_get store_schema.tables d.at ≡ Some d.
       → conflicts (Some target) store_schema.indexes d.table b a
       ≡ same_key d.key (bare (places d.table) a) (bare (places d.table) b)
 
+  keyed_by : (target : List ℕ) → Aims target → IsAlone store_schema d.table d.key
+      → IsKeyed store_schema d.at d.table d.key target
+  keyed_by target aimed alone = record {
+    place = place;
+    uncounted = uncounted;
+    unstamped = unstamped;
+    apart = apart;
+    barred = barred;
+    aimed = aimed;
+    alone = alone;
+    still = still d.table.tree;
+  }
+
   -- a unique index has each key once
   pub by_index : Aims d.key
       → ((db : Trees) (s : Row) → passes Unique store_schema db d.table s ≡ true
       → list_any (λ r. same_key d.key (bare (places d.table) r) (bare (places d.table) s)
       && differ (rowid r) (rowid s)) (db d.table.tree) ≡ false)
       → IsKeyed store_schema d.at d.table d.key d.key
-  by_index aimed once =
-      record {
-        place = place;
-        uncounted = uncounted;
-        unstamped = unstamped;
-        apart = apart;
-        barred = barred;
-        aimed =
-            aimed;
-        alone = alone_by_index store_schema d.table d.key once;
-        still = still d.table.tree;
-      }
+  by_index aimed once = keyed_by d.key aimed (alone_by_index store_schema d.table d.key once)
 
   -- the rowids are the keys
   pub by_rowid : Aims (0 ∷ [])
       → ((a b : Row) → same_key d.key (bare (places d.table) a) (bare (places d.table) b) ≡ same_rowid a b)
       → IsKeyed store_schema d.at d.table d.key (0 ∷ [])
-  by_rowid aimed is = record {
-    place = place;
-    uncounted = uncounted;
-    unstamped = unstamped;
-    apart = apart;
-    barred = barred;
-    aimed =
-        aimed;
-    alone = alone_by_rowid store_schema d.table d.key is;
-    still = still d.table.tree;
-  }
+  by_rowid aimed is = keyed_by (0 ∷ []) aimed (alone_by_rowid store_schema d.table d.key is)

@@ -10,7 +10,7 @@ use Rattle.sqlite_catalog.specs.Listing.{is_fit, is_formed}
 use Rattle.sqlite_schema.specs.Rules.{index_reals}
 use Rattle.exam_sql.proofs.CreateFails.{IsFree, fails_create}
 use Rattle.exam_sql.proofs.Creates.{create_by, sound_by}
-use Rattle.exam_sql.proofs.Failing.{IsWhole}
+use Rattle.exam_sql.proofs.StatementFails.{IsWhole}
 
 -- the text is one statement that makes a table
 abbrev pub IsCreate : Schema → List ℕ → Type 0

@@ -13,7 +13,8 @@ use Rattle.exam_sql.proofs.Loads.{load_of}
 use Rattle.exam_sql.proofs.Keying.{by_rowid, or_false, or_twice}
 use Rattle.exam_sql.proofs.Making.{Adds, IsCreate, adds_by}
 use Rattle.exam_sql.proofs.Quiet.{IsQuery}
-use Rattle.exam_sql.proofs.Failing.{Answers, IsWhole, answers}
+use Rattle.exam_sql.proofs.Failing.{Answers, answers}
+use Rattle.exam_sql.proofs.StatementFails.{IsWhole}
 use Rattle.exam_sql.proofs.Statements.{put_sets, sets_by}
 
 -- the text that makes it is understood, and nothing forbids the table

@@ -9,8 +9,7 @@ use Rattle.sqlite_resolve.specs.Lowering.{Checked, and_then}
 use Rattle.sqlite.specs.Given.{HasBegun, HasGiven, Returns}
 use Rattle.sqlite.specs.Held.{Held, state}
 use Rattle.sqlite.specs.Listing.{if_select, is_select, listing_schema}
-use Rattle.sqlite.specs.State.{CommitsShowing, FailsToShow, IsUnchanged}
-use Rattle.sqlite.specs.State.{IsRolledBack}
+use Rattle.sqlite.specs.State.{CommitsShowing, FailsToShow, IsUnchanged, IsRolledBack}
 
 -- the text has no RETURNING
 abbrev pub IsQuery : List ℕ → Type 0

@@ -2,11 +2,31 @@
 use Rattle.exam_sql.proofs.Words.{Row, Command, Schema, Compiled, CompileError, Error, timed, Does, understood, State}
 use Rattle.exam_sql.proofs.Words.{mode_of, Executes, ExecutesInside, Escapes, IsNotRun, IsMisplaced, text_of, IsPlain}
 use Rattle.exam_sql.proofs.Words.{command_of, statement_of, Fails, is_failure}
-use Rattle.std.proofs.Common.{◌≡◌, ◌||◌, ◌≤◌, inl, inr, ℕ, List, [], length, false, None, Some, Option, Ok, Err, Result}
-use Rattle.std.proofs.Common.{sym, ap, subst, ◌∙◌, append-nil, IsTrue}
+use Rattle.std.proofs.Common.{◌≡◌, ◌||◌, ◌≤◌, inl, inr, refl, ℕ, List, [], length, false, None, Some, Option, Ok, Err}
+use Rattle.std.proofs.Common.{Result, sym, ap, subst, ◌∙◌, append-nil, IsTrue}
 use Rattle.sqlite.specs.Effect.{is_query}
 use Rattle.sqlite.specs.State.{ExecutesIn, EndsScope, RunsCommand, shows_rows, is_pragma}
-use Rattle.exam_sql.proofs.Failing.{IsWhole, cause}
+use Rattle.sqlite.specs.State as state
+use Rattle.sqlite_trees.specs.declared.error.StoreError.TheVariants.{OutOfMemory, Io, Corrupt, Full, Broken, Unstorable}
+
+-- the text is one statement with so many parameters
+abbrev pub IsWhole : List ℕ → ℕ → Result Compiled CompileError → Type 0
+IsWhole text count (Ok c) = (length text ≤ c.tail) × (count ≡ length c.names)
+IsWhole text count (Err fault) = ⊥
+
+module _ (old new : State) (Refused : Type 0) where
+  is : (e f : Error) → e ≡ f → IsTrue (is_failure f) → IsTrue (is_failure e)
+  is e f same named = subst (λ x. IsTrue (is_failure x)) (sym same) named
+
+  -- the disk, the memory or a row that is too big
+  cause : (e : Error) (TooBig : Type 0) → state.Fails old new TooBig e → (TooBig → Refused)
+      → Fails old new Refused e
+  cause e TooBig (OutOfMemory, same, why, back, tells) big = inl same
+  cause e TooBig (Io, same, why, back, tells) big = inr (is e _ same refl, inl (inl why))
+  cause e TooBig (Corrupt, same, why, back, tells) big = inr (is e _ same refl, inl (inl why))
+  cause e TooBig (Full, same, why, back, tells) big = inr (is e _ same refl, inl (inl why))
+  cause e TooBig (Broken, same, why, back, tells) big = inr (is e _ same refl, inl (inr why))
+  cause e TooBig (Unstorable, same, why, back, tells) big = inr (is e _ same refl, inr (big why))
 
 -- the command ends no transaction and shows no rows
 pub record IsQuiet (command : Command) : Type 1 where

@@ -14,8 +14,7 @@ use Rattle.exam_sql.proofs.Words.{one_table, on_conflict}
 use Rattle.std.proofs.Common.{◌≡◌, ◌≢◌, ◌⊎◌, inl, inr, ℕ, ℤ, List, [], ◌∷◌, ◌++◌, map, filter, length, Bool, true}
 use Rattle.std.proofs.Common.{false, if◌then◌else◌, MatchBool, not, ◌==◌, ◌/◌, Some, None, Option, Ok, Err, Result}
 use Rattle.std.proofs.Common.{OnOk, refl, sym, ap, ap₂, subst, ◌∙◌, append-nil, true≢false, Equal}
-use Rattle.std.proofs.lemmas.Bool.{or_cases, or_right}
-use Rattle.std.proofs.lemmas.Bool.{eqb-false}
+use Rattle.std.proofs.lemmas.Bool.{or_cases, or_right, eqb-false}
 use Rattle.std.proofs.lemmas.List.Sorted.{IsPermutation-cons}
 use Rattle.sqlite_trees.specs.declared.store.Shape.TheVariants.{Table as TableShape}
 use Rattle.sqlite_trees.specs.Tree.{has_rowid, put_row}

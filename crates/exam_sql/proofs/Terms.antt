@@ -1,7 +1,6 @@
 -- The terms of the statements that put a row of a table.
-use Rattle.exam_sql.proofs.Words.{list_all, Int, Null, Row, rowid, Term, col, eval_all, holds}
-use Rattle.exam_sql.proofs.Words.{Table, shown, bare, places, same_key, same_rowid}
-use Rattle.exam_sql.proofs.Words.{Described}
+use Rattle.exam_sql.proofs.Words.{list_all, Int, Null, Row, rowid, Term, col, eval_all, holds, Table, shown, bare}
+use Rattle.exam_sql.proofs.Words.{places, same_key, same_rowid, Described}
 use Rattle.std.proofs.Common.{◌≡◌, ◌+◌, ◌-◌, ◌++◌, true, ℕ, ℤ, List, [], ◌∷◌, length, map, Option, None, Some}
 use Rattle.std.specs.List.{range_with_len}
 use Rattle.sqlite_value.specs.declared.keys.Collation.TheVariants.{Binary}

@@ -21,8 +21,7 @@ use Rattle.sqlite_trees.specs.declared.store.Shape.TheVariants.{Table as TableSh
 use Rattle.sqlite_trees.specs.View.{IsStorableRow}
 use Rattle.sqlite_sql.specs.Ops.{fits_i64}
 use Rattle.sqlite_schema.specs.declared.schema.Constraint.{Constraint}
-use Rattle.sqlite_schema.specs.declared.schema.Constraint.TheVariants.{Datatype, NotNull, Check, PrimaryKey}
-use Rattle.sqlite_schema.specs.declared.schema.Constraint.TheVariants.{ForeignKey}
+use Rattle.sqlite_schema.specs.declared.schema.Constraint.TheVariants.{Datatype, NotNull, Check, PrimaryKey, ForeignKey}
 use Rattle.sqlite_schema.specs.declared.schema.Among.TheVariants as among
 use Rattle.sqlite_schema.specs.declared.schema.Reference.{Reference}
 use Rattle.sqlite_schema.specs.Names.{same_name}
