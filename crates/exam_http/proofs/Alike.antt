@@ -1,5 +1,5 @@
 -- Two offices with equal own rows of a candidate give equal answers.
-use Rattle.std.proofs.Common.{◌≡◌, ◌⊎◌, ◌∙◌, ℕ, List, Option, None, Some, true, false, refl, sym, subst, inl, inr}
+use Rattle.std.proofs.Common.{◌≡◌, ◌⊎◌, ◌∙◌, ℕ, List, Option, None, Some, refl, sym, subst, inl, inr}
 use Rattle.std.specs.Prelude.{Result, Ok, Err, IsTrue, IsSomeAnd}
 use Rattle.std.specs.Option.{option_map}
 use Rattle.sqlite_trees.specs.declared.store.Store.{Ghosts}
@@ -29,21 +29,21 @@ use Rattle.exam_http.specs.Answering.{Answers, Does, DoesCommand, TellsReply, ch
 use Rattle.exam_http.proofs.Callers.{Caller, idle_or_own, own_numbered}
 
 -- a refusal of the store is a failure
-failed : (e : Refusal) (told : Told) → IsTrue (is_store_refusal e) → told ≡ refusal_told e → IsFailure told
+pub failed : (e : Refusal) (told : Told) → IsTrue (is_store_refusal e) → told ≡ refusal_told e → IsFailure told
 failed refusal.NoMemory told is tells = inl tells
 failed refusal.Store told is tells = inr (inl tells)
 failed refusal.BadStore told is tells = inr (inr tells)
-failed e told is tells = absurd (let differ : false ≡ true = is in cc)
+failed e told is tells = absurd cc
 
 -- equal rows have equal bodies
-shown : (body : OwnRows → List ℕ) (own : Option OwnRows) (first second : Told)
+pub shown : (body : OwnRows → List ℕ) (own : Option OwnRows) (first second : Told)
     → IsSomeAnd own (λ rows. first ≡ ok_told (body rows)) → IsSomeAnd own (λ rows. second ≡ ok_told (body rows))
     → AreAlike first second
 shown body None first second a b = absurd a
 shown body (Some rows) first second a b = inr (inr (a ∙ sym b))
 
 -- equal replies have equal answers
-replied : (a : Result Reply Refusal) (first second : Told) → TellsReply a first → TellsReply a second
+pub replied : (a : Result Reply Refusal) (first second : Told) → TellsReply a first → TellsReply a second
     → AreAlike first second
 replied (Ok r) first second a b = inr (inr (a ∙ sym b))
 replied (Err e) first second a b = inr (inr (a ∙ sym b))
@@ -51,19 +51,20 @@ replied (Err e) first second a b = inr (inr (a ∙ sym b))
 -- ---- a command
 
 -- it is its step, or a refusal of the store
-stepped : (done : Command) (today : ℕ) (before after : State) (a : Result Reply Refusal)
+pub stepped : (done : Command) (today : ℕ) (before after : State) (a : Result Reply Refusal)
     → MayApply done today before a after
     → ((end : State) × Step done today before a end) ⊎ ((e : Refusal) × (a ≡ Err e) × IsTrue (is_store_refusal e))
 stepped done today before after (Ok r) may = inl (after, may)
 stepped done today before after (Err e) (same, inl step) = inl (before, step)
 stepped done today before after (Err e) (same, inr is) = inr (e, refl, is)
 
-told_failure : (a : Result Reply Refusal) (e : Refusal) (told : Told) → a ≡ Err e → IsTrue (is_store_refusal e)
+pub told_failure : (a : Result Reply Refusal) (e : Refusal) (told : Told) → a ≡ Err e → IsTrue (is_store_refusal e)
     → TellsReply a told → IsFailure told
 told_failure a e told at is tells = failed e told is (subst (λ r. TellsReply r told) at tells)
 
 -- own rows are equal at an equal number
-at_number : (one other : State) (candidate number : ℕ) → candidate ≡ number → own_of one number ≡ own_of other number
+pub at_number : (one other : State) (candidate number : ℕ) → candidate ≡ number
+    → own_of one number ≡ own_of other number
     → own_of one candidate ≡ own_of other candidate
 at_number one other candidate number is same = subst (λ c. own_of one c ≡ own_of other c) (sym is) same
 

@@ -22,7 +22,7 @@ use Rattle.exam_http.specs.Answering.{own_named}
 
 -- what a mapped value is made of
 made_of : {A B : Type 0} (f : A → B) (o : Option A) (b : B) → option_map f o ≡ Some b → (a : A) × (f a ≡ b)
-made_of f None b is = absurd (let differ : None ≡ Some b = is in cc)
+made_of f None b is = absurd cc
 made_of f (Some a) b is = (a, let same : f a ≡ b = cc in same)
 
 numbered : (office : State) (c : ℕ) (rows : OwnRows) → own_of office c ≡ Some rows → rows.number ≡ c
@@ -34,7 +34,7 @@ pub own_numbered : (office : State) (request : Request) (rows : OwnRows) → own
 own_numbered office request rows is = by (candidate_named request) is
   where
     by : (o : Option ℕ) → option_and_then (own_of office) o ≡ Some rows → own_of office rows.number ≡ Some rows
-    by None e = absurd (let differ : None ≡ Some rows = e in cc)
+    by None e = absurd cc
     by (Some c) e = ap (own_of office) (numbered office c rows e) ∙ e
 
 -- the rows of the candidate that the choice is for; the request shows their code
@@ -62,11 +62,6 @@ some_is o a is = subst IsSome (sym is) refl
 -- a page is shown of a candidate of the office
 pub of_office : (office : State) (request : Request) (chosen : Choice) → chosen ≡ choice_in office request
     → IsOfOffice office chosen
-of_office office request (choice.Fault fault) is = tt
-of_office office request (choice.OtherMethod route) is = tt
-of_office office request (choice.Refused refused) is = tt
-of_office office request (choice.Lodge lodging) is = tt
-of_office office request (choice.Retract number reference) is = tt
 of_office office request (choice.Show number page) is = by (idle_or_own office request (choice.Show number page) is)
   where
     by : IsIdle (choice.Show number page) ⊎ Caller office request (choice.Show number page)
@@ -74,15 +69,11 @@ of_office office request (choice.Show number page) is = by (idle_or_own office r
     by (inl idle) = absurd idle
     by (inr caller) = some_is _ caller.rows
         (ap (own_of office) caller.is_by ∙ own_numbered office request caller.rows caller.named)
+of_office office request _ is = tt
 
 -- a page is shown to a caller who shows the code
 shows_code : (office : State) (request : Request) (chosen : Choice) → chosen ≡ choice_in office request → IsShow chosen
     → ShowsCode request (named_in office request)
-shows_code office request (choice.Fault fault) is show = absurd show
-shows_code office request (choice.OtherMethod route) is show = absurd show
-shows_code office request (choice.Refused refused) is show = absurd show
-shows_code office request (choice.Lodge lodging) is show = absurd show
-shows_code office request (choice.Retract number reference) is show = absurd show
 shows_code office request (choice.Show number page) is show =
     by (idle_or_own office request (choice.Show number page) is)
   where
@@ -90,6 +81,7 @@ shows_code office request (choice.Show number page) is show =
         → ShowsCode request (named_in office request)
     by (inl idle) = absurd idle
     by (inr caller) = subst (λ own. ShowsCode request (option_map named_as own)) (sym caller.named) caller.shows
+shows_code office request _ is show = absurd show
 
 pub found : {S : Type 0} (g : Ghosts S) (today : ℕ) (old : OfficeIn S) (request : Request) (chosen : Choice)
     (told : Told) (new : OfficeIn S)

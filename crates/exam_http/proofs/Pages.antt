@@ -1,5 +1,5 @@
 -- From what a call gives to what is answered.
-use Rattle.std.proofs.Common.{◌≡◌, ◌∙◌, ℕ, List, [], ◌∷◌, ◌++◌, map, Option, None, Some, true, false, refl, ap, sym}
+use Rattle.std.proofs.Common.{◌≡◌, ◌∙◌, ℕ, List, [], ◌∷◌, ◌++◌, map, Option, None, Some, refl, ap, sym}
 use Rattle.std.proofs.Common.{subst}
 use Rattle.std.proofs.Common.{inl, inr}
 use Rattle.std.specs.Prelude.{◌⊎◌, IfOk, IsSome, IsSomeAnd, Result, Ok, Err, codes, option_and_then}
@@ -60,8 +60,8 @@ nobody office target at = ap (λ n. option_map named_as (option_and_then (own_of
 -- who is shown is viewed
 pub viewed : (page : Page) (own : Option Own) (rows : Option OwnRows)
     → option_map (λ own. page_body page (shown own)) own ≡ option_map (page_body page) rows → IsSome rows → IsSome own
-viewed page None None is some = absurd (let differ : false ≡ true = some in cc)
-viewed page None (Some rows) is some = absurd (let differ : None ≡ Some (page_body page rows) = is in cc)
+viewed page None None is some = absurd cc
+viewed page None (Some rows) is some = absurd cc
 viewed page (Some own) rows is some = refl
 
 -- what is missed does not depend on desks
