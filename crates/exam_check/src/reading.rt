@@ -7,10 +7,9 @@ ghost use Rattle.exam_tables.specs.Forms as forms;
 ghost use Rattle.exam_tables.specs.Inside.{Contains};
 ghost use Rattle.exam_tables.specs.Loaded.{AreUnderstood};
 ghost use Rattle.exam_tables.specs.Parts.{Part, then_part};
-ghost use Rattle.exam_check.specs.FirstBad.{first_unread};
+ghost use Rattle.exam_check.specs.FirstBad.{IsFirstUnread};
 ghost use Rattle.exam_check.specs.Reading as spec;
 
-use crate::tables::first_unread;
 use exam_office::{Seats as Plans, Table as OfficeTable};
 use exam_rules::Facts;
 use exam_tables::{
@@ -37,22 +36,23 @@ pub fn read_tables<S: Alter>(alloc: Global, conn: &mut Connection<S>) -> Result<
         → OnOk result (AreUnderstood (state S.Store conn.old).now spec.table_texts) }
     ensures read { HasCleanDisk (state S.Store conn.new) → IfOk result (λ read. (all : _)
         → Contains (state S.Store conn.old).now all
-        → spec.AreRead all (spec.office_in read) tables None read.unread) }
+        → IsFirstUnread all (spec.office_in read) tables read.unread) }
 {
     let rows = <OfficeTables as Reads>::read(alloc, conn)?;
     let (sessions, (papers, (halls, (openings, more)))) = rows;
     let (candidates, (entries, (arrangements, (appeals, (standing, seats))))) = more;
     let mut unread = None;
-    let sessions = noted(alloc, sessions, OfficeTable::Sessions, &mut unread);
-    let papers = noted(alloc, papers, OfficeTable::Papers, &mut unread);
-    let halls = noted(alloc, halls, OfficeTable::Halls, &mut unread);
-    let openings = noted(alloc, openings, OfficeTable::Openings, &mut unread);
-    let candidates = noted(alloc, candidates, OfficeTable::Candidates, &mut unread);
-    let entries = noted(alloc, entries, OfficeTable::Entries, &mut unread);
-    let arrangements = noted(alloc, arrangements, OfficeTable::Arrangements, &mut unread);
-    let appeals = noted(alloc, appeals, OfficeTable::Appeals, &mut unread);
-    let standing = noted(alloc, standing, OfficeTable::Standing, &mut unread);
+    // The first of them is noted last.
     let seats = noted(alloc, seats, OfficeTable::Seats, &mut unread);
+    let standing = noted(alloc, standing, OfficeTable::Standing, &mut unread);
+    let appeals = noted(alloc, appeals, OfficeTable::Appeals, &mut unread);
+    let arrangements = noted(alloc, arrangements, OfficeTable::Arrangements, &mut unread);
+    let entries = noted(alloc, entries, OfficeTable::Entries, &mut unread);
+    let candidates = noted(alloc, candidates, OfficeTable::Candidates, &mut unread);
+    let openings = noted(alloc, openings, OfficeTable::Openings, &mut unread);
+    let halls = noted(alloc, halls, OfficeTable::Halls, &mut unread);
+    let papers = noted(alloc, papers, OfficeTable::Papers, &mut unread);
+    let sessions = noted(alloc, sessions, OfficeTable::Sessions, &mut unread);
     let facts = Facts {
         sessions,
         papers,
@@ -92,21 +92,20 @@ type OfficeTables = (
     ),
 );
 
-/// The rows of a table, or no rows if no office has those that were read. Then the table is noted unless one is noted
-/// already.
+/// The rows of a table, or no rows if no office has those that were read. Then the table is noted, in the place of one
+/// that was noted before.
 fn noted<K: Ord + Drop, V: Drop>(
     alloc: Global,
     rows: Option<BTreeMap<K, V>>,
     table: OfficeTable,
     unread: &mut Option<OfficeTable>,
 ) -> BTreeMap<K, V>
-    ensures { MatchOption rows (unread.new ≡ Some (first_unread unread.old table))
-        (λ rows. (result ≡ rows) × (unread.new ≡ unread.old)) }
+    ensures { MatchOption rows (unread.new ≡ Some table) (λ rows. (result ≡ rows) × (unread.new ≡ unread.old)) }
 {
     match rows {
         Some(rows) => rows,
         None => {
-            *unread = first_unread(*unread, table);
+            *unread = Some(table);
             BTreeMap::new(alloc)
         }
     }

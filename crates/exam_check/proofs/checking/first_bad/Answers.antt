@@ -1,6 +1,6 @@
 -- Each step looks at the database that the one before left, so all looks are at one set of rows. The version comes
 -- first, then the tables in order: the first that cannot be read or that the judge finds bad, whichever comes sooner.
-use Rattle.std.proofs.Common.{◌≡◌, true, Err, refl, sym, ap, subst, rules, ◌∙◌}
+use Rattle.std.proofs.Common.{◌≡◌, true, Err, sym, ap, subst, rules, ◌∙◌}
 use Rattle.std.proofs.lemmas.Bool.{both_ways}
 use Rattle.sqlite.specs.Effect.{Database}
 use Rattle.sqlite.specs.Held.{state}
@@ -78,8 +78,7 @@ returns-clause-found g c = λ clean all was.
         subst (λ v. HasVersion v all) newest (c.in_ok-version.ensures.reads.rows clean_1 all was),
       ),
       office_in c.in_ok-read.read,
-      first_in all (office_in c.in_ok-read.read) c.in_ok-bad.bad c.in_ok-read.read.unread c.first_of.result 0 tables
-          (refl, (refl, (refl, (refl, (refl, (refl, (refl, (refl, (refl, (refl, tt))))))))))
+      first_in all (office_in c.in_ok-read.read) c.in_ok-bad.bad c.in_ok-read.read.unread c.first_of.result tables
           (c.in_ok-read.ensures.read clean all contains)
           c.in_ok-bad.ensures.ok c.first_of.ensures,
     )
