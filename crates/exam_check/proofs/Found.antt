@@ -1,28 +1,17 @@
 -- What reading the tables one after the other finds.
-use Rattle.std.proofs.Common.{◌≡◌, ℕ, List, ◌∷◌, Option, Some, None, MatchOption, inl, inr, sym, subst}
+use Rattle.std.proofs.Common.{◌≡◌, List, ◌∷◌, Option, Some, None, MatchOption, inl, inr, sym, subst}
 use Rattle.std.specs.BTreeMap.{BTreeMap}
 use Rattle.sqlite_trees.specs.Tree.{Trees}
 use Rattle.sqlite.specs.Effect.{Database}
-use Rattle.sqlite.specs.State.{State as Shown, IsUnchanged}
 use Rattle.exam_commands.specs.State.{State}
 use Rattle.exam_commands.specs.declared.table.Table.{Table as OfficeTable}
 use Rattle.exam_tables.specs.Forms.{Form}
 use Rattle.exam_tables.specs.Held.{HasTable}
-use Rattle.exam_tables.specs.Inside.{Contains}
 use Rattle.exam_sql.specs.Texts.{load_office, load_texts}
 use Rattle.exam_tables.specs.Loaded.{AreUnderstood, IsUnderstood}
 use Rattle.exam_tables.specs.Scanned as scanned
 use Rattle.exam_check.specs.FirstBad.{HoldsNoTable, HoldsTableOf, IsFirstUnread}
 use Rattle.exam_check.specs.Reading.{table_texts}
-
--- a database that is left as it was has the rows that it had
-pub still_contains : (old mid : Shown) (all : Trees) → IsUnchanged old mid → Contains old.now all → Contains mid.now all
-still_contains old mid all same was = subst (λ (db : Database). Contains db all) (sym same.0.now_is) was
-
--- and is understood as it was
-pub all_before : (old mid : Shown) (texts : List (List ℕ)) → IsUnchanged old mid → AreUnderstood mid.now texts
-    → AreUnderstood old.now texts
-all_before old mid texts same is = subst (λ (db : Database). AreUnderstood db texts) same.0.now_is is
 
 -- what loads the tables is understood, in whichever order it is said
 pub in_load_order : (db : Database) → IsUnderstood db load_office → AreUnderstood db table_texts
