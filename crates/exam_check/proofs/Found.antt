@@ -1,27 +1,17 @@
 -- What reading the tables one after the other finds.
-use Rattle.std.proofs.Common.{◌≡◌, ℕ, List, Option, Some, None, MatchOption, inl, inr, sym, subst}
+use Rattle.std.proofs.Common.{◌≡◌, List, ◌∷◌, Option, Some, None, MatchOption, inl, inr, sym, subst}
 use Rattle.std.specs.BTreeMap.{BTreeMap}
 use Rattle.sqlite_trees.specs.Tree.{Trees}
 use Rattle.sqlite.specs.Effect.{Database}
-use Rattle.sqlite.specs.State.{State, IsUnchanged}
+use Rattle.exam_commands.specs.State.{State}
 use Rattle.exam_commands.specs.declared.table.Table.{Table as OfficeTable}
 use Rattle.exam_tables.specs.Forms.{Form}
 use Rattle.exam_tables.specs.Held.{HasTable}
-use Rattle.exam_tables.specs.Inside.{Contains}
 use Rattle.exam_sql.specs.Texts.{load_office, load_texts}
 use Rattle.exam_tables.specs.Loaded.{AreUnderstood, IsUnderstood}
 use Rattle.exam_tables.specs.Scanned as scanned
-use Rattle.exam_check.specs.FirstBad.{first_unread}
-use Rattle.exam_check.specs.Reading.{IsReadAs, table_texts}
-
--- a database that is left as it was has the rows that it had
-pub still_contains : (old mid : State) (all : Trees) → IsUnchanged old mid → Contains old.now all → Contains mid.now all
-still_contains old mid all same was = subst (λ (db : Database). Contains db all) (sym same.0.now_is) was
-
--- and is understood as it was
-pub all_before : (old mid : State) (texts : List (List ℕ)) → IsUnchanged old mid → AreUnderstood mid.now texts
-    → AreUnderstood old.now texts
-all_before old mid texts same is = subst (λ (db : Database). AreUnderstood db texts) same.0.now_is is
+use Rattle.exam_check.specs.FirstBad.{HoldsNoTable, HoldsTableOf, IsFirstUnread}
+use Rattle.exam_check.specs.Reading.{table_texts}
 
 -- what loads the tables is understood, in whichever order it is said
 pub in_load_order : (db : Database) → IsUnderstood db load_office → AreUnderstood db table_texts
@@ -38,13 +28,17 @@ in_load_order db version
       ),
     )
 
--- a table that was read, or that is noted since its rows are those of no entries, and so of no office
-pub noted_as : {K X : Type 0} (form : Form K X) (t : OfficeTable) (all : Trees) (rows : Option (BTreeMap K X))
-    (made : BTreeMap K X) (before after : Option OfficeTable) {HoldsNone : Type 0}
-    → MatchOption rows (after ≡ Some (first_unread before t)) (λ table. (made ≡ table) × (after ≡ before))
+-- a table before these that was read, or that is noted since its rows are those of no entries, and so of no office
+pub noted_as : {K X : Type 0} (form : Form K X) (t : OfficeTable) (ts : List OfficeTable) (all : Trees) (o : State)
+    (rows : Option (BTreeMap K X)) (made : BTreeMap K X) (before after : Option OfficeTable)
+    → MatchOption rows (after ≡ Some t) (λ table. (made ≡ table) × (after ≡ before))
     → scanned.IsReadAs form.cmp form (all form.tree) rows
-    → (((entries : List (K × X)) → HasTable form entries all → ⊥) → HoldsNone)
-    → IsReadAs t before after (HasTable form made.entries all) HoldsNone
-noted_as {K} {X} form t all None made before after told is none = inr (none is, told)
-noted_as {K} {X} form t all (Some table) made before after told is none =
-    inl (subst (λ (m : BTreeMap K X). HasTable form m.entries all) (sym told.0) is, told.1)
+    → (((entries : List (K × X)) → HasTable form entries all → ⊥) → HoldsNoTable all t)
+    → (HasTable form made.entries all → HoldsTableOf all o t)
+    → IsFirstUnread all o ts before → IsFirstUnread all o (t ∷ ts) after
+noted_as form t ts all o None made before after told is none has more = inl (none is, told)
+noted_as form t ts all o (Some table) made before after told is none has more =
+    inr (
+      has (subst (λ (m : BTreeMap _ _). HasTable form m.entries all) (sym told.0) is),
+      subst (IsFirstUnread all o ts) (sym told.1) more,
+    )

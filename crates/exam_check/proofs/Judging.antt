@@ -1,5 +1,5 @@
 -- No table is bad exactly where the tables of the newest version hold a good office.
-use Rattle.std.proofs.Common.{◌≡◌, ◌≢◌, ◌⊎◌, List, [], ◌∷◌, Option, None, Some, Result, Ok, Err, Bool, true, false}
+use Rattle.std.proofs.Common.{◌≡◌, ◌≢◌, ◌⊎◌, List, [], ◌∷◌, Option, None, Some, false}
 use Rattle.std.proofs.Common.{IsTrue, inl, inr, refl, sym, subst, ◌∙◌}
 use Rattle.std.specs.Prelude.{option_map}
 use Rattle.std.specs.Cmp.Derive.{both_true}
@@ -33,7 +33,7 @@ use Rattle.exam_store.specs.Found.{Finds, FailsToOpen, HoldsGood}
 use Rattle.exam_store.specs.Refused.{HoldsFormed, HoldsNone, IsGoodIn}
 use Rattle.exam_store.proofs.Marking.{is_of, listed_of, made_of, no_older, of_newest, one_version}
 use Rattle.exam_store.proofs.Unique.{one_office}
-use Rattle.exam_check.specs.FirstBad.{HasGoodVersion, HoldsTableOf, IsFirstBadIn, IsFirstBadTable, table_of}
+use Rattle.exam_check.specs.FirstBad.{HasGoodVersion, HoldsTableOf, IsFirstBadIn, IsFirstBadTable}
 use Rattle.exam_check.specs.declared.tables.Table.{Table}
 use Rattle.exam_check.specs.declared.tables.Table.TheVariants as table
 
@@ -54,9 +54,9 @@ none_bad : (all : Trees) (o : State) (ts : List OfficeTable) → AreGood all o t
 none_bad all o [] good = refl
 none_bad all o (t ∷ ts) good = inr (good.0.0, good.0.1, none_bad all o ts good.1)
 
-no_table : (bad : Option OfficeTable) → None ≡ option_map table_of bad → bad ≡ None
+no_table : (bad : Option OfficeTable) → None ≡ option_map table.Of bad → bad ≡ None
 no_table None is = refl
-no_table (Some t) is = absurd (none_is_some (table_of t) is)
+no_table (Some t) is = absurd (none_is_some (table.Of t) is)
 
 good_office : (all : Trees) (o : State) → AreGood all o tables → HoldsFormed all o × IsGood o
 good_office all o (
@@ -136,7 +136,7 @@ office_good all o (facts, seats) good =
 -- what is found of an office's tables is found of the database
 pub found_as : (db : Database) (all : Trees) (bad : Option OfficeTable)
     → HasGoodVersion db all × (o : State) × IsFirstBadIn all o tables bad
-    → IsFirstBadTable db all (option_map table_of bad)
+    → IsFirstBadTable db all (option_map table.Of bad)
 found_as db all bad (good, o, judged) = inr (good, o, bad, judged, refl)
 
 pub holds_good : (db : Database) (all : Trees) → IsFirstBadTable db all None → HoldsGood version db all

@@ -1,5 +1,5 @@
 -- The first bad table of a database.
-use Rattle.std.specs.Prelude.{◌≡◌, ◌⊎◌, ◌<◌, ℕ, IsTrue, List, [], ◌∷◌, Option, None, Some, option_map}
+use Rattle.std.specs.Prelude.{◌≡◌, ◌≢◌, ◌⊎◌, IsTrue, List, [], ◌∷◌, Option, None, Some, option_map}
 use Rattle.sqlite_trees.specs.Tree.{Trees}
 use Rattle.sqlite.specs.Effect.{Database}
 use Rattle.sqlite.specs.State.{State as Shown, HasCleanDisk}
@@ -16,19 +16,6 @@ use Rattle.exam_tables.specs.Versions.{ContainsOf, HasVersion, version}
 use Rattle.exam_store.specs.Found.{Finds, IsNoOlder}
 use Rattle.exam_check.specs.declared.tables.Table.{Table}
 use Rattle.exam_check.specs.declared.tables.Table.TheVariants as table
-
--- the table in which the database keeps this table of an office
-abbrev pub table_of : OfficeTable → Table
-table_of office.Sessions = table.Session
-table_of office.Papers = table.Paper
-table_of office.Halls = table.Hall
-table_of office.Openings = table.Opening
-table_of office.Candidates = table.Candidate
-table_of office.Entries = table.Entry
-table_of office.Arrangements = table.Arrangement
-table_of office.Appeals = table.Appeal
-table_of office.Standing = table.Standing
-table_of office.Seats = table.Seat
 
 -- the rows of this table, in any order, are those of the office, each in its stored form
 abbrev pub HoldsTableOf : Trees → State → OfficeTable → Type 0
@@ -64,7 +51,7 @@ abbrev pub IsFirstBadTable : Database → Trees → Option Table → Type 0
 IsFirstBadTable db all found =
     ((HasGoodVersion db all → ⊥) × (found ≡ Some table.Office))
     ⊎ (HasGoodVersion db all × (o : State) × (bad : Option OfficeTable)
-    × IsFirstBadIn all o tables bad × (found ≡ option_map table_of bad))
+    × IsFirstBadIn all o tables bad × (found ≡ option_map table.Of bad))
 
 -- This was found, in a database of no older version. It is the first bad table, whichever rows the tables have.
 pub record FindsBad (db : Database) (found : Option Table) : Type 0 where
@@ -86,32 +73,17 @@ OpensNothing old new office all found =
     (HasCleanDisk new → Finds old new office → ⊥)
     × (IsFirstBadTable old.now all found → found ≡ Some table.Office)
 
--- ---- the first of two tables
+-- ---- of those that could be read and those that could not
 
--- the place in the order in which an office's tables are checked
-abbrev pub place : OfficeTable → ℕ
-place office.Sessions = 0
-place office.Papers = 1
-place office.Halls = 2
-place office.Openings = 3
-place office.Candidates = 4
-place office.Entries = 5
-place office.Arrangements = 6
-place office.Appeals = 7
-place office.Standing = 8
-place office.Seats = 9
+-- The first of these tables whose rows no office has, or none. The office has the rows of those before it.
+abbrev pub IsFirstUnread : Trees → State → List OfficeTable → Option OfficeTable → Type 0
+IsFirstUnread all o [] unread = unread ≡ None
+IsFirstUnread all o (t ∷ ts) unread =
+    (HoldsNoTable all t × (unread ≡ Some t)) ⊎ (HoldsTableOf all o t × IsFirstUnread all o ts unread)
 
-abbrev pub IsFirstOfTwo : OfficeTable → OfficeTable → OfficeTable → Type 0
-IsFirstOfTwo one other first =
-    ((place one < place other) × (first ≡ one)) ⊎ ((place one < place other → ⊥) × (first ≡ other))
-
-abbrev pub IsFirstOf : Option OfficeTable → Option OfficeTable → Option OfficeTable → Type 0
-IsFirstOf None other first = first ≡ other
-IsFirstOf (Some one) None first = first ≡ Some one
-IsFirstOf (Some one) (Some other) first =
-    (it : OfficeTable) × IsFirstOfTwo one other it × (first ≡ Some it)
-
--- the first table that could not be read, if this one could not be read either
-abbrev pub first_unread : Option OfficeTable → OfficeTable → OfficeTable
-first_unread (Some first) t = first
-first_unread None t = t
+-- the first of these tables that is one of the two, or none
+abbrev pub IsFirstOf : List OfficeTable → Option OfficeTable → Option OfficeTable → Option OfficeTable → Type 0
+IsFirstOf [] one other first = first ≡ None
+IsFirstOf (t ∷ ts) one other first =
+    (((one ≡ Some t) ⊎ (other ≡ Some t)) × (first ≡ Some t))
+    ⊎ ((one ≢ Some t) × (other ≢ Some t) × IsFirstOf ts one other first)

@@ -1,24 +1,20 @@
 -- What reading the tables one after the other finds, and what it leaves.
-use Rattle.std.specs.Prelude.{◌≡◌, ◌⊎◌, ℕ, false, List, [], ◌∷◌, Option, Some, MatchOption, Result, IfErr, IsTrue}
-use Rattle.std.specs.declared.cmp.Ordering.{Ordering}
-use Rattle.std.specs.BTreeMap.{BTreeMap}
+use Rattle.std.specs.Prelude.{◌≡◌, ◌⊎◌, ℕ, List, [], ◌∷◌, Result, IfErr, IsTrue}
 use Rattle.sqlite_trees.specs.declared.store.Store.{Ghosts}
 use Rattle.sqlite_trees.specs.Tree.{Trees}
-use Rattle.sqlite.specs.Effect.{Database}
 use Rattle.sqlite.specs.Held.{Held, state}
 use Rattle.sqlite.specs.State.{HasCleanDisk, IsUnchanged, Survives}
 use Rattle.exam_types.specs.declared.refusal.Refusal.{Refusal}
 use Rattle.exam_types.specs.declared.refusal.Refusal.TheVariants.{BadStore}
 use Rattle.exam_rules.specs.Relations.{relations_of}
+use Rattle.exam_commands.specs.Good.{tables}
 use Rattle.exam_commands.specs.State.{State as Office}
-use Rattle.exam_commands.specs.declared.table.Table.{Table as OfficeTable}
 use Rattle.exam_tables.specs.Forms as forms
-use Rattle.exam_tables.specs.Forms.{Form}
 use Rattle.exam_tables.specs.Inside.{Contains}
-use Rattle.exam_tables.specs.Loaded.{HoldsTable, IsUnderstood, OnlyReads}
+use Rattle.exam_tables.specs.Loaded.{AreUnderstood, OnlyReads}
 use Rattle.exam_tables.specs.Parts.{Part}
 use Rattle.exam_store.specs.Found.{is_open_refusal}
-use Rattle.exam_check.specs.FirstBad.{HasGoodVersion, HoldsNoTable, HoldsTableOf, first_unread}
+use Rattle.exam_check.specs.FirstBad.{HasGoodVersion, IsFirstUnread}
 use Rattle.exam_check.specs.Refused.{FailsToCheck}
 use Rattle.exam_check.specs.declared.reading.Tables.{Tables}
 
@@ -33,33 +29,6 @@ pub record Looks {S A : Type 0} (g : Ghosts S) (old new : Held S) (result : Resu
   pub refused : HasCleanDisk (state g new) → IfErr result (λ e. (e ≡ BadStore) ⊎ FailsToCheck g old new e)
   pub told : IfErr result (λ e. IsTrue (is_open_refusal e))
 
--- The table has these rows, or no table of an office has its rows; the first such table is noted.
-abbrev pub IsReadAs : OfficeTable → Option OfficeTable → Option OfficeTable → Type 0 → Type 0 → Type 0
-IsReadAs t before after Has HasNone =
-    (Has × (after ≡ before)) ⊎ (HasNone × (after ≡ Some (first_unread before t)))
-
--- what a table is read as: its rows, or none if no office has them
-abbrev pub read_part : {K X : Type 0} → (K → K → Ordering) → Form K X → Part (Option (BTreeMap K X))
-read_part {K} {X} cmp form = record {
-  Holds = Contains;
-  Has = λ rows db all. MatchOption rows
-      ((entries : List (K × X)) → HoldsTable cmp form.IsRow form.row entries (all form.tree) → ⊥)
-      (λ table. HoldsTable cmp form.IsRow form.row table.entries (all form.tree));
-  HasNone = λ db all. ⊥;
-  Understands = λ rows db. IsUnderstood db form.load;
-}
-
--- The tables and their columns exist. If the tables are those of the newest version, they are read as this.
-abbrev pub IsRead : {A : Type 0} → Part A → Database → A → Type 0
-IsRead part db rows = part.Understands rows db × ((all : Trees) → Contains db all → part.Has rows db all)
-
--- the tables of the list were read in order
-abbrev pub AreRead : Trees → Office → List OfficeTable → Option OfficeTable → Option OfficeTable → Type 0
-AreRead all o [] before after = after ≡ before
-AreRead all o (t ∷ ts) before after =
-    (mid : Option OfficeTable) × IsReadAs t before mid (HoldsTableOf all o t) (HoldsNoTable all t)
-    × AreRead all o ts mid after
-
 -- the texts that load the tables, in the order in which they are checked
 abbrev pub table_texts : List (List ℕ)
 table_texts =
@@ -69,3 +38,12 @@ table_texts =
 -- the office of what was read; a table that could not be read has no rows there
 abbrev pub office_in : Tables → Office
 office_in read = record { relations = relations_of read.facts; seats = read.seats.entries }
+
+-- what the tables of the newest version are read as
+abbrev pub tables_part : Part Tables
+tables_part = record {
+  Holds = Contains;
+  Has = λ read db all. IsFirstUnread all (office_in read) tables read.unread;
+  HasNone = λ db all. ⊥;
+  Understands = λ read db. AreUnderstood db table_texts;
+}

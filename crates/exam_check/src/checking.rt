@@ -15,7 +15,7 @@ ghost use Rattle.exam_check.specs.Reading.{Looks};
 ghost use Rattle.exam_check.specs.Refused.{AnswersUnlisted, FailsToCheck, is_check_refusal};
 
 use crate::reading::read_tables;
-use crate::tables::{Table, first_of, table_of};
+use crate::tables::{Table, first_of};
 use exam_office::{Table as OfficeTable, first_bad_table};
 use exam_tables::{NEWEST, has_marks, version_of};
 use exam_types::Refusal;
@@ -36,8 +36,7 @@ pub fn check<S: Alter>(alloc: Global, conn: &mut Connection<S>) -> Result<Option
     ensures told { IfErr result (λ e. IsTrue (is_check_refusal e)) }
 {
     match first_bad(alloc, conn) {
-        Ok(None) => Ok(None),
-        Ok(Some(bad)) => Ok(Some(table_of(bad))),
+        Ok(bad) => Ok(bad.map(Table::Of)),
         Err(Refusal::BadStore) => Ok(Some(Table::Office)),
         Err(refusal) => Err(refusal),
     }

@@ -3,6 +3,7 @@ ghost use Rattle.std.specs.Prelude.{◌≡◌};
 ghost use Rattle.exam_check.specs.Lines as spec;
 
 use crate::tables::Table;
+use exam_office::Table as OfficeTable;
 
 /// The line for the first bad table of a database, or for a good database.
 pub fn check_line(found: Option<Table>) -> &'static [u8]
@@ -11,15 +12,15 @@ pub fn check_line(found: Option<Table>) -> &'static [u8]
     match found {
         None => b"good\n",
         Some(Table::Office) => b"bad office\n",
-        Some(Table::Session) => b"bad session\n",
-        Some(Table::Paper) => b"bad paper\n",
-        Some(Table::Hall) => b"bad hall\n",
-        Some(Table::Opening) => b"bad opening\n",
-        Some(Table::Candidate) => b"bad candidate\n",
-        Some(Table::Entry) => b"bad entry\n",
-        Some(Table::Arrangement) => b"bad arrangement\n",
-        Some(Table::Appeal) => b"bad appeal\n",
-        Some(Table::Standing) => b"bad standing\n",
-        Some(Table::Seat) => b"bad seat\n",
+        Some(Table::Of(OfficeTable::Sessions)) => b"bad session\n",
+        Some(Table::Of(OfficeTable::Papers)) => b"bad paper\n",
+        Some(Table::Of(OfficeTable::Halls)) => b"bad hall\n",
+        Some(Table::Of(OfficeTable::Openings)) => b"bad opening\n",
+        Some(Table::Of(OfficeTable::Candidates)) => b"bad candidate\n",
+        Some(Table::Of(OfficeTable::Entries)) => b"bad entry\n",
+        Some(Table::Of(OfficeTable::Arrangements)) => b"bad arrangement\n",
+        Some(Table::Of(OfficeTable::Appeals)) => b"bad appeal\n",
+        Some(Table::Of(OfficeTable::Standing)) => b"bad standing\n",
+        Some(Table::Of(OfficeTable::Seats)) => b"bad seat\n",
     }
 }

@@ -1,23 +1,15 @@
 //! Reading the tables one after the other.
-ghost use Rattle.std.specs.Prelude.{◌≡◌, IfOk, OnOk, MatchOption};
-ghost use Rattle.sqlite.specs.Held.{state};
-ghost use Rattle.sqlite.specs.State.{HasCleanDisk};
-ghost use Rattle.exam_commands.specs.Good.{tables};
-ghost use Rattle.exam_tables.specs.Forms as forms;
-ghost use Rattle.exam_tables.specs.Inside.{Contains};
-ghost use Rattle.exam_tables.specs.Loaded.{AreUnderstood};
-ghost use Rattle.exam_tables.specs.Parts.{Part, then_part};
-ghost use Rattle.exam_check.specs.FirstBad.{first_unread};
-ghost use Rattle.exam_check.specs.Reading as spec;
+ghost use Rattle.std.specs.Prelude.{◌≡◌, MatchOption};
+ghost use Rattle.exam_tables.specs.Parts.{Loading};
+ghost use Rattle.exam_check.specs.Reading.{tables_part};
 
-use crate::tables::first_unread;
 use exam_office::{Seats as Plans, Table as OfficeTable};
 use exam_rules::Facts;
 use exam_tables::{
-    AppealTable, ArrangementTable, CandidateTable, EntryTable, HallTable, OpeningTable, PaperTable,
-    SeatTable, SessionTable, StandingTable, StoredRows, scan_table,
+    AppealTable, ArrangementTable, CandidateTable, EntryTable, HallTable, Loads, OpeningTable,
+    PaperTable, SeatTable, SessionTable, StandingTable,
 };
-use exam_types::{HallCode, Number, Refusal, SessionCode};
+use exam_types::Refusal;
 use sqlite::{Alter, Connection};
 use std::alloc::Global;
 use std::collections::BTreeMap;
@@ -32,27 +24,24 @@ pub struct Tables {
 
 /// Reads every table. Refused with `BadStore` if a table or a column is missing.
 pub fn read_tables<S: Alter>(alloc: Global, conn: &mut Connection<S>) -> Result<Tables, Refusal>
-    ensures looks { spec.Looks S.Store conn.old conn.new result }
-    ensures understood { HasCleanDisk (state S.Store conn.new)
-        → OnOk result (AreUnderstood (state S.Store conn.old).now spec.table_texts) }
-    ensures read { HasCleanDisk (state S.Store conn.new) → IfOk result (λ read. (all : _)
-        → Contains (state S.Store conn.old).now all
-        → spec.AreRead all (spec.office_in read) tables None read.unread) }
+    ensures { Loading S.Store conn.old conn.new result tables_part }
 {
-    let rows = <OfficeTables as Reads>::read(alloc, conn)?;
-    let (sessions, (papers, (halls, (openings, more)))) = rows;
-    let (candidates, (entries, (arrangements, (appeals, (standing, seats))))) = more;
+    let rows = <OfficeTables as Loads>::load(alloc, conn)?;
+    let (first, later) = rows;
+    let (sessions, (papers, (halls, (openings, candidates)))) = first;
+    let (entries, (arrangements, (appeals, (standing, seats)))) = later;
     let mut unread = None;
-    let sessions = noted(alloc, sessions, OfficeTable::Sessions, &mut unread);
-    let papers = noted(alloc, papers, OfficeTable::Papers, &mut unread);
-    let halls = noted(alloc, halls, OfficeTable::Halls, &mut unread);
-    let openings = noted(alloc, openings, OfficeTable::Openings, &mut unread);
-    let candidates = noted(alloc, candidates, OfficeTable::Candidates, &mut unread);
-    let entries = noted(alloc, entries, OfficeTable::Entries, &mut unread);
-    let arrangements = noted(alloc, arrangements, OfficeTable::Arrangements, &mut unread);
-    let appeals = noted(alloc, appeals, OfficeTable::Appeals, &mut unread);
-    let standing = noted(alloc, standing, OfficeTable::Standing, &mut unread);
+    // The first table without rows is noted last, and stays.
     let seats = noted(alloc, seats, OfficeTable::Seats, &mut unread);
+    let standing = noted(alloc, standing, OfficeTable::Standing, &mut unread);
+    let appeals = noted(alloc, appeals, OfficeTable::Appeals, &mut unread);
+    let arrangements = noted(alloc, arrangements, OfficeTable::Arrangements, &mut unread);
+    let entries = noted(alloc, entries, OfficeTable::Entries, &mut unread);
+    let candidates = noted(alloc, candidates, OfficeTable::Candidates, &mut unread);
+    let openings = noted(alloc, openings, OfficeTable::Openings, &mut unread);
+    let halls = noted(alloc, halls, OfficeTable::Halls, &mut unread);
+    let papers = noted(alloc, papers, OfficeTable::Papers, &mut unread);
+    let sessions = noted(alloc, sessions, OfficeTable::Sessions, &mut unread);
     let facts = Facts {
         sessions,
         papers,
@@ -71,98 +60,45 @@ pub fn read_tables<S: Alter>(alloc: Global, conn: &mut Connection<S>) -> Result<
     })
 }
 
-/// The tables of an office.
+/// The tables of an office, each with its rows or none.
 type OfficeTables = (
-    SessionTable,
     (
-        PaperTable,
+        Option<SessionTable>,
         (
-            HallTable,
+            Option<PaperTable>,
             (
-                OpeningTable,
-                (
-                    CandidateTable,
-                    (
-                        EntryTable,
-                        (ArrangementTable, (AppealTable, (StandingTable, SeatTable))),
-                    ),
-                ),
+                Option<HallTable>,
+                (Option<OpeningTable>, Option<CandidateTable>),
+            ),
+        ),
+    ),
+    (
+        Option<EntryTable>,
+        (
+            Option<ArrangementTable>,
+            (
+                Option<AppealTable>,
+                (Option<StandingTable>, Option<SeatTable>),
             ),
         ),
     ),
 );
 
-/// The rows of a table, or no rows if no office has those that were read. Then the table is noted unless one is noted
-/// already.
+/// The rows of a table, or no rows if no office has those that were read. Then the table is noted, in the place of one
+/// that was noted before.
 fn noted<K: Ord + Drop, V: Drop>(
     alloc: Global,
     rows: Option<BTreeMap<K, V>>,
     table: OfficeTable,
     unread: &mut Option<OfficeTable>,
 ) -> BTreeMap<K, V>
-    ensures { MatchOption rows (unread.new ≡ Some (first_unread unread.old table))
-        (λ rows. (result ≡ rows) × (unread.new ≡ unread.old)) }
+    ensures { MatchOption rows (unread.new ≡ Some table) (λ rows. (result ≡ rows) × (unread.new ≡ unread.old)) }
 {
     match rows {
         Some(rows) => rows,
         None => {
-            *unread = first_unread(*unread, table);
+            *unread = Some(table);
             BTreeMap::new(alloc)
         }
     }
-}
-
-/// Tables that are read one after the other.
-trait Reads {
-    /// The rows of each, or none if no office has its rows.
-    type Rows: Drop;
-
-    ghost part: { Part Self.Rows };
-
-    /// Reads them. Refused with `BadStore` if a table or a column is missing.
-    fn read<S: Alter>(alloc: Global, conn: &mut Connection<S>) -> Result<Self::Rows, Refusal>
-        ensures looks { spec.Looks S.Store conn.old conn.new result }
-        ensures read { HasCleanDisk (state S.Store conn.new)
-            → IfOk result (spec.IsRead part (state S.Store conn.old).now) };
-}
-
-impl<T: StoredRows, M: Reads> Reads for (T, M) {
-    type Rows = (Option<BTreeMap<T::Key, T::Value>>, M::Rows);
-
-    ghost part = { then_part (spec.read_part T.Key.cmp T.form) M.part };
-
-    fn read<S: Alter>(
-        alloc: Global,
-        conn: &mut Connection<S>,
-    ) -> Result<(Option<BTreeMap<T::Key, T::Value>>, M::Rows), Refusal> {
-        let rows = read_table::<T, S>(alloc, conn)?;
-        let more = M::read(alloc, conn)?;
-        Ok((rows, more))
-    }
-}
-
-/// The last table.
-impl Reads for SeatTable {
-    type Rows = Option<BTreeMap<(SessionCode, Number), HallCode>>;
-
-    ghost part = { spec.read_part forms.seats.cmp forms.seats };
-
-    fn read<S: Alter>(
-        alloc: Global,
-        conn: &mut Connection<S>,
-    ) -> Result<Option<BTreeMap<(SessionCode, Number), HallCode>>, Refusal> {
-        read_table::<SeatTable, S>(alloc, conn)
-    }
-}
-
-/// The whole table, or none if no office has its rows. Refused with `BadStore` if the table or a column is missing.
-fn read_table<T: StoredRows, S: Alter>(
-    alloc: Global,
-    conn: &mut Connection<S>,
-) -> Result<Option<BTreeMap<T::Key, T::Value>>, Refusal>
-    ensures looks { spec.Looks S.Store conn.old conn.new result }
-    ensures read { HasCleanDisk (state S.Store conn.new)
-        → IfOk result (spec.IsRead (spec.read_part T.Key.cmp T.form) (state S.Store conn.old).now) }
-{
-    scan_table::<T, S>(alloc, conn)
 }

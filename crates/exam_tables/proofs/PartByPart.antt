@@ -20,6 +20,7 @@ module _ {S : Type 0} (g : Ghosts S) (old new : Held S) where
         (λ e. part_failed e (λ fails. (old, still_itself (state g old), text, known, fails)) (λ none. none))
         (it.bad clean);
     left = it.left;
+    unchanged = it.unchanged;
     understood = it.understood;
     survives = it.survives;
     early = it.early;
@@ -39,6 +40,7 @@ module _ {S : Type 0} (g : Ghosts S) (old new : Held S) where
       bad = λ clean. part_failed e fails (λ lacks all was. none clean all was (lacks all (holds all was)))
           (it.bad clean);
       left = it.left;
+      unchanged = it.unchanged;
       understood = λ clean. tt;
       survives = it.survives;
       early = it.early;
@@ -77,6 +79,7 @@ module _ {S : Type 0} (g : Ghosts S) (old new : Held S) where
       rows = λ clean all was. rows clean all was (it.rows clean all (holds all was));
       bad = λ clean. tt;
       left = it.left;
+      unchanged = λ clean. tt;
       understood = λ clean. knows clean (it.understood clean);
       survives = it.survives;
       early = it.early;
@@ -90,6 +93,7 @@ module _ {S : Type 0} (g : Ghosts S) (old new : Held S) where
             (inr (none.0, λ all was. none.1 clean all was (it.rows clean all (holds all was))))
       ];
       left = λ clean. inl (it.left clean);
+      unchanged = λ clean bad. it.left clean;
       understood = λ clean. tt;
       survives = it.survives;
       early = it.early;
@@ -122,6 +126,8 @@ module _ {S A B : Type 0} (g : Ghosts S) (old mid new : Held S) (one : Part A) (
         (none all (subst (λ (db : Database). more.Holds db all) (sym same.0.now_is) was.1)))) (next.bad clean);
     left = λ clean. left_then (state g old) (state g mid) (state g new) (first.left (next.early clean))
         (next.left clean);
+    unchanged = λ clean bad. unchanged_then (state g old) (state g mid) (state g new) (first.left (next.early clean))
+        (next.unchanged clean bad);
     understood = λ clean. tt;
     survives = both_survive (state g old) (state g mid) (state g new) first.survives next.survives;
     early = λ clean. first.early (next.early clean);
@@ -140,6 +146,7 @@ module _ {S A B : Type 0} (g : Ghosts S) (old mid new : Held S) (one : Part A) (
     bad = λ clean. tt;
     left = λ clean. unchanged_then (state g old) (state g mid) (state g new) (first.left (next.early clean))
         (next.left clean);
+    unchanged = λ clean. tt;
     understood = λ clean. (
       first.understood (next.early clean),
       subst (more.Understands y) (first.left (next.early clean)).0.now_is (next.understood clean),

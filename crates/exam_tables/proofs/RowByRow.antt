@@ -4,7 +4,7 @@ use Rattle.exam_tables.proofs.Words.{Row, Ghosts, Database, Held, state, State, 
 use Rattle.exam_tables.proofs.Words.{IsUnchanged, Survives, Error, unchanged_then, Refusal, BadStore, NoMemory}
 use Rattle.exam_tables.proofs.Words.{failed_unchanged, KeysRise, refusal_of, Form, KeysMatch, table_part}
 use Rattle.std.proofs.Common.{◌≡◌, ◌⊎◌, ℕ, List, [], ◌∷◌, ◌++◌, Option, Some, None, Result, Ok, Err, inl, inr}
-use Rattle.std.proofs.Common.{refl, sym, ap, subst, ◌∙◌, ◌<◌, length, length-append, get_or, OnErr, OnOk, IsSome}
+use Rattle.std.proofs.Common.{refl, sym, ap, subst, ◌∙◌, ◌<◌, length, length-append, get_or, IfErr, OnErr, OnOk, IsSome}
 use Rattle.std.proofs.Common.{IsTrue, arith}
 use Rattle.std.specs.Option.{ok_or}
 use Rattle.std.specs.declared.cmp.Ordering.{Ordering}
@@ -24,11 +24,11 @@ use Rattle.exam_sql.proofs.Loads.{load_fails, shown_by}
 use Rattle.exam_tables.specs.Faults.{is_store_refusal}
 use Rattle.exam_tables.specs.Forms.{IsOurTable}
 use Rattle.exam_tables.specs.Loaded.{AreRowsOf, FailsToLoadFrom, IsUnderstood}
-use Rattle.exam_tables.specs.Parts.{LoadingBy}
+use Rattle.exam_tables.specs.Parts.{LoadingBy, LoadsOr, Part, scanned_part}
 use Rattle.exam_tables.specs.declared.scanning.Next.TheVariants as next
 use Rattle.exam_tables.specs.Scanned.{BeginNone, Goes, Scans}
 use Rattle.exam_tables.proofs.Inserting.{one_read}
-use Rattle.exam_tables.proofs.Leaving.{left_then, not_bad_store, shown_understood, understood_before}
+use Rattle.exam_tables.proofs.Leaving.{bad_unchanged, left_then, not_bad_store, shown_understood, understood_before}
 use Rattle.exam_tables.proofs.Refusing.{no_form, no_twice, rows_held, rows_shown}
 
 -- a call that does nothing leaves what there was
@@ -270,6 +270,7 @@ module _ {S K X : Type 0} (g : Ghosts S) {cmp : K → K → Ordering} (form : Fo
       rows = λ clean. tt;
       bad = λ clean. inr (inr (refl, (scans clean).2));
       left = λ clean. inl (scans clean).0;
+      unchanged = λ clean bad. (scans clean).0;
       understood = λ clean. tt;
       survives = survives;
       early = early;
@@ -279,24 +280,48 @@ module _ {S K X : Type 0} (g : Ghosts S) {cmp : K → K → Ordering} (form : Fo
       rows = λ clean. (scans clean).2;
       bad = λ clean. tt;
       left = λ clean. (scans clean).0;
+      unchanged = λ clean. tt;
       understood = λ clean. (scans clean).1;
       survives = survives;
       early = early;
       told = tt;
     }
 
-    pub scan_fails : (e : Refusal) → (HasCleanDisk (state g new) → Scans g cmp form old new (Err e))
-        → IsTrue (is_store_refusal e)
-        → LoadingBy form.load g old new (Err e) (table_part cmp form)
+    -- why there is no answer, whatever it would have been
+    pub scan_fails : {A : Type 0} {part : Part A} (e : Refusal)
+        → (HasCleanDisk (state g new) → Scans g cmp form old new (Err e)) → IsTrue (is_store_refusal e)
+        → LoadsOr (FailsToLoadFrom form.Holds form.load (state g old) (state g new)) g old new (Err e) part
     scan_fails e scans told = record {
       rows = λ clean. tt;
       bad = λ clean. elim (scans clean).1 [ inl short ↦ inl short | inr fails ↦ inr (inl fails) ];
       left = λ clean. (scans clean).0;
+      unchanged = λ clean is. elim (scans clean).1 [
+        | inl short ↦ absurd (let same : NoMemory ≡ BadStore = sym short ∙ is in cc)
+        | inr fails ↦
+            bad_unchanged form.load [] (state g old) (state g new) fails.0.0 fails.0.2 (sym fails.0.1 ∙ is)
+      ];
       understood = λ clean. tt;
       survives = survives;
       early = early;
       told = told;
     }
+
+    -- what a scan answers
+    pub scan_finds : (result : Result (Option (BTreeMap K X)) Refusal)
+        → (HasCleanDisk (state g new) → Scans g cmp form old new result)
+        → IfErr result (λ e. IsTrue (is_store_refusal e))
+        → LoadingBy form.load g old new result (scanned_part cmp form)
+    scan_finds (Ok found) scans told = record {
+      rows = λ clean. (scans clean).2;
+      bad = λ clean. tt;
+      left = λ clean. (scans clean).0;
+      unchanged = λ clean. tt;
+      understood = λ clean. (scans clean).1;
+      survives = survives;
+      early = early;
+      told = tt;
+    }
+    scan_finds (Err e) scans told = scan_fails e scans told
 
 pub on_ok : {A E P Q : Type 0} (result : Result A E) → (P → Q) → OnOk result P → OnOk result Q
 on_ok (Ok a) f p = f p

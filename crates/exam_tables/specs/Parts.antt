@@ -1,13 +1,14 @@
 -- What is loaded from tables, and what a call that only reads them answers and leaves.
-use Rattle.std.specs.Prelude.{◌⊎◌, ℕ, IsTrue, List, Result, IfOk, IfErr}
+use Rattle.std.specs.Prelude.{◌≡◌, ◌⊎◌, ℕ, IsTrue, List, Option, Result, IfOk, IfErr}
 use Rattle.std.specs.declared.cmp.Ordering.{Ordering}
 use Rattle.std.specs.BTreeMap.{BTreeMap}
 use Rattle.sqlite_trees.specs.Tree.{Trees}
 use Rattle.sqlite_trees.specs.declared.store.Store.{Ghosts}
 use Rattle.sqlite.specs.Effect.{Database}
 use Rattle.sqlite.specs.Held.{Held, state}
-use Rattle.sqlite.specs.State.{HasCleanDisk, Survives}
+use Rattle.sqlite.specs.State.{HasCleanDisk, IsUnchanged, Survives}
 use Rattle.exam_types.specs.declared.refusal.Refusal.{Refusal}
+use Rattle.exam_types.specs.declared.refusal.Refusal.TheVariants.{BadStore}
 use Rattle.exam_sql.specs.Made.{ContainsMade, lists_marks}
 use Rattle.exam_sql.specs.Texts.{fact_texts, load_office, load_standing}
 use Rattle.exam_rules.specs.Relations.{Code, Relations, relations_of}
@@ -17,6 +18,7 @@ use Rattle.exam_tables.specs.Forms.{Form, standing}
 use Rattle.exam_tables.specs.Held.{HoldsRelations}
 use Rattle.exam_tables.specs.Loaded.{AreUnderstood, FailsThenFrom, FailsToLoadFrom, HoldsTable, IsLoadRefusal}
 use Rattle.exam_tables.specs.Loaded.{IsUnderstood, OnlyReads}
+use Rattle.exam_tables.specs.Scanned.{IsReadAs}
 use Rattle.exam_tables.specs.Versions.{HasVersion, IsVersion}
 use Rattle.exam_tables.specs.declared.version.Version.{Version}
 
@@ -38,6 +40,15 @@ table_part {K} {X} cmp form = record {
   Has = λ table db all. HoldsTable cmp form.IsRow form.row table.entries (all form.tree);
   HasNone = λ db all. (entries : List (K × X)) → HoldsTable cmp form.IsRow form.row entries (all form.tree) → ⊥;
   Understands = λ table db. IsUnderstood db form.load;
+}
+
+-- one table, or none if its rows are those of no entries
+abbrev pub scanned_part : {K X : Type 0} → (K → K → Ordering) → Form K X → Part (Option (BTreeMap K X))
+scanned_part cmp form = record {
+  Holds = form.Holds;
+  Has = λ found db all. IsReadAs cmp form (all form.tree) found;
+  HasNone = λ db all. ⊥;
+  Understands = λ found db. IsUnderstood db form.load;
 }
 
 -- the marks; version 1 has no table for them
@@ -83,6 +94,8 @@ pub record LoadsOr {S A : Type 0} (Fails : Refusal → Type 0) (g : Ghosts S) (o
   pub bad : HasCleanDisk (state g new) → IfErr result (IsLoadRefusal Fails
       ((all : Trees) → part.Holds (state g old).now all → part.HasNone (state g old).now all))
   pub left : HasCleanDisk (state g new) → OnlyReads (state g old) (state g new) result
+  pub unchanged : HasCleanDisk (state g new) → IfErr result (λ e. e ≡ BadStore
+      → IsUnchanged (state g old) (state g new))
   pub understood : HasCleanDisk (state g new) → IfOk result (λ value. part.Understands value (state g old).now)
   pub survives : Survives (state g old) (state g new) (λ _. ⊥)
   pub early : HasCleanDisk (state g new) → HasCleanDisk (state g old)

@@ -1,10 +1,10 @@
-//! Reading the facts of an office.
+//! Reading tables one after the other.
 ghost use Rattle.std.specs.Prelude.{IsTrue};
 ghost use Rattle.sqlite.specs.Held.{state};
 ghost use Rattle.sqlite.specs.State.{HasCleanDisk};
-ghost use Rattle.exam_tables.specs.Parts.{Loading, Part, facts_part, marks_part, table_part, then_part};
+ghost use Rattle.exam_tables.specs.Parts.{Loading, Part, facts_part, marks_part, scanned_part, table_part, then_part};
 
-use crate::scanning::load_rows;
+use crate::scanning::{load_rows, scan_table};
 use crate::schema::has_marks;
 use crate::table::StoredRows;
 use crate::tables::appeals::AppealTable;
@@ -26,11 +26,10 @@ use std::collections::BTreeMap;
 pub fn load_facts<S: Alter>(alloc: Global, conn: &mut Connection<S>) -> Result<Facts, Refusal>
     ensures { Loading S.Store conn.old conn.new result facts_part }
 {
-    // Every version has a table of sessions. Once it is read, the connection is open.
-    let sessions = load_rows::<SessionTable, S>(alloc, conn)?;
-    let tables = <MoreTables as Loads>::load(alloc, conn)?;
-    let (papers, (halls, (openings, (candidates, more)))) = tables;
-    let (entries, (arrangements, (appeals, standing))) = more;
+    let tables = <FactTables as Loads>::load(alloc, conn)?;
+    let standing = load_marks(alloc, conn)?;
+    let (sessions, (papers, (halls, (openings, more)))) = tables;
+    let (candidates, (entries, (arrangements, appeals))) = more;
     Ok(Facts {
         sessions,
         papers,
@@ -44,64 +43,89 @@ pub fn load_facts<S: Alter>(alloc: Global, conn: &mut Connection<S>) -> Result<F
     })
 }
 
-/// The tables of facts after the sessions.
-type MoreTables = (
-    PaperTable,
+/// The tables of facts that every version has.
+type FactTables = (
+    SessionTable,
     (
-        HallTable,
+        PaperTable,
         (
-            OpeningTable,
+            HallTable,
             (
-                CandidateTable,
-                (EntryTable, (ArrangementTable, (AppealTable, Marks))),
+                OpeningTable,
+                (
+                    CandidateTable,
+                    (EntryTable, (ArrangementTable, AppealTable)),
+                ),
             ),
         ),
     ),
 );
 
 /// Tables that are loaded one after the other.
-trait Loads {
+pub trait Loads {
     type Rows: Drop;
 
     ghost part: { Part Self.Rows };
 
-    /// Their rows. Refused with `BadStore` if the tables or columns are missing, or hold something else.
+    /// Their rows. Refused with `BadStore` if a table or a column is missing.
     fn load<S: Alter>(alloc: Global, conn: &mut Connection<S>) -> Result<Self::Rows, Refusal>
-        ensures early { HasCleanDisk (state S.Store conn.new) → HasCleanDisk (state S.Store conn.old) }
-        ensures loads { (HasCleanDisk (state S.Store conn.new) → IsTrue (state S.Store conn.old).is_open)
-            → Loading S.Store conn.old conn.new result part };
+        ensures { Loading S.Store conn.old conn.new result part };
 }
 
-impl<T: StoredRows, M: Loads> Loads for (T, M) {
-    type Rows = (BTreeMap<T::Key, T::Value>, M::Rows);
+/// One table. Refused with `BadStore` also if its rows are those of no table.
+impl<T: StoredRows> Loads for T {
+    type Rows = BTreeMap<T::Key, T::Value>;
 
-    ghost part = { then_part (table_part T.Key.cmp T.form) M.part };
+    ghost part = { table_part T.Key.cmp T.form };
 
     fn load<S: Alter>(
         alloc: Global,
         conn: &mut Connection<S>,
-    ) -> Result<(BTreeMap<T::Key, T::Value>, M::Rows), Refusal> {
-        let table = load_rows::<T, S>(alloc, conn)?;
+    ) -> Result<BTreeMap<T::Key, T::Value>, Refusal> {
+        load_rows::<T, S>(alloc, conn)
+    }
+}
+
+/// One table, or none if its rows are those of no table.
+impl<T: StoredRows> Loads for Option<T> {
+    type Rows = Option<BTreeMap<T::Key, T::Value>>;
+
+    ghost part = { scanned_part T.Key.cmp T.form };
+
+    fn load<S: Alter>(
+        alloc: Global,
+        conn: &mut Connection<S>,
+    ) -> Result<Option<BTreeMap<T::Key, T::Value>>, Refusal> {
+        scan_table::<T, S>(alloc, conn)
+    }
+}
+
+impl<T: Loads, M: Loads> Loads for (T, M) {
+    type Rows = (T::Rows, M::Rows);
+
+    ghost part = { then_part T.part M.part };
+
+    fn load<S: Alter>(
+        alloc: Global,
+        conn: &mut Connection<S>,
+    ) -> Result<(T::Rows, M::Rows), Refusal> {
+        let table = T::load(alloc, conn)?;
         let more = M::load(alloc, conn)?;
         Ok((table, more))
     }
 }
 
 /// The marks. Version 1 has no table of them, and so no marks.
-struct Marks;
-
-impl Loads for Marks {
-    type Rows = BTreeMap<(Number, Reference), ()>;
-
-    ghost part = { marks_part };
-
-    fn load<S: Alter>(
-        alloc: Global,
-        conn: &mut Connection<S>,
-    ) -> Result<BTreeMap<(Number, Reference), ()>, Refusal> {
-        if !has_marks(conn) {
-            return Ok(BTreeMap::new(alloc));
-        }
-        load_rows::<StandingTable, S>(alloc, conn)
+fn load_marks<S: Alter>(
+    alloc: Global,
+    conn: &mut Connection<S>,
+) -> Result<BTreeMap<(Number, Reference), ()>, Refusal>
+    ensures early { HasCleanDisk (state S.Store conn.new) → HasCleanDisk (state S.Store conn.old) }
+    ensures loads { (HasCleanDisk (state S.Store conn.new) → IsTrue (state S.Store conn.old).is_open)
+        → Loading S.Store conn.old conn.new result marks_part }
+{
+    if !has_marks(conn) {
+        return Ok(BTreeMap::new(alloc));
     }
+    load_rows::<StandingTable, S>(alloc, conn)
 }

@@ -1,28 +1,46 @@
 -- Each step looks at the database that the one before left, so all looks are at one set of rows. The version comes
 -- first, then the tables in order: the first that cannot be read or that the judge finds bad, whichever comes sooner.
-use Rattle.std.proofs.Common.{◌≡◌, true, Err, refl, sym, ap, subst, rules, ◌∙◌}
+use Rattle.std.proofs.Common.{◌≡◌, true, Ok, Err, inl, inr, refl, sym, ap, subst, rules, ◌∙◌}
 use Rattle.std.proofs.lemmas.Bool.{both_ways}
+use Rattle.sqlite_trees.specs.declared.store.Store.{Ghosts}
 use Rattle.sqlite.specs.Effect.{Database}
-use Rattle.sqlite.specs.Held.{state}
+use Rattle.sqlite.specs.Held.{Held, state}
 use Rattle.exam_sql.specs.Made.{lists_marks}
+use Rattle.exam_sql.specs.Texts.{load_office}
 use Rattle.exam_sql.proofs.Listed.{newest_listed}
 use Rattle.exam_types.specs.declared.refusal.Refusal.TheVariants.{BadStore, OldSchema}
-use Rattle.exam_tables.specs.Inside.{Contains}
+use Rattle.exam_tables.specs.OurTables.{office_loads}
+use Rattle.exam_tables.specs.Parts.{Loading, LoadingBy, Part, then_part, version_part}
 use Rattle.exam_tables.specs.Versions.{HasVersion, version}
-use Rattle.exam_store.proofs.Marking.{is_of, of_newest, older, still_made}
+use Rattle.exam_tables.specs.declared.version.Version.{Version}
+use Rattle.exam_tables.proofs.PartByPart.{all_load, by_queries, next_fails}
+use Rattle.exam_store.proofs.Marking.{is_of, made_of, of_newest, older}
 use Rattle.exam_commands.specs.Good.{tables}
-use Rattle.exam_check.specs.Reading.{office_in, table_texts}
+use Rattle.exam_check.specs.Reading.{office_in, tables_part}
+use Rattle.exam_check.specs.declared.reading.Tables.{Tables}
 use Rattle.exam_check.proofs.First.{first_in}
-use Rattle.exam_check.proofs.Found.{all_before, in_load_order}
-use Rattle.exam_check.proofs.Looking.{fails_then, looks_ok, looks_old, looks_on, looks_then, looks_unmarked}
-use Rattle.exam_check.proofs.Looking.{read_newest, unread_newest, version_looks}
+use Rattle.exam_check.proofs.Found.{in_load_order}
+use Rattle.exam_check.proofs.Looking.{looks_fails, looks_old, looks_on, looks_unmarked, read_newest, unread_newest}
+use Rattle.exam_check.proofs.Looking.{version_looks}
 use Rattle.exam_check.proofs.checking.first_bad.Goals as goal
+
+abbrev both_part : Part (Version × Tables)
+both_part = then_part version_part tables_part
+
+module _ {S : Type 0} (g : Ghosts S) (old mid new : Held S) (v : Version) where
+  read_version : LoadingBy load_office g old mid (Ok v) version_part → Loading g old mid (Ok v) version_part
+  read_version = by_queries g old mid load_office office_loads (Ok v) version_part
+
+  -- the version and the tables, of one set of rows
+  read_both : (read : Tables) → LoadingBy load_office g old mid (Ok v) version_part
+      → Loading g mid new (Ok read) tables_part → Loading g old new (Ok (v, read)) both_part
+  read_both read first = all_load g old mid new version_part tables_part v (read_version first) read
 
 pub returns-in_err-version-clause-looks : goal.returns-in_err-version-clause-looks
 returns-in_err-version-clause-looks g c =
     let is : c.from_residual.result ≡ Err c.in_err-version.field-0.0 = search rules in
     rw is (version_looks g.S.Store c.args.conn.now c.version_of.new.conn c.in_err-version.field-0.0
-    c.in_err-version.ensures.unchanged c.in_err-version.ensures.reads)
+    c.in_err-version.ensures.reads)
 
 pub returns-then-version-clause-looks : goal.returns-then-version-clause-looks
 returns-then-version-clause-looks g c =
@@ -33,62 +51,62 @@ returns-then-version-clause-looks g c =
 pub returns-in_err-read-clause-looks : goal.returns-in_err-read-clause-looks
 returns-in_err-read-clause-looks g c =
     let is : c.from_residual-in_err-read.result ≡ Err c.in_err-read.field-0.0 = search rules in
-    let first = looks_ok g.S.Store c.args.conn.now c.version_of.new.conn c.in_ok-version.version
-    c.in_ok-version.ensures.reads in
-    rw is (fails_then g.S.Store c.args.conn.now c.version_of.new.conn c.read_tables.new.conn _ _ first
-    c.in_err-read.ensures.looks)
+    let db = (state g.S.Store c.args.conn.now).now in
+    let both = next_fails g.S.Store c.args.conn.now c.version_of.new.conn c.read_tables.new.conn version_part
+    tables_part
+    c.in_ok-version.version
+    (read_version g.S.Store c.args.conn.now c.version_of.new.conn c.read_tables.new.conn c.in_ok-version.version
+    c.in_ok-version.ensures.reads)
+    c.in_err-read.field-0.0 c.in_err-read.ensures in
+    rw is (looks_fails g.S.Store c.args.conn.now c.read_tables.new.conn c.in_err-read.field-0.0
+    both_part (λ all good. (
+      (made_of version db all good.0, good.0.0),
+      λ none. elim none [ inl of ↦ of version (inr refl) good.1 | inr of ↦ of ],
+    )) both)
 
 pub returns-in_err-bad-clause-looks : goal.returns-in_err-bad-clause-looks
 returns-in_err-bad-clause-looks g c =
     let is : c.from_residual-in_err-bad.result ≡ Err c.in_err-bad.field-0.0 = search rules in
-    let first = looks_ok g.S.Store c.args.conn.now c.version_of.new.conn c.in_ok-version.version
-    c.in_ok-version.ensures.reads in
-    let next = looks_then g.S.Store c.args.conn.now c.version_of.new.conn c.read_tables.new.conn _ _ first
-    c.in_ok-read.ensures.looks in
-    rw is (looks_on g.S.Store c.args.conn.now c.read_tables.new.conn _
-    (Err c.in_err-bad.field-0.0) next c.in_err-bad.ensures.memory)
+    let both = read_both g.S.Store c.args.conn.now c.version_of.new.conn c.read_tables.new.conn c.in_ok-version.version
+    c.in_ok-read.read c.in_ok-version.ensures.reads c.in_ok-read.ensures in
+    rw is (looks_on g.S.Store c.args.conn.now c.read_tables.new.conn _ both_part (Err c.in_err-bad.field-0.0) both
+    c.in_err-bad.ensures.memory)
 
 pub returns-clause-looks : goal.returns-clause-looks
 returns-clause-looks g c =
-    let first = looks_ok g.S.Store c.args.conn.now c.version_of.new.conn c.in_ok-version.version
-    c.in_ok-version.ensures.reads in
-    let next = looks_then g.S.Store c.args.conn.now c.version_of.new.conn c.read_tables.new.conn _ _ first
-    c.in_ok-read.ensures.looks in
-    looks_on g.S.Store c.args.conn.now c.read_tables.new.conn _ _ next tt
+    looks_on g.S.Store c.args.conn.now c.read_tables.new.conn _ both_part _
+    (read_both g.S.Store c.args.conn.now c.version_of.new.conn c.read_tables.new.conn c.in_ok-version.version
+    c.in_ok-read.read c.in_ok-version.ensures.reads c.in_ok-read.ensures) tt
 
 pub returns-clause-understood : goal.returns-clause-understood
 returns-clause-understood g c = λ clean.
-    let clean_1 = c.in_ok-read.ensures.looks.early clean in
-    let old = state g.S.Store c.args.conn.now in
-    in_load_order old.now (c.in_ok-version.ensures.reads.understood clean_1)
-    (all_before old (state g.S.Store c.version_of.new.conn) table_texts (c.in_ok-version.ensures.reads.left clean_1)
-    (c.in_ok-read.ensures.understood clean))
+    let both = read_both g.S.Store c.args.conn.now c.version_of.new.conn c.read_tables.new.conn c.in_ok-version.version
+    c.in_ok-read.read c.in_ok-version.ensures.reads c.in_ok-read.ensures in
+    let knows = both.understood clean in
+    in_load_order (state g.S.Store c.args.conn.now).now knows.0 knows.1
 
 pub returns-clause-found : goal.returns-clause-found
 returns-clause-found g c = λ clean all was.
-    let old = state g.S.Store c.args.conn.now in
-    let mid = state g.S.Store c.version_of.new.conn in
-    let clean_1 = c.in_ok-read.ensures.looks.early clean in
-    let same = c.in_ok-version.ensures.reads.left clean_1 in
+    let db = (state g.S.Store c.args.conn.now).now in
+    let same = c.in_ok-version.ensures.reads.left (c.in_ok-read.ensures.early clean) in
     let newest : c.in_ok-version.version.number ≡ version = search rules in
-    let marks : lists_marks mid.now.schema ≡ true = sym c.has_marks.ensures ∙ c.if-not-has_marks.false in
-    let contains = (is_of version mid.now all marks (still_made old mid all same was)).0 in (
-      (
-        of_newest old.now all (subst (λ (db : Database). Contains db all) same.0.now_is contains),
-        subst (λ v. HasVersion v all) newest (c.in_ok-version.ensures.reads.rows clean_1 all was),
-      ),
+    let marks : lists_marks db.schema ≡ true = ap (λ (db : Database). lists_marks db.schema) (sym same.0.now_is)
+    ∙ (sym c.has_marks.ensures ∙ c.if-not-has_marks.false) in
+    let contains = (is_of version db all marks was).0 in
+    let both = read_both g.S.Store c.args.conn.now c.version_of.new.conn c.read_tables.new.conn c.in_ok-version.version
+    c.in_ok-read.read c.in_ok-version.ensures.reads c.in_ok-read.ensures in
+    let held = both.rows clean all (was, contains) in (
+      (of_newest db all contains, subst (λ v. HasVersion v all) newest held.0),
       office_in c.in_ok-read.read,
-      first_in all (office_in c.in_ok-read.read) c.in_ok-bad.bad c.in_ok-read.read.unread c.first_of.result 0 tables
-          (refl, (refl, (refl, (refl, (refl, (refl, (refl, (refl, (refl, (refl, tt))))))))))
-          (c.in_ok-read.ensures.read clean all contains)
-          c.in_ok-bad.ensures.ok c.first_of.ensures,
+      first_in all (office_in c.in_ok-read.read) c.in_ok-bad.bad c.in_ok-read.read.unread c.first_of.result tables
+          held.1 c.in_ok-bad.ensures.ok c.first_of.ensures,
     )
 
 -- ---- the names of the tables
 
 pub returns-clause-listed : goal.returns-clause-listed
 returns-clause-listed g c = λ clean.
-    let same = c.in_ok-version.ensures.reads.left (c.in_ok-read.ensures.looks.early clean) in
+    let same = c.in_ok-version.ensures.reads.left (c.in_ok-read.ensures.early clean) in
     newest_listed (state g.S.Store c.args.conn.now).now.schema c.in_ok-version.ensures.listed
     (ap (λ (db : Database). lists_marks db.schema) (sym same.0.now_is)
     ∙ (sym c.has_marks.ensures ∙ c.if-not-has_marks.false))
@@ -137,17 +155,17 @@ returns-in_err-read-clause-newest g c = λ clean.
     let is : c.from_residual-in_err-read.result ≡ Err c.in_err-read.field-0.0 = search rules in
     let newest : c.in_ok-version.version.number ≡ version = search rules in
     rw is (λ bad. read_newest g.S.Store c.args.conn.now c.version_of.new.conn c.in_ok-version.version
-    c.in_ok-version.ensures.reads (c.in_err-read.ensures.looks.early clean) newest)
+    c.in_ok-version.ensures.reads (c.in_err-read.ensures.early clean) newest)
 
 pub returns-in_err-bad-clause-newest : goal.returns-in_err-bad-clause-newest
 returns-in_err-bad-clause-newest g c = λ clean.
     let is : c.from_residual-in_err-bad.result ≡ Err c.in_err-bad.field-0.0 = search rules in
     let newest : c.in_ok-version.version.number ≡ version = search rules in
     rw is (λ bad. read_newest g.S.Store c.args.conn.now c.version_of.new.conn c.in_ok-version.version
-    c.in_ok-version.ensures.reads (c.in_ok-read.ensures.looks.early clean) newest)
+    c.in_ok-version.ensures.reads (c.in_ok-read.ensures.early clean) newest)
 
 pub returns-clause-newest : goal.returns-clause-newest
 returns-clause-newest g c = λ clean.
     let newest : c.in_ok-version.version.number ≡ version = search rules in
     read_newest g.S.Store c.args.conn.now c.version_of.new.conn c.in_ok-version.version c.in_ok-version.ensures.reads
-    (c.in_ok-read.ensures.looks.early clean) newest
+    (c.in_ok-read.ensures.early clean) newest

@@ -31,6 +31,9 @@ returns-clause-reads g c =
       ))) c.version_in.ensures.bad;
       left = λ clean. reads_only old new c.version_in.result
           (shown_unchanged load_office office.is_query [] old new rows (c.in_ok-rows.ensures.shown clean));
+      unchanged = λ clean. IfErr-weaker c.version_in.result _ _
+          (λ e why bad. shown_unchanged load_office office.is_query [] old new rows (c.in_ok-rows.ensures.shown clean))
+          c.version_in.ensures.bad;
       understood = λ clean. understood_still c.version_in.result
           (shown_understood load_office old new rows (c.in_ok-rows.ensures.shown clean));
       survives = query_survives load_office office.is_query old new c.all_rows.ensures.survives;
@@ -49,6 +52,8 @@ returns-in_err-rows-clause-reads g c =
           (fails_to_load load_office (λ old new has_marks. load_fails (office.loads has_marks) old new) old new
           c.in_err-rows.field-0.0 (c.in_err-rows.ensures.failed clean)));
       left = λ clean. let it = c.in_err-rows.ensures.failed clean in failed_unchanged load_office [] old new it.0 it.2;
+      unchanged = λ clean bad. let it = c.in_err-rows.ensures.failed clean in
+          bad_unchanged load_office [] old new it.0 it.2 (sym it.1 ∙ bad);
       understood = λ clean. tt;
       survives = query_survives load_office office.is_query old new c.all_rows.ensures.survives;
       early = λ clean. omega (arith, c.all_rows.ensures.survives.clean, clean);
@@ -56,18 +61,10 @@ returns-in_err-rows-clause-reads g c =
     })
 
 pub returns-clause-unchanged : goal.returns-clause-unchanged
-returns-clause-unchanged g c = λ clean.
-    IfErr-weaker c.version_in.result _ _
-    (λ e why bad. shown_unchanged load_office office.is_query [] (state g.S.Store c.args.conn.now)
-    (state g.S.Store c.all_rows.new.conn) c.in_ok-rows.rows.items (c.in_ok-rows.ensures.shown clean))
-    c.version_in.ensures.bad
+returns-clause-unchanged g c = (returns-clause-reads g c).unchanged
 
 pub returns-in_err-rows-clause-unchanged : goal.returns-in_err-rows-clause-unchanged
-returns-in_err-rows-clause-unchanged g c = λ clean.
-    let is : c.from_residual-in_err-rows.result ≡ Err c.in_err-rows.field-0.0 = search rules in
-    let it = c.in_err-rows.ensures.failed clean in
-    rw is (λ bad. bad_unchanged load_office [] (state g.S.Store c.args.conn.now)
-    (state g.S.Store c.all_rows.new.conn) it.0 it.2 (sym it.1 ∙ bad))
+returns-in_err-rows-clause-unchanged g c = (returns-in_err-rows-clause-reads g c).unchanged
 
 -- ---- the names of the tables
 
@@ -96,6 +93,7 @@ returns-then-not-lists_tables-clause-reads g c = record {
         (sym c.lists_tables.ensures ∙ c.if-not-lists_tables.true) was,
   ));
   left = λ clean. inl (c.in_ok-ask_nothing.ensures.ok clean);
+  unchanged = λ clean bad. c.in_ok-ask_nothing.ensures.ok clean;
   understood = λ clean. tt;
   survives = c.ask_nothing.ensures.survives;
   early = λ clean. omega (arith, c.ask_nothing.ensures.survives.clean, clean);
@@ -103,7 +101,7 @@ returns-then-not-lists_tables-clause-reads g c = record {
 }
 
 pub returns-then-not-lists_tables-clause-unchanged : goal.returns-then-not-lists_tables-clause-unchanged
-returns-then-not-lists_tables-clause-unchanged g c = λ clean bad. c.in_ok-ask_nothing.ensures.ok clean
+returns-then-not-lists_tables-clause-unchanged g c = (returns-then-not-lists_tables-clause-reads g c).unchanged
 
 -- where no statement can be run
 
@@ -123,6 +121,8 @@ returns-in_err-ask_nothing-clause-reads g c =
           (asks_as_load load_office old new c.in_err-ask_nothing.field-0.0
           (c.in_err-ask_nothing.ensures.failed clean)));
       left = λ clean. asks_left old new c.in_err-ask_nothing.field-0.0 (c.in_err-ask_nothing.ensures.failed clean);
+      unchanged = λ clean bad. absurd
+          (asks_not_bad old new c.in_err-ask_nothing.field-0.0 (c.in_err-ask_nothing.ensures.failed clean) bad);
       understood = λ clean. tt;
       survives = c.ask_nothing.ensures.survives;
       early = λ clean. omega (arith, c.ask_nothing.ensures.survives.clean, clean);
@@ -130,9 +130,4 @@ returns-in_err-ask_nothing-clause-reads g c =
     })
 
 pub returns-in_err-ask_nothing-clause-unchanged : goal.returns-in_err-ask_nothing-clause-unchanged
-returns-in_err-ask_nothing-clause-unchanged g c = λ clean.
-    let is : c.from_residual.result ≡ Err c.in_err-ask_nothing.field-0.0 = search rules in
-    rw is (λ bad. absurd
-    (asks_not_bad (state g.S.Store c.args.conn.now)
-    (state g.S.Store c.ask_nothing.new.conn) c.in_err-ask_nothing.field-0.0
-    (c.in_err-ask_nothing.ensures.failed clean) bad))
+returns-in_err-ask_nothing-clause-unchanged g c = (returns-in_err-ask_nothing-clause-reads g c).unchanged

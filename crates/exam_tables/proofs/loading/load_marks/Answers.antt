@@ -3,7 +3,7 @@ use Rattle.std.proofs.Common.{◌≡◌, true, false, sym, ◌∙◌, true≢fal
 use Rattle.sqlite.proofs.StateLemmas.{unchanged}
 use Rattle.exam_tables.proofs.PartByPart.{by_queries}
 use Rattle.exam_tables.proofs.Marked.{holds_no_marks, marks_load}
-use Rattle.exam_tables.proofs.loading.MarksLoads.load.Goals as goal
+use Rattle.exam_tables.proofs.loading.load_marks.Goals as goal
 
 pub returns-then-not-has_marks-clause-loads : goal.returns-then-not-has_marks-clause-loads
 returns-then-not-has_marks-clause-loads g c = λ ready.
@@ -13,6 +13,7 @@ returns-then-not-has_marks-clause-loads g c = λ ready.
       rows = λ clean all was. rw c.new.ensures.empty (holds_no_marks old.now all lists was);
       bad = λ clean. tt;
       left = λ clean. unchanged old (ready clean);
+      unchanged = λ clean. tt;
       understood = λ clean listed. absurd (true≢false (sym listed ∙ lists));
       survives = search rules;
       early = λ clean. clean;
