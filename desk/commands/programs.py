@@ -44,9 +44,7 @@ def run(office: Office, words: list[str]) -> int:
 
 def changed(office: Office, words: list[str]) -> int:
     """Carries out a change; its status, whatever can be said of what it did."""
-    step = changing.Step(tuple(words))
-    title = f"{step.title()} {os.path.basename(words[-1])}" if words[0] == "import" else ""
-    carried = changing.carry_out(office, [step], title=title)
+    carried = changing.carry_out(office, [changing.Step(tuple(words))])
     status = outcome(office, words, printed(carried.answers[0].ran))
     if words[0] != MIGRATE:  # of the office before it nobody here can read the tables
         command.tell_consequences(carried.copy)
@@ -100,7 +98,8 @@ def run_list(office: Office, name: str, path: str) -> int:
     if wrong:
         raise Trouble("nothing is changed")
     statuses: list[int] = []
-    carried = listed.carry_out(office, f"{name} --list {os.path.basename(path)}", rows,
+    about = changing.named("entries", (tuple(map(str.encode, row.step.words[1:])) for row in rows))
+    carried = listed.carry_out(office, " ".join([name, "--list", os.path.basename(path), *about]), rows,
                                lambda line, answered: statuses.append(tell_row(office, line, answered)))
     done = sum(answered.ran.status == 0 for answered in carried.answers)
     back = "; `office back 1` takes them back" if done else ""
