@@ -2,6 +2,7 @@
 came of it."""
 from __future__ import annotations
 
+import itertools
 import os
 import sys
 from collections.abc import Sequence
@@ -25,14 +26,15 @@ With the entries of a file, whose header is number,paper: office {0} --list FILE
 
 def run(office: Office, words: list[str]) -> int:
     """Runs a command of the program; the status."""
-    if words[0] in LISTED and "--help" in words:
-        command.say(running.help_text(office, words[0]) + LIST_HELP.format(words[0]))
-        return 0
+    if words[0].startswith("-"):
+        replace_by(office, ["examoffice", *words])
+    if not {"-h", "--help"}.isdisjoint(itertools.takewhile(lambda word: word != "--", words)):
+        found = running.help_text(office, words[0])
+        command.say(found + (LIST_HELP.format(words[0]) if words[0] in LISTED else ""))
+        return 0 if found else outcome(office, words, Ran(2, "", "line not understood\n"))
     if words[0] in LISTED and len(words) == 3 and words[1] == "--list":
         return run_list(office, words[0], words[2])
-    if words[0].startswith("-") or "--help" in words:
-        replace_by(office, ["examoffice", *words])
-    if words[0] == "serve":
+    if words[0] == "serve" and len(words) > 1:
         beside.refuse_stranger(office.path)
         if turns.keep_state(office) is not None:
             raise Trouble("`keep` serves this office already; `office keep stop` ends it")

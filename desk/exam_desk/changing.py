@@ -174,20 +174,39 @@ def rehearse(office: Office, steps: Sequence[Step], tell: Tell = ignore) -> Rehe
     """Carries steps out on a private copy, up to the first that is refused. Raises `Trouble` where there is no
     office."""
     with contextlib.ExitStack() as stack:
-        try:
-            before = stack.enter_context(private.private_copy(office.path, office.path))
-            after = stack.enter_context(private.private_copy(before, office.path))
-        except OSError as fault:
-            raise Trouble(fault.strerror or str(fault), fault.filename or office.path) from fault
-        answers: list[Answered] = []
+        rehearsal = stack.enter_context(two_copies(office, office.path))
         with placed(office, steps) as lines:
             for step, line in zip(steps, lines):
                 tell(step.title())
-                answers.append(Answered(step, running.run_over(office, after, *line)))
-                if refused_of(answers):
+                rehearsal.answers.append(Answered(step, running.run_over(office, rehearsal.after, *line)))
+                if rehearsal.refused:
                     break
+        stack.pop_all()
+    return rehearsal
+
+
+def rehearse_back(office: Office, copy: str) -> Rehearsal:
+    """As `rehearse`, of a copy that would be put back; one of an earlier version is carried over. Raises `Trouble` where
+    it is no good office."""
+    with contextlib.ExitStack() as stack:
+        rehearsal = stack.enter_context(two_copies(office, copies.file_in(office, copy)))
+        undo.check(office, rehearsal.after)
+        running.run_over(office, rehearsal.after, "migrate")
+        stack.pop_all()
+    return rehearsal
+
+
+def two_copies(office: Office, after: str) -> Rehearsal:
+    """A rehearsal without a step: private copies of the office and of what would be in its place."""
+    with contextlib.ExitStack() as stack:
+        try:
+            before = stack.enter_context(private.private_copy(office.path, office.path))
+            source = before if after == office.path else after  # both are of one moment
+            after = stack.enter_context(private.private_copy(source, office.path))
+        except OSError as fault:
+            raise Trouble(fault.strerror or str(fault), fault.filename or office.path) from fault
         kept = stack.pop_all()
-    return Rehearsal(office, before, after, answers, kept)
+    return Rehearsal(office, before, after, [], kept)
 
 
 @contextlib.contextmanager

@@ -3,6 +3,7 @@ from __future__ import annotations
 
 import contextlib
 import os
+import re
 import shutil
 import subprocess
 from collections.abc import Callable, Iterator
@@ -13,6 +14,8 @@ from exam_desk.office import Office
 from exam_desk.trouble import Trouble
 
 PR_SET_PDEATHSIG = 1
+USE = re.compile(r"\bexamoffice\b( --(db|today) <[^>]*>)*")  # how a usage begins
+OPTIONS = re.compile(r"^ +--(db|today) .*\n( {10,}.*\n)*", re.MULTILINE)  # the lines on an option
 SHEETS = ["door-list", "attendance", "clashes", "shortage", "appeals", "export"]
 
 
@@ -68,13 +71,14 @@ def ran(office: Office, path: str, words: tuple[str, ...], output: int | None, f
 
 
 def help_text(office: Office, *words: str) -> str:
-    """The help of the program, or of one of its commands. Raises `NotStarted`."""
+    """The help of the program, or of one of its commands, in the words that `office` takes: it gives the file and the
+    date by itself. Raises `NotStarted`."""
     try:
         done = subprocess.run([office.program, *words, "--help"], stdout=subprocess.PIPE, stderr=subprocess.DEVNULL,
                               check=False)
     except OSError as fault:
         raise not_started(office, fault) from fault
-    return done.stdout.decode("utf-8", "replace")
+    return OPTIONS.sub("", USE.sub("office", done.stdout.decode("utf-8", "replace")))
 
 
 def usage(office: Office, name: str) -> list[str]:

@@ -77,9 +77,22 @@ class Words(sample.SampleSchool):
         self.assertTrue(done.stderr.startswith("line not understood\n"))
         for word in ("decide", "<number>", "<outcome>"):
             self.assertIn(word, done.stderr.lower())
+        self.assertIn("\n  Usage: office decide <number>", done.stderr)
+        self.assertNotIn("examoffice", done.stderr)
         done = self.run_office("nothing-like-it")
         self.assertEqual(done.stderr, "line not understood\n  `office --help` lists the commands\n")
         self.assertEqual(done.returncode, 2)
+
+    def test_help_is_in_the_words_that_can_be_typed(self):
+        for words in (["decide", "--help"], ["decide", "-h"], ["decide", "0001000", "-h"], ["withdraw", "--help"], []):
+            text = self.office(*words)
+            self.assertRegex(text, "(?m)^Usage: office ")
+            for word in ("examoffice ", "--db", "--today"):
+                self.assertNotIn(word, text, words)
+        self.assertFalse(os.path.exists(self.desk))
+        self.assertIn("office reinstate --list FILE.csv\n", self.office("reinstate", "--help"))
+        self.assertEqual(self.run_office("nothing-like-it", "--help").returncode, 2)
+        self.assertRegex(self.run_office("serve").stderr, r"\Aline not understood\n.*\n.*Usage: office serve <port>")
 
     def test_a_missing_program_is_named(self):
         self.assertIn("there is no program /nowhere", self.refused("init", EXAMOFFICE="/nowhere"))
@@ -175,7 +188,8 @@ class Back(sample.SampleSchool):
         self.assertEqual(self.facts(), after)
         self.assertIn("the office is as it was on", self.office("back", "1", stdin="y\n"))
         self.assertEqual(self.facts(), before)
-        self.assertRegex(self.office("back"), r"^  1  .*  before back\n  2  .*  before close-hall MON-AM GYM\n$")
+        self.assertRegex(self.office("back"), r"^  1  .*  before back to before close-hall MON-AM GYM\n"
+                                               r"  2  .*  before close-hall MON-AM GYM\n$")
         self.office("back", "1", "--yes")
         self.assertEqual(self.facts(), after)
         self.assertEqual(self.office("check"), "good\n")
@@ -184,8 +198,13 @@ class Back(sample.SampleSchool):
         os.mkdir(os.path.join(self.folder, "files"))
         path = self.write("files/late:2.csv", "number,paper\n0001000,MA-2\n")
         self.office("import", "entries", path)
-        self.assertRegex(self.office("back"), r"  before import entries late_2\.csv\n\Z")
-        self.assertIn(", before import entries late_2.csv\n", self.office("back", "1", "--yes"))
+        self.assertRegex(self.office("back"), r"  before import entries late\.2\.csv for 0001000 MA-2\n\Z")
+        self.assertIn(", before import entries late.2.csv for 0001000 MA-2\n", self.office("back", "1", "--yes"))
+        path = self.write("openings.csv", "session,hall,desks,until,reserved\nMON-AM,GYM,30,13:00,no\n")
+        self.office("import", "openings", path)
+        self.assertRegex(self.office("back"), r"\A  1  .*  before import openings for MON-AM GYM\n")
+        with open(os.path.join(self.desk, "log"), encoding="utf-8") as log:
+            self.assertIn(f"\timport openings {path} for MON-AM GYM\tbegins\t", log.read())
 
     def test_modes_and_log(self):
         self.office("withdraw", "0001000", "MA-1")
