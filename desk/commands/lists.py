@@ -108,7 +108,7 @@ def check_shortage(parser: ArgumentParser) -> bool:
     with open(0 if path == "-" else path, "rb", closefd=path != "-") as file:
         sheet = shortage.read(file.read(MOST_BYTES).decode("utf-8", "replace"))
     with command.reading() as reading:
-        found = list(reasons.faults(reading, sheet))
+        found = list(reasons.Reasons(reading, sheet.session).faults(sheet))
     right = (f"right: {lists.count(sheet.candidate_count, 'candidate')} = {lists.count(sheet.desks, 'desk')}"
              f" + {sheet.unseated} unseated")
     command.say("\n".join([*(found or [right]), ""]))
@@ -194,6 +194,6 @@ def why(parser: ArgumentParser) -> bool:
     given = parser.parse_args()
     with command.reading() as reading:
         found, printed = reasons.compared(reading, given.session)
-        differences = list(found.differences(printed))
+        faults = list(found.faults(printed))
     command.say(found.text(given.number))
-    return warned(differences)
+    return warned(faults)

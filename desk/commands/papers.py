@@ -1,7 +1,7 @@
 """Commands that print what goes on paper: pages for a browser, and the sheets of a session as text."""
 from __future__ import annotations
 
-from collections.abc import Callable, Iterable, Mapping
+from collections.abc import Callable, Mapping
 from typing import TYPE_CHECKING
 
 import command
@@ -23,12 +23,11 @@ def print_page(parser: ArgumentParser, page: Callable[..., str], of_halls: bool 
         command.say(page(reading, *asked))
 
 
-def warned(differences: Iterable[str]) -> bool:
+def warned(faults: list[str]) -> bool:
     """Says in what the printed shortage differs, and whether it does."""
-    found = list(differences)
-    for difference in found:
-        command.warn(f"the printed shortage says otherwise: {difference}")
-    return bool(found)
+    for fault in faults:
+        command.warn(f"the printed shortage says otherwise: {fault}")
+    return bool(faults)
 
 
 @command.named("""Prints a notice board of a session, by name: board SESSION >board.html
@@ -144,7 +143,7 @@ def session_page(parser: ArgumentParser) -> bool:
     with command.reading() as reading:
         page = Page(reading, given.session)
     command.say(page.document())
-    return warned(page.differences)
+    return warned(page.faults)
 
 
 @command.named("""\
