@@ -37,8 +37,7 @@ class Step:
     def title(self) -> str:
         """The command without what is private; an import with the name of its file, where that says more than its kind,
         and with what its rows are about."""
-        values = self.imported()
-        if not values:
+        if not (values := refusals.imported(self.words)):
             return " ".join(logbook.shown(self.words))
         kind, name = values[0], os.path.basename(values[1])
         return " ".join(["import", kind, *([name] if name != f"{kind}.csv" else []), *self.about])
@@ -47,15 +46,10 @@ class Step:
         """The words as the log has them."""
         return [*logbook.shown(self.words), *self.about]
 
-    def imported(self) -> tuple[str, ...]:
-        """The kind and the file of an import; nothing of other commands."""
-        values = tuple(word for word in self.words[1:] if word != "--")
-        return values if self.words[0] == "import" and len(values) == 2 and values[0] in files.HEADERS else ()
-
     @functools.cached_property
     def about(self) -> list[str]:
         """What the rows of an import are about; nothing where that is no file with the header of the kind."""
-        if not (values := self.imported()):
+        if not (values := refusals.imported(self.words)):
             return []
         kind, path = values
         found: Iterator[files.Record] = iter(())

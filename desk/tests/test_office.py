@@ -36,40 +36,42 @@ class Words(sample.SampleSchool):
         self.assertEqual(self.refused("import", "candidates", path).split("\n"), [
             "refused 1 record 2 column 1",
             "  a value has the wrong form; correct it and import the whole file again",
-            "  line 4 of candidates.csv: 1000,?2J,WK3DEGZDPC",
-            "  number is '1000': leading zeros lost? 0001000 (seven digits; format the column as text)", ""])
+            "  candidates.csv line 4: number '1000': leading zeros lost? 0001000 (seven digits; format the column as text)",
+            "  candidates.csv line 4: row: line 3 has the same key and other contents: keep one", ""])
 
     def test_what_a_value_must_be_is_said(self):
-        for row, text in [("S-9,2027-06-07,9 Uhr", "start is '9 Uhr': a time as 09:00; format the column as text"),
-                          ("s-9,2027-06-07,09:00", "session is 's-9': write S-9 (1 to 12 of A-Z, 0-9 and -)")]:
+        for row, text in [("S-9,2027-06-07,9 Uhr", "start '9 Uhr': a time as 09:00; format the column as text"),
+                          ("s-9,2027-06-07,09:00", "session 's-9': write S-9 (1 to 12 of A-Z, 0-9 and -)")]:
             path = self.write("sessions.csv", f"session,date,start\n{row}\n")
-            self.assertIn(f"  {text}\n", self.refused("import", "sessions", path))
+            self.assertIn(f"  sessions.csv line 2: {text}\n", self.refused("import", "sessions", path))
         path = self.write("candidates.csv", "number,name,code\n0001000,Ada,\n")
-        self.assertIn("\n  code is ''\n  `office codes FILE` ", self.refused("import", "candidates", path))
+        self.assertIn("\n  candidates.csv line 2: code '': `office codes` fills ", self.refused("import", "candidates", path))
 
     def test_a_file_that_is_not_there_is_named_with_its_folder(self):
         self.assertEqual(self.refused("import", "entries", "none.csv").split("\n")[::2],
                          ["file fault", f"  it was looked for as {os.path.join(self.folder, 'none.csv')}"])
 
     def test_what_is_wrong_with_a_row(self):
-        for row, text in [("0001000,A,B,WK3DEGZDPC", "  4 fields; the header has 3"),
-                          ('0001000,"A,WK3DEGZDPC', "  a quote is not closed")]:
+        for row, text in [("0001000,A,B,WK3DEGZDPC", "4 fields in place of 3; put a value with a comma in double quotes"),
+                          ('0001000,"A,WK3DEGZDPC', "2 fields in place of 3; a quote is not closed")]:
             path = self.write("candidates.csv", f"number,name,code\n{row}\n")
-            self.assertIn(text, self.refused("import", "candidates", path).split("\n"))
+            self.assertIn(f"  candidates.csv line 2: row: {text}", self.refused("import", "candidates", path).split("\n"))
 
-    def test_a_header_is_shown_beside_the_right_one(self):
-        path = self.write("entries.csv", "number;paper\n")
-        self.assertIn("  line 1 of entries.csv: number;paper\n  must be:  number,paper\n",
-                      self.refused("import", "entries", path))
+    def test_what_is_wrong_with_a_header(self):
+        for text, said in (("number;paper\n", "semicolons part the columns: save it with commas"),
+                           ("nummer,paper\n", "the first line must be number,paper; no such header is found")):
+            path = self.write("entries.csv", text)
+            self.assertIn(f"  entries.csv line 1: file: {said}\n", self.refused("import", "entries", path))
 
     def test_an_unknown_reference_is_named(self):
         path = self.write("entries.csv", "number,paper\n0001000,MA-1\n0001000,MA-9\n0001017,MA-9\n")
-        self.assertIn("  line 3 of entries.csv: paper is 'MA-9'\n  line 4 of entries.csv: paper is 'MA-9'\n",
-                      self.refused("import", "entries", path))
+        self.assertRegex(self.refused("import", "entries", path), "  entries.csv line 3: paper 'MA-9': .*\n"
+                                                                  "  entries.csv line 4: paper 'MA-9': ")
 
     def test_a_repeated_key_is_shown(self):
         path = self.write("halls.csv", "hall,title,features\nGYM,Gym,-\nGYM,Gym,quiet\n")
-        self.assertIn("  line 3 of halls.csv: GYM,Gym,quiet\n", self.refused("import", "halls", path))
+        self.assertIn("  halls.csv line 3: row: line 2 has the same key and other contents: keep one\n",
+                      self.refused("import", "halls", path))
 
     def test_a_line_that_is_not_understood_is_followed_by_the_usage(self):
         done = self.run_office("decide", "1051", "AR1", "granted", "ok")
