@@ -47,8 +47,7 @@ others in the copy.
 def back(parser: ArgumentParser) -> None:
     from exam_desk import changing, copies, notebook, undo
     parser.add_argument("number", type=int, nargs="?", help="a number of the list")
-    parser.add_argument("--yes", action="store_true", help="do not ask")
-    given = parser.parse_args()
+    given = command.given(parser, "--yes: do not ask")
     office = command.office()
     if given.number is None:
         list_copies(office)
@@ -133,9 +132,7 @@ The access code stays as it is, so a slip that is out still opens the web page. 
 def name(parser: ArgumentParser) -> int:
     from commands import programs
     from exam_desk import coding
-    parser.add_argument("number", metavar="NUMBER")
-    parser.add_argument("name", metavar="NAME")
-    given = parser.parse_args()
+    given = command.given(parser, "number", "name")
     step = coding.renamed(command.office(), given.number, given.name)
     return programs.carry_out(command.office(), step, f"name {given.number}")
 
@@ -154,13 +151,8 @@ the candidate sits something else, and a hall that does not suit. --undo leaves 
 def second_sitting(parser: ArgumentParser) -> None:
     from exam_desk import changing, consequences, second_sitting, states
     from exam_desk.reading import Reading
-    for word in ("number", "paper"):
-        parser.add_argument(word, metavar=word.upper())
-    for word in ("start", "hall"):
-        parser.add_argument(word, metavar=word.upper(), nargs="?")
-    parser.add_argument("--undo", action="store_true", help="withdraw the second entry, and reinstate the first")
-    parser.add_argument("--yes", action="store_true", help="do not ask")
-    given = parser.parse_args()
+    given = command.given(parser, "number", "paper", "start?", "hall?", "--yes: do not ask",
+                          "--undo: withdraw the second entry, and reinstate the first")
     if given.undo and given.start is not None:
         parser.error("--undo takes NUMBER and PAPER alone")
     if not given.undo and given.hall is None:
