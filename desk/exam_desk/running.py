@@ -32,12 +32,8 @@ class NotStarted(Trouble):
 
 
 def run(office: Office, *words: str) -> Ran:
-    """Runs a command over the office; a sheet is made from a private copy, so nobody waits for it. Raises
-    `NotStarted`."""
-    if words[0] not in SHEETS:
-        return run_over(office, office.path, *words)
-    with readable(office) as path:
-        return run_over(office, path, *words)
+    """Runs a command over the office. Raises `NotStarted`."""
+    return run_over(office, office.path, *words)
 
 
 @contextlib.contextmanager
