@@ -180,8 +180,8 @@ def rehearse(office: Office, steps: Sequence[Step], tell: Tell = ignore) -> Rehe
 
 
 def rehearse_back(office: Office, copy: str) -> Rehearsal:
-    """As `rehearse`, of a copy that would be put back; one of an earlier version is carried over. Raises `Trouble` where
-    it is no good office."""
+    """As `rehearse`, of a copy that would be put back; one of an earlier version is carried over. Raises `Trouble`
+    where it is no good office."""
     with contextlib.ExitStack() as stack:
         rehearsal = stack.enter_context(two_copies(office, copies.file_in(office, copy)))
         undo.check(office, rehearsal.after)

@@ -91,11 +91,12 @@ class Titles(unittest.TestCase):
 
     def test_titles(self):
         row = b"number,paper\n0001000,FR\n"
-        self.assertEqual(Step(("import", "entries", "/x/late.csv"), row).title(), "import entries late.csv for 0001000 FR")
-        self.assertEqual(Step(("import", "entries", "/x/entries.csv"), row).title(), "import entries for 0001000 FR")
-        self.assertEqual(Step(("import", "--", "entries", "-x.csv"), row).title(), "import entries -x.csv for 0001000 FR")
-        self.assertEqual(Step(("decide", "0001000", "D1", "granted", "why")).title(), "decide 0001000 D1 granted")
-        self.assertEqual(Step(("import", "entries")).title(), "import entries")
+        for words, title in ((["import", "entries", "/x/late.csv"], "import entries late.csv for 0001000 FR"),
+                             (["import", "entries", "/x/entries.csv"], "import entries for 0001000 FR"),
+                             (["import", "--", "entries", "-x.csv"], "import entries -x.csv for 0001000 FR"),
+                             (["decide", "0001000", "D1", "granted", "why"], "decide 0001000 D1 granted"),
+                             (["import", "entries"], "import entries")):
+            self.assertEqual(Step(tuple(words), row).title(), title)
 
 
 class Lists(Changing):

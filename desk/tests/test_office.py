@@ -27,7 +27,8 @@ class Faults(unittest.TestCase):
 class Words(sample.SampleSchool):
     def test_both_kinds_of_commands_are_listed(self):
         text = self.office()
-        self.assertEqual(text, self.office("--help"))
+        self.assertEqual([self.office(word) for word in ("-h", "--help", "help")], [text] * 3)
+        self.assertEqual(self.office("help", "back"), self.office("back", "--help"))
         for word in ("check-files", "lodge", "keep", "back", "close-hall", "refused"):
             self.assertIn(word, text)
 
@@ -36,7 +37,8 @@ class Words(sample.SampleSchool):
         self.assertEqual(self.refused("import", "candidates", path).split("\n"), [
             "refused 1 record 2 column 1",
             "  a value has the wrong form; correct it and import the whole file again",
-            "  candidates.csv line 4: number '1000': leading zeros lost? 0001000 (seven digits; format the column as text)",
+            "  candidates.csv line 4: number '1000': leading zeros lost? 0001000 (seven digits; format the column as "
+            "text)",
             "  candidates.csv line 4: row: line 3 has the same key and other contents: keep one", ""])
 
     def test_what_a_value_must_be_is_said(self):
@@ -45,7 +47,8 @@ class Words(sample.SampleSchool):
             path = self.write("sessions.csv", f"session,date,start\n{row}\n")
             self.assertIn(f"  sessions.csv line 2: {text}\n", self.refused("import", "sessions", path))
         path = self.write("candidates.csv", "number,name,code\n0001000,Ada,\n")
-        self.assertIn("\n  candidates.csv line 2: code '': `office codes` fills ", self.refused("import", "candidates", path))
+        self.assertIn("  candidates.csv line 2: code '': `office codes` fills ",
+                      self.refused("import", "candidates", path))
 
     def test_a_file_that_is_not_there_is_named_with_its_folder(self):
         self.assertEqual(self.refused("import", "entries", "none.csv").split("\n")[::2],
@@ -55,7 +58,8 @@ class Words(sample.SampleSchool):
         for row, text in [("0001000,A,B,WK3DEGZDPC", "4 fields in place of 3; put a value with a comma in double quotes"),
                           ('0001000,"A,WK3DEGZDPC', "2 fields in place of 3; a quote is not closed")]:
             path = self.write("candidates.csv", f"number,name,code\n{row}\n")
-            self.assertIn(f"  candidates.csv line 2: row: {text}", self.refused("import", "candidates", path).split("\n"))
+            lines = self.refused("import", "candidates", path).split("\n")
+            self.assertIn(f"  candidates.csv line 2: row: {text}", lines)
 
     def test_what_is_wrong_with_a_header(self):
         for text, said in (("number;paper\n", "semicolons part the columns: save it with commas"),

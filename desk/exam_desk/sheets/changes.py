@@ -29,7 +29,8 @@ def page(office: Office, changes: Iterable[Change], titles: Mapping[str, str], s
 def table(kind: str, changes: list[Change], titles: Mapping[str, str]) -> Markup:
     rows = [[change.session, change.number, name(change), sat(change.old, titles), sat(change.new, titles), ""]
             for change in changes]
-    return pages.table(HEADS, rows, pages.html("<b>{}</b>", counted(KINDS[kind], [change.number for change in changes])))
+    title = counted(KINDS[kind], [change.number for change in changes])
+    return pages.table(HEADS, rows, pages.html("<b>{}</b>", title))
 
 
 def name(change: Change) -> Markup:
