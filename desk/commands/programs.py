@@ -128,12 +128,21 @@ def replace_by(office: Office, line: list[str]) -> None:
         raise running.not_started(office, fault) from fault
 
 
+def meant(name: str) -> str:
+    """What a word that is no command may stand for."""
+    import difflib  # here, since a slip alone needs it
+    from commands import COMMANDS
+    known = [*COMMANDS, *CHECKING, *changing.CHANGES, *running.SHEETS, "serve"]
+    found = difflib.get_close_matches(name, known, 1)
+    return f"; is `office {found[0]}` meant?" if found else ""
+
+
 def outcome(office: Office, words: Sequence[str], ran: Ran, data: bytes | None = None) -> int:
     """Says what a refusal of a command, or of an import of these bytes, means; the status."""
     lines = []
     if ran.status == 1:
         lines = refusals.explained(office, words, ran.complaint, data)
     elif ran.status == 2:
-        lines = running.usage(office, words[0])
+        lines = running.usage(office, words[0]) or [f"  `office --help` lists the commands{meant(words[0])}"]
     sys.stderr.write(ran.complaint + "".join(f"{line}\n" for line in lines))
     return ran.status

@@ -78,9 +78,9 @@ def help_text(office: Office, *words: str) -> str:
 
 
 def usage(office: Office, name: str) -> list[str]:
-    """The lines on how a command of the program is used, from its help. Raises `NotStarted`."""
-    lines = [f"  {line}" for line in help_text(office, name).split("\n") if line][1:]
-    return lines or ["  `office --help` lists the commands"]
+    """The lines on how a command of the program is used, from its help; none where that has no such command. Raises
+    `NotStarted`."""
+    return [f"  {line}" for line in help_text(office, name).split("\n") if line][1:]
 
 
 def not_started(office: Office, fault: OSError) -> NotStarted:

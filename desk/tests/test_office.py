@@ -88,6 +88,8 @@ class Words(sample.SampleSchool):
         done = self.run_office("nothing-like-it")
         self.assertEqual(done.stderr, "line not understood\n  `office --help` lists the commands\n")
         self.assertEqual(done.returncode, 2)
+        self.assertEqual(self.run_office("sumary").stderr, "line not understood\n  `office --help` lists the commands; "
+                                                           "is `office summary` meant?\n")
 
     def test_help_is_in_the_words_that_can_be_typed(self):
         for words in (["decide", "--help"], ["decide", "-h"], ["decide", "0001000", "-h"], ["withdraw", "--help"], []):
