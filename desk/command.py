@@ -60,7 +60,8 @@ def given(parser: argparse.ArgumentParser, *words: str) -> argparse.Namespace:
         if name.startswith("--"):
             parser.add_argument(name, action="store_true", help=meaning)
         elif name[-1] in "?*":
-            parser.add_argument(name[:-1], metavar=name[:-1].upper(), nargs=name[-1], help=meaning)
+            lacking = [] if name[-1] == "*" else None
+            parser.add_argument(name[:-1], metavar=name[:-1].upper(), nargs=name[-1], default=lacking, help=meaning)
         else:
             parser.add_argument(name, metavar=name.upper(), help=meaning)
     return parser.parse_args()

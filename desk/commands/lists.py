@@ -184,5 +184,5 @@ def why(parser: ArgumentParser) -> bool:
     with command.reading() as reading:
         found, printed = reasons.compared(reading, given.session)
         faults = list(found.faults(printed))
-    command.say(found.text(given.number))
+    command.say(found.text(given.number and given.number.zfill(7)))
     return warned(faults)

@@ -15,6 +15,7 @@ from exam_desk.trouble import Trouble
 
 PR_SET_PDEATHSIG = 1
 USE = re.compile(r"\bexamoffice\b( --(db|today) <[^>]*>)*")  # how a usage begins
+NAMED = re.compile("`(appeals SESSION|check|init|migrate|serve)`")  # commands in the words on refusals
 OPTIONS = re.compile(r"^ +--(db|today) .*\n( {10,}.*\n)*", re.MULTILINE)  # the lines on an option
 SHEETS = ["door-list", "attendance", "clashes", "shortage", "appeals", "export"]
 
@@ -74,7 +75,8 @@ def help_text(office: Office, *words: str) -> str:
                               check=False)
     except OSError as fault:
         raise not_started(office, fault) from fault
-    return OPTIONS.sub("", USE.sub("office", done.stdout.decode("utf-8", "replace")))
+    text = OPTIONS.sub("", USE.sub("office", done.stdout.decode("utf-8", "replace")))
+    return NAMED.sub(r"`office \1`", text)
 
 
 def usage(office: Office, name: str) -> list[str]:

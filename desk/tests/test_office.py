@@ -97,6 +97,7 @@ class Words(sample.SampleSchool):
             self.assertRegex(text, "(?m)^Usage: office ")
             for word in ("examoffice ", "--db", "--today"):
                 self.assertNotIn(word, text, words)
+        self.assertIn("\n  24 the file holds no office: `office check` names the bad table; `office init` makes", text)
         self.assertFalse(os.path.exists(self.desk))
         self.assertIn("office reinstate --list FILE.csv\n", self.office("reinstate", "--help"))
         self.assertEqual(self.run_office("nothing-like-it", "--help").returncode, 2)
@@ -127,6 +128,7 @@ class Words(sample.SampleSchool):
         self.assertIn("  LIB      suits, but 2 of 2 desks are taken: ", text)
         self.assertIn("  AULA     no reader\n", text)
         self.assertIn("  PC1      sits here, at desk 1\n", self.office("why", "MON-AM", "0001051"))
+        self.assertEqual(self.office("why", "MON-AM", "1051"), self.office("why", "MON-AM", "0001051"))
         self.assertIn("no session", self.refused("why", "XX"))
         self.assertIn("sits nothing", self.refused("why", "MON-AM", "0009999"))
 
