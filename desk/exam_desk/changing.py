@@ -42,10 +42,6 @@ class Step:
         kind, name = values[0], os.path.basename(values[1])
         return " ".join(["import", kind, *([name] if name != f"{kind}.csv" else []), *self.about])
 
-    def shown(self) -> list[str]:
-        """The words as the log has them."""
-        return [*logbook.shown(self.words), *self.about]
-
     @functools.cached_property
     def about(self) -> list[str]:
         """What the rows of an import are about; nothing where that is no file with the header of the kind."""
@@ -136,7 +132,7 @@ class Turn(NamedTuple):
     def carried(self, step: Step, line: tuple[str, ...], status: str) -> Answered:
         """Carries out one step, which the program does whole or not at all; `status` begins its line in the log."""
         self.tell(step.title())
-        with begun(self.office, logbook.logged(self.office, step.shown(), status)) as outcome:
+        with begun(self.office, logbook.logged(self.office, [*step.words, *step.about], status)) as outcome:
             answered = Answered(step, run_patiently(self.office, line, self.lock))
             outcome.status, outcome.answer = answered.ran.status, answered.first_line()
         return answered

@@ -51,6 +51,8 @@ OTHER = {
     "net fault": "the port is taken, or the system gives no more connections; take another one, from 1024 on",
 }
 OF_A_FILE = [1, 2, 3, 4, 5, 6, 7, 20]  # refusals that rows of an import file can bring
+NO_CODE = ("`office codes FILE` fills in the codes that the office has, and new ones; for another name alone take "
+           "`office name NUMBER NAME`")
 MOST_LINES = 5  # on one column of an import file
 WHOLE_OR_NOT = "a command is there whole or not at all: look, or give it again"
 
@@ -92,7 +94,8 @@ def mistakes_of(office: Office, words: Sequence[str], data: bytes | None) -> lis
             kind, path = found
             text = files.read(path) if data is None else data
             wrong, _ = mistakes.looked_through(kind, text, checking.office_knows(office), MOST_LINES)
-            return list(checking.lines_on(os.path.basename(path), wrong, ""))
+            codes = any(each.what == "code ''" for each in wrong)
+            return [*checking.lines_on(os.path.basename(path), wrong, ""), *([NO_CODE] if codes else [])]
     return []
 
 

@@ -13,6 +13,7 @@ from exam_desk.sheets import pages
 from exam_desk.shortage import Shortage
 
 MOST_DRAWN = 100  # a shortage of more candidates is listed, not drawn
+MOST_EXPLAINED = 30  # of those without a desk
 BAR = ("<svg class=bar viewBox='0 0 100 10' preserveAspectRatio=none role=img aria-label='{}'>{}</svg>")
 SUIT_NONE = "<div class='card out'><h3>Suit none of these candidates</h3><ul>{}</ul></div>"
 
@@ -97,6 +98,23 @@ def listing(shortage: Shortage, unseated: Sequence[Member]) -> Markup:
 
 
 def why(reasons: Reasons) -> Markup:
-    """Why those without a desk have none, as `office why` says it."""
-    return pages.html("<div class=why><h3>Why they have no desk</h3><pre>{}</pre></div>",
-                      pages.joined(map(pages.text, reasons.text().splitlines()), "\n"))
+    """Why each of those without a desk has none, hall by hall; halls with the same reason in one line."""
+    unseated = reasons.unseated()
+    parts = [explained(reasons, member) for member in unseated[:MOST_EXPLAINED]]
+    more = len(unseated) - MOST_EXPLAINED
+    if more > 0:
+        parts.append(pages.html("<p>{} more: <code>office why</code> says it of all.</p>", f"{more:,}"))
+    return pages.html("<div class=why><h3>Why they have no desk</h3>{}</div>", pages.joined(parts))
+
+
+def explained(reasons: Reasons, member: Member) -> Markup:
+    sitting = member.sitting
+    extra = f", with {sitting.extra} % extra time" if sitting.extra else ""
+    found: dict[str, list[str]] = {}
+    for hall, reason in reasons.of(member):
+        found.setdefault(reason, []).append(hall)
+    lines = [pages.html("<li>{}: {}</li>", ", ".join(codes), pages.text(reason)) for reason, codes in found.items()]
+    return pages.html("<p><b>{} {}</b> sits {} until {}{}, needs {}</p><ul>{}</ul>", member.number,
+                      pages.text(member.name), sitting.paper, sitting.finish, extra,
+                      "+".join(reasons.needs(member)) or "-",
+                      pages.joined(lines) or Markup("<li>no hall is open</li>"))
