@@ -60,7 +60,7 @@ def given(parser: argparse.ArgumentParser, *words: str) -> argparse.Namespace:
         if name.startswith("--"):
             parser.add_argument(name, action="store_true", help=meaning)
         elif name[-1] in "?*":
-            lacking = [] if name[-1] == "*" else None
+            lacking: list[str] | None = [] if name[-1] == "*" else None
             parser.add_argument(name[:-1], metavar=name[:-1].upper(), nargs=name[-1], default=lacking, help=meaning)
         else:
             parser.add_argument(name, metavar=name.upper(), help=meaning)
