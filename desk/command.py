@@ -52,6 +52,21 @@ def named(text: str) -> Callable[[Run], Run]:
     return put
 
 
+def given(parser: argparse.ArgumentParser, *words: str) -> argparse.Namespace:
+    """The words of a command, asked for as `name`, as `name?` which may be missing, as `name*` which may be several, or as
+    a flag `--name`; what one is for stands behind a colon."""
+    for word in words:
+        name, _, meaning = word.partition(": ")
+        if name.startswith("--"):
+            parser.add_argument(name, action="store_true", help=meaning)
+        elif name[-1] in "?*":
+            lacking: list[str] | None = [] if name[-1] == "*" else None
+            parser.add_argument(name[:-1], metavar=name[:-1].upper(), nargs=name[-1], default=lacking, help=meaning)
+        else:
+            parser.add_argument(name, metavar=name.upper(), help=meaning)
+    return parser.parse_args()
+
+
 def begin() -> None:
     """Call it first: HUP, INT and TERM let a command clean up, a fault becomes a line, and all goes out as UTF-8."""
     def leave(number: int, _: FrameType | None) -> None:

@@ -29,10 +29,8 @@ is the one that the candidate was to sit.
 """)
 def absent(parser: ArgumentParser) -> None:
     from exam_desk import absences, lists
-    parser.add_argument("session", metavar="SESSION")
-    parser.add_argument("number", metavar="NUMBER", nargs="*", default=[])
     parser.add_argument("--there", metavar="NUMBER", nargs="+", default=[], help="who is not absent after all")
-    given = parser.parse_args()
+    given = command.given(parser, "session", "number*")
     missing, there = numbers(given.number), numbers(given.there)
     with command.reading() as reading:
         if given.number or given.there:
@@ -67,8 +65,7 @@ in its copies; `office back` leaves them as they are.
 def notes(parser: ArgumentParser) -> None:
     from exam_desk import facts, notebook, numbered
     from exam_desk.sheets import notes
-    parser.add_argument("file", metavar="FILE", nargs="?")
-    given = parser.parse_args()
+    given = command.given(parser, "file?")
     office = command.office()
     with command.rows() as rows:
         if not given.file:
@@ -89,9 +86,7 @@ withdraw, since a withdrawal can give others another desk.
 """)
 def printed(parser: ArgumentParser) -> None:
     from exam_desk import lists, printed
-    parser.add_argument("session", metavar="SESSION")
-    parser.add_argument("--look", action="store_true", help="notes nothing, and compares")
-    given = parser.parse_args()
+    given = command.given(parser, "session", "--look: notes nothing, and compares")
     with command.reading() as reading:
         if given.look:
             command.say_lines(compared(reading, given.session))
@@ -149,8 +144,7 @@ def rows(parser: ArgumentParser) -> None:
 """)
 def school(parser: ArgumentParser) -> None:
     from exam_desk import notebook
-    parser.add_argument("name", metavar="NAME", nargs="?")
-    given = parser.parse_args()
+    given = command.given(parser, "name?")
     office = command.office()
     if given.name is not None:
         notebook.set_school_name(office, given.name)

@@ -1,6 +1,7 @@
 """Commands that change the office, and `what-if`, which says what a change would do."""
 from __future__ import annotations
 
+import re
 import sys
 from typing import TYPE_CHECKING
 
@@ -46,8 +47,7 @@ others in the copy.
 def back(parser: ArgumentParser) -> None:
     from exam_desk import changing, copies, notebook, undo
     parser.add_argument("number", type=int, nargs="?", help="a number of the list")
-    parser.add_argument("--yes", action="store_true", help="do not ask")
-    given = parser.parse_args()
+    given = command.given(parser, "--yes: do not ask")
     office = command.office()
     if given.number is None:
         list_copies(office)
@@ -64,8 +64,7 @@ def back(parser: ArgumentParser) -> None:
         done = changing.go_back(office, words, copy, lambda lines: asked == lines)
     print(f"the office is as it was on {when}, before {plain(what)}")
     print_taken(done.lines)
-    if others:
-        print(f"left as they are now, and otherwise in the copy: {', '.join(map(plain, others))}")
+    print_left(others)
     sys.stdout.flush()
     command.tell_consequences(done.copy)
 
@@ -83,6 +82,11 @@ def list_copies(office: Office) -> None:
 def print_taken(lines: list[str]) -> None:
     for line in lines:
         print(f"taken away: {plain(line)}")
+
+
+def print_left(others: list[str]) -> None:
+    if others:
+        print(f"left as they are now, and otherwise in the copy: {', '.join(map(plain, others))}")
 
 
 def agreed(question: str, lines: list[str]) -> list[str]:
@@ -128,9 +132,7 @@ The access code stays as it is, so a slip that is out still opens the web page. 
 def name(parser: ArgumentParser) -> int:
     from commands import programs
     from exam_desk import coding
-    parser.add_argument("number", metavar="NUMBER")
-    parser.add_argument("name", metavar="NAME")
-    given = parser.parse_args()
+    given = command.given(parser, "number", "name")
     step = coding.renamed(command.office(), given.number, given.name)
     return programs.carry_out(command.office(), step, f"name {given.number}")
 
@@ -149,13 +151,8 @@ the candidate sits something else, and a hall that does not suit. --undo leaves 
 def second_sitting(parser: ArgumentParser) -> None:
     from exam_desk import changing, consequences, second_sitting, states
     from exam_desk.reading import Reading
-    for word in ("number", "paper"):
-        parser.add_argument(word, metavar=word.upper())
-    for word in ("start", "hall"):
-        parser.add_argument(word, metavar=word.upper(), nargs="?")
-    parser.add_argument("--undo", action="store_true", help="withdraw the second entry, and reinstate the first")
-    parser.add_argument("--yes", action="store_true", help="do not ask")
-    given = parser.parse_args()
+    given = command.given(parser, "number", "paper", "start?", "hall?", "--yes: do not ask",
+                          "--undo: withdraw the second entry, and reinstate the first")
     if given.undo and given.start is not None:
         parser.error("--undo takes NUMBER and PAPER alone")
     if not given.undo and given.hall is None:
@@ -188,6 +185,7 @@ def second_sitting(parser: ArgumentParser) -> None:
     office what-if close-hall MON-AM GYM
     office what-if import entries new-entries.csv
     office what-if decide 0001051 D1 granted ''
+    office what-if back 1         what `office back 1` would do, and which appeals and decisions it would take away
 
 It gives the command to the program over a private copy of the office, and prints the program's line; then who would
 lose a desk, move, get one, join or leave. The status is the program's.
@@ -200,12 +198,30 @@ def what_if(parser: ArgumentParser) -> int:
         print(parser.description)
         return 0
     changes = [name for name in changing.CHANGES if name != programs.MIGRATE]
-    if not words or words[0] not in changes:
-        raise Trouble(f"name a command that changes the office: {', '.join(changes)}")
+    if not words or words[0] not in [*changes, "back"]:
+        raise Trouble(f"name a command that changes the office: {', '.join(changes)}, back")
     office = command.office()
+    if words[0] == "back":
+        what_if_back(office, words[1:])
+        return 0
     with changing.rehearse(office, [changing.Step(tuple(words))]) as rehearsal:
         if rehearsal.refused:
             return programs.outcome(office, words, rehearsal.refused.ran)
         said = rehearsal.answers[0].ran.answer
         command.say(said + "".join(f"{line}\n" for line in consequences.of(rehearsal, None, command.show_asked)))
     return 0
+
+
+def what_if_back(office: Office, words: list[str]) -> None:
+    """Says what it would do to put the copy back that the words name."""
+    from exam_desk import changing, consequences, copies, notebook, undo
+    if len(words) != 1 or not re.fullmatch("[0-9]{1,9}", words[0]):
+        raise Trouble("name a copy by its number, as in `office what-if back 1`; `office back` lists them")
+    copy = copies.chosen(office, int(words[0]))
+    when, what = copies.when_and_what(copy)
+    with changing.rehearse_back(office, copy) as rehearsal:
+        lines = consequences.of(rehearsal, None, command.show_asked)
+    print(f"the office would be as it was on {when}, before {plain(what)}")
+    print_taken(undo.taken_away(office, copy))
+    print_left(notebook.others_than_in(office, copy))
+    command.say("".join(f"{line}\n" for line in lines))

@@ -26,8 +26,7 @@ Lists the open appeals of all sessions, the most urgent first, with names, reaso
 """)
 def appeals_open(parser: ArgumentParser) -> None:
     from exam_desk import appeals
-    parser.add_argument("session", nargs="*")
-    given = parser.parse_args()
+    given = command.given(parser, "session*")
     with command.rows() as rows:
         lines = appeals.open_lines(rows, command.today().isoformat(), given.session)
     command.say_lines(lines or ["no appeal is open"])
@@ -50,13 +49,10 @@ calculates it.
 def changes(parser: ArgumentParser) -> None:
     from exam_desk import telling
     from exam_desk.sheets import changes
-    parser.add_argument("backup")
-    parser.add_argument("session", nargs="*")
     form = parser.add_mutually_exclusive_group()
     form.add_argument("--csv", action="store_true")
     form.add_argument("--paper", action="store_true", help="a page for a browser, on A4")
-    parser.add_argument("--tell", action="store_true", help="only who must be told")
-    given = parser.parse_args()
+    given = command.given(parser, "backup", "session*", "--tell: only who must be told")
     path = backup_path(command.office(), given.backup)
     with command.reading(path) as before, command.reading() as after:
         found = telling.differences(before, after, given.session)
@@ -103,12 +99,11 @@ many, and no more are without one now. `examples/check-office` in the repository
 """)
 def check_shortage(parser: ArgumentParser) -> bool:
     from exam_desk import lists, reasons, shortage
-    parser.add_argument("sheet")
-    path = parser.parse_args().sheet
+    path = command.given(parser, "sheet").sheet
     with open(0 if path == "-" else path, "rb", closefd=path != "-") as file:
         sheet = shortage.read(file.read(MOST_BYTES).decode("utf-8", "replace"))
     with command.reading() as reading:
-        found = list(reasons.faults(reading, sheet))
+        found = list(reasons.Reasons(reading, sheet.session).faults(sheet))
     right = (f"right: {lists.count(sheet.candidate_count, 'candidate')} = {lists.count(sheet.desks, 'desk')}"
              f" + {sheet.unseated} unseated")
     command.say("\n".join([*(found or [right]), ""]))
@@ -128,9 +123,7 @@ def look(parser: ArgumentParser) -> None:
     from exam_desk.reading import of_few
     from exam_desk.sheets import pairs, person
     parser.add_argument("words", nargs="*", metavar="NAME|NUMBER|SESSION")
-    parser.add_argument("--codes", action="store_true", help="with the access code")
-    parser.add_argument("--clashes", action="store_true", help="who has two papers at once")
-    given = parser.parse_args()
+    given = command.given(parser, "--codes: with the access code", "--clashes: who has two papers at once")
     if given.clashes:
         with command.reading() as reading:
             lines = pairs.lines(reading, given.words)
@@ -152,8 +145,7 @@ Free desks beside candidates who are short are in halls that do not suit them: `
 """)
 def summary(parser: ArgumentParser) -> None:
     from exam_desk.sheets import summary
-    parser.add_argument("session", nargs="*")
-    given = parser.parse_args()
+    given = command.given(parser, "session*")
     with command.reading() as reading:
         command.say(summary.text(reading, given.session))
 
@@ -169,8 +161,7 @@ finds the page can read the file: it has nothing of any candidate.
 """)
 def titles(parser: ArgumentParser) -> None:
     from exam_desk.sheets import titles
-    parser.add_argument("file", metavar="FILE", nargs="?", help="a file to write; without it the titles are printed")
-    given = parser.parse_args()
+    given = command.given(parser, "file?: a file to write; without it the titles are printed")
     with command.rows() as rows:
         text = titles.text(rows)
     if given.file is None:
@@ -189,11 +180,9 @@ reads. Needs are those of the arrangement in force and what the paper requires.
 """)
 def why(parser: ArgumentParser) -> bool:
     from exam_desk import reasons
-    parser.add_argument("session")
-    parser.add_argument("number", nargs="?")
-    given = parser.parse_args()
+    given = command.given(parser, "session", "number?")
     with command.reading() as reading:
         found, printed = reasons.compared(reading, given.session)
-        differences = list(found.differences(printed))
-    command.say(found.text(given.number))
-    return warned(differences)
+        faults = list(found.faults(printed))
+    command.say(found.text(given.number and given.number.zfill(7)))
+    return warned(faults)

@@ -1,7 +1,9 @@
 """Commands that print what goes on paper: pages for a browser, and the sheets of a session as text."""
 from __future__ import annotations
 
-from collections.abc import Callable, Iterable, Mapping
+import functools
+import importlib
+from collections.abc import Mapping
 from typing import TYPE_CHECKING
 
 import command
@@ -12,74 +14,37 @@ if TYPE_CHECKING:
 
     from exam_desk.reading import Reading
 
-
-def print_page(parser: ArgumentParser, page: Callable[..., str], of_halls: bool = False) -> None:
-    """Prints a page of a session, or of some halls in it."""
-    parser.add_argument("session")
-    if of_halls:
-        parser.add_argument("hall", nargs="*")
-    asked = vars(parser.parse_args()).values()
-    with command.reading() as reading:
-        command.say(page(reading, *asked))
-
-
-def warned(differences: Iterable[str]) -> bool:
-    """Says in what the printed shortage differs, and whether it does."""
-    found = list(differences)
-    for difference in found:
-        command.warn(f"the printed shortage says otherwise: {difference}")
-    return bool(found)
-
-
-@command.named("""Prints a notice board of a session, by name: board SESSION >board.html
+PAGES = {  # of a session, or where it is by hall of some halls in it: whether it is, and what `--help` prints
+    "board": (False, """Prints a notice board of a session, by name: board SESSION >board.html
 
     office board MON-AM >board.html
 
 A page for a browser, two columns on A4, with the hall and the desk of each candidate. Only namesakes have their numbers
 beside the name. Print it after the last change.
-""")
-def board(parser: ArgumentParser) -> None:
-    from exam_desk.sheets import board
-    print_page(parser, board.page)
-
-
-@command.named("""Prints cards for the desks of a session: cards SESSION [HALL ..] >cards.html
+"""),
+    "cards": (True, """Prints cards for the desks of a session: cards SESSION [HALL ..] >cards.html
 
     office cards MON-AM >cards.html
     office cards MON-AM GYM >gym.html
 
 A page for a browser, ten cards on a sheet of A4, by hall and desk: desk, name, number, paper, start and hall.
-""")
-def cards(parser: ArgumentParser) -> None:
-    from exam_desk.sheets import cards
-    print_page(parser, cards.page, of_halls=True)
-
-
-@command.named("""Draws the seating charts of a session: chart SESSION [HALL ..] >chart.html
+"""),
+    "chart": (True, """Draws the seating charts of a session: chart SESSION [HALL ..] >chart.html
 
     office rows GYM 8               once for each hall: how its desks stand
     office chart MON-AM >chart.html
 
 A page for a browser, on A4: each hall as rows of desks, with the name, number and paper of who sits there.
-""")
-def chart(parser: ArgumentParser) -> None:
-    from exam_desk.sheets import chart
-    print_page(parser, chart.page, of_halls=True)
-
-
-@command.named("""Prints how many copies of each paper each hall needs, and the last finish: counts SESSION >counts.html
+"""),
+    "counts": (False, """\
+Prints how many copies of each paper each hall needs, and the last finish: counts SESSION >counts.html
 
     office counts MON-AM >counts.html
 
 A page for a browser, on A4: a row for each hall and paper, then the sums by paper. Candidates without a desk have rows
 of their own at the end.
-""")
-def counts(parser: ArgumentParser) -> None:
-    from exam_desk.sheets import counts
-    print_page(parser, counts.page)
-
-
-@command.named("""\
+"""),
+    "doors": (True, """\
 Prints the invigilators' sheets of a session, each hall on a page of its own: doors SESSION [HALL ..] >doors.html
 
     office doors MON-AM >doors.html
@@ -88,22 +53,34 @@ Prints the invigilators' sheets of a session, each hall on a page of its own: do
 A page for a browser, on A4: by desk the number, name, paper, finish, arrangement and note of each candidate, and a box
 to sign. The heading stands on each page again. A hall in which nobody sits has no sheet. It is for invigilators: who has
 which arrangement is private. For the door take `office poster`.
-""")
-def doors(parser: ArgumentParser) -> None:
-    from exam_desk.sheets import doors
-    print_page(parser, doors.page, of_halls=True)
-
-
-@command.named("""Prints the posters for the doors of a session: poster SESSION >poster.html
+"""),
+    "poster": (False, """Prints the posters for the doors of a session: poster SESSION >poster.html
 
     office poster MON-AM >poster.html
 
 A page for a browser, on A4: each hall from a page of its own on, with a heading that is read from afar, and by name the
 desk of each candidate in three columns. It shows no number, no paper and no arrangement.
-""")
-def poster(parser: ArgumentParser) -> None:
-    from exam_desk.sheets import poster
-    print_page(parser, poster.page)
+"""),
+}
+
+
+def print_page(name: str, by_hall: bool, parser: ArgumentParser) -> None:
+    """Prints the page that a module of exam_desk.sheets makes, which has the name of the command."""
+    sheet = importlib.import_module(f"exam_desk.sheets.{name}")
+    asked = vars(command.given(parser, *(["session", "hall*"] if by_hall else ["session"]))).values()
+    with command.reading() as reading:
+        command.say(sheet.page(reading, *asked))
+
+
+for page, (is_by_hall, text) in PAGES.items():
+    command.COMMANDS[page] = command.Command(text, functools.partial(print_page, page, is_by_hall))
+
+
+def warned(faults: list[str]) -> bool:
+    """Says in what the printed shortage differs, and whether it does."""
+    for fault in faults:
+        command.warn(f"the printed shortage says otherwise: {fault}")
+    return bool(faults)
 
 
 @command.named("""\
@@ -119,10 +96,9 @@ nobody sits has no sheet, nor has a paper that nobody sits.
 """)
 def print_session(parser: ArgumentParser) -> None:
     from exam_desk.sheets import printing
-    parser.add_argument("session")
     parser.add_argument("--lines", type=int, default=60, help="of a page, 60 if not given")
     parser.add_argument("--columns", type=int, default=76, help="of a line, 76 if not given")
-    given = parser.parse_args()
+    given = command.given(parser, "session")
     if given.lines < 10 or given.columns < 40:
         raise Trouble("a page has 10 lines of 40 letters at least")
     with command.reading() as reading:
@@ -139,12 +115,11 @@ says why, hall by hall. All is of one state of the office. If the program refuse
 """)
 def session_page(parser: ArgumentParser) -> bool:
     from exam_desk.sheets.session_page import Page
-    parser.add_argument("session")
-    given = parser.parse_args()
+    given = command.given(parser, "session")
     with command.reading() as reading:
         page = Page(reading, given.session)
     command.say(page.document())
-    return warned(page.differences)
+    return warned(page.faults)
 
 
 @command.named("""\
@@ -165,14 +140,11 @@ def slips(parser: ArgumentParser) -> None:
     from exam_desk import numbered
     from exam_desk.reading import of_few
     from exam_desk.sheets import slips
-    parser.add_argument("session", nargs="*")
     parser.add_argument("--only", action="append", default=[], metavar="NUMBER",
                         help="this candidate; may be given again")
-    parser.add_argument("--codes", action="store_true", help="with the access code")
-    parser.add_argument("--desks", action="store_true", help="with desk numbers")
     parser.add_argument("--order", metavar="FILE.csv", help="number,group: by group, each on pages of its own")
-    parser.add_argument("--csv", action="store_true")
-    given = parser.parse_args()
+    given = command.given(parser, "session*", "--codes: with the access code", "--desks: with desk numbers",
+                          "--csv: for a spreadsheet or the merge of letters")
     groups = numbered.texts_in(given.order, "group", slips.MOST_GROUP_BYTES) if given.order else {}
     choice = slips.Choice(given.session, given.only, given.codes, given.desks, groups)
     make = slips.csv_text if given.csv else slips.page

@@ -2,6 +2,7 @@
 came of it."""
 from __future__ import annotations
 
+import itertools
 import os
 import sys
 from collections.abc import Sequence
@@ -25,14 +26,15 @@ With the entries of a file, whose header is number,paper: office {0} --list FILE
 
 def run(office: Office, words: list[str]) -> int:
     """Runs a command of the program; the status."""
-    if words[0] in LISTED and "--help" in words:
-        command.say(running.help_text(office, words[0]) + LIST_HELP.format(words[0]))
-        return 0
+    if words[0].startswith("-"):
+        replace_by(office, ["examoffice", *words])
+    if not {"-h", "--help"}.isdisjoint(itertools.takewhile(lambda word: word != "--", words)):
+        found = running.help_text(office, words[0])
+        command.say(found + (LIST_HELP.format(words[0]) if words[0] in LISTED else ""))
+        return 0 if found else outcome(office, words, Ran(2, "", "line not understood\n"))
     if words[0] in LISTED and len(words) == 3 and words[1] == "--list":
         return run_list(office, words[0], words[2])
-    if words[0].startswith("-") or "--help" in words:
-        replace_by(office, ["examoffice", *words])
-    if words[0] == "serve":
+    if words[0] == "serve" and len(words) > 1:
         beside.refuse_stranger(office.path)
         if turns.keep_state(office) is not None:
             raise Trouble("`keep` serves this office already; `office keep stop` ends it")
@@ -44,9 +46,7 @@ def run(office: Office, words: list[str]) -> int:
 
 def changed(office: Office, words: list[str]) -> int:
     """Carries out a change; its status, whatever can be said of what it did."""
-    step = changing.Step(tuple(words))
-    title = f"{step.title()} {os.path.basename(words[-1])}" if words[0] == "import" else ""
-    carried = changing.carry_out(office, [step], title=title)
+    carried = changing.carry_out(office, [changing.Step(tuple(words))])
     status = outcome(office, words, printed(carried.answers[0].ran))
     if words[0] != MIGRATE:  # of the office before it nobody here can read the tables
         command.tell_consequences(carried.copy)
@@ -100,7 +100,8 @@ def run_list(office: Office, name: str, path: str) -> int:
     if wrong:
         raise Trouble("nothing is changed")
     statuses: list[int] = []
-    carried = listed.carry_out(office, f"{name} --list {os.path.basename(path)}", rows,
+    about = changing.named("entries", (tuple(map(str.encode, row.step.words[1:])) for row in rows))
+    carried = listed.carry_out(office, " ".join([name, "--list", os.path.basename(path), *about]), rows,
                                lambda line, answered: statuses.append(tell_row(office, line, answered)))
     done = sum(answered.ran.status == 0 for answered in carried.answers)
     back = "; `office back 1` takes them back" if done else ""
@@ -127,12 +128,21 @@ def replace_by(office: Office, line: list[str]) -> None:
         raise running.not_started(office, fault) from fault
 
 
+def meant(name: str) -> str:
+    """What a word that is no command may stand for."""
+    import difflib  # here, since a slip alone needs it
+    from commands import COMMANDS
+    known = [*COMMANDS, *CHECKING, *changing.CHANGES, *running.SHEETS, "serve"]
+    found = difflib.get_close_matches(name, known, 1)
+    return f"; is `office {found[0]}` meant?" if found else ""
+
+
 def outcome(office: Office, words: Sequence[str], ran: Ran, data: bytes | None = None) -> int:
     """Says what a refusal of a command, or of an import of these bytes, means; the status."""
     lines = []
     if ran.status == 1:
         lines = refusals.explained(office, words, ran.complaint, data)
     elif ran.status == 2:
-        lines = running.usage(office, words[0])
+        lines = running.usage(office, words[0]) or [f"  `office --help` lists the commands{meant(words[0])}"]
     sys.stderr.write(ran.complaint + "".join(f"{line}\n" for line in lines))
     return ran.status

@@ -9,10 +9,11 @@ from __future__ import annotations
 import contextlib
 import errno
 import functools
+import itertools
 import os
 import sqlite3
 import time
-from collections.abc import Callable, Iterator, Sequence
+from collections.abc import Callable, Iterable, Iterator, Sequence
 from dataclasses import dataclass
 from typing import NamedTuple, TypeVar
 
@@ -22,6 +23,7 @@ from exam_desk.trouble import Stale, Trouble
 
 CHANGES = ["import", "withdraw", "reinstate", "close-hall", "decide", "migrate"]
 PAUSE = 0.2  # seconds from one try to the next
+MOST_NAMED = 3  # sessions, candidates, papers or halls in the title of a change
 Tell = Callable[[str], None]  # hears which step begins
 Value = TypeVar("Value")
 
@@ -33,8 +35,24 @@ class Step:
     data: bytes | None = None
 
     def title(self) -> str:
-        """The command without what is private, and without the file of an import."""
-        return " ".join(self.words[:2] if self.words[0] == "import" else logbook.shown(self.words))
+        """The command without what is private; an import with the name of its file, where that says more than its kind,
+        and with what its rows are about."""
+        if not (values := refusals.imported(self.words)):
+            return " ".join(logbook.shown(self.words))
+        kind, name = values[0], os.path.basename(values[1])
+        return " ".join(["import", kind, *([name] if name != f"{kind}.csv" else []), *self.about])
+
+    @functools.cached_property
+    def about(self) -> list[str]:
+        """What the rows of an import are about; nothing where that is no file with the header of the kind."""
+        if not (values := refusals.imported(self.words)):
+            return []
+        kind, path = values
+        found: Iterator[files.Record] = iter(())
+        with contextlib.suppress(OSError):
+            if self.data is not None or os.path.isfile(path):
+                found = files.records(files.read(path) if self.data is None else self.data)
+        return named(kind, (record.fields for record in found)) if files.is_header(kind, next(found, None)) else []
 
 
 class Answered(NamedTuple):
@@ -114,10 +132,24 @@ class Turn(NamedTuple):
     def carried(self, step: Step, line: tuple[str, ...], status: str) -> Answered:
         """Carries out one step, which the program does whole or not at all; `status` begins its line in the log."""
         self.tell(step.title())
-        with begun(self.office, logbook.logged(self.office, step.words, status)) as outcome:
+        with begun(self.office, logbook.logged(self.office, [*step.words, *step.about], status)) as outcome:
             answered = Answered(step, run_patiently(self.office, line, self.lock))
             outcome.status, outcome.answer = answered.ran.status, answered.first_line()
         return answered
+
+
+def named(kind: str, rows: Iterable[tuple[bytes, ...]]) -> list[str]:
+    """What rows of a kind are about, as words of a title: the key of a single one, of several the sessions, candidates,
+    papers or halls that come first. What has no right form, which may be anything, is left out."""
+    found: dict[bytes, tuple[bytes, ...]] = {}
+    for key in (files.key_of(kind, row) for row in rows):
+        if all(right(value) for right, value in zip(files.FORMS[kind], key)):
+            found[key[0]] = key if found.get(key[0], key) == key else key[:1]
+        if len(found) > MOST_NAMED:
+            break
+    first = [*itertools.chain(*found.values())] if len(found) == 1 else [*found][:MOST_NAMED]
+    words = [*(value.decode("ascii") for value in first), *([".."] if len(found) > MOST_NAMED else [])]
+    return ["for", *words] if words else []
 
 
 def refused_of(answers: list[Answered]) -> Answered | None:
@@ -132,20 +164,39 @@ def rehearse(office: Office, steps: Sequence[Step], tell: Tell = ignore) -> Rehe
     """Carries steps out on a private copy, up to the first that is refused. Raises `Trouble` where there is no
     office."""
     with contextlib.ExitStack() as stack:
-        try:
-            before = stack.enter_context(private.private_copy(office.path, office.path))
-            after = stack.enter_context(private.private_copy(before, office.path))
-        except OSError as fault:
-            raise Trouble(fault.strerror or str(fault), fault.filename or office.path) from fault
-        answers: list[Answered] = []
+        rehearsal = stack.enter_context(two_copies(office, office.path))
         with placed(office, steps) as lines:
             for step, line in zip(steps, lines):
                 tell(step.title())
-                answers.append(Answered(step, running.run_over(office, after, *line)))
-                if refused_of(answers):
+                rehearsal.answers.append(Answered(step, running.run_over(office, rehearsal.after, *line)))
+                if rehearsal.refused:
                     break
+        stack.pop_all()
+    return rehearsal
+
+
+def rehearse_back(office: Office, copy: str) -> Rehearsal:
+    """As `rehearse`, of a copy that would be put back; one of an earlier version is carried over. Raises `Trouble`
+    where it is no good office."""
+    with contextlib.ExitStack() as stack:
+        rehearsal = stack.enter_context(two_copies(office, copies.file_in(office, copy)))
+        undo.check(office, rehearsal.after)
+        running.run_over(office, rehearsal.after, "migrate")
+        stack.pop_all()
+    return rehearsal
+
+
+def two_copies(office: Office, after: str) -> Rehearsal:
+    """A rehearsal without a step: private copies of the office and of what would be in its place."""
+    with contextlib.ExitStack() as stack:
+        try:
+            before = stack.enter_context(private.private_copy(office.path, office.path))
+            source = before if after == office.path else after  # both are of one moment
+            after = stack.enter_context(private.private_copy(source, office.path))
+        except OSError as fault:
+            raise Trouble(fault.strerror or str(fault), fault.filename or office.path) from fault
         kept = stack.pop_all()
-    return Rehearsal(office, before, after, answers, kept)
+    return Rehearsal(office, before, after, [], kept)
 
 
 @contextlib.contextmanager
@@ -297,10 +348,10 @@ def go_back(office: Office, words: Sequence[str], copy: str, may_go: Callable[[l
         lines = undo.taken_away(office, copy)
         if not may_go(lines):
             return Back(False, lines, None)
-        when, _ = copies.when_and_what(copy)
+        when, what = copies.when_and_what(copy)
         with begun(office, logbook.logged(office, words)) as outcome:
             kept = undo.put_back(office, copy)
-            outcome.status, outcome.answer = 0, "; ".join([f"as it was on {when}", *lines])
+            outcome.status, outcome.answer = 0, "; ".join([f"as it was on {when}, before {what}", *lines])
     return Back(True, lines, kept)
 
 

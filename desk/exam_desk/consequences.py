@@ -49,10 +49,11 @@ class Group(NamedTuple):
 
     def is_one(self) -> bool:
         """Whether all are one candidate in several sessions."""
-        return len({each.person for each in self.people}) == 1
+        return self.kind != HALLS and len(self.people) > 1 and len({each.person for each in self.people}) == 1
 
     def title(self) -> str:
-        return counted(KINDS[self.kind], 1 if self.is_one() else len(self.people))
+        """How many people there are, and in how many sittings; of halls how many there are."""
+        return counted(KINDS[self.kind], [each.who if self.kind == HALLS else each.person for each in self.people])
 
 
 def of(rehearsal: Rehearsal, at_most: int | None, progress: Progress) -> list[str]:
@@ -148,7 +149,7 @@ def other_codes(before: Reading, after: Reading) -> list[str]:
         return []
     people = by_name(after, map(str, numbers)) if len(numbers) <= MOST_NAMED else []
     who = "; ".join(f"{person.number} {plain(person.name)}" for person in people)
-    return [f"{counted(CODES, len(numbers))}{': ' if who else ''}{who}; a slip with the old code opens nothing"]
+    return [f"{counted(CODES, numbers)}{': ' if who else ''}{who}; a slip with the old code opens nothing"]
 
 
 def grouped(changes: list[Change], people: dict[str, list[Met]]) -> list[Group]:
@@ -175,7 +176,7 @@ def lines(met: list[Group], at_most: int | None) -> list[str]:
 def brief(met: list[Group]) -> list[str]:
     """At most five lines, the gravest first; none where nobody is met."""
     first, others = met[:GRAVEST], met[GRAVEST:]
-    shown = [f"{each.title()}{who_or_where(each)}" for each in first]
+    shown = [headline(each) for each in first]
     if others:
         shown.append(", ".join(each.title() for each in others))
     return shown
@@ -189,15 +190,16 @@ def listing(met: list[Group], copy: int) -> str:
     return "; office ".join([*words][:MOST_NAMED])
 
 
-def who_or_where(met: Group) -> str:
-    """A few by their names, and many by the sessions in which they are most; nobody who has another desk alone."""
+def headline(met: Group) -> str:
+    """How many they are; a few by their names, and many by the sessions in which they are most; nobody who has another
+    desk alone."""
     if met.kind == DESK_ALONE:
-        return ""
-    if met.is_one() and len(met.people) > 1:
-        return f": {met.people[0].person} in {len(met.people)} sessions"
+        return met.title()
+    if met.is_one():
+        return f"{counted(KINDS[met.kind], ['one'])}: {met.people[0].person} in {len(met.people)} sessions"
     if len(met.people) <= MOST_NAMED:
-        return ": " + "; ".join(each.who for each in met.people)
-    return ": " + most(Counter(each.session for each in met.people))
+        return f"{met.title()}: " + "; ".join(each.who for each in met.people)
+    return f"{met.title()}: {most(Counter(each.session for each in met.people))}"
 
 
 def most(counts: Counter[str]) -> str:

@@ -14,6 +14,7 @@ from exam_desk.trouble import Trouble
 
 MOST_COPIES = 50
 MOST_BYTES = 1 << 30
+MOST_LETTERS = 100  # of a command in the name of a copy
 PLACE, DAYS = "copies", "days"
 NAME = re.compile(r"(?:([0-9]+) )?([0-9]{4}-[0-9]{2}-[0-9]{2}) ([0-9.]{8,15}) (.*)")  # version 1.0.0 gave no numbers
 DAY = re.compile("[0-9]{4}-[0-9]{2}-[0-9]{2}")
@@ -26,7 +27,7 @@ def keep_copy(office: Office, command: str) -> str:
     Its running number is one more than the highest, so that the order does not depend on the clock.
     """
     number = max(map(number_of, listed(office)), default=0) + 1
-    what = re.sub(r"[^A-Za-z0-9 .+-]", "_", command)[:60]
+    what = re.sub(r"[^A-Za-z0-9 .+-]", "_", command.replace(":", "."))[:MOST_LETTERS]
     copy = make(office, PLACE, f"{number:06} {datetime.datetime.now():%Y-%m-%d %H.%M.%S} {what}")
     prune(office)
     return copy

@@ -66,7 +66,9 @@ def status(office: Office) -> Status:
         if state == before:
             break
     if state is None:
-        raise Trouble(f"`keep` does not run; the last lines of {turns.inside(office, keeping.JOURNAL)} may say why")
+        journal = turns.inside(office, keeping.JOURNAL)
+        why = f"the last lines of {journal} may say why" if os.path.exists(journal) else "`office keep start` begins it"
+        raise Trouble(f"`keep` does not run; {why}")
     return Status(False, fault_of(state))
 
 

@@ -27,7 +27,8 @@ def halls(reading: Reading, session: str, asked: Collection[str] = ()) -> list[t
              if (there := by_desk(members, opening.hall)) and (not asked or opening.hall in asked)]
     missing = [code for code in asked if code not in {opening.hall for opening, _ in found}]
     if missing:
-        raise Trouble(f"nobody sits in {missing[0]} in {session}")
+        used = ", ".join(sorted({member.sitting.hall for member in members if member.sitting.hall}))
+        raise Trouble(f"nobody sits in {missing[0]} in {session}; somebody sits in {used or 'no hall'}")
     return found
 
 

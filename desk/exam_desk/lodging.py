@@ -4,18 +4,16 @@ from __future__ import annotations
 import contextlib
 import itertools
 import json
-import subprocess
-from collections.abc import Iterator, Sequence
-from typing import NamedTuple
+from collections.abc import Callable, Iterator, Sequence
+from typing import NamedTuple, NoReturn
 
-from exam_desk import asking, beside, files, logbook, refusals, running, snapshot, turns
+from exam_desk import asking, beside, files, logbook, refusals, snapshot, turns
 from exam_desk.office import Office
+from exam_desk.serving import Serve
 from exam_desk.trouble import Trouble
 
 TRIES, SECONDS = 3, 60
 KINDS = {"hall": ["hall"], "clash": ["paper"], "arrangement": ["needs", "extra"]}  # the values of each
-
-
 FORMS: dict[str, files.Form] = {
     "number": files.is_number, "session": files.is_code, "hall": files.is_hall, "paper": files.is_code,
     "needs": files.is_features, "extra": files.whole(0, 100), "reason": lambda text: files.is_short(text, 200)}
@@ -66,25 +64,15 @@ def served(office: Office) -> Iterator[asking.Server]:
     if state and "place" in state:
         yield asking.Server(state["pid"], state["place"])
         return
-    with turns.alone(office, ["lodge"]):
-        port = asking.free_port()
-        with begun(office, port) as process:
-            try:
-                assert process.stdout is not None
-                if not process.stdout.readline().startswith(b"serving"):
-                    complaint = process.communicate()[1].decode("utf-8", "replace").split("\n")[0]
-                    lines = refusals.explained(office, ["serve"], complaint)
-                    raise Trouble("; ".join([complaint, *map(str.strip, lines)]))
-                yield asking.Server(process.pid, str(port))
-            finally:
-                process.terminate()
+    with turns.alone(office, ["lodge"]), contextlib.closing(Serve(office, office.path, refuse(office))) as serve:
+        yield serve.started()
 
 
-def begun(office: Office, port: int) -> subprocess.Popen[bytes]:
-    try:
-        return subprocess.Popen(office.line("serve", str(port)), stdout=subprocess.PIPE, stderr=subprocess.PIPE)
-    except OSError as fault:
-        raise running.not_started(office, fault) from fault
+def refuse(office: Office) -> Callable[[str], NoReturn]:
+    """Raises `Trouble`, which says what a refusal of `serve` means."""
+    def explain(complaint: str) -> NoReturn:
+        raise Trouble("; ".join([complaint, *map(str.strip, refusals.explained(office, ["serve"], complaint))]))
+    return explain
 
 
 def post(server: asking.Server, number: str, code: str, body: bytes) -> dict[str, object]:

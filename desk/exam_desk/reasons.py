@@ -1,7 +1,7 @@
 """Which open hall suits whom, and so why a member of a session has no desk, hall by hall.
 
 The program prints what is short, and not why a hall does not suit. So its rule stands here again, and each answer is
-compared with the printed shortage: `Reasons.differences`.
+compared with the printed shortage: `Reasons.faults`.
 """
 from __future__ import annotations
 
@@ -133,46 +133,31 @@ class Reasons:
                 f"extra {sitting.extra}, needs {'+'.join(self.needs(member)) or '-'}\n"
                 + ("".join(f"  {hall:8} {reason}\n" for hall, reason in halls) or "  no hall is open\n"))
 
-    def differences(self, printed: Shortage) -> Iterator[str]:
-        """A line for each thing that the reasons say and a printed shortage does not, or the other way round."""
-        halls, candidates = dict(printed.halls), set(printed.candidates)
-        unseated, listed = self.unseated(), [each for each in self.members if each.number in candidates]
+    def faults(self, sheet: Shortage) -> Iterator[str]:
+        """A line for each thing that a printed shortage says otherwise than these reasons, or than its own sums."""
+        members = {member.number: member for member in self.members}
+        candidates = set(sheet.candidates)
+        listed = [members[number] for number in candidates if number in members]
+        suiting = {(opening.hall, opening.desks) for opening in self.openings
+                   if any(not self.obstacles(member, opening) for member in listed)}
+        yield from (f"{number} is listed {times} times"
+                    for number, times in collections.Counter(sheet.candidates).items() if times > 1)
+        yield from (f"{number} is not a member of the session" for number in sheet.candidates if number not in members)
         yield from (f"{member.number} has no desk and is not listed"
-                    for member in unseated if member.number not in candidates)
-        if len(unseated) != printed.unseated:
-            yield f"{len(unseated)} have no desk, and the sheet counts {printed.unseated}"
-        for opening in self.openings:
-            suited = [member.number for member in unseated if not self.obstacles(member, opening)]
-            if suited and opening.hall not in halls:
-                yield f"{opening.hall} suits {suited[0]}, who has no desk, and is not listed"
-            if suited and len(self.taken[opening.hall]) < opening.desks:
-                yield f"{opening.hall} suits {suited[0]}, who has no desk, and is not full"
-            if opening.hall in halls and all(self.obstacles(member, opening) for member in listed):
-                yield f"{opening.hall} is listed, and suits nobody who is listed"
-
-
-def faults(reading: Reading, sheet: Shortage) -> Iterator[str]:
-    """A line for each thing that a printed shortage says and the office does not. Raises `Trouble` where the office has
-    no such session."""
-    reasons = Reasons(reading, sheet.session)
-    members = {member.number: member for member in reasons.members}
-    listed = [members[number] for number in sheet.candidates if number in members]
-    suiting = {(opening.hall, opening.desks) for opening in reasons.openings
-               if any(not reasons.obstacles(member, opening) for member in listed)}
-    yield from (f"{number} is listed {times} times"
-                for number, times in collections.Counter(sheet.candidates).items() if times > 1)
-    yield from (f"{number} is not a member of the session" for number in sheet.candidates if number not in members)
-    yield from (f"hall {hall} is listed twice" for hall, times in
-                collections.Counter(hall for hall, _ in sheet.halls).items() if times > 1)
-    yield from (f"hall {hall} with {desks} desks suits one of the candidates, but is not listed with as many desks"
-                for hall, desks in sorted(suiting - set(sheet.halls)))
-    yield from (f"hall {hall} with {desks} desks is listed, but suits none of the candidates, or has not as many desks"
-                for hall, desks in sorted(set(sheet.halls) - suiting))
-    sums = [("halls", sheet.hall_count, len(sheet.halls)),
-            ("desks", sheet.desks, sum(desks for _, desks in sheet.halls)),
-            ("candidates", sheet.candidate_count, len(sheet.candidates)),
-            ("unseated", sheet.unseated, len(reasons.unseated()))]
-    yield from (f"{name}: the sheet counts {said}, and there are {there}"
-                for name, said, there in sums if said != there)
-    if sheet.candidate_count != sheet.desks + sheet.unseated:
-        yield f"{sheet.candidate_count} candidates are not {sheet.desks} desks and {sheet.unseated} unseated"
+                    for member in self.unseated() if member.number not in candidates)
+        yield from (f"hall {hall} is listed twice" for hall, times in
+                    collections.Counter(hall for hall, _ in sheet.halls).items() if times > 1)
+        yield from (f"hall {hall} with {desks} desks suits one of the candidates, but is not listed with as many desks"
+                    for hall, desks in sorted(suiting - set(sheet.halls)))
+        yield from (f"hall {hall} with {desks} desks is listed, but suits none of the candidates, or has not as many "
+                    "desks" for hall, desks in sorted(set(sheet.halls) - suiting))
+        yield from (f"hall {hall} is listed, and {desks - len(self.taken[hall])} of its desks are free"
+                    for hall, desks in sorted(suiting & set(sheet.halls)) if len(self.taken[hall]) < desks)
+        sums = [("halls", sheet.hall_count, len(sheet.halls)),
+                ("desks", sheet.desks, sum(desks for _, desks in sheet.halls)),
+                ("candidates", sheet.candidate_count, len(sheet.candidates)),
+                ("unseated", sheet.unseated, len(self.unseated()))]
+        yield from (f"{name}: the sheet counts {said}, and there are {there}"
+                    for name, said, there in sums if said != there)
+        if sheet.candidate_count != sheet.desks + sheet.unseated:
+            yield f"{sheet.candidate_count} candidates are not {sheet.desks} desks and {sheet.unseated} unseated"

@@ -3,16 +3,15 @@ from __future__ import annotations
 
 import contextlib
 import errno
-import itertools
 import os
 import re
 import stat
 import tempfile
-from collections.abc import Iterable, Sequence
+from collections.abc import Sequence
 
-from exam_desk import files, snapshot, turns
+from exam_desk import files, turns
 from exam_desk.office import Office
-from exam_desk.trouble import NoOffice
+from exam_desk.trouble import NoOffice, Trouble
 from exam_desk.words import plain
 
 SENTENCES = {
@@ -51,9 +50,10 @@ OTHER = {
                    "not give it again; a sheet can be printed again",
     "net fault": "the port is taken, or the system gives no more connections; take another one, from 1024 on",
 }
-MOST_LINES = 5  # of an import file that are shown
+OF_A_FILE = [1, 2, 3, 4, 5, 6, 7, 20]  # refusals that rows of an import file can bring
 NO_CODE = ("`office codes FILE` fills in the codes that the office has, and new ones; for another name alone take "
            "`office name NUMBER NAME`")
+MOST_LINES = 5  # on one column of an import file
 WHOLE_OR_NOT = "a command is there whole or not at all: look, or give it again"
 
 
@@ -75,70 +75,28 @@ def explained(office: Office, words: Sequence[str], complaint: str, data: bytes 
         lines = [str(NoOffice(office.path))]
     elif answer == "file fault" and words[0] == "import":
         lines.append(f"it was looked for as {plain(os.path.abspath(words[-1]))}")
-    elif number and words[0] == "import":
-        lines += places(office, words, number, answer, data)
-    return [f"  {line}" for line in lines]
+    elif number in OF_A_FILE:
+        lines += mistakes_of(office, words, data)
+    return [f"  {plain(line)}" for line in lines]
 
 
-def places(office: Office, words: Sequence[str], number: int, answer: str, data: bytes | None) -> list[str]:
-    """The line of the import file and the value that a refusal is about; none where the file has changed since."""
+def imported(words: Sequence[str]) -> tuple[str, str] | None:
+    """The kind and the file of an import; None of other commands."""
     values = [word for word in words[1:] if word != "--"]
-    if len(values) != 2 or values[0] not in files.HEADERS:
-        return []
-    kind, path = values
-    with contextlib.suppress(OSError):
-        if data is not None or os.path.isfile(path):
-            return places_in(office, kind, os.path.basename(path), data or files.read(path), number, answer)
+    return (values[0], values[1]) if words[0] == "import" and len(values) == 2 and values[0] in files.HEADERS else None
+
+
+def mistakes_of(office: Office, words: Sequence[str], data: bytes | None) -> list[str]:
+    """What is wrong with the file of an import, as `office check-files` says it; nothing where it has changed since."""
+    from exam_desk import checking, mistakes  # here, since a refusal alone needs them
+    with contextlib.suppress(OSError, Trouble):
+        if (found := imported(words)) and (data is not None or os.path.isfile(found[1])):
+            kind, path = found
+            text = files.read(path) if data is None else data
+            wrong, _ = mistakes.looked_through(kind, text, checking.office_knows(office), MOST_LINES)
+            codes = any(each.what == "code ''" for each in wrong)
+            return [*checking.lines_on(os.path.basename(path), wrong, ""), *([NO_CODE] if codes else [])]
     return []
-
-
-def places_in(office: Office, kind: str, name: str, text: bytes, number: int, answer: str) -> list[str]:
-    found = files.records(text)
-    if number == 2:
-        first = next(found, None)
-        return [f"line 1 of {name}: {files.row_shown(first.fields) if first else ''}",
-                f"must be:  {','.join(files.HEADERS[kind])}"]
-    if told := re.match(r"refused (?:1|3) record ([0-9]+)(?: column ([0-9]+))?", answer):
-        record = next(itertools.islice(found, int(told[1]), None), None)
-        return record_lines(kind, name, record, int(told[2] or 0), number) if record else []
-    next(found, None)  # the header
-    for column, table in files.REFERENCES.get(kind, []):
-        if number == files.UNKNOWN[table]:
-            return unknown_lines(office, name, found, column, table)
-    return []
-
-
-def record_lines(kind: str, name: str, record: files.Record, column: int, number: int) -> list[str]:
-    lines = [f"line {record.line} of {name}: {files.row_shown(record.fields)}"]
-    if 1 <= column <= len(record.fields) == len(files.HEADERS[kind]):
-        lines.append(value_line(files.HEADERS[kind][column - 1], record.fields[column - 1]))
-        if (kind, column) == ("candidates", 3):
-            lines.append(NO_CODE)
-    elif number == 1 and not record.closed:
-        lines.append("a quote is not closed")
-    elif number == 1:
-        lines.append(f"{len(record.fields)} fields; the header has {len(files.HEADERS[kind])}")
-    return lines
-
-
-def value_line(column: str, field: bytes) -> str:
-    """What a column has, and what it must have; of an empty code another line says that."""
-    from exam_desk import mistakes  # here, since a refusal alone needs it
-    cure = "" if column == "code" and not field else f": {mistakes.cure(column, field).text}"
-    return f"{column} is {files.shown(field)}{cure}"
-
-
-def unknown_lines(office: Office, name: str, found: Iterable[files.Record], column: int, table: str) -> list[str]:
-    """The first lines whose reference the office does not have."""
-    key = "printf('%07d', number)" if table == "candidates" else "code"
-    with contextlib.closing(snapshot.rows(office)) as connection:
-        known = {str(code).encode() for code, in connection.execute(f"SELECT {key} FROM {table[:-1]}")}
-    wrong = ((record.line, record.fields[column]) for record in found
-             if len(record.fields) > column and record.fields[column] not in known)
-    lines = [f"line {line} of {name}: {table[:-1]} is {files.shown(field)}"
-             for line, field in itertools.islice(wrong, MOST_LINES)]
-    more = sum(1 for _ in wrong)
-    return lines + ([f".. and {more} more lines"] if more else [])
 
 
 def lasting_cause(office: Office) -> str | None:

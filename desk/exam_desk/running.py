@@ -3,6 +3,7 @@ from __future__ import annotations
 
 import contextlib
 import os
+import re
 import shutil
 import subprocess
 from collections.abc import Callable, Iterator
@@ -13,6 +14,9 @@ from exam_desk.office import Office
 from exam_desk.trouble import Trouble
 
 PR_SET_PDEATHSIG = 1
+USE = re.compile(r"\bexamoffice\b( --(db|today) <[^>]*>)*")  # how a usage begins
+NAMED = re.compile("`(appeals SESSION|check|init|migrate|serve)`")  # commands in the words on refusals
+OPTIONS = re.compile(r"^ +--(db|today) .*\n( {10,}.*\n)*", re.MULTILINE)  # the lines on an option
 SHEETS = ["door-list", "attendance", "clashes", "shortage", "appeals", "export"]
 
 
@@ -29,12 +33,8 @@ class NotStarted(Trouble):
 
 
 def run(office: Office, *words: str) -> Ran:
-    """Runs a command over the office; a sheet is made from a private copy, so nobody waits for it. Raises
-    `NotStarted`."""
-    if words[0] not in SHEETS:
-        return run_over(office, office.path, *words)
-    with readable(office) as path:
-        return run_over(office, path, *words)
+    """Runs a command over the office. Raises `NotStarted`."""
+    return run_over(office, office.path, *words)
 
 
 @contextlib.contextmanager
@@ -68,19 +68,21 @@ def ran(office: Office, path: str, words: tuple[str, ...], output: int | None, f
 
 
 def help_text(office: Office, *words: str) -> str:
-    """The help of the program, or of one of its commands. Raises `NotStarted`."""
+    """The help of the program, or of one of its commands, in the words that `office` takes: it gives the file and the
+    date by itself. Raises `NotStarted`."""
     try:
         done = subprocess.run([office.program, *words, "--help"], stdout=subprocess.PIPE, stderr=subprocess.DEVNULL,
                               check=False)
     except OSError as fault:
         raise not_started(office, fault) from fault
-    return done.stdout.decode("utf-8", "replace")
+    text = OPTIONS.sub("", USE.sub("office", done.stdout.decode("utf-8", "replace")))
+    return NAMED.sub(r"`office \1`", text)
 
 
 def usage(office: Office, name: str) -> list[str]:
-    """The lines on how a command of the program is used, from its help. Raises `NotStarted`."""
-    lines = [f"  {line}" for line in help_text(office, name).split("\n") if line][1:]
-    return lines or ["  `office --help` lists the commands"]
+    """The lines on how a command of the program is used, from its help; none where that has no such command. Raises
+    `NotStarted`."""
+    return [f"  {line}" for line in help_text(office, name).split("\n") if line][1:]
 
 
 def not_started(office: Office, fault: OSError) -> NotStarted:

@@ -123,21 +123,30 @@ def sittings(reading: Reading, session: str, people: Collection[int] | None) -> 
 
 
 def text(changes: Collection[Change], tells_alone: bool = False) -> str:
-    """A line for each change, the gravest kind first, `!` before those to tell; then how many there are. Without the
-    desks alone where only those to tell are wanted."""
-    telling = sum(change.is_to_tell() for change in changes)
-    last = f"{telling} to tell, {len(changes) - telling} with another desk only" if changes else "nothing changed"
+    """A line for each change, the gravest kind first, `!` before those to tell; then how many people there are. Without
+    the desks alone where only those to tell are wanted."""
+    telling = [change.number for change in changes if change.is_to_tell()]
+    told = set(telling)
+    others = [change.number for change in changes if change.number not in told]
+    last = f"{people(telling, 'to tell')}, {people(others, 'with another desk only')}" if changes else "nothing changed"
     shown = ""
     for kind, words in KINDS.items():
         found = [change for change in changes if change.kind() == kind]
         if found and not (tells_alone and kind == "desk"):
-            shown += "".join([f"{counted(words, len(found))}:\n", *map(line, found)])
+            shown += "".join([f"{counted(words, [change.number for change in found])}:\n", *map(line, found)])
     return f"{shown}{last}\n"
 
 
-def counted(words: tuple[str, str], count: int) -> str:
-    """How many there are, and what one does or several do."""
-    return f"{count:,} {words[count > 1]}"
+def counted(words: tuple[str, str], who: Collection[object]) -> str:
+    """How many people there are, and what one does or several do, from who it is in each sitting."""
+    return people(who, words[len(set(who)) > 1])
+
+
+def people(who: Collection[object], what: str) -> str:
+    """How many people there are, what they do, and in how many sittings where these are more."""
+    several = len(set(who))
+    sittings = f" ({len(who):,} {'sessions' if several == 1 else 'sittings'})" if len(who) > several else ""
+    return f"{several:,} {what}{sittings}"
 
 
 def line(change: Change) -> str:

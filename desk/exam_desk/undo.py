@@ -71,6 +71,7 @@ def put_back(office: Office, copy: str) -> str | None:
     with ready(office, copy) as path:
         check(office, path)
         is_there = os.path.exists(os.path.realpath(office.path))
-        kept = copies.keep_copy(office, "back") if is_there else None
+        _, what = copies.when_and_what(copy)
+        kept = copies.keep_copy(office, f"back to before {what}") if is_there else None
         move_in(office, path)
     return kept

@@ -269,7 +269,7 @@ class RandomOffice:
     def session_page(self, reading, session):
         found = Page(reading, session)
         page = found.document()
-        assert not found.differences, found.differences
+        assert not found.faults, found.faults
         assert not Cells(page).strange, Cells(page).strange
         seats = self.now[session]
         seated = [[table for table in Cells(f"<table>{part}").rows if len(table) == 5][1:]
@@ -309,8 +309,7 @@ class RandomOffice:
               [line[:7] for line in text.split("\n") if line[:1].isdigit()],
               [number for number, seat in sorted(self.now[session].items()) if seat.hall == "-"], "why", text)
         assert "are free" not in text, text
-        equal((list(found.differences(sheet)), list(reasons.faults(reading, sheet))), ([], []), "shortage",
-              text)
+        equal(list(found.faults(sheet)), [], "shortage", text)
 
     def slips(self, reading):
         found = {}

@@ -1,6 +1,7 @@
 """Changes of several steps: tried on a copy, carried out whole or not at all, and what is said after a kill."""
 import contextlib
 import os
+import re
 import shutil
 import signal
 import sqlite3
@@ -10,7 +11,7 @@ from unittest import mock
 
 import sample
 from breaking import kill_often, kill_rehearsals
-from exam_desk import changing, copies, logbook, states
+from exam_desk import changing, copies, files, logbook, states
 from exam_desk.changing import Step
 from exam_desk.office import Office
 from exam_desk.trouble import Stale, Trouble
@@ -58,6 +59,46 @@ class Changing(sample.SampleSchool):
         return path
 
 
+class Titles(unittest.TestCase):
+    """What the log and the list of copies say of an import: whom or what its rows are about, and nothing private."""
+
+    def about(self, kind, *rows, header=None):
+        text = "\n".join([header or ",".join(files.HEADERS[kind]), *rows, ""])
+        return " ".join(Step(("import", kind, "late.csv"), text.encode()).about)
+
+    def test_the_key_of_one_row(self):
+        for kind, row, said in (("openings", "MON-AM,GYM,24,12:30,no", "for MON-AM GYM"), ("entries", "0001000,FR",
+                                "for 0001000 FR"), ("candidates", "0001000,Ada,WK3DEGZDPC", "for 0001000"),
+                                ("arrangements", "0001000,screen,25", "for 0001000"), ("sessions",
+                                "S1,2027-06-07,09:00", "for S1")):
+            self.assertEqual(self.about(kind, row), said)
+            self.assertEqual(self.about(kind, row, row), said)
+
+    def test_the_first_of_several(self):
+        rows = [f"MON-AM,H{place},24,12:30,no" for place in range(9)]
+        self.assertEqual(self.about("openings", *rows), "for MON-AM")
+        self.assertEqual(self.about("openings", "TUE-AM,GYM,1,12:30,no", *rows), "for TUE-AM MON-AM")
+        rows = [f"000100{place},FR" for place in range(9)]
+        self.assertEqual(self.about("entries", *rows[:3]), "for 0001000 0001001 0001002")
+        self.assertEqual(self.about("entries", *rows), "for 0001000 0001001 0001002 ..")
+
+    def test_what_may_be_private_is_left_out(self):
+        codes = ["WK3DEGZDPC", "XK3DEGZDPC"]
+        self.assertEqual(self.about("sessions", *codes, header="code"), "")
+        self.assertEqual(self.about("candidates", *codes, "x,y,z"), "")
+        self.assertEqual(self.about("entries", '"a\u202e', ",", "\x1b[2J,FR"), "")
+        self.assertEqual(Step(("import", "entries", "none.csv")).about, [])
+
+    def test_titles(self):
+        row = b"number,paper\n0001000,FR\n"
+        for words, title in ((["import", "entries", "/x/late.csv"], "import entries late.csv for 0001000 FR"),
+                             (["import", "entries", "/x/entries.csv"], "import entries for 0001000 FR"),
+                             (["import", "--", "entries", "-x.csv"], "import entries -x.csv for 0001000 FR"),
+                             (["decide", "0001000", "D1", "granted", "why"], "decide 0001000 D1 granted"),
+                             (["import", "entries"], "import entries")):
+            self.assertEqual(Step(tuple(words), row).title(), title)
+
+
 class Lists(Changing):
     def test_it_is_carried_out_as_it_was_tried_with_one_copy(self):
         before = self.state()
@@ -73,8 +114,9 @@ class Lists(Changing):
         self.assertEqual(self.log(), [
             ["three things", "begins", name], ["withdraw 0001000 MA-1", "step", ""],
             ["withdraw 0001000 MA-1", "0", "withdrawn"], ["close-hall MON-AM GYM", "step", ""],
-            ["close-hall MON-AM GYM", "0", "closed"], ["import entries more.csv", "step", ""],
-            ["import entries more.csv", "0", "added 1 changed 0 same 0"], ["three things", "0", "3 steps"]])
+            ["close-hall MON-AM GYM", "0", "closed"], ["import entries more.csv for 0001000 FR", "step", ""],
+            ["import entries more.csv for 0001000 FR", "0", "added 1 changed 0 same 0"],
+            ["three things", "0", "3 steps"]])
         with open(os.path.join(self.desk, "log"), encoding="utf-8") as log:
             self.assertEqual({line.split("\t")[1] for line in log}, {"tester"})
         self.office("back", "1", "--yes")
@@ -240,7 +282,7 @@ class Killed(Changing):
             self.assertEqual(done.returncode, -signal.SIGKILL)
             said = self.run_office("reinstate", "0001000", "MA-1").stderr
             if kind in ("sessions", "openings"):  # the files before halls change nothing
-                behind = {"sessions": "nothing of it is left", "openings": "behind `import halls halls.csv`"}[kind]
+                behind = {"sessions": "nothing of it is left", "openings": "behind `import halls halls.csv for "}[kind]
                 self.assertIn(behind, said)
             self.assertRegex(said, r"^office: `take facts` of \S+ \S+ was broken off")
             if self.state() != before:
@@ -276,6 +318,39 @@ class WhatIf(Changing):
         self.office("close-hall", "MON-AM", "GYM")
         told = {line[2:] for line in self.office("changes", "1").split("\n") if line.startswith("!")}
         self.assertTrue({line[2:] for line in text.split("\n") if line.startswith("  MON-AM")} <= told)
+
+    def test_back(self):
+        """What `back` would do, with the appeals that it would take away; and it is what `back` does."""
+        self.office("close-hall", "MON-AM", "GYM")
+        self.office("lodge", "0001051", "MON-AM", "hall", "PC1", "a draught")
+        now, log = self.state(), self.log()
+        text = self.office("what-if", "back", "1")
+        self.assertRegex(text, r"\Athe office would be as it was on \S+ \S+, before close-hall MON-AM GYM\n"
+                               r"taken away: appeal 0001051 D1 for MON-AM: open -> gone\n[0-9]+ get desks\n")
+        self.assertRegex(text, r"(?m)^session MON-AM: \d+ candidates, 2 without a desk \(before: \d+ and \d+\)$")
+        self.assertNotIn("a draught", text)
+        self.assertEqual((self.state(), len(self.kept()), self.log()), (now, 1, log))
+        told = re.findall("(?m)^([0-9].*?)(?:$|:)", self.run_office("back", "1", "--yes").stderr)
+        self.assertEqual(told, [line for line in text.split("\n") if re.match("[0-9]", line)])
+
+    def test_back_of_a_bad_copy_and_of_none(self):
+        self.office("withdraw", "0001000", "MA-1")
+        self.assertIn("there is no copy 2", self.refused("what-if", "back", "2"))
+        for words in (["back"], ["back", "x"], ["back", "1", "--yes"]):
+            self.assertIn("name a copy by its number", self.refused("what-if", *words))
+        [copy] = self.kept()
+        with contextlib.closing(sqlite3.connect(os.path.join(copy, "office.db"))) as file:
+            file.execute("DELETE FROM seat WHERE number = 1017")
+            file.commit()
+        self.assertIn("this copy is no good office (bad seat)", self.refused("what-if", "back", "1"))
+
+    def test_back_to_a_copy_of_an_earlier_version(self):
+        with contextlib.closing(sqlite3.connect(self.path)) as file:
+            file.execute("UPDATE office SET version = 2")
+            file.commit()
+        self.office("migrate")
+        self.office("withdraw", "0001000", "MA-1")
+        self.assertIn("1 joins a session\n", self.office("what-if", "back", "2"))
 
     def test_refusals(self):
         self.assertIn("refused 9\n  the entry is withdrawn already",

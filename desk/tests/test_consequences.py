@@ -1,4 +1,5 @@
 """What `office` says of a change behind it, on standard error."""
+import datetime
 import os
 import re
 import unittest
@@ -7,6 +8,8 @@ from unittest import mock
 import sample
 from exam_desk import changing, consequences, copies, telling
 from exam_desk.answers import Sitting
+from exam_desk.office import Office
+from exam_desk.sheets.changes import page
 
 SITTING = Sitting("S1", "2027-06-01", "09:00", "MA-1", "10:00", (), 0, "A", 1)
 LAST = "`office changes 1` lists them"
@@ -59,6 +62,29 @@ class Kinds(unittest.TestCase):
         self.assertEqual(brief(changes), ["1 has another name: S1 0000001 Ada"])
         later = [change(new=SITTING._replace(finish="10:15"), session=session) for session in ("S1", "S2", "S3", "S4")]
         self.assertEqual(brief(later), ["1 sits at another time: 0000001 Ada in 4 sessions"])
+
+    def test_people_are_counted_and_sittings_beside_them(self):
+        later = SITTING._replace(finish="10:15")
+        changes = [change(new=later, number=f"000000{number}", session=f"S{session}")
+                   for number, sessions in ((1, 3), (2, 1)) for session in range(sessions)]
+        desk = [change(new=SITTING._replace(desk=2), number=number, session="S9") for number in ("0000001", "0000007")]
+        self.assertEqual(brief(changes), ["2 sit at other times (4 sittings): 2 in S0, 1 in S1, 1 in S2"])
+        self.assertEqual(brief([*changes[:3]]), ["1 sits at another time: 0000001 Ada in 3 sessions"])
+        lines = telling.text([*changes, *desk]).split("\n")
+        self.assertEqual([line for line in lines if not line.startswith(("!", " "))], [
+            "2 sit at other times (4 sittings):", "2 have other desks in the same hall:",
+            "2 to tell (4 sittings), 1 with another desk only", ""])
+        self.assertTrue(telling.text(changes[:3]).startswith("1 sits at another time (3 sessions):\n"))
+        [title, *_] = consequences.lines(consequences.grouped(changes, {}), 1)
+        self.assertEqual(title, "2 sit at other times (4 sittings)")
+        self.assertIn("<b>2 sit at other times (4 sittings)</b>", page(self.office, changes, {}, "Since 1"))
+        halls = [consequences.Met(session, "and S3 in A", "") for session in ("S1", "S2")]
+        self.assertEqual(consequences.Group(consequences.HALLS, halls).title(),
+                         "2 halls have candidates of two sessions at one time")
+
+    @property
+    def office(self):
+        return Office("nowhere.db", "examoffice", datetime.date.today, "tester")
 
     def test_what_hides_in_a_name_is_shown(self):
         self.assertEqual(brief([change(new=None, name="\u202eA\u009b2J\nda")])[0],

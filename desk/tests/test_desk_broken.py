@@ -76,7 +76,7 @@ class Broken(Uploads):
         self.environment["EXAMOFFICE"] = self.value.program
         self.start()
         self.assertNotEqual(self.state(), before)
-        self.assertIn("A change was broken off: import halls, import openings", self.browser.words("/"))
+        self.assertRegex(self.browser.words("/"), "A change was broken off: import halls for .*, import openings for ")
         page = re.search(r'/office/copies/[0-9a-f]{16}(?=")', self.browser.get("/"))[0]
         self.browser.post(page + "/back", page)
         self.assertEqual(self.state(), before)

@@ -140,7 +140,7 @@ class TestFiles(Uploads):
             proposal, _ = self.browser.post("/propose/files", page, upload=page.rsplit("/", 1)[1])
             shown = self.browser.words(proposal)
             self.assertIn(sentence(said), shown)
-            self.assertIn(f"of {name}: " if said > 3 else "line", shown)
+            self.assertIn(f"{name} line ", shown)
             self.assertNotRegex(shown, r"refused \d")
 
 

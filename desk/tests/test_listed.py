@@ -43,7 +43,7 @@ class Listed(test_changing.Changing):
         self.assertEqual(self.log(), [line for number in ("0001000", "0001017") for line in (
             [f"withdraw {number} MA-1", "begins", ""], [f"withdraw {number} MA-1", "0", "withdrawn"])])
         [copy] = self.kept()
-        self.assertTrue(copy.endswith(" withdraw --list leave_ __1+1_.csv"), copy)
+        self.assertTrue(copy.endswith(" withdraw --list leave_ __1+1_.csv for 0001000 0001017"), copy)
         withdrawn = self.state()
         self.assertIn("line 3: reinstate 0001017 MA-1: reinstated\n", self.run_list(GOOD, "reinstate").stdout)
         self.assertNotEqual(self.state(), withdrawn)

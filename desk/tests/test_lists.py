@@ -111,6 +111,7 @@ class Lists(sample.SampleSchool):
         return said.decode()
 
     def test_changes_of_no_backup(self):
+        self.assertIn("the following arguments are required: BACKUP\n", self.run_office("changes").stderr)
         self.assertIn("there is no copy 3", self.refused("changes", "3"))
         self.assertIn("nowhere", self.refused("changes", "nowhere"))
         self.assertIn("no session XX", self.refused("changes", self.copy(), "XX"))

@@ -27,7 +27,8 @@ class Faults(unittest.TestCase):
 class Words(sample.SampleSchool):
     def test_both_kinds_of_commands_are_listed(self):
         text = self.office()
-        self.assertEqual(text, self.office("--help"))
+        self.assertEqual([self.office(word) for word in ("-h", "--help", "help")], [text] * 3)
+        self.assertEqual(self.office("help", "back"), self.office("back", "--help"))
         for word in ("check-files", "lodge", "keep", "back", "close-hall", "refused"):
             self.assertIn(word, text)
 
@@ -36,40 +37,45 @@ class Words(sample.SampleSchool):
         self.assertEqual(self.refused("import", "candidates", path).split("\n"), [
             "refused 1 record 2 column 1",
             "  a value has the wrong form; correct it and import the whole file again",
-            "  line 4 of candidates.csv: 1000,?2J,WK3DEGZDPC",
-            "  number is '1000': leading zeros lost? 0001000 (seven digits; format the column as text)", ""])
+            "  candidates.csv line 4: number '1000': leading zeros lost? 0001000 (seven digits; format the column as "
+            "text)",
+            "  candidates.csv line 4: row: line 3 has the same key and other contents: keep one", ""])
 
     def test_what_a_value_must_be_is_said(self):
-        for row, text in [("S-9,2027-06-07,9 Uhr", "start is '9 Uhr': a time as 09:00; format the column as text"),
-                          ("s-9,2027-06-07,09:00", "session is 's-9': write S-9 (1 to 12 of A-Z, 0-9 and -)")]:
+        for row, text in [("S-9,2027-06-07,9 Uhr", "start '9 Uhr': a time as 09:00; format the column as text"),
+                          ("s-9,2027-06-07,09:00", "session 's-9': write S-9 (1 to 12 of A-Z, 0-9 and -)")]:
             path = self.write("sessions.csv", f"session,date,start\n{row}\n")
-            self.assertIn(f"  {text}\n", self.refused("import", "sessions", path))
+            self.assertIn(f"  sessions.csv line 2: {text}\n", self.refused("import", "sessions", path))
         path = self.write("candidates.csv", "number,name,code\n0001000,Ada,\n")
-        self.assertIn("\n  code is ''\n  `office codes FILE` ", self.refused("import", "candidates", path))
+        self.assertIn("  candidates.csv line 2: code '': `office codes` fills ",
+                      self.refused("import", "candidates", path))
 
     def test_a_file_that_is_not_there_is_named_with_its_folder(self):
         self.assertEqual(self.refused("import", "entries", "none.csv").split("\n")[::2],
                          ["file fault", f"  it was looked for as {os.path.join(self.folder, 'none.csv')}"])
 
     def test_what_is_wrong_with_a_row(self):
-        for row, text in [("0001000,A,B,WK3DEGZDPC", "  4 fields; the header has 3"),
-                          ('0001000,"A,WK3DEGZDPC', "  a quote is not closed")]:
+        for row, text in [("0001000,A,B,WK3DEGZDPC", "4 fields in place of 3; put a value with a comma in double quotes"),
+                          ('0001000,"A,WK3DEGZDPC', "2 fields in place of 3; a quote is not closed")]:
             path = self.write("candidates.csv", f"number,name,code\n{row}\n")
-            self.assertIn(text, self.refused("import", "candidates", path).split("\n"))
+            lines = self.refused("import", "candidates", path).split("\n")
+            self.assertIn(f"  candidates.csv line 2: row: {text}", lines)
 
-    def test_a_header_is_shown_beside_the_right_one(self):
-        path = self.write("entries.csv", "number;paper\n")
-        self.assertIn("  line 1 of entries.csv: number;paper\n  must be:  number,paper\n",
-                      self.refused("import", "entries", path))
+    def test_what_is_wrong_with_a_header(self):
+        for text, said in (("number;paper\n", "semicolons part the columns: save it with commas"),
+                           ("nummer,paper\n", "the first line must be number,paper; no such header is found")):
+            path = self.write("entries.csv", text)
+            self.assertIn(f"  entries.csv line 1: file: {said}\n", self.refused("import", "entries", path))
 
     def test_an_unknown_reference_is_named(self):
         path = self.write("entries.csv", "number,paper\n0001000,MA-1\n0001000,MA-9\n0001017,MA-9\n")
-        self.assertIn("  line 3 of entries.csv: paper is 'MA-9'\n  line 4 of entries.csv: paper is 'MA-9'\n",
-                      self.refused("import", "entries", path))
+        self.assertRegex(self.refused("import", "entries", path), "  entries.csv line 3: paper 'MA-9': .*\n"
+                                                                  "  entries.csv line 4: paper 'MA-9': ")
 
     def test_a_repeated_key_is_shown(self):
         path = self.write("halls.csv", "hall,title,features\nGYM,Gym,-\nGYM,Gym,quiet\n")
-        self.assertIn("  line 3 of halls.csv: GYM,Gym,quiet\n", self.refused("import", "halls", path))
+        self.assertIn("  halls.csv line 3: row: line 2 has the same key and other contents: keep one\n",
+                      self.refused("import", "halls", path))
 
     def test_a_line_that_is_not_understood_is_followed_by_the_usage(self):
         done = self.run_office("decide", "1051", "AR1", "granted", "ok")
@@ -77,9 +83,25 @@ class Words(sample.SampleSchool):
         self.assertTrue(done.stderr.startswith("line not understood\n"))
         for word in ("decide", "<number>", "<outcome>"):
             self.assertIn(word, done.stderr.lower())
+        self.assertIn("\n  Usage: office decide <number>", done.stderr)
+        self.assertNotIn("examoffice", done.stderr)
         done = self.run_office("nothing-like-it")
         self.assertEqual(done.stderr, "line not understood\n  `office --help` lists the commands\n")
         self.assertEqual(done.returncode, 2)
+        self.assertEqual(self.run_office("sumary").stderr, "line not understood\n  `office --help` lists the commands; "
+                                                           "is `office summary` meant?\n")
+
+    def test_help_is_in_the_words_that_can_be_typed(self):
+        for words in (["decide", "--help"], ["decide", "-h"], ["decide", "0001000", "-h"], ["withdraw", "--help"], []):
+            text = self.office(*words)
+            self.assertRegex(text, "(?m)^Usage: office ")
+            for word in ("examoffice ", "--db", "--today"):
+                self.assertNotIn(word, text, words)
+        self.assertIn("\n  24 the file holds no office: `office check` names the bad table; `office init` makes", text)
+        self.assertFalse(os.path.exists(self.desk))
+        self.assertIn("office reinstate --list FILE.csv\n", self.office("reinstate", "--help"))
+        self.assertEqual(self.run_office("nothing-like-it", "--help").returncode, 2)
+        self.assertRegex(self.run_office("serve").stderr, r"\Aline not understood\n  Usage: office serve <port>\n")
 
     def test_a_missing_program_is_named(self):
         self.assertIn("there is no program /nowhere", self.refused("init", EXAMOFFICE="/nowhere"))
@@ -106,6 +128,7 @@ class Words(sample.SampleSchool):
         self.assertIn("  LIB      suits, but 2 of 2 desks are taken: ", text)
         self.assertIn("  AULA     no reader\n", text)
         self.assertIn("  PC1      sits here, at desk 1\n", self.office("why", "MON-AM", "0001051"))
+        self.assertEqual(self.office("why", "MON-AM", "1051"), self.office("why", "MON-AM", "0001051"))
         self.assertIn("no session", self.refused("why", "XX"))
         self.assertIn("sits nothing", self.refused("why", "MON-AM", "0009999"))
 
@@ -175,7 +198,8 @@ class Back(sample.SampleSchool):
         self.assertEqual(self.facts(), after)
         self.assertIn("the office is as it was on", self.office("back", "1", stdin="y\n"))
         self.assertEqual(self.facts(), before)
-        self.assertRegex(self.office("back"), r"^  1  .*  before back\n  2  .*  before close-hall MON-AM GYM\n$")
+        self.assertRegex(self.office("back"), r"^  1  .*  before back to before close-hall MON-AM GYM\n"
+                                               r"  2  .*  before close-hall MON-AM GYM\n$")
         self.office("back", "1", "--yes")
         self.assertEqual(self.facts(), after)
         self.assertEqual(self.office("check"), "good\n")
@@ -184,8 +208,13 @@ class Back(sample.SampleSchool):
         os.mkdir(os.path.join(self.folder, "files"))
         path = self.write("files/late:2.csv", "number,paper\n0001000,MA-2\n")
         self.office("import", "entries", path)
-        self.assertRegex(self.office("back"), r"  before import entries late_2\.csv\n\Z")
-        self.assertIn(", before import entries late_2.csv\n", self.office("back", "1", "--yes"))
+        self.assertRegex(self.office("back"), r"  before import entries late\.2\.csv for 0001000 MA-2\n\Z")
+        self.assertIn(", before import entries late.2.csv for 0001000 MA-2\n", self.office("back", "1", "--yes"))
+        path = self.write("openings.csv", "session,hall,desks,until,reserved\nMON-AM,GYM,30,13:00,no\n")
+        self.office("import", "openings", path)
+        self.assertRegex(self.office("back"), r"\A  1  .*  before import openings for MON-AM GYM\n")
+        with open(os.path.join(self.desk, "log"), encoding="utf-8") as log:
+            self.assertIn(f"\timport openings {path} for MON-AM GYM\tbegins\t", log.read())
 
     def test_modes_and_log(self):
         self.office("withdraw", "0001000", "MA-1")

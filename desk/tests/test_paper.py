@@ -99,7 +99,8 @@ class Papers(sample.SampleSchool):
             ["Desk", "Number", "Name", "Paper", "Finish", "Arrangement", "Signature"],
             ["1", "0001153", "Jana Roe", "LAT", "10:53", "25 % extra time, screen", ""]])
         self.assertEqual((len(rows), rows[-1][0][:18]), (9, "Present: ________ "))
-        self.assertIn("nobody sits in PC9", self.refused("doors", "MON-AM", "PC9"))
+        self.assertIn("nobody sits in PC9 in MON-AM; somebody sits in AULA, GYM, LIB, PC1, R12\n",
+                      self.refused("doors", "MON-AM", "PC9"))
 
     def test_counts(self):
         rows = self.rows("counts", "TUE-AM")

@@ -9,6 +9,7 @@ from exam_desk.answers import Sitting
 from exam_desk.facts import Opening
 from exam_desk.reading import Member
 from exam_desk.reasons import Reasons
+from exam_desk.shortage import Shortage
 from exam_desk.words import FEATURES
 
 HALLS = [f"H{place:03}" for place in range(256)]
@@ -78,6 +79,24 @@ class InShort(unittest.TestCase):
 
     def test_no_hall_is_open(self):
         self.assertIn("\nno hall is open\n", found([member(place, (), "09:30") for place in range(70)], []).text())
+
+    def test_what_a_printed_shortage_says_otherwise(self):
+        """Two candidates for one hall of one desk: the sheet that is right, and each way in which it is not."""
+        seated = member(1, (), "09:30")
+        seated = seated._replace(sitting=seated.sitting._replace(hall="H001", desk=1))
+        reasons = found([seated, member(2, (), "09:30")], [Opening("H001", "Hall", 0, 1, 600, False)])
+        reasons.taken["H001"] = ["0000001"]
+        right = Shortage("S", 1, 1, 1, [("H001", 1)], 2, ["0000001", "0000002"])
+        self.assertEqual(list(reasons.faults(right)), [])
+        for sheet, said in (
+                (right._replace(candidates=["0000001", "0000003"]), "0000002 has no desk and is not listed"),
+                (right._replace(candidates=["0000001", "0000003"]), "0000003 is not a member of the session"),
+                (right._replace(halls=[("H001", 2)], desks=2), "hall H001 with 1 desks suits one of the candidates, but"),
+                (right._replace(halls=[("H001", 1)] * 2, hall_count=2, desks=2), "hall H001 is listed twice"),
+                (right._replace(unseated=2), "unseated: the sheet counts 2, and there are 1")):
+            self.assertIn(said, "\n".join(reasons.faults(sheet)))
+        reasons.taken["H001"] = []
+        self.assertEqual(list(reasons.faults(right)), ["hall H001 is listed, and 1 of its desks are free"])
 
 
 if __name__ == "__main__":

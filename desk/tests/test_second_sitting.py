@@ -185,7 +185,7 @@ class Refused(SecondSitting):
     def test_a_step_that_is_refused_in_the_rehearsal(self):
         program = self.program('[ "$5 $6" = "import sessions" ] && echo refused 20 >&2 && exit 1')
         self.assertEqual(self.refused("second-sitting", *ONE, "--yes", EXAMOFFICE=program), (
-            "import sessions: refused 20\n  a limit would be passed, or the file is too long; the handbook lists the "
+            "import sessions for MON-AM-2: refused 20\n  a limit would be passed, or the file is too long; the handbook lists the "
             "limits\noffice: nothing is changed\n"))
         self.assertEqual((self.state(), len(self.kept())), (self.before, self.copies_before))
 

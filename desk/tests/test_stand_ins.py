@@ -12,7 +12,7 @@ from unittest import mock
 import sample
 from cells import Cells
 
-from exam_desk import reasons, shortage, telling  # beside the tests' folder
+from exam_desk import reasons, telling  # beside the tests' folder
 from exam_desk.reading import Reading
 from exam_desk.sheets import board, counts, doors, person, printing, slips, summary
 from exam_desk.sheets.session_page import Page
@@ -33,11 +33,10 @@ class Pages:
         self.board = board.page(reading, SESSION)
         self.counts = counts.page(reading, SESSION)
         page = Page(reading, SESSION)
-        self.page, self.differences = page.document(), page.differences
+        self.page, self.faults = page.document(), page.faults
         self.summary = summary.text(reading, [SESSION])
         self.reasons = reasons.Reasons(reading, SESSION)
         self.sheets = printing.written(reading, session_row(reading.rows, SESSION))
-        self.faults = list(reasons.faults(reading, shortage.read(reading.sheet("shortage", SESSION))))
         self.look = "\n".join(person.lines(reading, person.find(reading.rows, NUMBER), False))
         changes = telling.differences(before, reading)
         self.changes = telling.text(changes)
@@ -93,7 +92,7 @@ class StandIns(sample.SampleSchool):
         self.assertEqual(pages.line("door-list", "LIB"), f"   1 {NUMBER} LAT          {NAME}")
         self.assertEqual(pages.line("attendance", "LAT"), f"{NUMBER} LIB         1 10:53 {NAME}")
         self.assertNotIn(NUMBER, pages.changes)
-        self.assertEqual((pages.differences, pages.faults), ([], []))
+        self.assertEqual(pages.faults, [])
 
     def test_paper(self):
         pages = self.pages(paper="CS-1")
@@ -139,7 +138,6 @@ class StandIns(sample.SampleSchool):
         pages = self.pages(UNSEATED, paper="MA-1")
         self.assertIn("hall LIB with 6 desks suits one of the candidates, but is not listed with as many desks",
                       pages.faults)
-        self.assertIn("LIB suits 0001187, who has no desk, and is not listed", pages.differences)
 
     def test_hall(self):
         pages = self.pages(hall="R12")
@@ -164,7 +162,7 @@ class StandIns(sample.SampleSchool):
         self.assertIn(["no desk", "Latin (LAT)", "1", "10:53", "", ""], pages.count("no desk"))
         self.assertEqual(pages.summary.split()[-8:-3], ["60", "57", "3", "58", "1"])
         self.assertIn("unseated: the sheet counts 2, and there are 3", pages.faults)
-        self.assertIn(f"{NUMBER} has no desk and is not listed", pages.differences)
+        self.assertIn(f"{NUMBER} has no desk and is not listed", pages.faults)
         self.assertIn(NAME, pages.reasons.text())
         self.assertIn("LIB desk 1 -> no desk", pages.changes)
         self.assertEqual(pages.line("attendance", "LAT"), f"{NUMBER} -           - 10:53 {NAME}")

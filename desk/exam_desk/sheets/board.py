@@ -7,7 +7,7 @@ from exam_desk import facts, lists, notebook
 from exam_desk.names import fold
 from exam_desk.notebook import Desk
 from exam_desk.reading import Member, Reading
-from exam_desk.sheets import beside, pages
+from exam_desk.sheets import pages
 from exam_desk.snapshot import session_row
 from markupsafe import Markup
 
@@ -25,7 +25,7 @@ def page(reading: Reading, session: str) -> str:
     legend = pages.joined((pages.html("<b>{}</b> {}", code, pages.text(halls[code])) for code in used), "<br>")
     printed = notebook.printed(reading.office, session)
     body = pages.table(HEADS, [row(member, shared, printed) for member in members], pages.when(head))
-    above = beside.school(reading.office, "<br>") + pages.when(head)
+    above = pages.school(reading.office, "<br>") + pages.when(head)
     return pages.document(f"Notice board {session}", pages.html(BODY, above, legend, body), "board")
 
 
@@ -35,4 +35,4 @@ def row(member: Member, shared: set[str], printed: dict[str, Desk]) -> list[obje
         name += pages.html(" <small class=w>{}</small>", member.number)
     if member.sitting.hall is None:
         return [name, Markup("<b>ask the office</b>"), ""]
-    return [name, member.sitting.hall, beside.desk(member, printed)]
+    return [name, member.sitting.hall, pages.desk(member, printed)]

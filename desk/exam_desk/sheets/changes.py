@@ -7,7 +7,7 @@ from markupsafe import Markup
 
 from exam_desk.answers import Sitting
 from exam_desk.office import Office
-from exam_desk.sheets import beside, pages
+from exam_desk.sheets import pages
 from exam_desk.telling import KINDS, Change, counted
 from exam_desk.words import short_day
 
@@ -21,7 +21,7 @@ def page(office: Office, changes: Iterable[Change], titles: Mapping[str, str], s
     for change in changes:
         by_kind.setdefault(change.kind(), []).append(change)
     parts = [table(kind, by_kind[kind], titles) for kind in KINDS if kind in by_kind]
-    above = pages.html("<p>{}{}</p>\n", beside.school(office, " &middot; "), since)
+    above = pages.html("<p>{}{}</p>\n", pages.school(office, " &middot; "), since)
     return pages.document("Changes", Markup("<h1>Who must be told</h1>\n") + above + (pages.joined(parts) or NOBODY),
                           "changes")
 
@@ -29,7 +29,8 @@ def page(office: Office, changes: Iterable[Change], titles: Mapping[str, str], s
 def table(kind: str, changes: list[Change], titles: Mapping[str, str]) -> Markup:
     rows = [[change.session, change.number, name(change), sat(change.old, titles), sat(change.new, titles), ""]
             for change in changes]
-    return pages.table(HEADS, rows, pages.html("<b>{}</b>", counted(KINDS[kind], len(changes))))
+    title = counted(KINDS[kind], [change.number for change in changes])
+    return pages.table(HEADS, rows, pages.html("<b>{}</b>", title))
 
 
 def name(change: Change) -> Markup:

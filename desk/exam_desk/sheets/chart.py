@@ -9,7 +9,7 @@ from markupsafe import Markup
 from exam_desk import facts, lists, notebook
 from exam_desk.notebook import Rows
 from exam_desk.reading import Member, Reading
-from exam_desk.sheets import beside, pages
+from exam_desk.sheets import pages
 from exam_desk.snapshot import session_row
 from exam_desk.trouble import Trouble
 
@@ -30,7 +30,7 @@ def page(reading: Reading, session: str, asked: Collection[str] = ()) -> str:
     """The charts of halls, as `lists.halls`. Raises `NotDrawn` too."""
     head = session_row(reading.rows, session)
     halls, rows = lists.halls(reading, session, asked), notebook.rows_of_halls(reading.office)
-    school = beside.school(reading.office, ". ")
+    school = pages.school(reading.office, ". ")
     if unknown := [opening.hall for opening, _ in halls if opening.hall not in rows]:
         raise NotDrawn(unknown)
     return pages.of_desks(f"Seating charts {session}", [chart(head, school, opening, there, rows[opening.hall])

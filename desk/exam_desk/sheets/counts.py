@@ -9,7 +9,7 @@ from markupsafe import Markup
 from exam_desk import facts
 from exam_desk.answers import Sitting
 from exam_desk.reading import Reading
-from exam_desk.sheets import beside, pages
+from exam_desk.sheets import pages
 from exam_desk.snapshot import session_row
 
 HEADS = ["Hall", "Paper", "n:Copies", "n:Last finish", "box:Spare", "box:Packed"]
@@ -28,7 +28,7 @@ def page(reading: Reading, session: str) -> str:
     rows = [[halls[hall], papers[code], *found, "", ""] for (hall, code), found in seated]
     rows += [[NO_DESK, papers[code], *found, "", ""] for code, found in unseated]
     total = [[papers[code], *found] for code, found in sums(sittings, lambda each: each.paper)]
-    above = pages.html("{}<b>Copies</b> &emsp; {}", beside.school(reading.office, "<br>"), pages.when(head))
+    above = pages.html("{}<b>Copies</b> &emsp; {}", pages.school(reading.office, "<br>"), pages.when(head))
     return pages.document(f"Copies {session}", pages.table(HEADS, rows, above) + pages.table(TOTAL_HEADS, total),
                           "counts")
 

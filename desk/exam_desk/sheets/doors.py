@@ -10,7 +10,7 @@ from markupsafe import Markup
 from exam_desk import facts, lists, notebook
 from exam_desk.notebook import Desk
 from exam_desk.reading import Member, Reading
-from exam_desk.sheets import beside, pages, paging
+from exam_desk.sheets import pages, paging
 from exam_desk.snapshot import session_row
 from exam_desk.words import clock
 
@@ -33,7 +33,7 @@ class Beside(NamedTuple):
 def page(reading: Reading, session: str, asked: Collection[str] = ()) -> str:
     """The sheets of halls, as `lists.halls`."""
     head = session_row(reading.rows, session)
-    also = Beside(pages.when(head), beside.school(reading.office, "<br>"), facts.paper_titles(reading.rows),
+    also = Beside(pages.when(head), pages.school(reading.office, "<br>"), facts.paper_titles(reading.rows),
                   notebook.notes(reading.office), notebook.printed(reading.office, session))
     return pages.of_desks(f"Invigilators' sheets {session}", [
         sheet(also, opening, there) for opening, there in lists.halls(reading, session, asked)], "doors")
@@ -71,5 +71,5 @@ def height(also: Beside, member: Member) -> float:
 
 def row(also: Beside, member: Member) -> list[object]:
     sits = member.sitting
-    return [beside.desk(member, also.printed), member.number, pages.text(member.name), sits.paper, sits.finish,
+    return [pages.desk(member, also.printed), member.number, pages.text(member.name), sits.paper, sits.finish,
             pages.joined(map(pages.text, arrangement(also, member)), "<br>"), ""]

@@ -7,7 +7,7 @@ from markupsafe import Markup
 
 from exam_desk import facts, lists
 from exam_desk.reading import Member, Reading
-from exam_desk.sheets import beside, pages
+from exam_desk.sheets import pages
 from exam_desk.snapshot import session_row
 
 HEADS = ["Name", "n:Desk"]
@@ -17,7 +17,7 @@ HALL = "<div class=sheet><h1>{}</h1>\n<h2>{}</h2>\n<p>{}</p>\n<div class=columns
 def page(reading: Reading, session: str) -> str:
     """The posters of the halls in which somebody sits."""
     head = session_row(reading.rows, session)
-    school = beside.school(reading.office, " &middot; ")
+    school = pages.school(reading.office, " &middot; ")
     return pages.of_desks(f"Posters {session}", [poster(head, school, opening, lists.by_name(there))
                                                  for opening, there in lists.halls(reading, session)], "poster")
 

@@ -34,7 +34,7 @@ class Page:
         self.appeals = reading.rows.execute(
             "SELECT appeal.*, name FROM appeal JOIN candidate ON candidate.number = appeal.number "
             "WHERE session = ? ORDER BY appeal.number, ref", [session]).fetchall()
-        self.differences = list(self.reasons.differences(self.shortage))
+        self.faults = list(self.reasons.faults(self.shortage))
 
     def title(self) -> Markup:
         desks, people = sum(opening.desks for opening in self.openings), len(self.members)

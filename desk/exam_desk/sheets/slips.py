@@ -11,7 +11,7 @@ from exam_desk import facts, files, lists, notebook
 from exam_desk.answers import Sitting
 from exam_desk.names import name_order
 from exam_desk.reading import Person, Reading
-from exam_desk.sheets import beside, pages
+from exam_desk.sheets import pages
 from exam_desk.trouble import Trouble
 from exam_desk.words import clock, short_day
 
@@ -50,7 +50,7 @@ def page(reading: Reading, choice: Choice) -> str:
     """The slips by name, or by group and name. Raises `Trouble` where a candidate who is asked for sits nothing in
     these sessions."""
     halls, papers = facts.hall_titles(reading.rows), facts.paper_titles(reading.rows)
-    look = Look(choice, beside.school(reading.office, "<br>"), pages.titled(papers), pages.titled(halls))
+    look = Look(choice, pages.school(reading.office, "<br>"), pages.titled(papers), pages.titled(halls))
     by_group: dict[str, list[Markup]] = {}
     for each in slips_of(reading, choice):
         by_group.setdefault(each.group, []).append(slip(look, each))
