@@ -60,6 +60,17 @@ class Release(unittest.TestCase):
     def setUp(self):
         self.release = release()
 
+    def test_links_lead_to_files_of_the_package(self):
+        there = {pathlib.Path(name).name for name in self.release.PAGES + self.release.PICTURES}
+        for page in [name for name in self.release.PAGES if name.endswith(".md")]:
+            targets = re.findall(r"\]\(([^()#]+)", self.release.packaged(page))
+            self.assertEqual([name for name in targets if not name.startswith("../../examoffice/")
+                              and "://" not in name and name not in there], [], page)
+        found = self.release.packaged("README.md")
+        self.assertIn("](HANDBOOK.md#refusals)", found)
+        self.assertIn("](desk.png)", found)
+        self.assertNotIn("auditor", found)
+
     def test_changelog_of_debian(self):
         found = self.release.debian_changelog(CHANGES)
         self.assertEqual(found, MEANT.replace("NAME", self.release.MAINTAINER))
