@@ -4,7 +4,6 @@ import sqlite3
 from typing import Any
 
 from flask import Flask, g, redirect, render_template, request, url_for
-from werkzeug.datastructures import MultiDict
 from werkzeug.exceptions import HTTPException
 from werkzeug.routing import RequestRedirect
 from werkzeug.wrappers import Response
@@ -57,10 +56,12 @@ def everywhere() -> dict[str, Any]:
     said: list[tuple[str, Any]] = []
     if visit:
         said, visit.said = visit.said, []
+    left = visit.proposals.get(request.args.get("again", "")) if visit else None
+    asked = g.get("asked") or (left.asked if left else forms.Asked())
     return {"mark": visit and visit.mark, "initials": visit and visit.initials, "said": said,
             "today": here.office.today().isoformat(), "pretended": here.pretended,
             "office_name": here.office.base_name(), "state": g.view.name if "view" in g else "",
-            "wrong": g.get("wrong", {}), "given": g.get("given", MultiDict()), "asked_form": g.get("asked_form"),
+            "wrong": asked.wrong, "given": asked.given, "asked_form": asked.form,
             "direction": "rtl" if wording.language() in wording.RIGHT_TO_LEFT else "ltr"}
 
 

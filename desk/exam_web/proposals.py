@@ -20,7 +20,7 @@ from exam_desk.trouble import Stale, Trouble
 from exam_web import downloads, effects
 from exam_web.desk import PATIENCE, Desk, desk, office, view
 from exam_web.effects import Effects
-from exam_web.forms import Page, Wrong, keep, lead
+from exam_web.forms import Asked, Page, Wrong, keep, lead
 from exam_web.wording import said
 
 pages = Blueprint("proposals", __name__)
@@ -47,6 +47,7 @@ class Plan:
     note: Markup = Markup()
     done_note: Markup = Markup()
     others: dict[str, Any] = field(default_factory=dict)  # what the form for another hall than a lost one begins with
+    form_page: Page | None = None  # with the form, where that is another
     lodge: tuple[str, ...] = ()  # in the place of steps: the words of an appeal that is lodged the candidate's way
     command: str = ""  # as the log has it, where it is not the steps
     made_from: str = ""  # the state that the steps were made for; "" where they suit each
@@ -58,7 +59,7 @@ class Plan:
 class Proposal:
     """A plan, and how far it is. Its thread alone changes it while it works."""
     plan: Plan
-    came_from: str  # the state of the page whose form it was
+    asked: Asked
     key: str = ""
     lock: threading.Lock = field(default_factory=threading.Lock)  # of who does it
     working: threading.Thread | None = None
@@ -87,6 +88,12 @@ class Proposal:
     @property
     def can_be_done(self) -> bool:
         return not (self.is_done or self.is_working or self.refusal or self.trouble or self.effects is None)
+
+    def way_back(self) -> str:
+        """The address of the page with the form; as long as nothing is done, all that was given is still in it."""
+        endpoint, values = self.plan.page if self.is_done else self.plan.form_page or self.plan.page
+        left = {} if self.is_done else {"again": self.key, "_anchor": self.asked.form}
+        return url_for(endpoint, **{**values, **left})
 
     def tell(self, stage: str) -> None:
         self.stage = stage
@@ -127,7 +134,7 @@ def worded(line: str, explained: list[str]) -> list[Markup]:
 
 def propose(plan: Plan) -> Response:
     """Rehearses a plan. Raises `Wrong` for a refusal that belongs to a field."""
-    proposal = Proposal(plan, request.form.get("state", ""))
+    proposal = Proposal(plan, Asked((request.view_args or {})["what"], request.form))
     proposal.key = keep(g.visit.proposals, MOST_PROPOSALS, proposal)
     work(proposal, rehearse_lodging if plan.lodge else rehearse)
     name = plan.fields.get(refusals.number_of(proposal.refusal) or TROUBLE)
@@ -220,11 +227,11 @@ def page(key: str) -> str:
     plan = proposal.plan
     if proposal.is_working:
         return render_template("working.html", p=proposal, seconds=int(time.monotonic() - proposal.began))
-    elsewhere = proposal.came_from and proposal.made_from and proposal.came_from != proposal.made_from
+    elsewhere = proposal.made_from and proposal.asked.given.get("state", "") not in ("", proposal.made_from)
     decided = proposal.is_done and plan.page[0] == "appeals.one"
     today = desk().office.today().isoformat()
     return render_template("proposal.html", p=proposal, plan=plan, e=proposal.effects, most=MOST_ROWS,
-                           back=url_for(plan.page[0], **plan.page[1]),
+                           back=proposal.way_back(),
                            refusal=Markup("<br>").join(worded(proposal.refusal, proposal.explained)),
                            trouble=said(proposal.trouble), elsewhere=elsewhere and not proposal.is_done,
                            next_appeal=view().row(NEXT_APPEAL, [today]) if decided else None, rows=imported(proposal),
