@@ -30,5 +30,5 @@ def second(code: str, number: int) -> str | Response:
     member, missed = view().reading.member(code, who), view().missed(code, [number]).get(who)
     if not member or not missed:
         return redirect(url_for("clashes.page", session=code))
-    return render_template("second.html", s=sums, member=member, missed=missed, halls=session.openings(view(), code),
-                           closed=session.closed_halls(code), titles=facts.paper_titles(view().reading.rows))
+    return render_template("second.html", s=sums, member=member, missed=missed, choices=session.hall_choices(code),
+                           titles=facts.paper_titles(view().reading.rows))

@@ -52,8 +52,8 @@ def reason(form: Form, page: Page) -> str:
     return found
 
 
-def needs(form: Form) -> str:
-    chosen = form.getlist("needs")
+def features(form: Form, field: str = "needs") -> str:
+    chosen = form.getlist(field)
     return "+".join(name for name in FEATURES if name in chosen) or "-"
 
 
@@ -68,9 +68,9 @@ def of_entry(title: str, verb: str, step: Callable[[str, str], Step], number: in
 def arrangement(form: Form) -> Plan:
     number, row, page = candidate(form)
     extra = checked(page, form, extra="extra")["extra"]
-    title = text("Arrangement of {name}: {needs}, {extra} % extra time", name=row["name"], needs=needs(form),
+    title = text("Arrangement of {name}: {needs}, {extra} % extra time", name=row["name"], needs=features(form),
                  extra=extra)
-    return Plan(title, [import_step("arrangements", number, needs(form), extra)], page, text("Set the arrangement"),
+    return Plan(title, [import_step("arrangements", number, features(form), extra)], page, text("Set the arrangement"),
                 {20: "extra"}, text("It holds in every session in which no grant is in force for the candidate."))
 
 
@@ -99,7 +99,7 @@ def lodge(form: Form) -> Plan:
         raise Wrong(page, kind=text("choose one"))
     field = "wanted_extra" if kind == "arrangement" else f"wanted_{kind}"
     value = checked(page, form, **{field: lodging.KINDS[kind][-1]})[field]
-    values = [needs(form), value] if kind == "arrangement" else [value]
+    values = [features(form), value] if kind == "arrangement" else [value]
     fields = {**dict.fromkeys((4, 12, 13, 20, 21), "session"), **dict.fromkeys((5, 7, 8, 11, 18, 19), field)}
     title = text("Lodge for {name}: {kind} {values}, {session}", name=row["name"], kind=text(kind),
                  values=" ".join(values), session=code)
@@ -126,46 +126,49 @@ def session_page(form: Form) -> tuple[str, Page]:
     return code, ("session.page", {"code": code})
 
 
-def opening(form: Form, page: Page, prefix: str = "") -> list[str]:
-    """The values of a hall that is to be open, after its session."""
-    values = checked(page, form, **{prefix + name: name for name in ("hall", "desks", "until")})
-    return [*values.values(), "yes" if form.get(prefix + "reserved") else "no"]
+def opening(form: Form, page: Page, code: str) -> tuple[dict[str, str], list[Step]]:
+    """A hall that is to be open, which was chosen or which the office does not know yet; and the steps for it."""
+    is_new = form.get("new_hall", "").strip() != ""
+    names = {"new_hall": "hall", "new_title": "title"} if is_new else {"hall": "hall"}
+    hall, *title, desks, until = checked(page, form, **names, desks="desks", until="until").values()
+    if is_new and view().row("SELECT 1 FROM hall WHERE code = ?", [hall]):
+        raise Wrong(page, new_hall=text("the office has this hall: choose it from the list"))
+    steps = [import_step("halls", hall, each, features(form, "new_features")) for each in title]
+    steps.append(import_step("openings", code, hall, desks, until, "yes" if form.get("reserved") else "no"))
+    return {"hall": hall, "desks": desks, "until": until}, steps
 
 
 def open_hall(form: Form) -> Plan:
     code, page = session_page(form)
-    hall, desks, until, reserved = opening(form, page)
-    title = text("Open {hall} in {session}: {desks} desks until {until}", hall=hall, session=code, desks=desks,
-                 until=until)
-    return Plan(title, [import_step("openings", code, hall, desks, until, reserved)], page, text("Open it"),
-                {4: "hall", 7: "hall", 20: "desks"})
+    values, steps = opening(form, page, code)
+    title = text("Open {hall} in {session}: {desks} desks until {until}", session=code, **values)
+    return Plan(title, steps, page, text("Open it"), {4: "hall", 7: "hall", 20: "desks"})
 
 
 def close_hall(form: Form) -> Plan:
     """A hall that cannot be used; with another in its place where the form on the first rehearsal's page asks it."""
     code, page = session_page(form)
     lost = checked(page, form, lost="hall")["lost"]
-    title, steps = text("Close {hall} for {session}", hall=lost, session=code), [command("close-hall", code, lost)]
-    first = form.get("proposal", "")
-    if first in g.visit.proposals:
-        shown: Page = ("proposals.page", {"key": first})
-        hall, desks, until, reserved = opening(form, shown, "other_")
-        if hall == lost:
-            raise Wrong(shown, other_hall=text("this is the hall that is lost"))
-        steps.insert(0, import_step("openings", code, hall, desks, until, reserved))
-        title = text("Close {hall} for {session}, and have {other} with {desks} desks until {until}", hall=lost,
-                     session=code, other=hall, desks=desks, until=until)
-    return Plan(title, steps, page, text("Close the hall"), {25: "lost", 7: "lost"}, others=others(code, lost))
+    plan = partial(Plan, page=page, verb=text("Close the hall"), fields={25: "lost", 7: "lost"},
+                   others=others(code, lost))
+    step, first = command("close-hall", code, lost), form.get("proposal", "")
+    if first not in g.visit.proposals:
+        return plan(text("Close {hall} for {session}", hall=lost, session=code), [step])
+    form_page: Page = ("proposals.page", {"key": first})
+    values, steps = opening(form, form_page, code)
+    if values["hall"] == lost:
+        raise Wrong(form_page, hall=text("this is the hall that is lost"))
+    title = text("Close {lost} for {session}, and have {hall} with {desks} desks until {until}", lost=lost,
+                 session=code, **values)
+    return plan(title, [*steps, step], form_page=form_page)
 
 
 def others(code: str, lost: str) -> dict[str, object]:
     """What the form for another hall begins with: the closed halls first, desks and end of the lost one; where the
     first is open already, as many desks more."""
-    opened = {each.hall: each for each in session.openings(view(), code)}
-    rows = view().rows("SELECT code, title FROM hall WHERE code <> ? ORDER BY code", [lost])
-    halls = sorted(((row["code"], row["title"], opened.get(row["code"])) for row in rows),
-                   key=lambda each: each[2] is not None)
-    needed = [each for each in (opened.get(lost), halls[0][2] if halls else None) if each]
+    choices = session.hall_choices(code)
+    halls = [each for each in choices if each[0] != lost]
+    needed = [now for hall, _, now in choices if now and hall in (lost, *(each[0] for each in halls[:1]))]
     return {"session": code, "lost": lost, "halls": halls, "desks": sum(each.desks for each in needed) or "",
             "until": clock(max(each.until for each in needed)) if needed else ""}
 

@@ -50,7 +50,7 @@ def page(code: str) -> str:
              if f"{number:07}" in noted] if noted else []  # a copy from before they came may have been put back
     return render_template(
         "session.html", s=sums, halls=openings(view(), code), taken=taken(code), papers=papers(code), lodged=lodged,
-        previous=before, next=after, closed=closed_halls(code), clashes=clashes(code), most=MOST_PEOPLE,
+        previous=before, next=after, choices=hall_choices(code), clashes=clashes(code), most=MOST_PEOPLE,
         absent=members_of(code, known), shortage=shortages.of(view(), code) if sums.short else None,
         sheets=printing.SHEETS, last=lastdays.to_decide(sums.day))
 
@@ -67,9 +67,11 @@ def papers(code: str) -> list[sqlite3.Row]:
                        "FROM paper WHERE session = ? ORDER BY paper.code", [code])
 
 
-def closed_halls(code: str) -> list[sqlite3.Row]:
-    return view().rows("SELECT code, title FROM hall WHERE code NOT IN (SELECT hall FROM opening WHERE session = ?) "
-                       "ORDER BY code", [code])
+def hall_choices(code: str) -> list[tuple[str, str, Opening | None]]:
+    """All halls to choose from, those that are closed in a session first; each with its title, and how it is open."""
+    opened = {each.hall: each for each in openings(view(), code)}
+    found = [(hall, title, opened.get(hall)) for hall, title in view().rows("SELECT code, title FROM hall ORDER BY code")]
+    return sorted(found, key=lambda each: each[2] is not None)
 
 
 def clashes(code: str, most: int = MOST_PEOPLE) -> list[tuple[Member, list[str]]]:
