@@ -2,6 +2,7 @@
 import math
 import re
 import sqlite3
+from collections.abc import Sequence
 
 from flask import Blueprint, abort, render_template, request
 from werkzeug.wrappers import Response
@@ -14,7 +15,7 @@ from exam_desk.sheets.chart import NotDrawn, numbered
 from exam_desk.trouble import Trouble
 from exam_web import counting, downloads, printing, shortages
 from exam_web.desk import View, desk, once, view
-from exam_web.forms import Wrong, lead, whole
+from exam_web.forms import Page, Wrong, lead, whole
 from exam_web.wording import many, said, text
 
 pages = Blueprint("session", __name__)
@@ -99,28 +100,39 @@ def sitting_in(code: str, hall: str) -> list[Member]:
 def hall_page(code: str, hall: str) -> str:
     """A hall as a picture: a piece of the session's page, or a page of its own where no script runs."""
     sums, found = sums_of(code), opening(code, hall)
-    members = sitting_in(code, hall)
-    supposed = Rows(min(MOST_SUPPOSED, math.ceil(math.sqrt(found.desks * 1.7))), "down")
-    rows = notebook.rows_of_halls(desk().office).get(hall, supposed)
+    members, rows = sitting_in(code, hall), standing(found)
     desks = sorted((number, column * (WIDTH + GAP) + 2, row * (HEIGHT + GAP) + 2)
                    for row, line in enumerate(numbered(found.desks, rows))
                    for column, number in enumerate(line) if number is not None)
     return render_template("hall_piece.html" if "piece" in request.args else "hall.html", s=sums, opening=found,
-                           rows=rows, desks=desks, members=members, running=RUNNING, desk_width=WIDTH,
+                           rows=rows, desks=desks, members=members, desk_width=WIDTH,
                            by_desk={member.sitting.desk: member for member in members}, desk_height=HEIGHT,
                            codes=[row["code"] for row in papers(code)], absent=notebook.absent(desk().office, code))
 
 
-@pages.post("/sessions/<code>/halls/<hall>/draw")
-def draw(code: str, hall: str) -> Response:
-    """Keeps how the desks of a hall stand; nobody moves."""
-    opening(code, hall)
-    across = request.form.get("across", "")
-    rows = Rows(int(across) if re.fullmatch("[0-9]{1,4}", across) else 0, request.form.get("running", ""))
-    if not notebook.can_stand(rows):
-        raise Wrong(("session.hall", {"code": code, "hall": hall}), "draw", across=whole(1, notebook.MOST_ACROSS))
-    notebook.keep_rows(desk().office, hall, rows)
-    return lead("session.page", code=code, _anchor=f"hall-{hall}")
+def standing(found: Opening) -> Rows:
+    """How the desks of a hall stand: as somebody has said, else as it may be."""
+    supposed = Rows(min(MOST_SUPPOSED, math.ceil(math.sqrt(found.desks * 1.7))), "down")
+    return notebook.rows_of_halls(desk().office).get(found.hall, supposed)
+
+
+@pages.post("/sessions/<code>/draw")
+def draw(code: str) -> Response:
+    """Keeps how the desks of halls stand; nobody moves. It leads to the charts that wait for that, else to the hall."""
+    halls = [opening(code, hall).hall for hall in request.form.getlist("hall")] or abort(400)
+    charts: Page = ("session.sheet", {"code": code, "sheet": "chart", "hall": request.form.getlist("of")})
+    drawn, is_chart = {hall: rows_given(hall) for hall in halls}, "chart" in request.form
+    if wrong := {f"across-{hall}": whole(1, notebook.MOST_ACROSS) for hall, rows in drawn.items()
+                 if not notebook.can_stand(rows)}:
+        raise Wrong(charts if is_chart else ("session.hall", {"code": code, "hall": halls[0]}), "draw", **wrong)
+    for hall, rows in drawn.items():
+        notebook.keep_rows(desk().office, hall, rows)
+    return lead(charts[0], **charts[1]) if is_chart else lead("session.page", code=code, _anchor=f"hall-{halls[0]}")
+
+
+def rows_given(hall: str) -> Rows:
+    across = request.form.get(f"across-{hall}", "")
+    return Rows(int(across) if re.fullmatch("[0-9]{1,4}", across) else 0, request.form.get(f"running-{hall}", ""))
 
 
 @pages.post("/sessions/<code>/absent")
@@ -156,16 +168,16 @@ def seats_csv(code: str) -> Response:
 
 
 @pages.get("/sessions/<code>/print/<sheet>")
-def sheet(code: str, sheet: str) -> str | Response:
-    """A sheet to print, of all halls or of some, made by the function that the command line uses."""
-    sums_of(code)
+def sheet(code: str, sheet: str, hall: Sequence[str] = ()) -> str:
+    """A sheet to print, of all halls or of some, made by the function that the command line uses. A chart asks first
+    how the desks stand of which nobody has said it."""
+    sums, halls = sums_of(code), hall or request.args.getlist("hall")
     made = printing.SHEETS.get(sheet) or abort(404)
-    halls = [request.args.getlist("hall")] if made.by_hall else []
     try:
-        return printing.styled(made.page(view().reading, code, *halls))
+        return printing.styled(made.page(view().reading, code, *([halls] if made.by_hall else [])))
     except NotDrawn as trouble:
-        return lead("session.page", text("First open the line of each of these halls, and press Draw: {halls}.",
-                                         halls=", ".join(trouble.halls)), "bad", code=code, _anchor="halls")
+        asked = [opening(code, each) for each in trouble.halls]
+        return render_template("charts.html", s=sums, halls=[(each, standing(each)) for each in asked], of=halls)
 
 
 @pages.get("/sessions/<code>/printed")
