@@ -65,6 +65,16 @@ def correct(key: str) -> Answer:
     return lead("files.look", said, key=key)
 
 
+@pages.post("/files/uploaded/<key>/hidden")
+def hidden(key: str) -> Answer:
+    """Reads a workbook once more, with its hidden rows and sheets, or without them."""
+    upload, place = uploads.of_visit(key), request.form.get("book", "")
+    if place not in map(str, range(len(upload.workbooks))) or upload.is_imported:
+        abort(404)
+    uploads.read_again(upload, int(place), "take" if request.form.get("take") else "leave", view())
+    return lead("files.look", key=key)
+
+
 @pages.get("/files/uploaded/<key>/<kind>.csv")
 def download(key: str, kind: str) -> Response:
     found = uploads.of_visit(key).texts.get(kind) if kind in files.HEADERS else None

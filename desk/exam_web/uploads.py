@@ -19,11 +19,12 @@ from werkzeug.datastructures import FileStorage
 
 from exam_desk import coding, files, mistakes, private
 from exam_desk.trouble import Trouble
+from exam_desk.workbook import cells
 from exam_desk.workbook.checking import file_parts
 from exam_desk.workbook.opening import open_book
 from exam_desk.workbook.reading import read_book
 from exam_desk.workbook.report import Line
-from exam_desk.workbook.tables import Job
+from exam_desk.workbook.tables import Choices, Job
 from exam_desk.workbook.texts import Way
 from exam_web.desk import View, desk
 from exam_web.wording import said, shown, text
@@ -36,6 +37,7 @@ MOST_CURED = 20_000  # of a file that one press of a button can mend
 MOST_VALUE = 400  # letters of a value that is typed
 BOOKS = (".xlsx", ".xlsm", ".ods")
 NEW_CODE, OWN_CODE = "a new code", "own code"
+HIDDEN = "hidden"  # stands in the lines of a reading that speak of hidden rows and sheets
 UNREADABLE = (zipfile.BadZipFile, zipfile.LargeZipFile, zlib.error, RuntimeError, EOFError, OSError, ValueError)
 
 
@@ -60,11 +62,16 @@ class Looked(NamedTuple):
 
 @dataclass
 class Book:
-    """What was said of a workbook."""
+    """A workbook, and what was said of it."""
     name: str
-    lines: list[Line]  # mistakes first
-    mistakes: int
-    changes: int
+    content: bytes
+    way: Way
+    hidden: str = ""  # what becomes of hidden rows and sheets: take or leave; "" asks
+    has_hidden: bool = False  # something hidden that is spoken of
+    lines: list[Line] = field(default_factory=list)  # mistakes first
+    mistakes: int = 0
+    changes: int = 0
+    kinds: list[str] = field(default_factory=list)  # that are taken from it
 
 
 @dataclass
@@ -100,7 +107,7 @@ def taken(storages: Iterable[FileStorage], dates: str, view: View) -> Upload:
         if name.lower().endswith(".zip"):
             take_zip(upload, name, storage.stream)
         elif name.lower().endswith(BOOKS):
-            take_book(upload, name, storage.stream.read(), Way(dates), mistakes.Known(view.reading.rows))
+            take_book(upload, Book(name[-MOST_NAME:], storage.stream.read(), Way(dates)), view)
         elif name:
             take(upload, name, storage.stream.read(files.MOST_BYTES + 1))
     return upload
@@ -138,22 +145,43 @@ def kind_of(name: str, content: bytes) -> str | None:
     return found or (stem if stem in files.HEADERS else None)
 
 
-def take_book(upload: Upload, name: str, content: bytes, way: Way, known: mistakes.Known) -> None:
+def take_book(upload: Upload, book: Book, view: View) -> None:
     """Reads a workbook by the rules of `office read`: its sheets are taken where no line is a mistake."""
     with private.own_folder(desk().office.path) as folder:
-        path = os.path.join(folder, "workbook" + os.path.splitext(name.lower())[1])
-        files.put(path, content)
+        path = os.path.join(folder, "workbook" + os.path.splitext(book.name.lower())[1])
+        files.put(path, book.content)
         try:
-            reading = read_book(open_book(path), Job(known, way))
+            opened = open_book(path)
+            reading = read_book(opened, Job(mistakes.Known(view.reading.rows), book.way,
+                                            choices=choices(opened, book.hidden)))
         except Trouble as trouble:
-            upload.note(name, said(trouble.sentence))
+            upload.note(book.name, said(trouble.sentence))
             return
-    lines = sorted(reading.report.lines, key=lambda line: line.sort != "mistake")
-    wrong = reading.report.count("mistake")
-    upload.workbooks.append(Book(name[:MOST_NAME], lines, wrong, reading.report.count("change")))
-    for kind, records in reading.records.items() if not wrong else ():
+    upload.workbooks.append(book)
+    report = reading.report
+    book.lines = sorted(report.lines, key=lambda line: line.sort != "mistake")
+    book.mistakes, book.changes = report.count("mistake"), report.count("change")
+    book.has_hidden = any(sheet.hidden or sheet.hidden_rows for sheet in opened.sheets) and (
+        book.hidden != "" or any(HIDDEN in line.text for line in report.lines))
+    book.kinds = [kind for kind in reading.records if not book.mistakes and kind not in upload.texts]
+    for kind, records in reading.records.items() if not book.mistakes else ():
         for part, _ in file_parts(kind, [record.fields for record in records]):
             take(upload, f"{kind}.csv", part)
+
+
+def choices(book: cells.Book, hidden: str) -> Choices:
+    """What becomes of hidden rows becomes of hidden sheets too."""
+    names = [sheet.name for sheet in book.sheets]
+    return Choices(sheets=names if hidden == "take" else None, hidden=hidden,
+                   leave=[sheet.name for sheet in book.sheets if sheet.hidden] if hidden == "leave" else [])
+
+
+def read_again(upload: Upload, place: int, hidden: str, view: View) -> None:
+    """Reads a workbook of an upload once more, with another choice on what is hidden in it."""
+    book = upload.workbooks.pop(place)
+    for kind in book.kinds:
+        upload.texts.pop(kind, None)
+    take_book(upload, Book(book.name, book.content, book.way, hidden), view)
 
 
 def looked_through(texts: Mapping[str, bytes], view: View) -> dict[str, Looked]:
