@@ -8,13 +8,14 @@ import time
 from collections.abc import Callable, Iterable, Iterator, Sequence
 from typing import Any, Concatenate, ParamSpec, TypeVar
 
-from flask import abort, current_app, g
+from flask import abort, current_app, g, has_request_context
 
 from exam_desk import changing, states
 from exam_desk.office import Office
 from exam_desk.reading import Reading
 
 PATIENCE = 4  # seconds that a page waits for the office to be read, or for a rehearsal
+MANY, TURN = 200, 0.005  # candidates who are asked of at once, and the seconds that others have their turn then
 COPYING, COUNTING = "Its files are copied and read", "Candidates and desks are counted"
 Found = TypeVar("Found")
 Asked = ParamSpec("Asked")
@@ -29,7 +30,8 @@ class View:
 
     def __init__(self, office: Office, path: str | None = None) -> None:
         self.began = time.monotonic()
-        self.lock = threading.RLock()
+        self.lock = threading.Lock()  # of the locks of what is worked out
+        self.locks: dict[Any, threading.RLock] = {}
         self.found: dict[Any, Any] = {}
         self.readers, self.is_old = 0, False  # of Desk
         self.stack = contextlib.ExitStack()
@@ -50,19 +52,33 @@ class View:
         asked = [f"{number:07}" for number in numbers]
         return self.reading.clashes(session, asked) if asked else {}
 
+    def ask(self, numbers: Iterable[int]) -> None:
+        """Asks the program of many; after some of them other pages have their turn."""
+        people = [self.reading.person(number) for number in numbers]
+        for place in range(0, len(people), MANY):
+            self.reading.ask(people[place:place + MANY])
+            time.sleep(TURN)
+
     def close(self) -> None:
         self.stack.close()
 
 
 def once(make: Callable[Concatenate[View, Asked], Found]) -> Callable[Concatenate[View, Asked], Found]:
-    """What is worked out of a view is worked out once."""
+    """What is worked out of a view is worked out once. A page waits a little for another one that does it, and raises
+    `StillReading` then."""
     def found(view: View, /, *asked: Asked.args, **more: Asked.kwargs) -> Found:
         key = (make, asked, *more.items())
         with view.lock:
+            lock = view.locks.setdefault(key, threading.RLock())
+        if not lock.acquire(timeout=PATIENCE if has_request_context() else -1):
+            raise StillReading(COUNTING)
+        try:
             if key not in view.found:
                 view.found[key] = make(view, *asked, **more)
             result: Found = view.found[key]
             return result
+        finally:
+            lock.release()
     return found
 
 

@@ -1,5 +1,6 @@
 """What a change does to people and to sessions: the difference of two states of an office."""
 from collections import Counter
+from collections.abc import Iterable
 from typing import NamedTuple
 
 from exam_desk import overlaps, telling, touched
@@ -33,8 +34,8 @@ class SessionChange(NamedTuple):
     numbers: dict[str, tuple[int | None, int]]
 
 
-class NewOverlap(NamedTuple):
-    """Two sessions at one time: who is in both, and in which halls both have candidates, as was not so before."""
+class Overlap(NamedTuple):
+    """Two sessions at one time: who is in both, and in which halls both have candidates."""
     early: str
     late: str
     people: list[Person]
@@ -48,7 +49,7 @@ class Effects:
     """The changes of people, the gravest first, and of sessions."""
 
     def __init__(self, changes: list[Change], sessions: list[SessionChange], clashes: list[NewClash],
-                 twice: list[NewOverlap], codes: int, titles: dict[str, str]) -> None:
+                 twice: list[Overlap], codes: int, titles: dict[str, str]) -> None:
         self.changes = sorted(changes, key=lambda each: list(KINDS).index(each.kind()))
         self.sessions, self.clashes, self.overlaps, self.titles = sessions, clashes, twice, titles
         self.codes = codes  # how many candidates have another access code
@@ -84,10 +85,13 @@ def new_clashes(before: View, after: View) -> list[NewClash]:
     return found
 
 
-def new_overlaps(before: Reading, after: Reading) -> list[NewOverlap]:
-    """Those of the sessions that a change touches."""
-    return [NewOverlap(each.early, each.late, by_name(after, each.candidates), each.halls)
-            for each in overlaps.new(before, after, list(touched.of_readings(before, after)))]
+def new_overlaps(before: Reading, after: Reading) -> list[Overlap]:
+    """Those of the sessions that a change touches, as was not so before."""
+    return named(after, overlaps.new(before, after, list(touched.of_readings(before, after))))
+
+
+def named(reading: Reading, found: Iterable[overlaps.Overlap]) -> list[Overlap]:
+    return [Overlap(each.early, each.late, by_name(reading, each.candidates), each.halls) for each in found]
 
 
 def other_codes(before: View, after: View) -> int:

@@ -1,21 +1,23 @@
 """The season: what needs a person, the last days to lodge, the calendar; the first page, where there is no office."""
 import datetime
 from collections import Counter
+from collections.abc import Iterator
 from typing import NamedTuple
 
-from flask import Blueprint, render_template, url_for
+from flask import Blueprint, render_template, request, url_for
 from markupsafe import Markup
 from werkzeug.wrappers import Response
 
-from exam_desk import appeals, lastdays, logbook, running, turns
+from exam_desk import appeals, facts, lastdays, logbook, notebook, printed, running, turns
 from exam_desk.trouble import Trouble
+from exam_web import clashes as clashing
 from exam_web import counting, office
 from exam_web.desk import View, desk, once, view
 from exam_web.forms import lead
 from exam_web.wording import days_until, many, text
 
 pages = Blueprint("season", __name__)
-MOST_SHOWN = 12  # lines of what needs attention
+MOST_SHOWN, MOST_NAMED = 12, 6  # lines of what needs attention; halls or sessions in a line
 SOON, URGENT = 14, 3  # days before a session, before the last day to decide
 LEVELS = ["late", "now", "soon", "note"]
 
@@ -33,9 +35,12 @@ def page() -> str:
     if not desk().is_there():
         return render_template("begin.html")
     found = list(counting.sums(view()).values())
-    return render_template("season.html", sessions=found, weeks=weeks_of(found), attention=attention(found),
-                           deadlines=deadlines(found), totals=totals(found), most=MOST_SHOWN,
-                           widest=max((max(each.members, each.desks) for each in found), default=1))
+    is_whole = "piece" in request.args or "all" in request.args
+    todo = {"sessions": found, "attention": attention(found, is_whole), "is_whole": is_whole, "most": MOST_SHOWN}
+    if "piece" in request.args:
+        return render_template("todo.html", **todo)
+    return render_template("season.html", weeks=weeks_of(found), deadlines=deadlines(found), totals=totals(found),
+                           widest=max((max(each.members, each.desks) for each in found), default=1), **todo)
 
 
 @pages.post("/init")
@@ -73,10 +78,12 @@ def weeks_of(found: list[counting.Sums]) -> list[list[tuple[str, list[counting.S
     return [[(day, days.get(day, [])) for day in dates_of] for dates_of in dates]
 
 
-def attention(found: list[counting.Sums]) -> list[Attention]:
-    """What to do, the most urgent first."""
+def attention(found: list[counting.Sums], is_whole: bool) -> list[Attention]:
+    """What to do, the most urgent first; what the program has to be asked for only where all of it is wanted."""
     coming = [each for each in found if days_until(each.day) >= 0]
     todo = [*broken_off(), *shortages(coming), *open_appeals(), *clashes(coming), *unserved(coming)]
+    if is_whole:
+        todo += [*out_of_date(coming), *at_one_time(coming)]
     return sorted(todo, key=lambda each: (LEVELS.index(each.level), each.day or "9"))
 
 
@@ -93,7 +100,7 @@ def broken_off() -> list[Attention]:
 
 
 def shortages(coming: list[counting.Sums]) -> list[Attention]:
-    return [Attention("now" if days_until(each.day) <= SOON else "soon", each.day,
+    return [Attention(level_of(each), each.day,
                       many(each.short, "{count} candidate without a desk in {session}",
                            "{count} candidates without a desk in {session}", session=each.code),
                       url_for("session.page", code=each.code, _anchor="short"), text("See why"))
@@ -134,6 +141,36 @@ def clashes(coming: list[counting.Sums]) -> list[Attention]:
                  sessions=len(late))
     return [Attention("note", lastdays.to_lodge("clash", late[0].day), words,
                       url_for("clashes.page"), text("Look"))]
+
+
+def out_of_date(coming: list[counting.Sums]) -> Iterator[Attention]:
+    """Sessions of which papers are out that are no longer right, as `office printed` says."""
+    for each in coming:
+        if notebook.printed(desk().office, each.code):
+            view().ask(facts.entered(view().reading.rows, each.code))
+            if (found := printed.compared(view().reading, each.code)) and found.moves:
+                words = many(len(found.moves), "{count} candidate of {session} has another desk than on paper: {halls}",
+                             "{count} candidates of {session} have another desk than on paper: {halls}",
+                             session=each.code, halls=few(found.halls))
+                yield Attention(level_of(each), each.day, words,
+                                url_for("session.page", code=each.code, _anchor="print"), text("Print again"))
+
+
+def at_one_time(coming: list[counting.Sums]) -> Iterator[Attention]:
+    days = {each.code: each for each in coming}
+    found = [each for each in clashing.at_one_time(view()) if each.early in days]
+    if found:
+        first = days[found[0].early]
+        words = text("Sessions at one time: {pairs}", pairs=few([f"{each.early} + {each.late}" for each in found]))
+        yield Attention(level_of(first), first.day, words, url_for("clashes.overlapping"), text("Look"))
+
+
+def level_of(session: counting.Sums) -> str:
+    return "now" if days_until(session.day) <= SOON else "soon"
+
+
+def few(names: list[str]) -> str:
+    return ", ".join(names[:MOST_NAMED]) + (" …" if len(names) > MOST_NAMED else "")
 
 
 def unserved(coming: list[counting.Sums]) -> list[Attention]:
