@@ -39,6 +39,7 @@ def make(here: Desk) -> Flask:
                                  RUNNING=session.RUNNING)
     for screen in SCREENS:
         app.register_blueprint(screen)
+    app.before_request(begin)
     app.context_processor(everywhere)
     app.teardown_request(release)
     app.register_error_handler(HTTPException, refused)
@@ -49,6 +50,12 @@ def make(here: Desk) -> Flask:
     app.register_error_handler(sqlite3.Error, faulty)
     here.warm = season.warm
     return app
+
+
+def begin() -> Response | None:
+    """Where there is no office yet, every screen leads to the first page, which makes one."""
+    is_first = request.endpoint in {*guard.OPEN, "entering.leave", "season.page", "season.init"}
+    return None if is_first or desk().is_there() else redirect(url_for("season.page"), 303)
 
 
 def everywhere() -> dict[str, Any]:
@@ -62,7 +69,7 @@ def everywhere() -> dict[str, Any]:
     return {"mark": visit and visit.mark, "initials": visit and visit.initials, "said": said,
             "today": here.office.today().isoformat(), "pretended": here.pretended,
             "office_name": here.office.base_name(), "state": g.view.name if "view" in g else "",
-            "wrong": asked.wrong, "given": asked.given, "asked_form": asked.form,
+            "layout": "piece.html" if "piece" in request.args else "base.html", "wrong": asked.wrong, "given": asked.given, "asked_form": asked.form,
             "direction": "rtl" if wording.language() in wording.RIGHT_TO_LEFT else "ltr"}
 
 

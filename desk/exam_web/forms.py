@@ -9,7 +9,7 @@ from markupsafe import Markup
 from werkzeug.datastructures import MultiDict
 from werkzeug.wrappers import Response
 
-from exam_desk import mistakes
+from exam_desk import mistakes, notebook
 from exam_web.wording import text
 
 Form = MultiDict[str, str]
@@ -57,6 +57,14 @@ def checked(page: Page, form: Form, **columns: str) -> dict[str, str]:
     if wrong:
         raise Wrong(page, **wrong)
     return values
+
+
+def short(page: Page, field: str, form: str = "") -> str:
+    """A text that a person wrote, such as a reason. It is private: it is posted, and stands in no address."""
+    found = request.form.get(field, "").strip()
+    if not notebook.is_note(found.encode("utf-8", "surrogateescape")):
+        raise Wrong(page, form, **{field: text("at most {most} bytes in one line", most=notebook.MOST_NOTE_BYTES)})
+    return found
 
 
 def whole(low: int, high: int) -> Markup:

@@ -14,12 +14,11 @@ from exam_desk.trouble import Trouble
 from exam_desk.words import FEATURES, clock
 from exam_web import proposals, session, uploads
 from exam_web.desk import candidate_row, desk, view
-from exam_web.forms import Form, Page, Wrong, checked
+from exam_web.forms import Form, Page, Wrong, checked, short
 from exam_web.proposals import TROUBLE, Plan
 from exam_web.wording import said, text
 
 pages = Blueprint("plans", __name__)
-MOST_REASON = 200  # bytes
 REF = re.compile("[A-Z0-9]{1,16}")
 OUTCOMES = {"granted": ("Grant appeal {ref} of {name}", "Grant"),
             "standing": ("Grant appeal {ref} of {name}, for later sessions too", "Grant, standing"),
@@ -42,14 +41,6 @@ def candidate(form: Form) -> tuple[str, sqlite3.Row, Page]:
     if not files.is_number(number.encode("utf-8", "surrogateescape")):
         abort(404)
     return number, candidate_row(int(number)), ("candidates.page", {"number": int(number)})
-
-
-def reason(form: Form, page: Page) -> str:
-    """A reason, which is private: it is posted, and reaches the program as the value of a step alone."""
-    found = form.get("reason", "").strip()
-    if len(found.encode("utf-8", "surrogateescape")) > MOST_REASON or re.search(r"[\x00-\x1f\x7f]", found):
-        raise Wrong(page, reason=text("at most {most} bytes in one line", most=MOST_REASON))
-    return found
 
 
 def features(form: Form, field: str = "needs") -> str:
@@ -104,7 +95,7 @@ def lodge(form: Form) -> Plan:
     title = text("Lodge for {name}: {kind} {values}, {session}", name=row["name"], kind=text(kind),
                  values=" ".join(values), session=code)
     return Plan(title, [], page, text("Lodge it"), fields, text("Lodging moves nobody. It is decided afterwards."),
-                lodge=(number, code, kind, *values, reason(form, page)))
+                lodge=(number, code, kind, *values, short(page, "reason")))
 
 
 def decide(form: Form) -> Plan:
@@ -116,7 +107,7 @@ def decide(form: Form) -> Plan:
     if outcome not in OUTCOMES:
         raise Wrong(page, outcome=text("choose one"))
     title, verb = OUTCOMES[outcome]
-    step = command("decide", number, ref, outcome, reason(form, page))
+    step = command("decide", number, ref, outcome, short(page, "reason"))
     return Plan(text(title, ref=ref, name=row["name"]), [step], page, text(verb),
                 dict.fromkeys((8, 12, 15, 16, 17, 26), "outcome"), text("A decision is final."))
 

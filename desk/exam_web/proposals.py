@@ -17,7 +17,7 @@ from exam_desk.changing import Answered, Step
 from exam_desk.office import Office
 from exam_desk.reading import Reading
 from exam_desk.trouble import Stale, Trouble
-from exam_web import downloads, effects
+from exam_web import effects, output
 from exam_web.desk import PATIENCE, Desk, desk, office, view
 from exam_web.effects import Effects
 from exam_web.forms import Asked, Page, Wrong, keep, lead
@@ -79,7 +79,7 @@ class Proposal:
     is_done: bool = False
     as_promised: bool = True
     copy: str = ""  # the path of that of before
-    lodged: str = ""  # the reference of an appeal
+    lodged: str = ""  # the reference of an appeal, on the copy too
 
     @property
     def is_working(self) -> bool:
@@ -95,6 +95,12 @@ class Proposal:
         left = {} if self.is_done else {"again": self.key, "_anchor": self.asked.form}
         return url_for(endpoint, **{**values, **left})
 
+    def words(self) -> list[Markup]:
+        """Why it cannot be done, as the program or the desk says; none where it can."""
+        line = self.refusal
+        found = self.explained or [refusals.SENTENCES.get(refusals.number_of(line) or 0, refusals.OTHER.get(line, line))]
+        return [said(each.strip()) for each in (found if line else [self.trouble]) if each]
+
     def tell(self, stage: str) -> None:
         self.stage = stage
 
@@ -105,13 +111,13 @@ class Proposal:
             self.refusal = refused.first_line()
             self.explained = refusals.explained(who, refused.step.words, refused.ran.complaint, refused.step.data)
 
-    def lodge(self, who: Office) -> str:
-        """Lodges the appeal of the plan, and gives its reference; '' where it is refused."""
+    def lodge(self, who: Office) -> None:
+        """Lodges the appeal of the plan, and keeps its reference."""
         asked = lodging.asked(self.plan.lodge)
         assert asked, "the form has all values"
         lodged = lodging.lodge(who, self.plan.lodge, asked)
         self.refusal, self.explained = (lodged.line, lodged.explained) if lodged.status else ("", [])
-        return "" if lodged.status else lodged.line.split()[1]
+        self.lodged = "" if lodged.status else lodged.line.split()[1]
 
     def compare(self, here: Desk, rehearsal: changing.Rehearsal) -> None:
         """Keeps what a rehearsal would come to. Raises `Trouble` where the plan refuses it."""
@@ -122,16 +128,6 @@ class Proposal:
             self.made_from, self.promised = before.name, after.name
 
 
-def now() -> str:
-    return datetime.datetime.now().isoformat(" ", "seconds")
-
-
-def worded(line: str, explained: list[str]) -> list[Markup]:
-    """What the program said of a refusal, in words."""
-    found = explained or [refusals.SENTENCES.get(refusals.number_of(line) or 0, refusals.OTHER.get(line, line))]
-    return [said(each.strip()) for each in found]
-
-
 def propose(plan: Plan) -> Response:
     """Rehearses a plan. Raises `Wrong` for a refusal that belongs to a field."""
     proposal = Proposal(plan, Asked((request.view_args or {})["what"], request.form))
@@ -140,8 +136,7 @@ def propose(plan: Plan) -> Response:
     name = plan.fields.get(refusals.number_of(proposal.refusal) or TROUBLE)
     if name and (proposal.refusal or proposal.trouble) and not proposal.is_working:
         del g.visit.proposals[proposal.key]
-        words = worded(proposal.refusal, proposal.explained) if proposal.refusal else [said(proposal.trouble)]
-        raise Wrong(plan.page, **{name: Markup("; ").join(words)})
+        raise Wrong(plan.page, **{name: Markup("; ").join(proposal.words())})
     return lead("proposals.page", key=proposal.key)
 
 
@@ -184,8 +179,9 @@ def rehearse_lodging(proposal: Proposal, here: Desk, who: Office) -> None:
     with private.private_copy(who.path, who.path) as copy:
         there = dataclasses.replace(who, path=copy)
         proposal.tell(LODGING)
-        if ref := proposal.lodge(there):
-            grant = Step(("decide", proposal.plan.lodge[0], ref, "granted", ""))
+        proposal.lodge(there)
+        if not proposal.refusal:
+            grant = Step(("decide", proposal.plan.lodge[0], proposal.lodged, "granted", ""))
             with changing.rehearse(there, [grant], proposal.tell) as rehearsal:
                 proposal.answers = rehearsal.answers  # a grant may be refused where a lodging is not
                 proposal.compare(here, rehearsal)
@@ -193,8 +189,8 @@ def rehearse_lodging(proposal: Proposal, here: Desk, who: Office) -> None:
 
 def lodge(proposal: Proposal, here: Desk, who: Office) -> None:
     """Lodges an appeal: it moves nobody, so no state has to be the same."""
-    proposal.lodged = proposal.lodge(who)
-    proposal.is_done = proposal.lodged != ""
+    proposal.lodge(who)
+    proposal.is_done = not proposal.refusal
 
 
 def carry_out(proposal: Proposal, here: Desk, who: Office) -> None:
@@ -232,8 +228,7 @@ def page(key: str) -> str:
     today = desk().office.today().isoformat()
     return render_template("proposal.html", p=proposal, plan=plan, e=proposal.effects, most=MOST_ROWS,
                            back=proposal.way_back(),
-                           refusal=Markup("<br>").join(worded(proposal.refusal, proposal.explained)),
-                           trouble=said(proposal.trouble), elsewhere=elsewhere and not proposal.is_done,
+                           elsewhere=elsewhere and not proposal.is_done,
                            next_appeal=view().row(NEXT_APPEAL, [today]) if decided else None, rows=imported(proposal),
                            copy_key=copy_key(proposal.copy) if proposal.copy else "")
 
@@ -257,4 +252,4 @@ def do(key: str) -> Response:
 @pages.get("/proposals/<key>/told.csv")
 def told(key: str) -> Response:
     found = proposal_of(key).effects or abort(404)
-    return downloads.attached(found.csv(), "who-must-be-told.csv")
+    return output.attached(found.csv(), "who-must-be-told.csv")

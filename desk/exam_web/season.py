@@ -36,11 +36,10 @@ def page() -> str:
         return render_template("begin.html")
     found = list(counting.sums(view()).values())
     is_whole = "piece" in request.args or "all" in request.args
-    todo = {"sessions": found, "attention": attention(found, is_whole), "is_whole": is_whole, "most": MOST_SHOWN}
-    if "piece" in request.args:
-        return render_template("todo.html", **todo)
-    return render_template("season.html", weeks=weeks_of(found), deadlines=deadlines(found), totals=totals(found),
-                           widest=max((max(each.members, each.desks) for each in found), default=1), **todo)
+    return render_template("season.html", sessions=found, weeks=weeks_of(found), attention=attention(found, is_whole),
+                           is_whole=is_whole, deadlines=deadlines(found), most=MOST_SHOWN,
+                           candidates=counting.candidates(view()),
+                           widest=max((max(each.members, each.desks) for each in found), default=1))
 
 
 @pages.post("/init")
@@ -57,12 +56,6 @@ def warm(found: View) -> None:
     """Works out what the first page shows."""
     counting.sums(found)
     unheard_clashes(found)
-
-
-def totals(found: list[counting.Sums]) -> dict[str, int]:
-    return {"members": sum(each.members for each in found), "short": sum(each.short for each in found),
-            "waiting": sum(each.waiting for each in found),
-            "candidates": counting.candidates(view())}
 
 
 def weeks_of(found: list[counting.Sums]) -> list[list[tuple[str, list[counting.Sums]]]]:

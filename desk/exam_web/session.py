@@ -13,7 +13,7 @@ from exam_desk.notebook import Rows
 from exam_desk.reading import Member
 from exam_desk.sheets.chart import NotDrawn, numbered
 from exam_desk.trouble import Trouble
-from exam_web import counting, downloads, printing, shortages
+from exam_web import counting, output, shortages
 from exam_web.desk import View, desk, once, view
 from exam_web.forms import Page, Wrong, lead, whole
 from exam_web.wording import many, said, text
@@ -53,7 +53,7 @@ def page(code: str) -> str:
         "session.html", s=sums, halls=openings(view(), code), taken=taken(code), papers=papers(code), lodged=lodged,
         previous=before, next=after, choices=hall_choices(code), clashes=clashes(code), most=MOST_PEOPLE,
         absent=members_of(code, known), shortage=shortages.of(view(), code) if sums.short else None,
-        sheets=printing.SHEETS, last=lastdays.to_decide(sums.day))
+        sheets=output.SHEETS, last=lastdays.to_decide(sums.day))
 
 
 def taken(code: str) -> dict[str, int]:
@@ -104,8 +104,7 @@ def hall_page(code: str, hall: str) -> str:
     desks = sorted((number, column * (WIDTH + GAP) + 2, row * (HEIGHT + GAP) + 2)
                    for row, line in enumerate(numbered(found.desks, rows))
                    for column, number in enumerate(line) if number is not None)
-    return render_template("hall_piece.html" if "piece" in request.args else "hall.html", s=sums, opening=found,
-                           rows=rows, desks=desks, members=members, desk_width=WIDTH,
+    return render_template("hall.html", s=sums, opening=found, rows=rows, desks=desks, members=members, desk_width=WIDTH,
                            by_desk={member.sitting.desk: member for member in members}, desk_height=HEIGHT,
                            codes=[row["code"] for row in papers(code)], absent=notebook.absent(desk().office, code))
 
@@ -154,7 +153,7 @@ def note_absent(code: str) -> Response:
 @pages.get("/sessions/<code>/attendance.csv")
 def attendance_csv(code: str) -> Response:
     sums_of(code)
-    return downloads.attached(absences.listed(view().reading, code).encode(), f"{code}-attendance.csv")
+    return output.attached(absences.listed(view().reading, code).encode(), f"{code}-attendance.csv")
 
 
 @pages.get("/sessions/<code>/seats.csv")
@@ -164,7 +163,7 @@ def seats_csv(code: str) -> Response:
     rows = [[code, sums.day, each.sitting.start, each.sitting.finish, each.number, each.name, each.sitting.paper,
              titles[each.sitting.paper], each.sitting.hall or "", each.sitting.desk or "", each.sitting.extra,
              "+".join(each.sitting.needs) or "-"] for each in view().reading.members(code)]
-    return downloads.csv(SEATS, rows, f"{code}-seats.csv")
+    return output.csv(SEATS, rows, f"{code}-seats.csv")
 
 
 @pages.get("/sessions/<code>/print/<sheet>")
@@ -172,9 +171,9 @@ def sheet(code: str, sheet: str, hall: Sequence[str] = ()) -> str:
     """A sheet to print, of all halls or of some, made by the function that the command line uses. A chart asks first
     how the desks stand of which nobody has said it."""
     sums, halls = sums_of(code), hall or request.args.getlist("hall")
-    made = printing.SHEETS.get(sheet) or abort(404)
+    made = output.SHEETS.get(sheet) or abort(404)
     try:
-        return printing.styled(made.page(view().reading, code, *([halls] if made.by_hall else [])))
+        return output.styled(made.page(view().reading, code, *([halls] if made.by_hall else [])))
     except NotDrawn as trouble:
         asked = [opening(code, each) for each in trouble.halls]
         return render_template("charts.html", s=sums, halls=[(each, standing(each)) for each in asked], of=halls)
@@ -183,9 +182,8 @@ def sheet(code: str, sheet: str, hall: Sequence[str] = ()) -> str:
 @pages.get("/sessions/<code>/printed")
 def compare_printed(code: str) -> str:
     """Who has another desk than on paper: a piece of the session's page, or a page of its own where no script runs."""
-    return render_template("printed_piece.html" if "piece" in request.args else "printed.html", s=sums_of(code),
-                           found=printed.compared(view().reading, code), most=MOST_PEOPLE, taken=taken(code),
-                           sheets=printing.SHEETS)
+    return render_template("printed.html", s=sums_of(code), found=printed.compared(view().reading, code),
+                           most=MOST_PEOPLE, taken=taken(code), sheets=output.SHEETS)
 
 
 @pages.post("/sessions/<code>/printed")

@@ -11,6 +11,7 @@ from markupsafe import Markup
 
 from exam_desk import reasons, shortage
 from exam_desk.facts import Opening
+from exam_desk.overlaps import of_day
 from exam_desk.reading import Member
 from exam_desk.words import clock
 from exam_web.desk import View, once
@@ -58,7 +59,7 @@ def remedies(view: View, why: reasons.Reasons) -> Iterator[Remedy]:
     for code, title, features in view.rows("SELECT code, title, features FROM hall ORDER BY code"):
         widest = Opening(code, title, features, 1, MIDNIGHT, False)  # open as long as can be, for everybody
         suited = [member for member in why.unseated() if not why.obstacles(member, widest)]
-        last = max((minutes(member.sitting.finish) for member in suited), default=0)
+        last = max((of_day(member.sitting.finish) for member in suited), default=0)
         if suited and code in opened:
             yield from change(why, opened[code], suited, last)
         elif suited:  # open as it is in most sessions, and long enough
@@ -66,11 +67,6 @@ def remedies(view: View, why: reasons.Reasons) -> Iterator[Remedy]:
             then = widest._replace(desks=desks, until=max(until, last))
             yield Remedy(len(suited), text("Open {hall}, {title}, with {desks} desks until {until}", hall=code,
                                            title=title, desks=desks, until=clock(then.until)), then)
-
-
-def minutes(finish: str) -> int:
-    hours, rest = finish.split(":")
-    return int(hours) * 60 + int(rest)
 
 
 def change(why: reasons.Reasons, now: Opening, suited: list[Member], last: int) -> Iterator[Remedy]:

@@ -223,9 +223,10 @@ class TestBegin(Uploads):
 
     def test_from_nothing(self):
         self.assertIn("There is no office yet", self.browser.words("/"))
-        for path in ("/files", "/office"):
+        for path in ("/files", "/office", "/candidates", "/appeals", "/clashes", "/overlaps", "/sessions/MON-AM"):
             answer, _ = self.browser.ask("GET", path)
-            self.assertEqual(answer.status, 302)
+            self.assertEqual((answer.status, answer.headers["Location"]), (303, self.browser.prefix + "/"), path)
+        self.browser.post("/files", "/", dates="")
         self.browser.post("/init", "/")
         for path in ("/", "/files", "/candidates", "/appeals", "/clashes", "/office", "/candidates?q=x"):
             self.browser.get(path)
