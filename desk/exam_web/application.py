@@ -45,9 +45,8 @@ def make(here: Desk) -> Flask:
     app.register_error_handler(HTTPException, refused)
     app.register_error_handler(forms.Wrong, forms.wrong_page)
     app.register_error_handler(StillReading, still_reading)
-    app.register_error_handler(Trouble, faulty)
-    app.register_error_handler(OSError, faulty)
-    app.register_error_handler(sqlite3.Error, faulty)
+    for fault in (Trouble, OSError, sqlite3.Error):
+        app.register_error_handler(fault, faulty)
     here.warm = season.warm
     return app
 
@@ -69,7 +68,8 @@ def everywhere() -> dict[str, Any]:
     return {"mark": visit and visit.mark, "initials": visit and visit.initials, "said": said,
             "today": here.office.today().isoformat(), "pretended": here.pretended,
             "office_name": here.office.base_name(), "state": g.view.name if "view" in g else "",
-            "layout": "piece.html" if "piece" in request.args else "base.html", "wrong": asked.wrong, "given": asked.given, "asked_form": asked.form,
+            "layout": "piece.html" if "piece" in request.args else "base.html",
+            "wrong": asked.wrong, "given": asked.given, "asked_form": asked.form,
             "direction": "rtl" if wording.language() in wording.RIGHT_TO_LEFT else "ltr"}
 
 

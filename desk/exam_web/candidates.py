@@ -8,7 +8,7 @@ from werkzeug.wrappers import Response as Answer
 from exam_desk import facts, names, notebook, second_sitting
 from exam_desk.sheets import notes, person
 from exam_desk.trouble import Trouble
-from exam_web import counting, output
+from exam_web import output
 from exam_web.desk import View, candidate_row, desk, once, view
 from exam_web.forms import Page, Wrong, lead, short
 from exam_web.wording import text
@@ -24,7 +24,7 @@ def find() -> str | Answer:
     if len(found) == 1:
         return redirect(url_for("candidates.page", number=found[0][0]))
     return render_template("candidates.html", asked=asked, found=found[:MOST_FOUND], total=len(found),
-                           everybody=counting.candidates(view()))
+                           everybody=len(people(view())))
 
 
 def search(asked: str) -> list[tuple[int, str]]:

@@ -41,7 +41,7 @@ class View:
         self.reading = self.stack.enter_context(Reading(office, path))
         self.name = states.name_of(self.reading.rows)
 
-    def rows(self, query: str, values: Sequence[object] = ()) -> list[sqlite3.Row]:
+    def rows(self, query: str, values: Sequence[object] = ()) -> list[Any]:
         return self.reading.rows.execute(query, values).fetchall()
 
     def row(self, query: str, values: Sequence[object] = ()) -> sqlite3.Row | None:
@@ -170,11 +170,6 @@ class Desk:
                 self.release(held)
             else:
                 view.close()
-
-    @contextlib.contextmanager
-    def both(self, rehearsal: changing.Rehearsal) -> Iterator[tuple[View, View]]:
-        with self.before(rehearsal) as before, contextlib.closing(View(self.office, rehearsal.after)) as after:
-            yield before, after
 
     def close(self) -> None:
         self.reader.shutdown(cancel_futures=True)

@@ -3,7 +3,7 @@ from collections import Counter
 from collections.abc import Iterable
 from typing import NamedTuple
 
-from exam_desk import overlaps, telling, touched
+from exam_desk import facts, overlaps, telling, touched
 from exam_desk.consequences import by_name, has_seats
 from exam_desk.reading import Member, Person, Reading
 from exam_desk.telling import Change
@@ -23,7 +23,6 @@ KINDS = {  # the gravest first: in words before the change, after it, and after 
     "desk": ("would have another desk number only", "have another desk number only", "has another desk number only"),
 }
 NUMBERS = ("members", "desks", "short", "clashes")
-CODES = "SELECT number, code FROM candidate"
 MOST_CLASHES = 100  # new ones that are named
 
 
@@ -66,9 +65,11 @@ class Effects:
 def effects(before: View, after: View) -> Effects:
     """Where nobody has a seat yet, nobody can lose or change one: then the sessions say all."""
     changes = telling.differences(before.reading, after.reading) if has_seats(before.reading) else []
-    return Effects(changes, session_changes(before, after), new_clashes(before, after),
-                   new_overlaps(before.reading, after.reading), other_codes(before, after),
-                   telling.titles_of(before.reading, after.reading))
+    twice = overlaps.new(before.reading, after.reading, list(touched.of_readings(before.reading, after.reading)))
+    was = facts.access_codes(before.reading.rows)
+    codes = sum(was.get(number, code) != code for number, code in facts.access_codes(after.reading.rows).items())
+    return Effects(changes, session_changes(before, after), new_clashes(before, after), named(after.reading, twice),
+                   codes, telling.titles_of(before.reading, after.reading))
 
 
 def new_clashes(before: View, after: View) -> list[NewClash]:
@@ -85,18 +86,8 @@ def new_clashes(before: View, after: View) -> list[NewClash]:
     return found
 
 
-def new_overlaps(before: Reading, after: Reading) -> list[Overlap]:
-    """Those of the sessions that a change touches, as was not so before."""
-    return named(after, overlaps.new(before, after, list(touched.of_readings(before, after))))
-
-
 def named(reading: Reading, found: Iterable[overlaps.Overlap]) -> list[Overlap]:
     return [Overlap(each.early, each.late, by_name(reading, each.candidates), each.halls) for each in found]
-
-
-def other_codes(before: View, after: View) -> int:
-    old = {number: code for number, code in before.rows(CODES)}
-    return sum(code != old.get(number, code) for number, code in after.rows(CODES))
 
 
 def session_changes(before: View, after: View) -> list[SessionChange]:

@@ -4,7 +4,7 @@ from werkzeug.wrappers import Response as Answer
 
 from exam_desk import dumping, files
 from exam_web import output, uploads
-from exam_web.desk import View, once, view
+from exam_web.desk import view
 from exam_web.forms import keep, lead
 from exam_web.wording import many, text
 
@@ -17,14 +17,9 @@ COUNTS = {"sessions": "session", "papers": "paper", "halls": "hall", "openings":
 
 @pages.get("/files")
 def page() -> str:
-    return render_template("files.html", headers=files.HEADERS, counts=counts(view()),
+    counts = {kind: view().count(f"SELECT count(*) FROM {table}") for kind, table in COUNTS.items()}
+    return render_template("files.html", headers=files.HEADERS, counts=counts,
                            uploaded={key: each for key, each in g.visit.uploads.items() if not each.is_imported})
-
-
-@once
-def counts(found: View) -> dict[str, int]:
-    """How many rows the office has, by kind."""
-    return {kind: found.count(f"SELECT count(*) FROM {table}") for kind, table in COUNTS.items()}
 
 
 @pages.post("/files")
@@ -69,7 +64,10 @@ def hidden(key: str) -> Answer:
     upload, place = uploads.of_visit(key), request.form.get("book", "")
     if place not in map(str, range(len(upload.workbooks))) or upload.is_imported:
         abort(404)
-    uploads.read_again(upload, int(place), "take" if request.form.get("take") else "leave", view())
+    book = upload.workbooks.pop(int(place))
+    upload.texts = {kind: content for kind, content in upload.texts.items() if kind not in book.kinds}
+    choice = "take" if request.form.get("take") else "leave"
+    uploads.take_book(upload, uploads.Book(book.name, book.content, book.way, choice), view())
     return lead("files.look", key=key)
 
 

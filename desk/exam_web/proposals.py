@@ -5,6 +5,7 @@ import sqlite3
 import threading
 import time
 from collections.abc import Callable
+from contextlib import closing
 from dataclasses import dataclass, field
 from typing import Any
 
@@ -18,7 +19,7 @@ from exam_desk.office import Office
 from exam_desk.reading import Reading
 from exam_desk.trouble import Stale, Trouble
 from exam_web import effects, output
-from exam_web.desk import PATIENCE, Desk, desk, office, view
+from exam_web.desk import PATIENCE, Desk, View, desk, office, view
 from exam_web.effects import Effects
 from exam_web.forms import Asked, Page, Wrong, keep, lead
 from exam_web.wording import said
@@ -38,14 +39,11 @@ NEXT_APPEAL = ("SELECT appeal.*, name FROM appeal JOIN candidate USING (number) 
 
 @dataclass(frozen=True)
 class Plan:
-    """What a form asks, in words and as steps of the program."""
-    title: Markup
+    """What a form asks: its values, and the steps of the program."""
+    values: dict[str, str]
     steps: list[Step]
     page: Page  # to come back to
-    verb: Markup
     fields: dict[int, str] = field(default_factory=dict)  # the field beside which a refusal stands, by its number
-    note: Markup = Markup()
-    done_note: Markup = Markup()
     others: dict[str, Any] = field(default_factory=dict)  # what the form for another hall than a lost one begins with
     form_page: Page | None = None  # with the form, where that is another
     lodge: tuple[str, ...] = ()  # in the place of steps: the words of an appeal that is lodged the candidate's way
@@ -98,8 +96,8 @@ class Proposal:
     def words(self) -> list[Markup]:
         """Why it cannot be done, as the program or the desk says; none where it can."""
         line = self.refusal
-        found = self.explained or [refusals.SENTENCES.get(refusals.number_of(line) or 0, refusals.OTHER.get(line, line))]
-        return [said(each.strip()) for each in (found if line else [self.trouble]) if each]
+        known = refusals.SENTENCES.get(refusals.number_of(line) or 0, refusals.OTHER.get(line, line))
+        return [said(each.strip()) for each in (self.explained or [known] if line else [self.trouble]) if each]
 
     def tell(self, stage: str) -> None:
         self.stage = stage
@@ -122,7 +120,7 @@ class Proposal:
     def compare(self, here: Desk, rehearsal: changing.Rehearsal) -> None:
         """Keeps what a rehearsal would come to. Raises `Trouble` where the plan refuses it."""
         self.tell(COMPARING)
-        with here.both(rehearsal) as (before, after):
+        with here.before(rehearsal) as before, closing(View(here.office, rehearsal.after)) as after:
             self.lines = self.plan.look(before.reading, after.reading)
             self.effects = effects.effects(before, after)
             self.made_from, self.promised = before.name, after.name

@@ -38,7 +38,7 @@ def page() -> str:
     is_whole = "piece" in request.args or "all" in request.args
     return render_template("season.html", sessions=found, weeks=weeks_of(found), attention=attention(found, is_whole),
                            is_whole=is_whole, deadlines=deadlines(found), most=MOST_SHOWN,
-                           candidates=counting.candidates(view()),
+                           candidates=view().count("SELECT count(*) FROM candidate"),
                            widest=max((max(each.members, each.desks) for each in found), default=1))
 
 
@@ -60,15 +60,11 @@ def warm(found: View) -> None:
 
 def weeks_of(found: list[counting.Sums]) -> list[list[tuple[str, list[counting.Sums]]]]:
     """For each week with a session its days, Monday first, each with its sessions."""
-    days: dict[str, list[counting.Sums]] = {}
-    for session in found:
-        days.setdefault(session.day, []).append(session)
-    dates_with = [datetime.date.fromisoformat(day) for day in days]
-    weeks = {date - datetime.timedelta(days=date.weekday()) for date in dates_with}
-    at_weekends = any(date.weekday() > 4 for date in dates_with)
-    dates = [[(monday + datetime.timedelta(days=place)).isoformat() for place in range(7 if at_weekends else 5)]
-             for monday in sorted(weeks)]
-    return [[(day, days.get(day, [])) for day in dates_of] for dates_of in dates]
+    dates = {datetime.date.fromisoformat(each.day) for each in found}
+    mondays = sorted({date - datetime.timedelta(date.weekday()) for date in dates})
+    width = 7 if any(date.weekday() > 4 for date in dates) else 5
+    weeks = [[(monday + datetime.timedelta(place)).isoformat() for place in range(width)] for monday in mondays]
+    return [[(day, [each for each in found if each.day == day]) for day in week] for week in weeks]
 
 
 def attention(found: list[counting.Sums], is_whole: bool) -> list[Attention]:

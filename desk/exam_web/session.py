@@ -7,7 +7,7 @@ from collections.abc import Sequence
 from flask import Blueprint, abort, render_template, request
 from werkzeug.wrappers import Response
 
-from exam_desk import absences, facts, lastdays, notebook, printed
+from exam_desk import absences, facts, lastdays, lists, notebook, printed
 from exam_desk.facts import Opening
 from exam_desk.notebook import Rows
 from exam_desk.reading import Member
@@ -57,8 +57,7 @@ def page(code: str) -> str:
 
 
 def taken(code: str) -> dict[str, int]:
-    found = view().rows("SELECT hall, count(*) FROM seat WHERE session = ? GROUP BY hall", [code])
-    return {hall: count for hall, count in found}
+    return dict(view().rows("SELECT hall, count(*) FROM seat WHERE session = ? GROUP BY hall", [code]))
 
 
 def papers(code: str) -> list[sqlite3.Row]:
@@ -71,8 +70,8 @@ def papers(code: str) -> list[sqlite3.Row]:
 def hall_choices(code: str) -> list[tuple[str, str, Opening | None]]:
     """All halls to choose from, those that are closed in a session first; each with its title, and how it is open."""
     opened = {each.hall: each for each in openings(view(), code)}
-    found = [(hall, title, opened.get(hall)) for hall, title in view().rows("SELECT code, title FROM hall ORDER BY code")]
-    return sorted(found, key=lambda each: each[2] is not None)
+    halls = sorted(facts.hall_titles(view().reading.rows).items())
+    return sorted(((hall, title, opened.get(hall)) for hall, title in halls), key=lambda each: each[2] is not None)
 
 
 def clashes(code: str, most: int = MOST_PEOPLE) -> list[tuple[Member, list[str]]]:
@@ -91,21 +90,17 @@ def members_of(code: str, numbers: list[int]) -> list[Member]:
     return [member for person in people if (member := reading.member_of(person, code))]
 
 
-def sitting_in(code: str, hall: str) -> list[Member]:
-    numbers = view().rows("SELECT number FROM seat WHERE session = ? AND hall = ?", [code, hall])
-    return sorted(members_of(code, [number for number, in numbers]), key=lambda member: member.sitting.desk or 0)
-
-
 @pages.get("/sessions/<code>/halls/<hall>", endpoint="hall")
 def hall_page(code: str, hall: str) -> str:
     """A hall as a picture: a piece of the session's page, or a page of its own where no script runs."""
     sums, found = sums_of(code), opening(code, hall)
-    members, rows = sitting_in(code, hall), standing(found)
+    seated = view().rows("SELECT number FROM seat WHERE session = ? AND hall = ?", [code, hall])
+    members, rows = lists.by_desk(members_of(code, [number for number, in seated]), hall), standing(found)
     desks = sorted((number, column * (WIDTH + GAP) + 2, row * (HEIGHT + GAP) + 2)
                    for row, line in enumerate(numbered(found.desks, rows))
                    for column, number in enumerate(line) if number is not None)
-    return render_template("hall.html", s=sums, opening=found, rows=rows, desks=desks, members=members, desk_width=WIDTH,
-                           by_desk={member.sitting.desk: member for member in members}, desk_height=HEIGHT,
+    return render_template("hall.html", s=sums, opening=found, rows=rows, desks=desks, members=members,
+                           desk_width=WIDTH, by_desk={member.sitting.desk: member for member in members}, desk_height=HEIGHT,
                            codes=[row["code"] for row in papers(code)], absent=notebook.absent(desk().office, code))
 
 

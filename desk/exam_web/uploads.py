@@ -19,7 +19,6 @@ from werkzeug.datastructures import FileStorage
 
 from exam_desk import coding, files, mistakes, private
 from exam_desk.trouble import Trouble
-from exam_desk.workbook import cells
 from exam_desk.workbook.checking import file_parts
 from exam_desk.workbook.opening import open_book
 from exam_desk.workbook.reading import read_book
@@ -88,9 +87,6 @@ class Upload:
     def kinds(self) -> list[str]:
         return [kind for kind in files.HEADERS if kind in self.texts]
 
-    def note_import(self) -> None:
-        self.is_imported = True
-
     def note(self, name: str, words: Markup) -> None:
         self.notes.append(Markup("{}: {}").format(shown(name[:MOST_NAME]), words))
 
@@ -152,8 +148,10 @@ def take_book(upload: Upload, book: Book, view: View) -> None:
         files.put(path, book.content)
         try:
             opened = open_book(path)
-            reading = read_book(opened, Job(mistakes.Known(view.reading.rows), book.way,
-                                            choices=choices(opened, book.hidden)))
+            names = [sheet.name for sheet in opened.sheets if sheet.hidden or book.hidden == "take"]
+            choices = Choices(names if book.hidden == "take" else None, names if book.hidden == "leave" else [],
+                              hidden=book.hidden)
+            reading = read_book(opened, Job(mistakes.Known(view.reading.rows), book.way, {}, choices))
         except Trouble as trouble:
             upload.note(book.name, said(trouble.sentence))
             return
@@ -167,21 +165,6 @@ def take_book(upload: Upload, book: Book, view: View) -> None:
     for kind, records in reading.records.items() if not book.mistakes else ():
         for part, _ in file_parts(kind, [record.fields for record in records]):
             take(upload, f"{kind}.csv", part)
-
-
-def choices(book: cells.Book, hidden: str) -> Choices:
-    """What becomes of hidden rows becomes of hidden sheets too."""
-    names = [sheet.name for sheet in book.sheets]
-    return Choices(sheets=names if hidden == "take" else None, hidden=hidden,
-                   leave=[sheet.name for sheet in book.sheets if sheet.hidden] if hidden == "leave" else [])
-
-
-def read_again(upload: Upload, place: int, hidden: str, view: View) -> None:
-    """Reads a workbook of an upload once more, with another choice on what is hidden in it."""
-    book = upload.workbooks.pop(place)
-    for kind in book.kinds:
-        upload.texts.pop(kind, None)
-    take_book(upload, Book(book.name, book.content, book.way, hidden), view)
 
 
 def looked_through(texts: Mapping[str, bytes], view: View) -> dict[str, Looked]:

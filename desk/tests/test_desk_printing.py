@@ -14,7 +14,7 @@ class TestPrinting(DeskSchool):
     def test_sheets_are_those_of_the_commands(self):
         for hall, in self.rows("SELECT hall FROM opening WHERE session = 'MON-AM'"):
             self.office("rows", hall, "6")
-        sheets = re.findall(r"/sessions/MON-AM/print/(\w+)", self.browser.get("/sessions/MON-AM"))
+        sheets = re.findall(r'/sessions/MON-AM/print/(\w+)"', self.browser.get("/sessions/MON-AM"))
         self.assertEqual(sorted(sheets), ["board", "cards", "chart", "counts", "doors", "poster", "slips"])
         for sheet in sheets:
             options = ["--desks"] if sheet == "slips" else []
@@ -34,13 +34,14 @@ class TestPrinting(DeskSchool):
             _, text = self.browser.post(draw, link, 422, chart="1", hall=[first], of=[first],
                                         **{f"across-{first}": across, f"running-{first}": "down"})
             self.assertRegex(text, rf'name="across-{first}" value="{across}" aria-invalid="true"')
-        self.assertEqual(self.office("rows"), "")
+        self.assertEqual(self.office("rows"), "nothing is kept\n")
         where, _ = self.browser.post(draw, link, chart="1", hall=[first], of=[first],
                                      **{f"across-{first}": "5", f"running-{first}": "across"})
         self.assertEqual(where, link)
         self.assertEqual(self.browser.get(link), self.office("chart", "MON-AM", first))
         self.assertEqual(re.findall(r'name="across-(\w+)"', self.browser.get(page + "/print/chart")), seated[1:])
-        values = {f"{name}-{hall}": value for hall in seated[1:] for name, value in (("across", 6), ("running", "down"))}
+        values = {f"{name}-{hall}": value for name, value in (("across", 6), ("running", "down"))
+                  for hall in seated[1:]}
         where, _ = self.browser.post(draw, page + "/print/chart", chart="1", hall=seated[1:], **values)
         self.assertEqual(where, page + "/print/chart")
         self.assertEqual(self.browser.get(where), self.office("chart", "MON-AM"))

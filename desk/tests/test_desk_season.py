@@ -15,7 +15,8 @@ class TestWhatNeedsAPerson(DeskSchool):
 
     def links(self, path):
         """Of each line of a page what it leads to."""
-        found = re.findall(r'<span class="what">(.*?)</span><a class="button small" href="([^"]+)"', self.browser.get(path))
+        found = re.findall(r'<span class="what">(.*?)</span><a class="button small" href="([^"]+)"',
+                           self.browser.get(path))
         return {re.sub("<[^>]*>", "", words): link.removeprefix(self.browser.prefix) for words, link in found}
 
     def line(self, path, begin):
@@ -72,8 +73,10 @@ class TestWhatNeedsAPerson(DeskSchool):
         self.office("lodge", "0001051", "MON-AM", "hall", "PC1", "")
         self.office("printed", "TUE-AM")
         self.office("withdraw", "0001051", "PH-1")
-        days = re.findall(r'class="when">by <time datetime="([^"]+)"', self.browser.get("/?piece"))
-        self.assertEqual(days, sorted(days))
+        found = re.findall(r'<li class="(\w+)"><span class="when">by <time datetime="([^"]+)"',
+                           self.browser.get("/?piece"))
+        urgent = [(["late", "now", "soon", "note"].index(level), day) for level, day in found]
+        self.assertEqual(urgent, sorted(urgent))
         self.assertGreater(len(self.links("/?piece")), len(self.links("/")))
 
 
