@@ -7,6 +7,7 @@ from werkzeug.wrappers import Response as Answer
 
 from exam_desk import facts, names, notebook, second_sitting
 from exam_desk.sheets import notes, person
+from exam_desk.sheets import slips as slip_pages
 from exam_desk.trouble import Trouble
 from exam_web import output
 from exam_web.desk import View, candidate_row, desk, once, view
@@ -99,6 +100,7 @@ def all_notes() -> Response:
 @pages.post("/candidates/slips")
 @pages.post("/candidates/<int:number>/slip")
 def slips(number: int | None = None) -> str:
-    """The slip of one candidate, or those of all."""
-    numbers = [] if number is None else [f"{candidate_row(number)['number']:07}"]
-    return output.slips_for(view().reading, numbers, "codes" in request.form)
+    """The slip of one candidate, or those of all, of all sessions."""
+    only = [] if number is None else [f"{candidate_row(number)['number']:07}"]
+    choice = slip_pages.Choice(only=only, codes="codes" in request.form, desks=bool(only))
+    return output.styled(slip_pages.page(view().reading, choice))

@@ -161,15 +161,10 @@ class Desk:
     @contextlib.contextmanager
     def before(self, rehearsal: changing.Rehearsal) -> Iterator[View]:
         """The office as a rehearsal found it: the view at hand, where the office is still of that state."""
-        held = self.taken()
-        view = held or View(self.office, rehearsal.before)
-        try:
-            yield view
-        finally:
-            if held:
-                self.release(held)
-            else:
-                view.close()
+        with contextlib.ExitStack() as stack:
+            if held := self.taken():
+                stack.callback(self.release, held)
+            yield held or stack.enter_context(contextlib.closing(View(self.office, rehearsal.before)))
 
     def close(self) -> None:
         self.reader.shutdown(cancel_futures=True)

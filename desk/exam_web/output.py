@@ -3,13 +3,12 @@ import io
 import os
 import re
 import zipfile
-from collections.abc import Callable, Collection, Iterable, Sequence
+from collections.abc import Callable, Iterable, Sequence
 from typing import NamedTuple
 
 from flask import Response, g
 
 from exam_desk import files, private
-from exam_desk.reading import Reading
 from exam_desk.sheets import board, cards, chart, counts, doors, poster, slips
 from exam_web.desk import desk
 
@@ -28,11 +27,6 @@ SHEETS = {
         reading, slips.Choice(sessions=[session], desks=True))),
     "board": Sheet("Notice board by name", board.page), "counts": Sheet("Copies of each paper", counts.page),
 }
-
-
-def slips_for(reading: Reading, numbers: Collection[str], with_codes: bool) -> str:
-    """Slips for some candidates, or for all, of all sessions."""
-    return styled(slips.page(reading, slips.Choice(only=numbers, codes=with_codes, desks=bool(numbers))))
 
 
 def styled(page: str) -> str:

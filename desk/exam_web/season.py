@@ -2,10 +2,9 @@
 import datetime
 from collections import Counter
 from collections.abc import Iterator
-from typing import NamedTuple
+from typing import Any, NamedTuple
 
 from flask import Blueprint, render_template, request, url_for
-from markupsafe import Markup
 from werkzeug.wrappers import Response
 
 from exam_desk import appeals, facts, lastdays, logbook, notebook, printed, running, turns
@@ -14,20 +13,21 @@ from exam_web import clashes as clashing
 from exam_web import counting, office
 from exam_web.desk import View, desk, once, view
 from exam_web.forms import lead
-from exam_web.wording import days_until, many, text
+from exam_web.wording import days_until, text
 
 pages = Blueprint("season", __name__)
-MOST_SHOWN, MOST_NAMED = 12, 6  # lines of what needs attention; halls or sessions in a line
+MOST_SHOWN = 12  # lines of what needs attention
 SOON, URGENT = 14, 3  # days before a session, before the last day to decide
 LEVELS = ["late", "now", "soon", "note"]
 
 
 class Attention(NamedTuple):
+    """What needs a person. Its words are in templates/attention.html."""
     level: str  # one of LEVELS
     day: str | None  # by which it must be done
-    text: Markup
-    link: str
-    verb: Markup
+    what: str
+    link: str  # to where it is mended
+    values: dict[str, Any] = {}
 
 
 @pages.get("/")
@@ -76,24 +76,18 @@ def attention(found: list[counting.Sums], is_whole: bool) -> list[Attention]:
     return sorted(todo, key=lambda each: (LEVELS.index(each.level), each.day or "9"))
 
 
-def broken_off() -> list[Attention]:
+def broken_off() -> Iterator[Attention]:
     """A change without an end in the log, while nobody has the office: its process was killed, or the machine
     stopped."""
     here = desk().office
-    found = logbook.unfinished(here)
-    if not found or turns.is_taken(here):
-        return []
-    link = url_for("office.copy", key=office.copy_key(found.copy)) if found.copy else url_for("office.page")
-    return [Attention("late", None, text("A change was broken off: {command}, {when}", command=found.command,
-                                         when=found.when), link, text("Look"))]
+    if (found := logbook.unfinished(here)) and not turns.is_taken(here):
+        link = url_for("office.copy", key=office.copy_key(found.copy)) if found.copy else url_for("office.page")
+        yield Attention("late", None, "broken", link, {"command": found.command, "when": found.when})
 
 
 def shortages(coming: list[counting.Sums]) -> list[Attention]:
-    return [Attention(level_of(each), each.day,
-                      many(each.short, "{count} candidate without a desk in {session}",
-                           "{count} candidates without a desk in {session}", session=each.code),
-                      url_for("session.page", code=each.code, _anchor="short"), text("See why"))
-            for each in coming if each.short]
+    return [Attention(level_of(each), each.day, "short", url_for("session.page", code=each.code, _anchor="short"),
+                      {"count": each.short, "session": each.code}) for each in coming if each.short]
 
 
 def open_appeals() -> list[Attention]:
@@ -102,11 +96,8 @@ def open_appeals() -> list[Attention]:
                                        "WHERE state = 1"):
         kinds.setdefault((lastdays.to_decide(day), code), Counter())[appeals.KINDS[kind]] += 1
     return [Attention("late" if days_until(last) < 0 else "now" if days_until(last) <= URGENT else "soon", last,
-                      many(sum(counts.values()), "{count} open appeal for {session}: {kinds}",
-                           "{count} open appeals for {session}: {kinds}", session=code,
-                           kinds=Markup(", ").join(Markup("{} {}").format(count, text(kind))
-                                                   for kind, count in counts.items())),
-                      url_for("appeals.page", _anchor=code), text("Decide"))
+                      "appeals", url_for("appeals.page", _anchor=code),
+                      {"count": counts.total(), "session": code, "kinds": counts})
             for (last, code), counts in kinds.items()]
 
 
@@ -119,17 +110,11 @@ def unheard_clashes(found: View) -> dict[str, int]:
     return {code: count for code, count in counts.items() if count}
 
 
-def clashes(coming: list[counting.Sums]) -> list[Attention]:
+def clashes(coming: list[counting.Sums]) -> Iterator[Attention]:
     unheard = unheard_clashes(view())
-    late = [each for each in coming if each.code in unheard and days_until(each.day) > 0]
-    if not late:
-        return []
-    count = sum(unheard[each.code] for each in late)
-    words = many(count, "{count} candidate with two papers at once and no appeal, in sessions: {sessions}",
-                 "{count} candidates with two papers at once and no appeal, in sessions: {sessions}",
-                 sessions=len(late))
-    return [Attention("note", lastdays.to_lodge("clash", late[0].day), words,
-                      url_for("clashes.page"), text("Look"))]
+    if late := [each for each in coming if each.code in unheard and days_until(each.day) > 0]:
+        yield Attention("note", lastdays.to_lodge("clash", late[0].day), "clashes", url_for("clashes.page"),
+                        {"count": sum(unheard[each.code] for each in late), "sessions": len(late)})
 
 
 def out_of_date(coming: list[counting.Sums]) -> Iterator[Attention]:
@@ -138,35 +123,25 @@ def out_of_date(coming: list[counting.Sums]) -> Iterator[Attention]:
         if notebook.printed(desk().office, each.code):
             view().ask(facts.entered(view().reading.rows, each.code))
             if (found := printed.compared(view().reading, each.code)) and found.moves:
-                words = many(len(found.moves), "{count} candidate of {session} has another desk than on paper: {halls}",
-                             "{count} candidates of {session} have another desk than on paper: {halls}",
-                             session=each.code, halls=few(found.halls))
-                yield Attention(level_of(each), each.day, words,
-                                url_for("session.page", code=each.code, _anchor="print"), text("Print again"))
+                yield Attention(level_of(each), each.day, "printed",
+                                url_for("session.page", code=each.code, _anchor="print"),
+                                {"count": len(found.moves), "session": each.code, "halls": found.halls})
 
 
 def at_one_time(coming: list[counting.Sums]) -> Iterator[Attention]:
     days = {each.code: each for each in coming}
-    found = [each for each in clashing.at_one_time(view()) if each.early in days]
-    if found:
+    if found := [each for each in clashing.at_one_time(view()) if each.early in days]:
         first = days[found[0].early]
-        words = text("Sessions at one time: {pairs}", pairs=few([f"{each.early} + {each.late}" for each in found]))
-        yield Attention(level_of(first), first.day, words, url_for("clashes.overlapping"), text("Look"))
+        yield Attention(level_of(first), first.day, "overlaps", url_for("clashes.overlapping"), {"pairs": found})
 
 
 def level_of(session: counting.Sums) -> str:
     return "now" if days_until(session.day) <= SOON else "soon"
 
 
-def few(names: list[str]) -> str:
-    return ", ".join(names[:MOST_NAMED]) + (" …" if len(names) > MOST_NAMED else "")
-
-
-def unserved(coming: list[counting.Sums]) -> list[Attention]:
-    if not coming or turns.keep_state(desk().office) is not None:
-        return []
-    return [Attention("note", None, text("Candidates cannot ask for their seats: the office is not served"),
-                      url_for("office.page", _anchor="serve"), text("Serve"))]
+def unserved(coming: list[counting.Sums]) -> Iterator[Attention]:
+    if coming and turns.keep_state(desk().office) is None:
+        yield Attention("note", None, "unserved", url_for("office.page", _anchor="serve"))
 
 
 def deadlines(found: list[counting.Sums], days: int = 14) -> list[tuple[str, dict[str, list[str]]]]:

@@ -100,7 +100,8 @@ def hall_page(code: str, hall: str) -> str:
                    for row, line in enumerate(numbered(found.desks, rows))
                    for column, number in enumerate(line) if number is not None)
     return render_template("hall.html", s=sums, opening=found, rows=rows, desks=desks, members=members,
-                           desk_width=WIDTH, by_desk={member.sitting.desk: member for member in members}, desk_height=HEIGHT,
+                           by_desk={member.sitting.desk: member for member in members}, desk_width=WIDTH,
+                           desk_height=HEIGHT,
                            codes=[row["code"] for row in papers(code)], absent=notebook.absent(desk().office, code))
 
 
