@@ -252,8 +252,9 @@ class TestNotNow(DeskSchool):
         path, text = self.left(page)
         self.assertTrue(path.endswith("#lodge"))
         lodge = text.partition('id="lodge"')[2].partition("</form>")[0]
-        for part in (f'name="reason" value="{REASON}"', 'value="17"', "<option selected>MON-PM",
-                     'value="arrangement" required checked', 'value="screen" checked', 'value="quiet" checked'):
+        self.assertRegex(lodge, f'name="reason"[^>]* value="{REASON}"')
+        for part in ('value="17"', "<option selected>MON-PM",
+                     'value="arrangement" checked', 'value="screen" checked', 'value="quiet" checked'):
             self.assertIn(part, lodge)
         self.assertNotIn('value="reader" checked', lodge)
         self.assertNotIn(REASON, text.replace(lodge, ""))
@@ -264,7 +265,7 @@ class TestNotNow(DeskSchool):
         page, _ = self.browser.post("/propose/decide", "/appeals/1051/D1", number="0001051", ref="D1",
                                     outcome="refused", reason="no 'asthma' here")
         text = self.left(page)[1]
-        self.assertIn('name="reason" value="no \'asthma\' here"', text)
+        self.assertRegex(text, 'name="reason"[^>]* value="no \'asthma\' here"')
         self.assertIn('value="refused" checked', text)
 
     def another_visit(self, path):
