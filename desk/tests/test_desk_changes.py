@@ -253,14 +253,14 @@ class TestNotNow(DeskSchool):
         self.assertTrue(path.endswith("#lodge"))
         lodge = text.partition('id="lodge"')[2].partition("</form>")[0]
         self.assertRegex(lodge, f'name="reason"[^>]* value="{REASON}"')
-        for part in ('value="17"', "<option selected>MON-PM",
-                     'value="arrangement" checked', 'value="screen" checked', 'value="quiet" checked'):
+        for part in ('value="17"', "<option selected>MON-PM", 'value="arrangement" checked', 'value="screen" checked',
+                     'value="quiet" checked'):
             self.assertIn(part, lodge)
         self.assertNotIn('value="reader" checked', lodge)
         self.assertNotIn(REASON, text.replace(lodge, ""))
         self.assertNotIn(REASON, self.another_visit(path))
-        self.assertNotIn(REASON, self.log())
         self.browser.post(page + "/do", page)
+        self.assertNotIn(REASON, self.log())
         self.assertNotIn(REASON, self.left(page, done=True)[1].partition('id="lodge"')[2])
         page, _ = self.browser.post("/propose/decide", "/appeals/1051/D1", number="0001051", ref="D1",
                                     outcome="refused", reason="no 'asthma' here")
