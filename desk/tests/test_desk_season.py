@@ -1,13 +1,56 @@
 """The season at the desk in a browser: what needs a person, and where it is mended."""
 import re
+import subprocess
 import unittest
 
-from desk_client import DeskSchool
+from desk_client import HAS_FLASK, PYTHON, DeskSchool
+from sample import DESK
 
 SESSIONS = "session,date,start\nHL,2027-06-07,10:00\nT1,2027-06-07,11:00\n"
 PAPERS = "paper,title,session,minutes,requires\nHL-1,Oral,HL,60,-\nT1-1,Oral,T1,30,-\n"
 OPENINGS = "session,hall,desks,until,reserved\nHL,AULA,5,18:00,no\n"
 ENTRIES = "number,paper\n0001000,HL-1\n0001000,T1-1\n"
+
+TURNS = """
+import flask, sys, threading
+sys.path.insert(0, sys.argv[1])
+from exam_web import desk
+begun, end, asked = threading.Event(), threading.Event(), []
+class Reading:
+    def person(self, number):
+        return number
+    def ask(self, people):
+        asked.append(len(people))
+view = desk.View.__new__(desk.View)
+view.reading, view.lock, view.locks, view.found = Reading(), threading.Lock(), {}, {}
+view.ask(range(450))
+@desk.once
+def slow(view):
+    begun.set()
+    end.wait()
+    return 7
+@desk.once
+def quick(view):
+    return 5
+threading.Thread(target=slow, args=[view]).start()
+begun.wait()
+desk.PATIENCE = 0.1
+with flask.Flask("x").test_request_context():
+    try:
+        slow(view)
+    except desk.StillReading as stage:
+        print(stage)
+    print(quick(view))
+end.set()
+print(slow(view), asked)
+"""
+
+
+@unittest.skipUnless(HAS_FLASK, "Flask or waitress is missing")
+class TestTurns(unittest.TestCase):
+    def test_who_asks_of_many_leaves_others_their_turn(self):
+        done = subprocess.run([PYTHON, "-c", TURNS, DESK], capture_output=True, text=True, timeout=60, check=True)
+        self.assertEqual(done.stdout, "Candidates and desks are counted\n5\n7 [200, 200, 50]\n")
 
 
 class TestWhatNeedsAPerson(DeskSchool):
