@@ -45,8 +45,9 @@ def make(here: Desk) -> Flask:
     app.register_error_handler(HTTPException, refused)
     app.register_error_handler(forms.Wrong, forms.wrong_page)
     app.register_error_handler(StillReading, still_reading)
-    for fault in (Trouble, OSError, sqlite3.Error):
-        app.register_error_handler(fault, faulty)
+    app.register_error_handler(Trouble, faulty)
+    app.register_error_handler(OSError, faulty)
+    app.register_error_handler(sqlite3.Error, faulty)
     here.warm = season.warm
     return app
 
