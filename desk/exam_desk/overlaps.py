@@ -63,18 +63,27 @@ def of_candidate(reading: Reading, number: str) -> list[Overlap]:
 
 def found(reading: Reading, asked: Collection[str] = ()) -> list[Overlap]:
     """The overlaps of these sessions with any others, otherwise all, by day and start."""
+    return certain(reading, in_doubt(reading, asked))
+
+
+def in_doubt(reading: Reading, asked: Collection[str] = ()) -> list[Doubtful]:
+    """The pairs of these sessions with any others, otherwise all, with those whom the rows leave in doubt."""
     reading.rows.index_entries()
     doubtful = []
     for pair in pairs(reading, asked):
         in_both = reading.rows.execute(IN_BOTH, {**pair._asdict(), "longest": LONGEST})
         doubtful.append((pair, [number for number, in in_both], seated(reading, pair)))
-    return certain(reading, doubtful)
+    return doubtful
+
+
+def numbers_of(doubtful: Collection[Doubtful]) -> list[int]:
+    return sorted({int(number) for _, people, halls in doubtful
+                   for number in (*people, *itertools.chain(*halls.values()))})
 
 
 def certain(reading: Reading, doubtful: Collection[Doubtful]) -> list[Overlap]:
     """What is left of pairs when the program has said who sits until when."""
-    numbers = {number for _, people, halls in doubtful for number in (*people, *itertools.chain(*halls.values()))}
-    reading.ask(reading.person(int(number)) for number in sorted(numbers))
+    reading.ask(map(reading.person, numbers_of(doubtful)))
     overlaps = [Overlap(pair.early, pair.late, [number for number in people if lasts(reading, pair, number)],
                         [hall for hall, there in halls.items() if any(lasts(reading, pair, each) for each in there)])
                 for pair, people, halls in doubtful]

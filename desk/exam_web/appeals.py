@@ -2,14 +2,16 @@
 import sqlite3
 
 from flask import Blueprint, abort, render_template, request
+from werkzeug.datastructures import MultiDict
 
-from exam_desk import changing, facts, lastdays
-from exam_web import effects, plans, proposals
+from exam_desk import facts, lastdays
+from exam_web import plans, proposals
 from exam_web.desk import desk, view
+from exam_web.forms import Asked
 from exam_web.wording import days_until
 
 pages = Blueprint("appeals", __name__)
-MOST_SHOWN = 300
+MOST_SHOWN, MOST_MOVES = 300, 12
 ALL = ("SELECT appeal.*, day, session.start AS start, name FROM appeal JOIN session ON session.code = session "
        "JOIN candidate ON candidate.number = appeal.number ")
 ORDER = "ORDER BY day, session.start, lodged, appeal.number"
@@ -44,13 +46,8 @@ def if_granted(number: int, ref: str) -> str:
     if row["state"] != 1:
         abort(404)
     outcome = "standing" if "standing" in request.args and row["kind"] == 3 else "granted"
-    step = plans.command("decide", f"{number:07}", ref, outcome, "")
-    refusal, found = [], None
-    with desk().rehearsing, changing.rehearse(desk().office, [step]) as rehearsal:
-        if rehearsal.refused:
-            refusal = proposals.worded(rehearsal.refused.first_line(), [])
-        else:
-            with desk().both(rehearsal) as (before, after):
-                found = effects.effects(before, after)
-    return render_template("if_granted.html" if "piece" in request.args else "if_granted_page.html", row=row, e=found,
-                           refusal=refusal[0] if refusal else "", most=12)
+    plan = plans.decide(MultiDict({"number": f"{number:07}", "ref": ref, "outcome": outcome}))
+    found = proposals.Proposal(plan, Asked())
+    with desk().rehearsing:
+        proposals.rehearse(found, desk(), desk().office)
+    return render_template("if_granted.html", row=row, e=found.effects, refusal=found.words(), most=MOST_MOVES)

@@ -4,7 +4,6 @@ import sqlite3
 from typing import Any
 
 from flask import Flask, g, redirect, render_template, request, url_for
-from werkzeug.datastructures import MultiDict
 from werkzeug.exceptions import HTTPException
 from werkzeug.routing import RequestRedirect
 from werkzeug.wrappers import Response
@@ -36,9 +35,11 @@ def make(here: Desk) -> Flask:
     app.extensions["desk"] = here
     app.extensions["guard"] = guard.Guard(app, here.address, here.prefix)
     wording.prepare(app)
-    app.jinja_env.globals.update(appeals=appeal_words, EFFECTS=effects.KINDS, FEATURES=FEATURES, places=PLACES)
+    app.jinja_env.globals.update(appeals=appeal_words, EFFECTS=effects.KINDS, FEATURES=FEATURES, places=PLACES,
+                                 RUNNING=session.RUNNING)
     for screen in SCREENS:
         app.register_blueprint(screen)
+    app.before_request(begin)
     app.context_processor(everywhere)
     app.teardown_request(release)
     app.register_error_handler(HTTPException, refused)
@@ -51,16 +52,25 @@ def make(here: Desk) -> Flask:
     return app
 
 
+def begin() -> Response | None:
+    """Where there is no office yet, every screen leads to the first page, which makes one."""
+    is_first = request.endpoint in {*guard.OPEN, "entering.leave", "season.page", "season.init"}
+    return None if is_first or desk().is_there() else redirect(url_for("season.page"), 303)
+
+
 def everywhere() -> dict[str, Any]:
     """What every page has besides its own."""
     here, visit = desk(), g.get("visit")
     said: list[tuple[str, Any]] = []
     if visit:
         said, visit.said = visit.said, []
+    left = visit.proposals.get(request.args.get("again", "")) if visit else None
+    asked = g.get("asked") or (left.asked if left else forms.Asked())
     return {"mark": visit and visit.mark, "initials": visit and visit.initials, "said": said,
             "today": here.office.today().isoformat(), "pretended": here.pretended,
             "office_name": here.office.base_name(), "state": g.view.name if "view" in g else "",
-            "wrong": g.get("wrong", {}), "given": g.get("given", MultiDict()), "asked_form": g.get("asked_form"),
+            "layout": "piece.html" if "piece" in request.args else "base.html",
+            "wrong": asked.wrong, "given": asked.given, "asked_form": asked.form,
             "direction": "rtl" if wording.language() in wording.RIGHT_TO_LEFT else "ltr"}
 
 

@@ -7,10 +7,11 @@ from werkzeug.wrappers import Response as Answer
 
 from exam_desk import facts, names, notebook, second_sitting
 from exam_desk.sheets import notes, person
+from exam_desk.sheets import slips as slip_pages
 from exam_desk.trouble import Trouble
-from exam_web import counting, printing
+from exam_web import output
 from exam_web.desk import View, candidate_row, desk, once, view
-from exam_web.forms import Wrong, lead
+from exam_web.forms import Page, Wrong, lead, short
 from exam_web.wording import text
 
 pages = Blueprint("candidates", __name__)
@@ -24,7 +25,7 @@ def find() -> str | Answer:
     if len(found) == 1:
         return redirect(url_for("candidates.page", number=found[0][0]))
     return render_template("candidates.html", asked=asked, found=found[:MOST_FOUND], total=len(found),
-                           everybody=counting.candidates(view()))
+                           everybody=len(people(view())))
 
 
 def search(asked: str) -> list[tuple[int, str]]:
@@ -81,14 +82,11 @@ def code(number: int) -> str:
 def note(number: int) -> Answer:
     """Keeps the note on a candidate, or takes it away; no seat depends on it."""
     candidate_row(number)
-    given, known = request.form.get("note", "").strip(), notebook.notes(desk().office).get(f"{number:07}", "")
-    wrong = None
-    if not notebook.is_note(given.encode("utf-8", "surrogateescape")):
-        wrong = text("at most {most} bytes in one line", most=notebook.MOST_NOTE_BYTES)
-    elif request.form.get("was", known) != known:
+    page_of: Page = ("candidates.page", {"number": number})
+    given, known = short(page_of, "note", "note"), notebook.notes(desk().office).get(f"{number:07}", "")
+    if request.form.get("was", known) != known:
         wrong = text("somebody has changed it meanwhile; it says: {note}", note=known or "–")
-    if wrong:
-        raise Wrong(("candidates.page", {"number": number}), "note", note=wrong)
+        raise Wrong(page_of, "note", note=wrong)
     notebook.take_notes(desk().office, {f"{number:07}": given})
     said = text("The note is kept.") if given else text("There is no note on this candidate.")
     return lead("candidates.page", said, number=number, _anchor="note")
@@ -99,12 +97,10 @@ def all_notes() -> Response:
     return Response(notes.text(desk().office, view().reading.rows), mimetype="text/plain")
 
 
-@pages.post("/candidates/<int:number>/slip")
-def slip(number: int) -> str:
-    candidate_row(number)
-    return printing.slips_for(view().reading, [f"{number:07}"], "codes" in request.form)
-
-
 @pages.post("/candidates/slips")
-def all_slips() -> str:
-    return printing.slips_for(view().reading, [], "codes" in request.form)
+@pages.post("/candidates/<int:number>/slip")
+def slips(number: int | None = None) -> str:
+    """The slip of one candidate, or those of all, of all sessions."""
+    only = [] if number is None else [f"{candidate_row(number)['number']:07}"]
+    choice = slip_pages.Choice(only=only, codes="codes" in request.form, desks=bool(only))
+    return output.styled(slip_pages.page(view().reading, choice))

@@ -39,8 +39,7 @@ class Sums:
 @once
 def sums(view: View) -> dict[str, Sums]:
     """All sessions by code, in the order of their days."""
-    counts: dict[str, dict[str, int]] = {name: {code: count for code, count in view.rows(query)}
-                                         for name, query in COUNTS.items()}
+    counts: dict[str, dict[str, int]] = {name: dict(view.rows(query)) for name, query in COUNTS.items()}
     counts["clashes"] = {code: len(people) for code, people in two_papers(view).items()}
     return {code: Sums(code, day, start, **{name: found.get(code, 0) for name, found in counts.items()})
             for code, day, start in view.rows("SELECT code, day, start FROM session ORDER BY day, start, code")}
@@ -53,8 +52,3 @@ def two_papers(view: View) -> dict[str, dict[int, str]]:
     for code, number, papers in view.rows(AT_ONCE):
         found.setdefault(code, {})[number] = papers
     return found
-
-
-@once
-def candidates(view: View) -> int:
-    return view.count("SELECT count(*) FROM candidate")

@@ -1,20 +1,24 @@
 """What the pages of one desk share: the office that they show, read once for each of its states."""
 import contextlib
 import dataclasses
+import math
 import os
 import sqlite3
 import threading
 import time
 from collections.abc import Callable, Iterable, Iterator, Sequence
+from concurrent.futures import Future, ThreadPoolExecutor
 from typing import Any, Concatenate, ParamSpec, TypeVar
 
-from flask import abort, current_app, g
+from flask import abort, current_app, g, has_request_context
 
 from exam_desk import changing, states
 from exam_desk.office import Office
 from exam_desk.reading import Reading
+from exam_desk.trouble import Trouble
 
 PATIENCE = 4  # seconds that a page waits for the office to be read, or for a rehearsal
+MANY, TURN = 200, 0.005  # candidates who are asked of at once, and the seconds that others have their turn then
 COPYING, COUNTING = "Its files are copied and read", "Candidates and desks are counted"
 Found = TypeVar("Found")
 Asked = ParamSpec("Asked")
@@ -29,14 +33,15 @@ class View:
 
     def __init__(self, office: Office, path: str | None = None) -> None:
         self.began = time.monotonic()
-        self.lock = threading.RLock()
+        self.lock = threading.Lock()  # of the locks of what is worked out
+        self.locks: dict[Any, threading.RLock] = {}
         self.found: dict[Any, Any] = {}
         self.readers, self.is_old = 0, False  # of Desk
         self.stack = contextlib.ExitStack()
         self.reading = self.stack.enter_context(Reading(office, path))
         self.name = states.name_of(self.reading.rows)
 
-    def rows(self, query: str, values: Sequence[object] = ()) -> list[sqlite3.Row]:
+    def rows(self, query: str, values: Sequence[object] = ()) -> list[Any]:
         return self.reading.rows.execute(query, values).fetchall()
 
     def row(self, query: str, values: Sequence[object] = ()) -> sqlite3.Row | None:
@@ -50,19 +55,33 @@ class View:
         asked = [f"{number:07}" for number in numbers]
         return self.reading.clashes(session, asked) if asked else {}
 
+    def ask(self, numbers: Iterable[int]) -> None:
+        """Asks the program of many; after some of them other pages have their turn."""
+        people = [self.reading.person(number) for number in numbers]
+        for place in range(0, len(people), MANY):
+            self.reading.ask(people[place:place + MANY])
+            time.sleep(TURN)
+
     def close(self) -> None:
         self.stack.close()
 
 
 def once(make: Callable[Concatenate[View, Asked], Found]) -> Callable[Concatenate[View, Asked], Found]:
-    """What is worked out of a view is worked out once."""
+    """What is worked out of a view is worked out once. A page waits a little for another one that does it, and raises
+    `StillReading` then."""
     def found(view: View, /, *asked: Asked.args, **more: Asked.kwargs) -> Found:
         key = (make, asked, *more.items())
         with view.lock:
+            lock = view.locks.setdefault(key, threading.RLock())
+        if not lock.acquire(timeout=PATIENCE if has_request_context() else -1):
+            raise StillReading(COUNTING)
+        try:
             if key not in view.found:
                 view.found[key] = make(view, *asked, **more)
             result: Found = view.found[key]
             return result
+        finally:
+            lock.release()
     return found
 
 
@@ -77,82 +96,64 @@ class Desk:
         self.pretended = pretended  # whether the day is not the clock's
         self.warm: Callable[[View], None] = lambda view: None  # works out what pages want first
         self.rehearsing = threading.Lock()  # one rehearsal at a time: each takes a core
-        self.changed = threading.Condition()  # of all below
+        self.reader = ThreadPoolExecutor(1)
+        self.lock = threading.Lock()  # of all below
         self.held: View | None = None
-        self.wanted = self.read_until = 0.0  # when a view was asked for; when the reading began that ended last
-        self.fault: Exception | None = None  # of the last reading
+        self.reading: Future[None] | None = None  # the last one
         self.stage = ""
-        self.is_closed = False
-        self.reader = threading.Thread(target=self.read_on_demand, daemon=True)
-        self.reader.start()
 
     def is_there(self) -> bool:
         return os.path.isfile(self.office.path)
 
-    def read_on_demand(self) -> None:
-        while True:
-            with self.changed:
-                self.changed.wait_for(lambda: self.is_closed or self.wanted > self.read_until)
-                if self.is_closed:
-                    return
-                if self.has_current(self.wanted):  # asked for while it was read
-                    self.wanted = self.read_until
-                    self.changed.notify_all()
-                    continue
-            self.read()
+    def start_reading(self) -> Future[None]:
+        """The reading that is under way, else a new one."""
+        with self.lock:
+            if self.reading is None or self.reading.done():
+                self.reading = self.reader.submit(self.read)
+            return self.reading
 
     def read(self) -> None:
         """Reads the office, and puts it in the place of the view that is held."""
-        began, fault, view = time.monotonic(), None, None
+        self.stage = COPYING
+        view = View(self.office)
         try:
-            self.stage = COPYING
-            view = View(self.office)
+            with contextlib.suppress(Trouble, OSError):  # a page that asks the program says it
+                view.reading.prepare()
             self.stage = COUNTING
             self.warm(view)
-        except Exception as error:  # whoever waits for the view says it
-            fault = error
-        with self.changed:
-            self.read_until, self.fault = began, fault
-            unused = view
-            if not fault:
-                unused, self.held = self.held, view
-            if unused:
-                self.drop(unused)
-            self.changed.notify_all()
-        if view and not fault and (first := view.row("SELECT number FROM candidate LIMIT 1")):
-            with contextlib.suppress(Exception):  # a page that asks says it
-                view.reading.all_of(f"{first['number']:07}")
+        except Exception:
+            view.close()
+            raise
+        with self.lock:
+            old, self.held = self.held, view
+            if old:
+                self.drop(old)
 
     def drop(self, view: View) -> None:
         view.is_old = True
         if not view.readers:
             view.close()
 
-    def start_reading(self) -> None:
-        with self.changed:
-            self.wanted = time.monotonic()
-            self.changed.notify_all()
-
     def view(self) -> View:
         """The office as it is now, for one reader, who releases it. Raises `StillReading` where that takes long."""
         asked = time.monotonic()
-        with self.changed:
-            if not self.has_current(asked):
-                self.start_reading()
-                self.changed.wait_for(lambda: self.read_until >= asked or self.has_current(asked), PATIENCE)
-                if self.read_until >= asked and self.fault:
-                    raise self.fault
-            if not self.has_current(asked):
-                raise StillReading(self.stage)
-            assert self.held
-            self.held.readers += 1
-            return self.held
+        while not (found := self.taken(asked)):
+            try:
+                self.start_reading().result(max(0, asked + PATIENCE - time.monotonic()))
+            except TimeoutError:
+                raise StillReading(self.stage) from None
+        return found
 
-    def has_current(self, asked: float) -> bool:
-        return self.held is not None and (self.held.began >= asked or self.held.reading.is_current())
+    def taken(self, since: float = math.inf) -> View | None:
+        """The view that is held, for one reader, if it was read since then or is still that of the office."""
+        with self.lock:
+            if self.held and (self.held.began >= since or self.held.reading.is_current()):
+                self.held.readers += 1
+                return self.held
+        return None
 
     def release(self, view: View) -> None:
-        with self.changed:
+        with self.lock:
             view.readers -= 1
             if view.is_old:
                 self.drop(view)
@@ -161,23 +162,12 @@ class Desk:
     def before(self, rehearsal: changing.Rehearsal) -> Iterator[View]:
         """The office as a rehearsal found it: the view at hand, where the office is still of that state."""
         with contextlib.ExitStack() as stack:
-            with self.changed:
-                held = self.held if self.held and self.held.reading.is_current() else None
-                if held:
-                    held.readers += 1
-                    stack.callback(self.release, held)
+            if held := self.taken():
+                stack.callback(self.release, held)
             yield held or stack.enter_context(contextlib.closing(View(self.office, rehearsal.before)))
 
-    @contextlib.contextmanager
-    def both(self, rehearsal: changing.Rehearsal) -> Iterator[tuple[View, View]]:
-        with self.before(rehearsal) as before, contextlib.closing(View(self.office, rehearsal.after)) as after:
-            yield before, after
-
     def close(self) -> None:
-        with self.changed:
-            self.is_closed = True
-            self.changed.notify_all()
-        self.reader.join()
+        self.reader.shutdown(cancel_futures=True)
         if self.held:
             self.held.close()
 

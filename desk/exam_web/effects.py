@@ -1,8 +1,9 @@
 """What a change does to people and to sessions: the difference of two states of an office."""
 from collections import Counter
+from collections.abc import Iterable
 from typing import NamedTuple
 
-from exam_desk import overlaps, telling, touched
+from exam_desk import facts, overlaps, telling, touched
 from exam_desk.consequences import by_name, has_seats
 from exam_desk.reading import Member, Person, Reading
 from exam_desk.telling import Change
@@ -22,7 +23,6 @@ KINDS = {  # the gravest first: in words before the change, after it, and after 
     "desk": ("would have another desk number only", "have another desk number only", "has another desk number only"),
 }
 NUMBERS = ("members", "desks", "short", "clashes")
-CODES = "SELECT number, code FROM candidate"
 MOST_CLASHES = 100  # new ones that are named
 
 
@@ -33,8 +33,8 @@ class SessionChange(NamedTuple):
     numbers: dict[str, tuple[int | None, int]]
 
 
-class NewOverlap(NamedTuple):
-    """Two sessions at one time: who is in both, and in which halls both have candidates, as was not so before."""
+class Overlap(NamedTuple):
+    """Two sessions at one time: who is in both, and in which halls both have candidates."""
     early: str
     late: str
     people: list[Person]
@@ -48,7 +48,7 @@ class Effects:
     """The changes of people, the gravest first, and of sessions."""
 
     def __init__(self, changes: list[Change], sessions: list[SessionChange], clashes: list[NewClash],
-                 twice: list[NewOverlap], codes: int, titles: dict[str, str]) -> None:
+                 twice: list[Overlap], codes: int, titles: dict[str, str]) -> None:
         self.changes = sorted(changes, key=lambda each: list(KINDS).index(each.kind()))
         self.sessions, self.clashes, self.overlaps, self.titles = sessions, clashes, twice, titles
         self.codes = codes  # how many candidates have another access code
@@ -65,9 +65,11 @@ class Effects:
 def effects(before: View, after: View) -> Effects:
     """Where nobody has a seat yet, nobody can lose or change one: then the sessions say all."""
     changes = telling.differences(before.reading, after.reading) if has_seats(before.reading) else []
-    return Effects(changes, session_changes(before, after), new_clashes(before, after),
-                   new_overlaps(before.reading, after.reading), other_codes(before, after),
-                   telling.titles_of(before.reading, after.reading))
+    twice = overlaps.new(before.reading, after.reading, list(touched.of_readings(before.reading, after.reading)))
+    was = facts.access_codes(before.reading.rows)
+    codes = sum(was.get(number, code) != code for number, code in facts.access_codes(after.reading.rows).items())
+    return Effects(changes, session_changes(before, after), new_clashes(before, after), named(after.reading, twice),
+                   codes, telling.titles_of(before.reading, after.reading))
 
 
 def new_clashes(before: View, after: View) -> list[NewClash]:
@@ -84,15 +86,8 @@ def new_clashes(before: View, after: View) -> list[NewClash]:
     return found
 
 
-def new_overlaps(before: Reading, after: Reading) -> list[NewOverlap]:
-    """Those of the sessions that a change touches."""
-    return [NewOverlap(each.early, each.late, by_name(after, each.candidates), each.halls)
-            for each in overlaps.new(before, after, list(touched.of_readings(before, after)))]
-
-
-def other_codes(before: View, after: View) -> int:
-    old = {number: code for number, code in before.rows(CODES)}
-    return sum(code != old.get(number, code) for number, code in after.rows(CODES))
+def named(reading: Reading, found: Iterable[overlaps.Overlap]) -> list[Overlap]:
+    return [Overlap(each.early, each.late, by_name(reading, each.candidates), each.halls) for each in found]
 
 
 def session_changes(before: View, after: View) -> list[SessionChange]:

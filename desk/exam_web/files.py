@@ -1,10 +1,10 @@
 """Files: what the office has, what is uploaded, its mistakes, and the import that is rehearsed."""
-from flask import Blueprint, Response, abort, g, redirect, render_template, request, url_for
+from flask import Blueprint, Response, abort, g, render_template, request
 from werkzeug.wrappers import Response as Answer
 
 from exam_desk import dumping, files
-from exam_web import downloads, uploads
-from exam_web.desk import View, desk, once, view
+from exam_web import output, uploads
+from exam_web.desk import view
 from exam_web.forms import keep, lead
 from exam_web.wording import many, text
 
@@ -16,23 +16,16 @@ COUNTS = {"sessions": "session", "papers": "paper", "halls": "hall", "openings":
 
 
 @pages.get("/files")
-def page() -> str | Answer:
-    if not desk().is_there():
-        return redirect(url_for("season.page"))
-    return render_template("files.html", headers=files.HEADERS, counts=counts(view()),
+def page() -> str:
+    counts = {kind: view().count(f"SELECT count(*) FROM {table}") for kind, table in COUNTS.items()}
+    return render_template("files.html", headers=files.HEADERS, counts=counts,
                            uploaded={key: each for key, each in g.visit.uploads.items() if not each.is_imported})
-
-
-@once
-def counts(found: View) -> dict[str, int]:
-    """How many rows the office has, by kind."""
-    return {kind: found.count(f"SELECT count(*) FROM {table}") for kind, table in COUNTS.items()}
 
 
 @pages.post("/files")
 def upload() -> Answer:
     dates = request.form.get("dates", "")
-    if dates not in DATES or not desk().is_there():
+    if dates not in DATES:
         abort(400)
     found = uploads.taken(request.files.getlist("files"), dates, view())
     if not (found.texts or found.notes or found.workbooks):
@@ -65,12 +58,25 @@ def correct(key: str) -> Answer:
     return lead("files.look", said, key=key)
 
 
+@pages.post("/files/uploaded/<key>/hidden")
+def hidden(key: str) -> Answer:
+    """Reads a workbook once more, with its hidden rows and sheets, or without them."""
+    upload, place = uploads.of_visit(key), request.form.get("book", "")
+    if place not in map(str, range(len(upload.workbooks))) or upload.is_imported:
+        abort(404)
+    book = upload.workbooks.pop(int(place))
+    upload.texts = {kind: content for kind, content in upload.texts.items() if kind not in book.kinds}
+    choice = "take" if request.form.get("take") else "leave"
+    uploads.take_book(upload, uploads.Book(book.name, book.content, book.way, choice), view())
+    return lead("files.look", key=key)
+
+
 @pages.get("/files/uploaded/<key>/<kind>.csv")
 def download(key: str, kind: str) -> Response:
     found = uploads.of_visit(key).texts.get(kind) if kind in files.HEADERS else None
-    return abort(404) if found is None else downloads.attached(found, f"{kind}.csv")
+    return abort(404) if found is None else output.attached(found, f"{kind}.csv")
 
 
 @pages.post("/files/dump")
 def dump() -> Response:
-    return downloads.archive("facts", lambda folder: dumping.write_all(view().reading.rows, folder))
+    return output.archive("facts", lambda folder: dumping.write_all(view().reading.rows, folder))

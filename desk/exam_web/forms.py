@@ -1,6 +1,7 @@
 """What a form that was posted comes to: it leads to a page, or its own page says what is wrong at its fields."""
 import secrets
-from typing import Any
+from collections.abc import Mapping
+from typing import Any, NamedTuple
 
 from flask import current_app, g, redirect, request, url_for
 from flask.typing import ResponseReturnValue
@@ -8,7 +9,7 @@ from markupsafe import Markup
 from werkzeug.datastructures import MultiDict
 from werkzeug.wrappers import Response
 
-from exam_desk import mistakes
+from exam_desk import mistakes, notebook
 from exam_web.wording import text
 
 Form = MultiDict[str, str]
@@ -16,19 +17,25 @@ Page = tuple[str, dict[str, Any]]  # an endpoint and its values
 SHEET_HINT = "; format the column as text"  # of cures, for who has a spreadsheet
 
 
+class Asked(NamedTuple):
+    """What a form was given: its name on the page, all its values, and what is wrong, by field."""
+    form: str = ""
+    given: Form = MultiDict()
+    wrong: Mapping[str, object] = {}
+
+
 class Wrong(Exception):
     """Values of a form that cannot be: the page that has the form, and what is said beside each field."""
 
     def __init__(self, page: Page, form: str = "", **fields: object) -> None:
         super().__init__()
-        self.page, self.fields = page, fields
-        self.form = form or (request.view_args or {})["what"]  # its name on the page
+        self.page = page
+        self.asked = Asked(form or (request.view_args or {})["what"], request.form, fields)
 
 
 def wrong_page(wrong: Wrong) -> ResponseReturnValue:
     """The page of a form, with what is wrong at its fields and all that was given."""
-    g.wrong, g.given, g.asked_form = wrong.fields, request.form, wrong.form
-    endpoint, values = wrong.page
+    g.asked, (endpoint, values) = wrong.asked, wrong.page
     try:
         return current_app.view_functions[endpoint](**values), 422
     except Exception as fault:  # what the form is about is gone, or the office cannot be read
@@ -50,6 +57,14 @@ def checked(page: Page, form: Form, **columns: str) -> dict[str, str]:
     if wrong:
         raise Wrong(page, **wrong)
     return values
+
+
+def short(page: Page, field: str, form: str = "") -> str:
+    """A text that a person wrote, such as a reason. It is private: it is posted, and stands in no address."""
+    found = request.form.get(field, "").strip()
+    if not notebook.is_note(found.encode("utf-8", "surrogateescape")):
+        raise Wrong(page, form, **{field: text("at most {most} bytes in one line", most=notebook.MOST_NOTE_BYTES)})
+    return found
 
 
 def whole(low: int, high: int) -> Markup:

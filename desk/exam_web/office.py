@@ -6,12 +6,12 @@ import re
 import sys
 from contextlib import closing
 
-from flask import Blueprint, Response, abort, redirect, render_template, request, url_for
+from flask import Blueprint, Response, abort, render_template, request
 from werkzeug.wrappers import Response as Answer
 
 from exam_desk import changing, copies, kept, logbook, private, turns, undo
 from exam_desk.trouble import Stale
-from exam_web import downloads, effects, proposals
+from exam_web import effects, output, proposals
 from exam_web.desk import View, desk, office, once, view
 from exam_web.forms import Wrong, lead, whole
 from exam_web.wording import shown, text
@@ -37,10 +37,8 @@ def log_since(when: str = "") -> list[list[str]]:
 
 
 @pages.get("/office")
-def page() -> str | Answer:
+def page() -> str:
     here = desk().office
-    if not desk().is_there():
-        return redirect(url_for("season.page"))
     found = [(copy_key(path), *copies.when_and_what(path)) for path in copies.listed(here)]
     return render_template("office.html", copies=found, log=log_since(), keep=turns.keep_state(here))
 
@@ -63,7 +61,7 @@ def since(now: View, path: str) -> effects.Effects:
 
 @pages.get("/office/copies/<key>/changes.csv")
 def copy_csv(key: str) -> Response:
-    return downloads.attached(since(view(), copy_of(key)).csv(), "changes-since.csv")
+    return output.attached(since(view(), copy_of(key)).csv(), "changes-since.csv")
 
 
 @pages.post("/office/copies/<key>/back")
@@ -103,5 +101,5 @@ def keep() -> Answer:
 @pages.post("/office/backup")
 def backup() -> Response:
     here = desk().office
-    return downloads.archive("office", lambda folder: private.copy_files(os.path.realpath(here.path),
+    return output.archive("office", lambda folder: private.copy_files(os.path.realpath(here.path),
                                                                          os.path.join(folder, here.base_name())))

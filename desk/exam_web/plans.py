@@ -1,11 +1,13 @@
-"""What forms ask, as steps of the program. Values have the forms of the import files; all else the program says."""
+"""What forms ask, as steps of the program. Values have the forms of the import files; all else the program says.
+
+The values of a form stand under the names of the columns that they become. What a plan is called, and the words of its
+button, are in templates/plan.html.
+"""
 import re
-import sqlite3
-from collections.abc import Callable
+from collections.abc import Callable, Mapping, Sequence
 from functools import partial
 
 from flask import Blueprint, abort, g, request
-from markupsafe import Markup
 from werkzeug.wrappers import Response
 
 from exam_desk import coding, files, lodging, second_sitting
@@ -14,111 +16,91 @@ from exam_desk.trouble import Trouble
 from exam_desk.words import FEATURES, clock
 from exam_web import proposals, session, uploads
 from exam_web.desk import candidate_row, desk, view
-from exam_web.forms import Form, Page, Wrong, checked
+from exam_web.forms import Form, Page, Wrong, checked, short
 from exam_web.proposals import TROUBLE, Plan
 from exam_web.wording import said, text
 
 pages = Blueprint("plans", __name__)
-MOST_REASON = 200  # bytes
 REF = re.compile("[A-Z0-9]{1,16}")
-OUTCOMES = {"granted": ("Grant appeal {ref} of {name}", "Grant"),
-            "standing": ("Grant appeal {ref} of {name}, for later sessions too", "Grant, standing"),
-            "refused": ("Refuse appeal {ref} of {name}", "Refuse")}
+OUTCOMES = ["granted", "standing", "refused"]
+Values = dict[str, str]
 
 
-def command(word: str, *values: str) -> Step:
-    """A command of the program; `--` keeps values that begin with - from being options."""
-    return Step((word, *(["--"] if any(value.startswith("-") for value in values) else []), *values))
+def command(word: str, names: Sequence[str], values: Mapping[str, str]) -> Step:
+    """A command of the program with the values of these names; `--` keeps what begins with - from being an option."""
+    found = [values[name] for name in names]
+    return Step((word, *(["--"] if any(value.startswith("-") for value in found) else []), *found))
 
 
-def import_step(kind: str, *values: str) -> Step:
+def import_step(kind: str, values: Mapping[str, str]) -> Step:
     """An import of one row that was typed in."""
-    data = files.written([files.HEADERS[kind], values]).encode("utf-8", "surrogateescape")
+    header = files.HEADERS[kind]
+    data = files.written([header, [values[name] for name in header]]).encode("utf-8", "surrogateescape")
     return Step(("import", kind, f"{kind}.csv"), data)
 
 
-def candidate(form: Form) -> tuple[str, sqlite3.Row, Page]:
+def candidate(form: Form, **columns: str) -> tuple[Values, Page]:
+    """The number and the name of a candidate, with the values of fields; and the candidate's page."""
     number = form.get("number", "")
     if not files.is_number(number.encode("utf-8", "surrogateescape")):
         abort(404)
-    return number, candidate_row(int(number)), ("candidates.page", {"number": int(number)})
+    row, page = candidate_row(int(number)), ("candidates.page", {"number": int(number)})
+    return {**checked(page, form, **columns), "number": number, "name": row["name"]}, page
 
 
-def reason(form: Form, page: Page) -> str:
-    """A reason, which is private: it is posted, and reaches the program as the value of a step alone."""
-    found = form.get("reason", "").strip()
-    if len(found.encode("utf-8", "surrogateescape")) > MOST_REASON or re.search(r"[\x00-\x1f\x7f]", found):
-        raise Wrong(page, reason=text("at most {most} bytes in one line", most=MOST_REASON))
-    return found
-
-
-def needs(form: Form) -> str:
-    chosen = form.getlist("needs")
+def features(form: Form, field: str = "needs") -> str:
+    chosen = form.getlist(field)
     return "+".join(name for name in FEATURES if name in chosen) or "-"
 
 
-def of_entry(title: str, verb: str, step: Callable[[str, str], Step], number: int, form: Form) -> Plan:
-    """The plan of one entry; a refusal of this number is about its paper, as are those of what is not known."""
-    who, row, page = candidate(form)
-    paper = checked(page, form, paper="paper")["paper"]
-    return Plan(text(title, name=row["name"], paper=paper), [step(who, paper)], page, text(verb),
-                dict.fromkeys((5, 6, 8, number), "paper"))
+def of_entry(step: Callable[[Values], Step], form: Form) -> Plan:
+    values, page = candidate(form, paper="paper")
+    return Plan(values, [step(values)], page, dict.fromkeys((5, 6, 8, 9, 10, 20), "paper"))
 
 
 def arrangement(form: Form) -> Plan:
-    number, row, page = candidate(form)
-    extra = checked(page, form, extra="extra")["extra"]
-    title = text("Arrangement of {name}: {needs}, {extra} % extra time", name=row["name"], needs=needs(form),
-                 extra=extra)
-    return Plan(title, [import_step("arrangements", number, needs(form), extra)], page, text("Set the arrangement"),
-                {20: "extra"}, text("It holds in every session in which no grant is in force for the candidate."))
+    values, page = candidate(form, extra="extra")
+    values["needs"] = features(form)
+    return Plan(values, [import_step("arrangements", values)], page, {20: "extra"})
 
 
 def rename(form: Form) -> Plan:
-    number, row, page = candidate(form)
-    name = checked(page, form, name="name")["name"]
-    return Plan(text("Another name for {name}: {other}", name=row["name"], other=name),
-                [coding.renamed(desk().office, number, name)], page, text("Change the name"),
-                note=text("The access code stays."), made_from=view().name)
+    values, page = candidate(form)
+    values["other"] = checked(page, form, name="name")["name"]
+    step = coding.renamed(desk().office, values["number"], values["other"])
+    return Plan(values, [step], page, made_from=view().name)
 
 
 def new_code(form: Form) -> Plan:
-    number, row, page = candidate(form)
+    values, page = candidate(form)
     code = coding.new_code({code for code, in view().rows("SELECT code FROM candidate")})
-    return Plan(text("New access code for {name}", name=row["name"]),
-                [import_step("candidates", number, row["name"], code)], page, text("Give the new code"),
-                note=text("The old code ends at once."),
-                done_note=text("The candidate's page shows the new code when you ask for it, and prints a slip."))
+    return Plan(values, [import_step("candidates", {**values, "code": code})], page)
 
 
 def lodge(form: Form) -> Plan:
     """An appeal for a candidate who is there, lodged over HTTP as candidates do: so its reason is no argument."""
-    number, row, page = candidate(form)
-    kind, code = form.get("kind", ""), checked(page, form, session="session")["session"]
+    values, page = candidate(form, session="session")
+    kind = form.get("kind", "")
     if kind not in lodging.KINDS:
         raise Wrong(page, kind=text("choose one"))
     field = "wanted_extra" if kind == "arrangement" else f"wanted_{kind}"
-    value = checked(page, form, **{field: lodging.KINDS[kind][-1]})[field]
-    values = [needs(form), value] if kind == "arrangement" else [value]
+    wanted = [features(form)] if kind == "arrangement" else []
+    wanted.append(checked(page, form, **{field: lodging.KINDS[kind][-1]})[field])
     fields = {**dict.fromkeys((4, 12, 13, 20, 21), "session"), **dict.fromkeys((5, 7, 8, 11, 18, 19), field)}
-    title = text("Lodge for {name}: {kind} {values}, {session}", name=row["name"], kind=text(kind),
-                 values=" ".join(values), session=code)
-    return Plan(title, [], page, text("Lodge it"), fields, text("Lodging moves nobody. It is decided afterwards."),
-                lodge=(number, code, kind, *values, reason(form, page)))
+    return Plan({**values, "kind": kind, "wanted": " ".join(wanted)}, [], page, fields,
+                lodge=(values["number"], values["session"], kind, *wanted, short(page, "reason")))
 
 
 def decide(form: Form) -> Plan:
-    number, row, _ = candidate(form)
-    ref, outcome = form.get("ref", ""), form.get("outcome", "")
-    if not REF.fullmatch(ref):
+    values, _ = candidate(form)
+    values |= {"ref": form.get("ref", ""), "outcome": form.get("outcome", "")}
+    if not REF.fullmatch(values["ref"]):
         abort(404)
-    page: Page = ("appeals.one", {"number": int(number), "ref": ref})
-    if outcome not in OUTCOMES:
+    page: Page = ("appeals.one", {"number": int(values["number"]), "ref": values["ref"]})
+    if values["outcome"] not in OUTCOMES:
         raise Wrong(page, outcome=text("choose one"))
-    title, verb = OUTCOMES[outcome]
-    step = command("decide", number, ref, outcome, reason(form, page))
-    return Plan(text(title, ref=ref, name=row["name"]), [step], page, text(verb),
-                dict.fromkeys((8, 12, 15, 16, 17, 26), "outcome"), text("A decision is final."))
+    step = command("decide", ["number", "ref", "outcome", "reason"], {**values, "reason": short(page, "reason")})
+    return Plan(values, [step], page, dict.fromkeys((8, 12, 15, 16, 17, 26), "outcome"))
 
 
 def session_page(form: Form) -> tuple[str, Page]:
@@ -126,76 +108,73 @@ def session_page(form: Form) -> tuple[str, Page]:
     return code, ("session.page", {"code": code})
 
 
-def opening(form: Form, page: Page, prefix: str = "") -> list[str]:
-    """The values of a hall that is to be open, after its session."""
-    values = checked(page, form, **{prefix + name: name for name in ("hall", "desks", "until")})
-    return [*values.values(), "yes" if form.get(prefix + "reserved") else "no"]
+def opening(form: Form, page: Page, code: str) -> tuple[Values, list[Step]]:
+    """A hall that is to be open, which was chosen or which the office does not know yet; and the steps for it."""
+    is_new = form.get("new_hall", "").strip() != ""
+    names = {"new_hall": "hall", "new_title": "title"} if is_new else {"hall": "hall"}
+    hall, *titles, desks, until = checked(page, form, **names, desks="desks", until="until").values()
+    if is_new and view().row("SELECT 1 FROM hall WHERE code = ?", [hall]):
+        raise Wrong(page, new_hall=text("the office has this hall: choose it from the list"))
+    values = {"session": code, "hall": hall, "desks": desks, "until": until,
+              "reserved": "yes" if form.get("reserved") else "no"}
+    new = [import_step("halls", {"hall": hall, "title": title, "features": features(form, "new_features")})
+           for title in titles]
+    return values, [*new, import_step("openings", values)]
 
 
 def open_hall(form: Form) -> Plan:
     code, page = session_page(form)
-    hall, desks, until, reserved = opening(form, page)
-    title = text("Open {hall} in {session}: {desks} desks until {until}", hall=hall, session=code, desks=desks,
-                 until=until)
-    return Plan(title, [import_step("openings", code, hall, desks, until, reserved)], page, text("Open it"),
-                {4: "hall", 7: "hall", 20: "desks"})
+    values, steps = opening(form, page, code)
+    return Plan(values, steps, page, {4: "hall", 7: "hall", 20: "desks"})
 
 
 def close_hall(form: Form) -> Plan:
     """A hall that cannot be used; with another in its place where the form on the first rehearsal's page asks it."""
     code, page = session_page(form)
-    lost = checked(page, form, lost="hall")["lost"]
-    title, steps = text("Close {hall} for {session}", hall=lost, session=code), [command("close-hall", code, lost)]
-    first = form.get("proposal", "")
+    lost, first = checked(page, form, lost="hall")["lost"], form.get("proposal", "")
+    values, steps, form_page = {"session": code, "lost": lost}, list[Step](), page
     if first in g.visit.proposals:
-        shown: Page = ("proposals.page", {"key": first})
-        hall, desks, until, reserved = opening(form, shown, "other_")
-        if hall == lost:
-            raise Wrong(shown, other_hall=text("this is the hall that is lost"))
-        steps.insert(0, import_step("openings", code, hall, desks, until, reserved))
-        title = text("Close {hall} for {session}, and have {other} with {desks} desks until {until}", hall=lost,
-                     session=code, other=hall, desks=desks, until=until)
-    return Plan(title, steps, page, text("Close the hall"), {25: "lost", 7: "lost"}, others=others(code, lost))
+        form_page = ("proposals.page", {"key": first})
+        other, steps = opening(form, form_page, code)
+        values |= other
+        if other["hall"] == lost:
+            raise Wrong(form_page, hall=text("this is the hall that is lost"))
+    return Plan(values, [*steps, command("close-hall", ["session", "lost"], values)], page, {25: "lost", 7: "lost"},
+                others=others(code, lost), form_page=form_page)
 
 
 def others(code: str, lost: str) -> dict[str, object]:
     """What the form for another hall begins with: the closed halls first, desks and end of the lost one; where the
     first is open already, as many desks more."""
-    opened = {each.hall: each for each in session.openings(view(), code)}
-    rows = view().rows("SELECT code, title FROM hall WHERE code <> ? ORDER BY code", [lost])
-    halls = sorted(((row["code"], row["title"], opened.get(row["code"])) for row in rows),
-                   key=lambda each: each[2] is not None)
-    needed = [each for each in (opened.get(lost), halls[0][2] if halls else None) if each]
-    return {"session": code, "lost": lost, "halls": halls, "desks": sum(each.desks for each in needed) or "",
+    choices = session.hall_choices(code)
+    halls = [each for each in choices if each[0] != lost]
+    needed = [now for hall, _, now in choices if now and hall in (lost, *(each[0] for each in halls[:1]))]
+    return {"halls": halls, "desks": sum(each.desks for each in needed) or "",
             "until": clock(max(each.until for each in needed)) if needed else ""}
 
 
 def second(form: Form) -> Plan:
     """A second sitting for a candidate with two papers at once."""
-    number, row, _ = candidate(form)
-    code, _ = session_page(form)
-    page: Page = ("clashes.second", {"code": code, "number": int(number)})
-    values = checked(page, form, paper="paper", start="start", hall="hall")
-    title = text("{name} sits {paper} later that day, from {start} in {hall}", name=row["name"], **values)
-    asked = second_sitting.Asked(number, **values)
-    return of_second(page, "start", title, text("Arrange it"), lambda: second_sitting.plan(view().reading, asked))
+    values, _ = candidate(form)
+    page: Page = ("clashes.second", {"code": session_page(form)[0], "number": int(values["number"])})
+    asked = checked(page, form, paper="paper", start="start", hall="hall")
+    return of_second({**values, **asked}, page, "start",
+                     lambda: second_sitting.plan(view().reading, second_sitting.Asked(values["number"], **asked)))
 
 
 def second_back(form: Form) -> Plan:
-    number, row, page = candidate(form)
-    paper = checked(page, form, paper="paper")["paper"]
-    title = text("Take back the second sitting of {paper} of {name}", paper=paper, name=row["name"])
-    return of_second(page, "paper", title, text("Take it back"),
-                     lambda: second_sitting.plan_back(view().reading, number, paper))
+    values, page = candidate(form, paper="paper")
+    return of_second(values, page, "paper",
+                     lambda: second_sitting.plan_back(view().reading, values["number"], values["paper"]))
 
 
-def of_second(page: Page, name: str, title: Markup, verb: Markup, make: Callable[[], second_sitting.Plan]) -> Plan:
+def of_second(values: Values, page: Page, name: str, make: Callable[[], second_sitting.Plan]) -> Plan:
     """A plan as the command line makes it; what it refuses is said beside the field of this name."""
     try:
         found = make()
     except Trouble as trouble:
         raise Wrong(page, **{name: said(trouble.sentence)}) from None
-    return Plan(title, found.steps, page, verb, {TROUBLE: name}, command=found.title, made_from=view().name,
+    return Plan(values, found.steps, page, {TROUBLE: name}, command=found.title, made_from=view().name,
                 look=partial(second_sitting.lines, found))
 
 
@@ -203,20 +182,16 @@ def import_files(form: Form) -> Plan:
     key = form.get("upload", "")
     upload = uploads.of_visit(key)
     steps = [Step(("import", kind, f"{kind}.csv"), upload.texts[kind]) for kind in upload.kinds]
-    return Plan(text("Import {kinds}", kinds=", ".join(upload.kinds)), steps, ("files.look", {"key": key}),
-                text("Import"), done=upload.note_import)
+    return Plan({"kinds": ", ".join(upload.kinds)}, steps, ("files.look", {"key": key}),
+                done=partial(setattr, upload, "is_imported", True))
 
 
-ENTRIES: dict[str, tuple[str, str, Callable[[str, str], Step], int]] = {
-    "withdraw": ("Withdraw {name} from {paper}", "Withdraw", partial(command, "withdraw"), 9),
-    "reinstate": ("Reinstate {name} for {paper}", "Reinstate", partial(command, "reinstate"), 10),
-    "enter": ("Enter {name} for {paper}", "Enter", partial(import_step, "entries"), 20),
-}
 PLANS: dict[str, Callable[[Form], Plan]] = {
-    **{what: partial(of_entry, *values) for what, values in ENTRIES.items()}, "arrangement": arrangement,
-    "code": new_code, "name": rename, "lodge": lodge, "decide": decide, "open": open_hall, "close": close_hall,
-    "files": import_files,
-    "second": second, "second-back": second_back,
+    "withdraw": partial(of_entry, partial(command, "withdraw", ["number", "paper"])),
+    "reinstate": partial(of_entry, partial(command, "reinstate", ["number", "paper"])),
+    "enter": partial(of_entry, partial(import_step, "entries")),
+    "arrangement": arrangement, "code": new_code, "name": rename, "lodge": lodge, "decide": decide,
+    "open": open_hall, "close": close_hall, "files": import_files, "second": second, "second-back": second_back,
 }
 
 

@@ -5,6 +5,7 @@ import sqlite3
 import threading
 import time
 from collections.abc import Callable
+from contextlib import closing
 from dataclasses import dataclass, field
 from typing import Any
 
@@ -17,10 +18,10 @@ from exam_desk.changing import Answered, Step
 from exam_desk.office import Office
 from exam_desk.reading import Reading
 from exam_desk.trouble import Stale, Trouble
-from exam_web import downloads, effects
-from exam_web.desk import PATIENCE, Desk, desk, office, view
+from exam_web import effects, output
+from exam_web.desk import PATIENCE, Desk, View, desk, office, view
 from exam_web.effects import Effects
-from exam_web.forms import Page, Wrong, keep, lead
+from exam_web.forms import Asked, Page, Wrong, keep, lead
 from exam_web.wording import said
 
 pages = Blueprint("proposals", __name__)
@@ -38,15 +39,13 @@ NEXT_APPEAL = ("SELECT appeal.*, name FROM appeal JOIN candidate USING (number) 
 
 @dataclass(frozen=True)
 class Plan:
-    """What a form asks, in words and as steps of the program."""
-    title: Markup
+    """What a form asks: its values, and the steps of the program."""
+    values: dict[str, str]
     steps: list[Step]
     page: Page  # to come back to
-    verb: Markup
     fields: dict[int, str] = field(default_factory=dict)  # the field beside which a refusal stands, by its number
-    note: Markup = Markup()
-    done_note: Markup = Markup()
     others: dict[str, Any] = field(default_factory=dict)  # what the form for another hall than a lost one begins with
+    form_page: Page | None = None  # with the form, where that is another
     lodge: tuple[str, ...] = ()  # in the place of steps: the words of an appeal that is lodged the candidate's way
     command: str = ""  # as the log has it, where it is not the steps
     made_from: str = ""  # the state that the steps were made for; "" where they suit each
@@ -58,7 +57,7 @@ class Plan:
 class Proposal:
     """A plan, and how far it is. Its thread alone changes it while it works."""
     plan: Plan
-    came_from: str  # the state of the page whose form it was
+    asked: Asked
     key: str = ""
     lock: threading.Lock = field(default_factory=threading.Lock)  # of who does it
     working: threading.Thread | None = None
@@ -78,7 +77,7 @@ class Proposal:
     is_done: bool = False
     as_promised: bool = True
     copy: str = ""  # the path of that of before
-    lodged: str = ""  # the reference of an appeal
+    lodged: str = ""  # the reference of an appeal, on the copy too
 
     @property
     def is_working(self) -> bool:
@@ -87,6 +86,18 @@ class Proposal:
     @property
     def can_be_done(self) -> bool:
         return not (self.is_done or self.is_working or self.refusal or self.trouble or self.effects is None)
+
+    def way_back(self) -> str:
+        """The address of the page with the form; as long as nothing is done, all that was given is still in it."""
+        endpoint, values = self.plan.page if self.is_done else self.plan.form_page or self.plan.page
+        left = {} if self.is_done else {"again": self.key, "_anchor": self.asked.form}
+        return url_for(endpoint, **{**values, **left})
+
+    def words(self) -> list[Markup]:
+        """Why it cannot be done, as the program or the desk says; none where it can."""
+        line = self.refusal
+        known = refusals.SENTENCES.get(refusals.number_of(line) or 0, refusals.OTHER.get(line, line))
+        return [said(each.strip()) for each in (self.explained or [known] if line else [self.trouble]) if each]
 
     def tell(self, stage: str) -> None:
         self.stage = stage
@@ -98,43 +109,32 @@ class Proposal:
             self.refusal = refused.first_line()
             self.explained = refusals.explained(who, refused.step.words, refused.ran.complaint, refused.step.data)
 
-    def lodge(self, who: Office) -> str:
-        """Lodges the appeal of the plan, and gives its reference; '' where it is refused."""
+    def lodge(self, who: Office) -> None:
+        """Lodges the appeal of the plan, and keeps its reference."""
         asked = lodging.asked(self.plan.lodge)
         assert asked, "the form has all values"
         lodged = lodging.lodge(who, self.plan.lodge, asked)
         self.refusal, self.explained = (lodged.line, lodged.explained) if lodged.status else ("", [])
-        return "" if lodged.status else lodged.line.split()[1]
+        self.lodged = "" if lodged.status else lodged.line.split()[1]
 
     def compare(self, here: Desk, rehearsal: changing.Rehearsal) -> None:
         """Keeps what a rehearsal would come to. Raises `Trouble` where the plan refuses it."""
         self.tell(COMPARING)
-        with here.both(rehearsal) as (before, after):
+        with here.before(rehearsal) as before, closing(View(here.office, rehearsal.after)) as after:
             self.lines = self.plan.look(before.reading, after.reading)
             self.effects = effects.effects(before, after)
             self.made_from, self.promised = before.name, after.name
 
 
-def now() -> str:
-    return datetime.datetime.now().isoformat(" ", "seconds")
-
-
-def worded(line: str, explained: list[str]) -> list[Markup]:
-    """What the program said of a refusal, in words."""
-    found = explained or [refusals.SENTENCES.get(refusals.number_of(line) or 0, refusals.OTHER.get(line, line))]
-    return [said(each.strip()) for each in found]
-
-
 def propose(plan: Plan) -> Response:
     """Rehearses a plan. Raises `Wrong` for a refusal that belongs to a field."""
-    proposal = Proposal(plan, request.form.get("state", ""))
+    proposal = Proposal(plan, Asked((request.view_args or {})["what"], request.form))
     proposal.key = keep(g.visit.proposals, MOST_PROPOSALS, proposal)
     work(proposal, rehearse_lodging if plan.lodge else rehearse)
     name = plan.fields.get(refusals.number_of(proposal.refusal) or TROUBLE)
     if name and (proposal.refusal or proposal.trouble) and not proposal.is_working:
         del g.visit.proposals[proposal.key]
-        words = worded(proposal.refusal, proposal.explained) if proposal.refusal else [said(proposal.trouble)]
-        raise Wrong(plan.page, **{name: Markup("; ").join(words)})
+        raise Wrong(plan.page, **{name: Markup("; ").join(proposal.words())})
     return lead("proposals.page", key=proposal.key)
 
 
@@ -177,8 +177,9 @@ def rehearse_lodging(proposal: Proposal, here: Desk, who: Office) -> None:
     with private.private_copy(who.path, who.path) as copy:
         there = dataclasses.replace(who, path=copy)
         proposal.tell(LODGING)
-        if ref := proposal.lodge(there):
-            grant = Step(("decide", proposal.plan.lodge[0], ref, "granted", ""))
+        proposal.lodge(there)
+        if not proposal.refusal:
+            grant = Step(("decide", proposal.plan.lodge[0], proposal.lodged, "granted", ""))
             with changing.rehearse(there, [grant], proposal.tell) as rehearsal:
                 proposal.answers = rehearsal.answers  # a grant may be refused where a lodging is not
                 proposal.compare(here, rehearsal)
@@ -186,8 +187,8 @@ def rehearse_lodging(proposal: Proposal, here: Desk, who: Office) -> None:
 
 def lodge(proposal: Proposal, here: Desk, who: Office) -> None:
     """Lodges an appeal: it moves nobody, so no state has to be the same."""
-    proposal.lodged = proposal.lodge(who)
-    proposal.is_done = proposal.lodged != ""
+    proposal.lodge(who)
+    proposal.is_done = not proposal.refusal
 
 
 def carry_out(proposal: Proposal, here: Desk, who: Office) -> None:
@@ -220,13 +221,12 @@ def page(key: str) -> str:
     plan = proposal.plan
     if proposal.is_working:
         return render_template("working.html", p=proposal, seconds=int(time.monotonic() - proposal.began))
-    elsewhere = proposal.came_from and proposal.made_from and proposal.came_from != proposal.made_from
+    elsewhere = proposal.made_from and proposal.asked.given.get("state", "") not in ("", proposal.made_from)
     decided = proposal.is_done and plan.page[0] == "appeals.one"
     today = desk().office.today().isoformat()
     return render_template("proposal.html", p=proposal, plan=plan, e=proposal.effects, most=MOST_ROWS,
-                           back=url_for(plan.page[0], **plan.page[1]),
-                           refusal=Markup("<br>").join(worded(proposal.refusal, proposal.explained)),
-                           trouble=said(proposal.trouble), elsewhere=elsewhere and not proposal.is_done,
+                           back=proposal.way_back(),
+                           elsewhere=elsewhere and not proposal.is_done,
                            next_appeal=view().row(NEXT_APPEAL, [today]) if decided else None, rows=imported(proposal),
                            copy_key=copy_key(proposal.copy) if proposal.copy else "")
 
@@ -250,4 +250,4 @@ def do(key: str) -> Response:
 @pages.get("/proposals/<key>/told.csv")
 def told(key: str) -> Response:
     found = proposal_of(key).effects or abort(404)
-    return downloads.attached(found.csv(), "who-must-be-told.csv")
+    return output.attached(found.csv(), "who-must-be-told.csv")

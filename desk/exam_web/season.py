@@ -1,18 +1,19 @@
 """The season: what needs a person, the last days to lodge, the calendar; the first page, where there is no office."""
 import datetime
 from collections import Counter
-from typing import NamedTuple
+from collections.abc import Iterator
+from typing import Any, NamedTuple
 
-from flask import Blueprint, render_template, url_for
-from markupsafe import Markup
+from flask import Blueprint, render_template, request, url_for
 from werkzeug.wrappers import Response
 
-from exam_desk import appeals, lastdays, logbook, running, turns
+from exam_desk import appeals, facts, lastdays, logbook, notebook, printed, running, turns
 from exam_desk.trouble import Trouble
+from exam_web import clashes as clashing
 from exam_web import counting, office
 from exam_web.desk import View, desk, once, view
 from exam_web.forms import lead
-from exam_web.wording import days_until, many, text
+from exam_web.wording import days_until, text
 
 pages = Blueprint("season", __name__)
 MOST_SHOWN = 12  # lines of what needs attention
@@ -21,11 +22,12 @@ LEVELS = ["late", "now", "soon", "note"]
 
 
 class Attention(NamedTuple):
+    """What needs a person. Its words are in templates/attention.html."""
     level: str  # one of LEVELS
     day: str | None  # by which it must be done
-    text: Markup
-    link: str
-    verb: Markup
+    what: str
+    link: str  # to where it is mended
+    values: dict[str, Any] = {}
 
 
 @pages.get("/")
@@ -33,8 +35,10 @@ def page() -> str:
     if not desk().is_there():
         return render_template("begin.html")
     found = list(counting.sums(view()).values())
-    return render_template("season.html", sessions=found, weeks=weeks_of(found), attention=attention(found),
-                           deadlines=deadlines(found), totals=totals(found), most=MOST_SHOWN,
+    is_whole = "piece" in request.args or "all" in request.args
+    return render_template("season.html", sessions=found, weeks=weeks_of(found), attention=attention(found, is_whole),
+                           is_whole=is_whole, deadlines=deadlines(found), most=MOST_SHOWN,
+                           candidates=view().count("SELECT count(*) FROM candidate"),
                            widest=max((max(each.members, each.desks) for each in found), default=1))
 
 
@@ -54,50 +58,36 @@ def warm(found: View) -> None:
     unheard_clashes(found)
 
 
-def totals(found: list[counting.Sums]) -> dict[str, int]:
-    return {"members": sum(each.members for each in found), "short": sum(each.short for each in found),
-            "waiting": sum(each.waiting for each in found),
-            "candidates": counting.candidates(view())}
-
-
 def weeks_of(found: list[counting.Sums]) -> list[list[tuple[str, list[counting.Sums]]]]:
     """For each week with a session its days, Monday first, each with its sessions."""
-    days: dict[str, list[counting.Sums]] = {}
-    for session in found:
-        days.setdefault(session.day, []).append(session)
-    dates_with = [datetime.date.fromisoformat(day) for day in days]
-    weeks = {date - datetime.timedelta(days=date.weekday()) for date in dates_with}
-    at_weekends = any(date.weekday() > 4 for date in dates_with)
-    dates = [[(monday + datetime.timedelta(days=place)).isoformat() for place in range(7 if at_weekends else 5)]
-             for monday in sorted(weeks)]
-    return [[(day, days.get(day, [])) for day in dates_of] for dates_of in dates]
+    dates = {datetime.date.fromisoformat(each.day) for each in found}
+    mondays = sorted({date - datetime.timedelta(date.weekday()) for date in dates})
+    width = 7 if any(date.weekday() > 4 for date in dates) else 5
+    weeks = [[(monday + datetime.timedelta(place)).isoformat() for place in range(width)] for monday in mondays]
+    return [[(day, [each for each in found if each.day == day]) for day in week] for week in weeks]
 
 
-def attention(found: list[counting.Sums]) -> list[Attention]:
-    """What to do, the most urgent first."""
+def attention(found: list[counting.Sums], is_whole: bool) -> list[Attention]:
+    """What to do, the most urgent first; what the program has to be asked for only where all of it is wanted."""
     coming = [each for each in found if days_until(each.day) >= 0]
     todo = [*broken_off(), *shortages(coming), *open_appeals(), *clashes(coming), *unserved(coming)]
+    if is_whole:
+        todo += [*out_of_date(coming), *at_one_time(coming)]
     return sorted(todo, key=lambda each: (LEVELS.index(each.level), each.day or "9"))
 
 
-def broken_off() -> list[Attention]:
+def broken_off() -> Iterator[Attention]:
     """A change without an end in the log, while nobody has the office: its process was killed, or the machine
     stopped."""
     here = desk().office
-    found = logbook.unfinished(here)
-    if not found or turns.is_taken(here):
-        return []
-    link = url_for("office.copy", key=office.copy_key(found.copy)) if found.copy else url_for("office.page")
-    return [Attention("late", None, text("A change was broken off: {command}, {when}", command=found.command,
-                                         when=found.when), link, text("Look"))]
+    if (found := logbook.unfinished(here)) and not turns.is_taken(here):
+        link = url_for("office.copy", key=office.copy_key(found.copy)) if found.copy else url_for("office.page")
+        yield Attention("late", None, "broken", link, {"command": found.command, "when": found.when})
 
 
 def shortages(coming: list[counting.Sums]) -> list[Attention]:
-    return [Attention("now" if days_until(each.day) <= SOON else "soon", each.day,
-                      many(each.short, "{count} candidate without a desk in {session}",
-                           "{count} candidates without a desk in {session}", session=each.code),
-                      url_for("session.page", code=each.code, _anchor="short"), text("See why"))
-            for each in coming if each.short]
+    return [Attention(level_of(each), each.day, "short", url_for("session.page", code=each.code, _anchor="short"),
+                      {"count": each.short, "session": each.code}) for each in coming if each.short]
 
 
 def open_appeals() -> list[Attention]:
@@ -106,11 +96,8 @@ def open_appeals() -> list[Attention]:
                                        "WHERE state = 1"):
         kinds.setdefault((lastdays.to_decide(day), code), Counter())[appeals.KINDS[kind]] += 1
     return [Attention("late" if days_until(last) < 0 else "now" if days_until(last) <= URGENT else "soon", last,
-                      many(sum(counts.values()), "{count} open appeal for {session}: {kinds}",
-                           "{count} open appeals for {session}: {kinds}", session=code,
-                           kinds=Markup(", ").join(Markup("{} {}").format(count, text(kind))
-                                                   for kind, count in counts.items())),
-                      url_for("appeals.page", _anchor=code), text("Decide"))
+                      "appeals", url_for("appeals.page", _anchor=code),
+                      {"count": counts.total(), "session": code, "kinds": counts})
             for (last, code), counts in kinds.items()]
 
 
@@ -123,24 +110,38 @@ def unheard_clashes(found: View) -> dict[str, int]:
     return {code: count for code, count in counts.items() if count}
 
 
-def clashes(coming: list[counting.Sums]) -> list[Attention]:
+def clashes(coming: list[counting.Sums]) -> Iterator[Attention]:
     unheard = unheard_clashes(view())
-    late = [each for each in coming if each.code in unheard and days_until(each.day) > 0]
-    if not late:
-        return []
-    count = sum(unheard[each.code] for each in late)
-    words = many(count, "{count} candidate with two papers at once and no appeal, in sessions: {sessions}",
-                 "{count} candidates with two papers at once and no appeal, in sessions: {sessions}",
-                 sessions=len(late))
-    return [Attention("note", lastdays.to_lodge("clash", late[0].day), words,
-                      url_for("clashes.page"), text("Look"))]
+    if late := [each for each in coming if each.code in unheard and days_until(each.day) > 0]:
+        yield Attention("note", lastdays.to_lodge("clash", late[0].day), "clashes", url_for("clashes.page"),
+                        {"count": sum(unheard[each.code] for each in late), "sessions": len(late)})
 
 
-def unserved(coming: list[counting.Sums]) -> list[Attention]:
-    if not coming or turns.keep_state(desk().office) is not None:
-        return []
-    return [Attention("note", None, text("Candidates cannot ask for their seats: the office is not served"),
-                      url_for("office.page", _anchor="serve"), text("Serve"))]
+def out_of_date(coming: list[counting.Sums]) -> Iterator[Attention]:
+    """Sessions of which papers are out that are no longer right, as `office printed` says."""
+    for each in coming:
+        if notebook.printed(desk().office, each.code):
+            view().ask(facts.entered(view().reading.rows, each.code))
+            if (found := printed.compared(view().reading, each.code)) and found.moves:
+                yield Attention(level_of(each), each.day, "printed",
+                                url_for("session.page", code=each.code, _anchor="print"),
+                                {"count": len(found.moves), "session": each.code, "halls": found.halls})
+
+
+def at_one_time(coming: list[counting.Sums]) -> Iterator[Attention]:
+    days = {each.code: each for each in coming}
+    if found := [each for each in clashing.at_one_time(view()) if each.early in days]:
+        first = days[found[0].early]
+        yield Attention(level_of(first), first.day, "overlaps", url_for("clashes.overlapping"), {"pairs": found})
+
+
+def level_of(session: counting.Sums) -> str:
+    return "now" if days_until(session.day) <= SOON else "soon"
+
+
+def unserved(coming: list[counting.Sums]) -> Iterator[Attention]:
+    if coming and turns.keep_state(desk().office) is None:
+        yield Attention("note", None, "unserved", url_for("office.page", _anchor="serve"))
 
 
 def deadlines(found: list[counting.Sums], days: int = 14) -> list[tuple[str, dict[str, list[str]]]]:

@@ -2,19 +2,20 @@
 import math
 import re
 import sqlite3
+from collections.abc import Sequence
 
 from flask import Blueprint, abort, render_template, request
 from werkzeug.wrappers import Response
 
-from exam_desk import absences, facts, lastdays, notebook, printed
+from exam_desk import absences, facts, lastdays, lists, notebook, printed
 from exam_desk.facts import Opening
 from exam_desk.notebook import Rows
 from exam_desk.reading import Member
 from exam_desk.sheets.chart import NotDrawn, numbered
 from exam_desk.trouble import Trouble
-from exam_web import counting, downloads, printing, shortages
+from exam_web import counting, output, shortages
 from exam_web.desk import View, desk, once, view
-from exam_web.forms import Wrong, lead, whole
+from exam_web.forms import Page, Wrong, lead, whole
 from exam_web.wording import many, said, text
 
 pages = Blueprint("session", __name__)
@@ -50,14 +51,13 @@ def page(code: str) -> str:
              if f"{number:07}" in noted] if noted else []  # a copy from before they came may have been put back
     return render_template(
         "session.html", s=sums, halls=openings(view(), code), taken=taken(code), papers=papers(code), lodged=lodged,
-        previous=before, next=after, closed=closed_halls(code), clashes=clashes(code), most=MOST_PEOPLE,
+        previous=before, next=after, choices=hall_choices(code), clashes=clashes(code), most=MOST_PEOPLE,
         absent=members_of(code, known), shortage=shortages.of(view(), code) if sums.short else None,
-        sheets=printing.SHEETS, last=lastdays.to_decide(sums.day))
+        sheets=output.SHEETS, last=lastdays.to_decide(sums.day))
 
 
 def taken(code: str) -> dict[str, int]:
-    found = view().rows("SELECT hall, count(*) FROM seat WHERE session = ? GROUP BY hall", [code])
-    return {hall: count for hall, count in found}
+    return dict(view().rows("SELECT hall, count(*) FROM seat WHERE session = ? GROUP BY hall", [code]))
 
 
 def papers(code: str) -> list[sqlite3.Row]:
@@ -67,9 +67,11 @@ def papers(code: str) -> list[sqlite3.Row]:
                        "FROM paper WHERE session = ? ORDER BY paper.code", [code])
 
 
-def closed_halls(code: str) -> list[sqlite3.Row]:
-    return view().rows("SELECT code, title FROM hall WHERE code NOT IN (SELECT hall FROM opening WHERE session = ?) "
-                       "ORDER BY code", [code])
+def hall_choices(code: str) -> list[tuple[str, str, Opening | None]]:
+    """All halls to choose from, those that are closed in a session first; each with its title, and how it is open."""
+    opened = {each.hall: each for each in openings(view(), code)}
+    halls = sorted(facts.hall_titles(view().reading.rows).items())
+    return sorted(((hall, title, opened.get(hall)) for hall, title in halls), key=lambda each: each[2] is not None)
 
 
 def clashes(code: str, most: int = MOST_PEOPLE) -> list[tuple[Member, list[str]]]:
@@ -88,37 +90,44 @@ def members_of(code: str, numbers: list[int]) -> list[Member]:
     return [member for person in people if (member := reading.member_of(person, code))]
 
 
-def sitting_in(code: str, hall: str) -> list[Member]:
-    numbers = view().rows("SELECT number FROM seat WHERE session = ? AND hall = ?", [code, hall])
-    return sorted(members_of(code, [number for number, in numbers]), key=lambda member: member.sitting.desk or 0)
-
-
 @pages.get("/sessions/<code>/halls/<hall>", endpoint="hall")
 def hall_page(code: str, hall: str) -> str:
     """A hall as a picture: a piece of the session's page, or a page of its own where no script runs."""
     sums, found = sums_of(code), opening(code, hall)
-    members = sitting_in(code, hall)
-    supposed = Rows(min(MOST_SUPPOSED, math.ceil(math.sqrt(found.desks * 1.7))), "down")
-    rows = notebook.rows_of_halls(desk().office).get(hall, supposed)
+    seated = view().rows("SELECT number FROM seat WHERE session = ? AND hall = ?", [code, hall])
+    members, rows = lists.by_desk(members_of(code, [number for number, in seated]), hall), standing(found)
     desks = sorted((number, column * (WIDTH + GAP) + 2, row * (HEIGHT + GAP) + 2)
                    for row, line in enumerate(numbered(found.desks, rows))
                    for column, number in enumerate(line) if number is not None)
-    return render_template("hall_piece.html" if "piece" in request.args else "hall.html", s=sums, opening=found,
-                           rows=rows, desks=desks, members=members, running=RUNNING, desk_width=WIDTH,
-                           by_desk={member.sitting.desk: member for member in members}, desk_height=HEIGHT,
+    return render_template("hall.html", s=sums, opening=found, rows=rows, desks=desks, members=members,
+                           by_desk={member.sitting.desk: member for member in members}, desk_width=WIDTH,
+                           desk_height=HEIGHT,
                            codes=[row["code"] for row in papers(code)], absent=notebook.absent(desk().office, code))
 
 
-@pages.post("/sessions/<code>/halls/<hall>/draw")
-def draw(code: str, hall: str) -> Response:
-    """Keeps how the desks of a hall stand; nobody moves."""
-    opening(code, hall)
-    across = request.form.get("across", "")
-    rows = Rows(int(across) if re.fullmatch("[0-9]{1,4}", across) else 0, request.form.get("running", ""))
-    if not notebook.can_stand(rows):
-        raise Wrong(("session.hall", {"code": code, "hall": hall}), "draw", across=whole(1, notebook.MOST_ACROSS))
-    notebook.keep_rows(desk().office, hall, rows)
-    return lead("session.page", code=code, _anchor=f"hall-{hall}")
+def standing(found: Opening) -> Rows:
+    """How the desks of a hall stand: as somebody has said, else as it may be."""
+    supposed = Rows(min(MOST_SUPPOSED, math.ceil(math.sqrt(found.desks * 1.7))), "down")
+    return notebook.rows_of_halls(desk().office).get(found.hall, supposed)
+
+
+@pages.post("/sessions/<code>/draw")
+def draw(code: str) -> Response:
+    """Keeps how the desks of halls stand; nobody moves. It leads to the charts that wait for that, else to the hall."""
+    halls = [opening(code, hall).hall for hall in request.form.getlist("hall")] or abort(400)
+    charts: Page = ("session.sheet", {"code": code, "sheet": "chart", "hall": request.form.getlist("of")})
+    drawn, is_chart = {hall: rows_given(hall) for hall in halls}, "chart" in request.form
+    if wrong := {f"across-{hall}": whole(1, notebook.MOST_ACROSS) for hall, rows in drawn.items()
+                 if not notebook.can_stand(rows)}:
+        raise Wrong(charts if is_chart else ("session.hall", {"code": code, "hall": halls[0]}), "draw", **wrong)
+    for hall, rows in drawn.items():
+        notebook.keep_rows(desk().office, hall, rows)
+    return lead(charts[0], **charts[1]) if is_chart else lead("session.page", code=code, _anchor=f"hall-{halls[0]}")
+
+
+def rows_given(hall: str) -> Rows:
+    across = request.form.get(f"across-{hall}", "")
+    return Rows(int(across) if re.fullmatch("[0-9]{1,4}", across) else 0, request.form.get(f"running-{hall}", ""))
 
 
 @pages.post("/sessions/<code>/absent")
@@ -140,7 +149,7 @@ def note_absent(code: str) -> Response:
 @pages.get("/sessions/<code>/attendance.csv")
 def attendance_csv(code: str) -> Response:
     sums_of(code)
-    return downloads.attached(absences.listed(view().reading, code).encode(), f"{code}-attendance.csv")
+    return output.attached(absences.listed(view().reading, code).encode(), f"{code}-attendance.csv")
 
 
 @pages.get("/sessions/<code>/seats.csv")
@@ -150,28 +159,27 @@ def seats_csv(code: str) -> Response:
     rows = [[code, sums.day, each.sitting.start, each.sitting.finish, each.number, each.name, each.sitting.paper,
              titles[each.sitting.paper], each.sitting.hall or "", each.sitting.desk or "", each.sitting.extra,
              "+".join(each.sitting.needs) or "-"] for each in view().reading.members(code)]
-    return downloads.csv(SEATS, rows, f"{code}-seats.csv")
+    return output.csv(SEATS, rows, f"{code}-seats.csv")
 
 
 @pages.get("/sessions/<code>/print/<sheet>")
-def sheet(code: str, sheet: str) -> str | Response:
-    """A sheet to print, of all halls or of some, made by the function that the command line uses."""
-    sums_of(code)
-    made = printing.SHEETS.get(sheet) or abort(404)
-    halls = [request.args.getlist("hall")] if made.by_hall else []
+def sheet(code: str, sheet: str, hall: Sequence[str] = ()) -> str:
+    """A sheet to print, of all halls or of some, made by the function that the command line uses. A chart asks first
+    how the desks stand of which nobody has said it."""
+    sums, halls = sums_of(code), hall or request.args.getlist("hall")
+    made = output.SHEETS.get(sheet) or abort(404)
     try:
-        return printing.styled(made.page(view().reading, code, *halls))
+        return output.styled(made.page(view().reading, code, *([halls] if made.by_hall else [])))
     except NotDrawn as trouble:
-        return lead("session.page", text("First open the line of each of these halls, and press Draw: {halls}.",
-                                         halls=", ".join(trouble.halls)), "bad", code=code, _anchor="halls")
+        asked = [opening(code, each) for each in trouble.halls]
+        return render_template("charts.html", s=sums, halls=[(each, standing(each)) for each in asked], of=halls)
 
 
 @pages.get("/sessions/<code>/printed")
 def compare_printed(code: str) -> str:
     """Who has another desk than on paper: a piece of the session's page, or a page of its own where no script runs."""
-    return render_template("printed_piece.html" if "piece" in request.args else "printed.html", s=sums_of(code),
-                           found=printed.compared(view().reading, code), most=MOST_PEOPLE, taken=taken(code),
-                           sheets=printing.SHEETS)
+    return render_template("printed.html", s=sums_of(code), found=printed.compared(view().reading, code),
+                           most=MOST_PEOPLE, taken=taken(code), sheets=output.SHEETS)
 
 
 @pages.post("/sessions/<code>/printed")

@@ -7,14 +7,11 @@ from collections.abc import Iterator
 from concurrent.futures import ThreadPoolExecutor
 from typing import NamedTuple
 
-from markupsafe import Markup
-
 from exam_desk import reasons, shortage
 from exam_desk.facts import Opening
+from exam_desk.overlaps import of_day
 from exam_desk.reading import Member
-from exam_desk.words import clock
 from exam_web.desk import View, once
-from exam_web.wording import text
 
 MOST_EXPLAINED, MOST_REMEDIES = 30, 4
 MIDNIGHT = 24 * 60
@@ -22,10 +19,10 @@ USUAL = "SELECT desks, until FROM opening WHERE hall = ? GROUP BY desks, until O
 
 
 class Remedy(NamedTuple):
-    """An opening that would suit some of those without a desk."""
+    """An opening that would suit some of those without a desk, and how the hall is open now."""
     suits: int
-    text: Markup
     opening: Opening
+    now: Opening | None = None
 
 
 class Shortage(NamedTuple):
@@ -58,19 +55,12 @@ def remedies(view: View, why: reasons.Reasons) -> Iterator[Remedy]:
     for code, title, features in view.rows("SELECT code, title, features FROM hall ORDER BY code"):
         widest = Opening(code, title, features, 1, MIDNIGHT, False)  # open as long as can be, for everybody
         suited = [member for member in why.unseated() if not why.obstacles(member, widest)]
-        last = max((minutes(member.sitting.finish) for member in suited), default=0)
+        last = max((of_day(member.sitting.finish) for member in suited), default=0)
         if suited and code in opened:
             yield from change(why, opened[code], suited, last)
         elif suited:  # open as it is in most sessions, and long enough
             desks, until = view.row(USUAL, [code]) or (len(suited), last)
-            then = widest._replace(desks=desks, until=max(until, last))
-            yield Remedy(len(suited), text("Open {hall}, {title}, with {desks} desks until {until}", hall=code,
-                                           title=title, desks=desks, until=clock(then.until)), then)
-
-
-def minutes(finish: str) -> int:
-    hours, rest = finish.split(":")
-    return int(hours) * 60 + int(rest)
+            yield Remedy(len(suited), widest._replace(desks=desks, until=max(until, last)))
 
 
 def change(why: reasons.Reasons, now: Opening, suited: list[Member], last: int) -> Iterator[Remedy]:
@@ -80,8 +70,5 @@ def change(why: reasons.Reasons, now: Opening, suited: list[Member], last: int) 
     reserved = now.reserved and all(not why.obstacles(member, longer) for member in suited)
     more = max(0, len(suited) + len(why.taken[now.hall]) - now.desks)
     then = longer._replace(reserved=reserved, desks=now.desks + more)
-    parts = [text("until {until}", until=clock(then.until))] * (then.until != now.until)
-    parts += [text("no longer reserved")] * (then.reserved != now.reserved)
-    parts += [text("with {desks} desks, {more} more", desks=then.desks, more=more)] * (more > 0)
-    if parts:
-        yield Remedy(len(suited), text("Have {hall} {how}", hall=now.hall, how=Markup(", ").join(parts)), then)
+    if then != now:
+        yield Remedy(len(suited), then, now)

@@ -23,7 +23,7 @@ from exam_desk.workbook.checking import file_parts
 from exam_desk.workbook.opening import open_book
 from exam_desk.workbook.reading import read_book
 from exam_desk.workbook.report import Line
-from exam_desk.workbook.tables import Job
+from exam_desk.workbook.tables import Choices, Job
 from exam_desk.workbook.texts import Way
 from exam_web.desk import View, desk
 from exam_web.wording import said, shown, text
@@ -36,6 +36,7 @@ MOST_CURED = 20_000  # of a file that one press of a button can mend
 MOST_VALUE = 400  # letters of a value that is typed
 BOOKS = (".xlsx", ".xlsm", ".ods")
 NEW_CODE, OWN_CODE = "a new code", "own code"
+HIDDEN = "hidden"  # stands in the lines of a reading that speak of hidden rows and sheets
 UNREADABLE = (zipfile.BadZipFile, zipfile.LargeZipFile, zlib.error, RuntimeError, EOFError, OSError, ValueError)
 
 
@@ -60,11 +61,16 @@ class Looked(NamedTuple):
 
 @dataclass
 class Book:
-    """What was said of a workbook."""
+    """A workbook, and what was said of it."""
     name: str
-    lines: list[Line]  # mistakes first
-    mistakes: int
-    changes: int
+    content: bytes
+    way: Way
+    hidden: str = ""  # what becomes of hidden rows and sheets: take or leave; "" asks
+    has_hidden: bool = False  # something hidden that is spoken of
+    lines: list[Line] = field(default_factory=list)  # mistakes first
+    mistakes: int = 0
+    changes: int = 0
+    kinds: list[str] = field(default_factory=list)  # that are taken from it
 
 
 @dataclass
@@ -80,9 +86,6 @@ class Upload:
     @property
     def kinds(self) -> list[str]:
         return [kind for kind in files.HEADERS if kind in self.texts]
-
-    def note_import(self) -> None:
-        self.is_imported = True
 
     def note(self, name: str, words: Markup) -> None:
         self.notes.append(Markup("{}: {}").format(shown(name[:MOST_NAME]), words))
@@ -100,7 +103,7 @@ def taken(storages: Iterable[FileStorage], dates: str, view: View) -> Upload:
         if name.lower().endswith(".zip"):
             take_zip(upload, name, storage.stream)
         elif name.lower().endswith(BOOKS):
-            take_book(upload, name, storage.stream.read(), Way(dates), mistakes.Known(view.reading.rows))
+            take_book(upload, Book(name[-MOST_NAME:], storage.stream.read(), Way(dates)), view)
         elif name:
             take(upload, name, storage.stream.read(files.MOST_BYTES + 1))
     return upload
@@ -138,20 +141,28 @@ def kind_of(name: str, content: bytes) -> str | None:
     return found or (stem if stem in files.HEADERS else None)
 
 
-def take_book(upload: Upload, name: str, content: bytes, way: Way, known: mistakes.Known) -> None:
+def take_book(upload: Upload, book: Book, view: View) -> None:
     """Reads a workbook by the rules of `office read`: its sheets are taken where no line is a mistake."""
     with private.own_folder(desk().office.path) as folder:
-        path = os.path.join(folder, "workbook" + os.path.splitext(name.lower())[1])
-        files.put(path, content)
+        path = os.path.join(folder, "workbook" + os.path.splitext(book.name.lower())[1])
+        files.put(path, book.content)
         try:
-            reading = read_book(open_book(path), Job(known, way))
+            opened = open_book(path)
+            names = [sheet.name for sheet in opened.sheets if sheet.hidden or book.hidden == "take"]
+            choices = Choices(names if book.hidden == "take" else None, names if book.hidden == "leave" else [],
+                              hidden=book.hidden)
+            reading = read_book(opened, Job(mistakes.Known(view.reading.rows), book.way, {}, choices))
         except Trouble as trouble:
-            upload.note(name, said(trouble.sentence))
+            upload.note(book.name, said(trouble.sentence))
             return
-    lines = sorted(reading.report.lines, key=lambda line: line.sort != "mistake")
-    wrong = reading.report.count("mistake")
-    upload.workbooks.append(Book(name[:MOST_NAME], lines, wrong, reading.report.count("change")))
-    for kind, records in reading.records.items() if not wrong else ():
+    upload.workbooks.append(book)
+    report = reading.report
+    book.lines = sorted(report.lines, key=lambda line: line.sort != "mistake")
+    book.mistakes, book.changes = report.count("mistake"), report.count("change")
+    book.has_hidden = any(sheet.hidden or sheet.hidden_rows for sheet in opened.sheets) and (
+        book.hidden != "" or any(HIDDEN in line.text for line in report.lines))
+    book.kinds = [kind for kind in reading.records if not book.mistakes and kind not in upload.texts]
+    for kind, records in reading.records.items() if not book.mistakes else ():
         for part, _ in file_parts(kind, [record.fields for record in records]):
             take(upload, f"{kind}.csv", part)
 

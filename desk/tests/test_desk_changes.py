@@ -1,5 +1,6 @@
 """Changes at the desk in a browser: what is rehearsed is what is done, once, and from the state that was shown."""
 import concurrent.futures
+import html
 import http.client
 import os
 import pathlib
@@ -56,16 +57,40 @@ class TestRehearsal(DeskSchool):
         page, _ = self.browser.post("/propose/close", "/sessions/MON-AM", session="MON-AM", lost="GYM")
         both, _ = self.browser.post("/propose/close", page, session="MON-AM", lost="GYM",
                                     proposal=page.rsplit("/", 1)[1],
-                                    other_hall="R14", other_desks="30", other_until="14:00")
+                                    hall="R14", desks="30", until="14:00")
         alone, together = (dict(re.findall(EFFECT, self.browser.get(each))) for each in (page, both))
         self.assertLess(int(together.get("loses", "0")), int(alone["loses"]))
         self.browser.post(both + "/do", both)
         self.assertEqual(self.rows("SELECT desks FROM opening WHERE session = 'MON-AM' AND hall IN ('GYM', 'R14')"),
                          [(30,)])
-        for values in ({"other_hall": "GYM"}, {"other_desks": "0"}, {"other_until": "25:00"}):
-            self.browser.post("/propose/close", page, 422, session="MON-AM", lost="GYM",
-                              proposal=page.rsplit("/", 1)[1],
-                              **{"other_hall": "R14", "other_desks": "9", "other_until": "14:00", **values})
+        for values in ({"hall": "GYM"}, {"desks": "0"}, {"until": "25:00"}, {"new_hall": "GYM", "new_title": "x"},
+                       {"new_hall": "no", "new_title": "x"}, {"new_hall": "NEW", "new_title": ""}):
+            _, text = self.browser.post("/propose/close", page, 422, session="MON-AM", lost="GYM",
+                                        proposal=page.rsplit("/", 1)[1],
+                                        **{"hall": "R14", "desks": "9", "until": "14:00", **values})
+            self.assertRegex(text, rf'name="{"|".join(values)}"[^>]*aria-invalid="true"')
+
+    def test_a_hall_that_the_office_does_not_know_yet(self):
+        new = {"new_hall": "TENT", "new_title": "Tent <b>", "new_features": ["screen", "step-free"], "desks": "30",
+               "until": "14:00", "hall": "R14"}
+        page, _ = self.browser.post("/propose/close", "/sessions/MON-AM", session="MON-AM", lost="GYM")
+        before = self.seats()
+        both, _ = self.browser.post("/propose/close", page, session="MON-AM", lost="GYM",
+                                    proposal=page.rsplit("/", 1)[1], **new)
+        words = self.browser.words(both)
+        self.assertIn("Close GYM for MON-AM , and have TENT with 30 desks until 14:00", words)
+        self.assertIn("halls 1 0 0 openings 1 0 0", words)
+        self.assertEqual(self.seats(), before)
+        self.browser.post(both + "/do", both)
+        self.assertEqual(self.rows("SELECT title, features FROM hall WHERE code = 'TENT'"), [("Tent <b>", 3)])
+        self.assertEqual(self.rows("SELECT hall, desks, reserved FROM opening WHERE session = 'MON-AM' "
+                                   "AND hall IN ('GYM', 'R14', 'TENT')"), [("TENT", 30, 0)])
+        page, _ = self.browser.post("/propose/open", "/sessions/MON-PM", session="MON-PM",
+                                    **{**new, "new_hall": "TENT2", "reserved": "1"})
+        self.browser.post(page + "/do", page)
+        self.assertEqual(self.rows("SELECT session, reserved FROM opening WHERE hall = 'TENT2'"), [("MON-PM", 1)])
+        _, text = self.browser.post("/propose/open", "/sessions/MON-PM", 422, session="MON-PM", **new)
+        self.assertRegex(text, r'<details class="new" open>.*name="new_hall" value="TENT" aria-invalid="true"')
 
     def test_done_once(self):
         page, _ = self.browser.post("/propose/withdraw", "/candidates/1051", number="0001051", paper="PH-1")
@@ -206,6 +231,59 @@ class TestAppeals(DeskSchool):
             for name in names:
                 if "copies" not in place:
                     self.assertNotIn(REASON.encode(), pathlib.Path(place, name).read_bytes(), name)
+
+
+class TestNotNow(DeskSchool):
+    """Who leaves a rehearsal finds in the form what was typed, and nobody finds it elsewhere."""
+
+    def left(self, page, done=False):
+        """Where the page of a rehearsal leads back to, and the text there."""
+        path = re.search(r'<p class="crumbs"><a href="([^"]+)"', self.browser.get(page))[1].removeprefix(
+            self.browser.prefix)
+        path = html.unescape(path)
+        self.assertEqual("again=" in path, not done)
+        self.assertNotIn("asthma", urllib.parse.unquote(path))
+        return path, html.unescape(self.browser.get(path.partition("#")[0]))
+
+    def test_a_reason_and_an_answer_are_still_there(self):
+        values = {"number": "0001051", "session": "MON-PM", "kind": "arrangement", "wanted_extra": "17",
+                  "needs": ["screen", "quiet"], "reason": REASON}
+        page, _ = self.browser.post("/propose/lodge", "/candidates/1051", **values)
+        path, text = self.left(page)
+        self.assertTrue(path.endswith("#lodge"))
+        lodge = text.partition('id="lodge"')[2].partition("</form>")[0]
+        self.assertRegex(lodge, f'name="reason"[^>]* value="{REASON}"')
+        for part in ('value="17"', "<option selected>MON-PM", 'value="arrangement" checked', 'value="screen" checked',
+                     'value="quiet" checked'):
+            self.assertIn(part, lodge)
+        self.assertNotIn('value="reader" checked', lodge)
+        self.assertNotIn(REASON, text.replace(lodge, ""))
+        self.assertNotIn(REASON, self.another_visit(path))
+        self.browser.post(page + "/do", page)
+        self.assertNotIn(REASON, self.log())
+        self.assertNotIn(REASON, self.left(page, done=True)[1].partition('id="lodge"')[2])
+        page, _ = self.browser.post("/propose/decide", "/appeals/1051/D1", number="0001051", ref="D1",
+                                    outcome="refused", reason="no 'asthma' here")
+        text = self.left(page)[1]
+        self.assertRegex(text, 'name="reason"[^>]* value="no \'asthma\' here"')
+        self.assertIn('value="refused" checked', text)
+
+    def another_visit(self, path):
+        other = self.another()
+        other.enter("cd")
+        return other.get(path.partition("#")[0])
+
+    def test_of_another_hall_too(self):
+        closing, _ = self.browser.post("/propose/close", "/sessions/MON-AM", session="MON-AM", lost="GYM")
+        page, _ = self.browser.post("/propose/close", closing, session="MON-AM", lost="GYM", hall="R14", desks="31",
+                                    until="14:05", reserved="1", proposal=closing.rsplit("/", 1)[1])
+        path, text = self.left(page)
+        self.assertTrue(path.startswith(closing))
+        for part in ('name="desks" value="31"', 'name="until" value="14:05"', 'value="R14" selected',
+                     'name="reserved" value="1" checked'):
+            self.assertIn(part, text)
+        self.browser.post(page + "/do", page)
+        self.assertEqual(self.left(page, done=True)[0], "/sessions/MON-AM")
 
 
 class TestBack(DeskSchool):

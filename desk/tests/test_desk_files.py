@@ -142,6 +142,36 @@ class TestFiles(Uploads):
                            dates="day-first")
         self.assertIn("X-1,2027-06-01,09:00", self.browser.ask("GET", page + "/sessions.csv")[1].replace('"', ""))
 
+    def test_hidden_rows_and_sheets(self):
+        """They are passed over or a mistake, until a box says that they are read."""
+        sheets = {"Candidates": [["number", "name", "code"], [12001, "Nadia", "K4WBN7RTQD"],
+                                 [12008, "Tom", "K4WBN7RTQE"]],
+                  "Entries": [["number", "paper"], [12001, "EN-1"], [12008, "EN-1"]]}
+        hidden = workbook(sheets, rows={"Candidates": [3]}, sheets=["Entries"])
+        plain = ("halls.csv", b"hall,title,features\nR20,Room 20,-\n")
+        page = self.upload(("school.xlsx", hidden), plain)
+        words = self.browser.words(page)
+        self.assertIn("row 3 is hidden, perhaps by a filter", words)
+        self.assertIn("is hidden: show it if it has the entries", words)
+        self.assertNotIn("/candidates.csv", self.browser.get(page))
+        self.browser.post(page + "/hidden", page, book="0", take="1")
+        self.assertIn("No mistake", self.browser.words(page))
+        for name, rows in (("candidates", "0012001,Nadia,K4WBN7RTQD 0012008,Tom,K4WBN7RTQE"),
+                           ("entries", "0012001,EN-1 0012008,EN-1"), ("halls", "R20,Room 20,-")):
+            _, text = self.browser.ask("GET", f"{page}/{name}.csv")
+            self.assertEqual(text.replace('"', "").split("\n")[1:-1], rows.replace(" 00", "\n00").split("\n"))
+        self.assertRegex(self.browser.get(page), 'name="take" value="1" checked')
+        self.browser.post(page + "/hidden", page, book="0")
+        self.assertIn("No mistake", self.browser.words(page))
+        self.assertEqual(self.browser.ask("GET", page + "/candidates.csv")[1].count("\n"), 2)
+        self.browser.get(page + "/entries.csv", 404)
+        self.browser.get(page + "/halls.csv")
+        self.assertRegex(self.browser.get(page), 'name="take" value="1">')  # it can still be ticked
+        for wrong in ("1", "-1", "", "x"):
+            self.browser.post(page + "/hidden", page, 404, book=wrong)
+        page = self.upload(("school.xlsx", workbook(sheets)), plain)
+        self.assertNotIn('name="take"', self.browser.get(page))
+
     def test_zips(self):
         out = io.BytesIO()
         with zipfile.ZipFile(out, "w", zipfile.ZIP_DEFLATED) as archive:
@@ -193,9 +223,10 @@ class TestBegin(Uploads):
 
     def test_from_nothing(self):
         self.assertIn("There is no office yet", self.browser.words("/"))
-        for path in ("/files", "/office"):
+        for path in ("/files", "/office", "/candidates", "/appeals", "/clashes", "/overlaps", "/sessions/MON-AM"):
             answer, _ = self.browser.ask("GET", path)
-            self.assertEqual(answer.status, 302)
+            self.assertEqual((answer.status, answer.headers["Location"]), (303, self.browser.prefix + "/"), path)
+        self.browser.post("/files", "/", dates="")
         self.browser.post("/init", "/")
         for path in ("/", "/files", "/candidates", "/appeals", "/clashes", "/office", "/candidates?q=x"):
             self.browser.get(path)
@@ -220,12 +251,25 @@ class TestBegin(Uploads):
         self.assertNotIn("nothing is imported", self.browser.words(page))
 
 
-def workbook(sheets):
-    """The bytes of a workbook; Debian's python has what makes one."""
-    script = ("import io, json, openpyxl, sys\nbook = openpyxl.Workbook()\nbook.remove(book.active)\n"
-              "for name, rows in json.load(sys.stdin).items():\n    sheet = book.create_sheet(name)\n"
-              "    for row in rows:\n        sheet.append(row)\nbook.save(sys.stdout.buffer)")
-    return subprocess.run([PYTHON, "-c", script], input=json.dumps(sheets).encode(), capture_output=True,
+SCRIPT = """
+import json, openpyxl, sys
+book = openpyxl.Workbook()
+book.remove(book.active)
+found, hidden = json.load(sys.stdin)
+for name, rows in found.items():
+    sheet = book.create_sheet(name)
+    for row in rows:
+        sheet.append(row)
+    for row in hidden.get("rows", {}).get(name, []):
+        sheet.row_dimensions[row].hidden = True
+    sheet.sheet_state = "hidden" if name in hidden.get("sheets", []) else "visible"
+book.save(sys.stdout.buffer)
+"""
+
+
+def workbook(found, **hidden):
+    """The bytes of a workbook, and what is hidden in it; Debian's python has what makes one."""
+    return subprocess.run([PYTHON, "-c", SCRIPT], input=json.dumps([found, hidden]).encode(), capture_output=True,
                           check=True).stdout
 
 

@@ -14,7 +14,7 @@ class TestPrinting(DeskSchool):
     def test_sheets_are_those_of_the_commands(self):
         for hall, in self.rows("SELECT hall FROM opening WHERE session = 'MON-AM'"):
             self.office("rows", hall, "6")
-        sheets = re.findall(r"/sessions/MON-AM/print/(\w+)", self.browser.get("/sessions/MON-AM"))
+        sheets = re.findall(r'/sessions/MON-AM/print/(\w+)"', self.browser.get("/sessions/MON-AM"))
         self.assertEqual(sorted(sheets), ["board", "cards", "chart", "counts", "doors", "poster", "slips"])
         for sheet in sheets:
             options = ["--desks"] if sheet == "slips" else []
@@ -23,11 +23,31 @@ class TestPrinting(DeskSchool):
         self.browser.get("/sessions/MON-AM/print/nothing", 404)
 
     def test_a_chart_wants_to_know_how_desks_stand(self):
-        answer, _ = self.browser.ask("GET", "/sessions/MON-AM/print/chart")
-        self.assertEqual((answer.status, answer.headers["Location"].removeprefix(self.browser.prefix)),
-                         (303, "/sessions/MON-AM#halls"))
-        self.assertIn("First open the line of each of these halls, and press Draw: AULA, ",
-                      self.browser.words("/sessions/MON-AM"))
+        """At each hall in which somebody sits stands a link to its chart, which asks first; so does that of all."""
+        page, draw, before = "/sessions/MON-AM", "/sessions/MON-AM/draw", self.seats()
+        seated = [hall for hall, in self.rows("SELECT DISTINCT hall FROM seat WHERE session = 'MON-AM' ORDER BY 1")]
+        links = re.findall(r'href="[^"]*(/sessions/MON-AM/print/chart\?hall=(\w+))"', self.browser.get(page))
+        self.assertEqual([hall for _, hall in links], seated)
+        link, first = links[0]
+        self.assertEqual(re.findall(r'name="across-(\w+)"', self.browser.get(link)), [first])
+        for across in ("0", "101", "x", ""):
+            _, text = self.browser.post(draw, link, 422, chart="1", hall=[first], of=[first],
+                                        **{f"across-{first}": across, f"running-{first}": "down"})
+            self.assertRegex(text, rf'name="across-{first}" value="{across}" aria-invalid="true"')
+        self.assertEqual(self.office("rows"), "nothing is kept\n")
+        where, _ = self.browser.post(draw, link, chart="1", hall=[first], of=[first],
+                                     **{f"across-{first}": "5", f"running-{first}": "across"})
+        self.assertEqual(where, link)
+        self.assertEqual(self.browser.get(link), self.office("chart", "MON-AM", first))
+        self.assertEqual(re.findall(r'name="across-(\w+)"', self.browser.get(page + "/print/chart")), seated[1:])
+        values = {f"{name}-{hall}": value for name, value in (("across", 6), ("running", "down"))
+                  for hall in seated[1:]}
+        where, _ = self.browser.post(draw, page + "/print/chart", chart="1", hall=seated[1:], **values)
+        self.assertEqual(where, page + "/print/chart")
+        self.assertEqual(self.browser.get(where), self.office("chart", "MON-AM"))
+        self.assertEqual(self.seats(), before)
+        self.browser.post(draw, page, 404, hall=["NONE"])
+        self.browser.post(draw, page, 400)
 
     def test_what_is_printed(self):
         self.browser.get("/sessions/MON-AM/print/doors")
@@ -117,21 +137,26 @@ class TestPrinting(DeskSchool):
     def test_how_a_hall_is_drawn(self):
         page = "/sessions/MON-AM/halls/GYM"
         before = self.seats()
-        self.browser.post(page + "/draw", page, across="3", running="down-and-up")
+        where, _ = self.browser.post("/sessions/MON-AM/draw", page, hall="GYM", **self.standing("3", "down-and-up"))
+        self.assertEqual(where, "/sessions/MON-AM#hall-GYM")
         self.assertEqual(self.office("rows"), "GYM: rows of 3, down-and-up\n")
         for across, running in (("0", "down"), ("101", "down"), ("x", "down"), ("", "down"), ("4", "other"),
                                 ("00509999", "down")):
-            self.browser.post(page + "/draw", page, 422, across=across, running=running)
+            self.browser.post("/sessions/MON-AM/draw", page, 422, hall="GYM", **self.standing(across, running))
         self.assertEqual(self.office("rows"), "GYM: rows of 3, down-and-up\n")
         self.office("rows", "GYM", "5", "across-and-back")
         text = self.browser.get(page)
-        self.assertIn('name="across" inputmode="numeric" size="3" value="5"', text)
+        self.assertIn('name="across-GYM" value="5"', text)
         self.assertIn('value="across-and-back" selected', text)
         drawn = self.places(text)
         self.assertGreater(len(drawn), 5)
         self.assertEqual(drawn, {number: self.place(number, 5) for number in range(1, len(drawn) + 1)})
         self.assertEqual(self.seats(), before)
         self.browser.get("/sessions/MON-AM/halls/NONE", 404)
+
+    @staticmethod
+    def standing(across, running):
+        return {"across-GYM": across, "running-GYM": running}
 
     @staticmethod
     def places(text):

@@ -39,6 +39,12 @@ class TestGerman(DeskSchool):
             self.assertIn(words, html.unescape(text))
             self.assertIn('lang="de"', text)
 
+    def test_what_is_worked_out_once_is_said_in_each_language(self):
+        self.assertIn("Have PC1 with 11 desks, 1 more", self.browser.words("/sessions/MON-AM"))
+        _, text = self.browser.ask("GET", "/sessions/MON-AM", headers={"Accept-Language": "de"})
+        self.assertNotIn("Have", text)
+        self.assertIn("11", text.partition('class="remedies"')[2].partition("</ul>")[0])
+
 
 if __name__ == "__main__":
     unittest.main()

@@ -43,6 +43,7 @@ async function load(place) {
   piece.setAttribute("aria-busy", "true");
   try {
     const answer = await fetch(`${place.dataset.load}?piece`, {credentials: "same-origin"});
+    if (answer.status === 503) setTimeout(() => { delete place.dataset.loaded; load(place); }, 1000);  // it is being read
     if (answer.redirected || !answer.ok) throw new Error(answer.status);
     piece.replaceChildren(document.createRange().createContextualFragment(await answer.text()));
   } catch {

@@ -1,14 +1,38 @@
-"""Files that a browser saves: CSV whose cells no spreadsheet takes for formulas, and archives."""
+"""What leaves the desk: sheets to print, by the functions of the command line, CSV files and archives."""
 import io
 import os
 import re
 import zipfile
 from collections.abc import Callable, Iterable, Sequence
+from typing import NamedTuple
 
-from flask import Response
+from flask import Response, g
 
 from exam_desk import files, private
+from exam_desk.sheets import board, cards, chart, counts, doors, poster, slips
 from exam_web.desk import desk
+
+
+class Sheet(NamedTuple):
+    """A paper of a session, and the function that makes it."""
+    title: str
+    page: Callable[..., str]  # of a reading, a session and, where it is by hall, the halls: all where none is named
+    by_hall: bool = False
+
+
+SHEETS = {
+    "doors": Sheet("Invigilators' sheets to sign", doors.page, True), "poster": Sheet("Posters for doors", poster.page),
+    "cards": Sheet("Desk cards", cards.page, True), "chart": Sheet("Seating charts", chart.page, True),
+    "slips": Sheet("Slips for candidates", lambda reading, session: slips.page(
+        reading, slips.Choice(sessions=[session], desks=True))),
+    "board": Sheet("Notice board by name", board.page), "counts": Sheet("Copies of each paper", counts.page),
+}
+
+
+def styled(page: str) -> str:
+    """A sheet, whose own style the policy of this answer lets through."""
+    g.style = page[page.index("<style>") + len("<style>"):page.index("</style>")]
+    return page
 
 
 def csv(header: Sequence[str], rows: Iterable[Sequence[object]], name: str) -> Response:

@@ -1,0 +1,127 @@
+"""The season at the desk in a browser: what needs a person, and where it is mended."""
+import re
+import subprocess
+import unittest
+
+from desk_client import HAS_FLASK, PYTHON, DeskSchool
+from sample import DESK
+
+SESSIONS = "session,date,start\nHL,2027-06-07,10:00\nT1,2027-06-07,11:00\n"
+PAPERS = "paper,title,session,minutes,requires\nHL-1,Oral,HL,60,-\nT1-1,Oral,T1,30,-\n"
+OPENINGS = "session,hall,desks,until,reserved\nHL,AULA,5,18:00,no\n"
+ENTRIES = "number,paper\n0001000,HL-1\n0001000,T1-1\n"
+
+TURNS = """
+import flask, sys, threading
+sys.path.insert(0, sys.argv[1])
+from exam_web import desk
+begun, end, asked = threading.Event(), threading.Event(), []
+class Reading:
+    def person(self, number):
+        return number
+    def ask(self, people):
+        asked.append(len(people))
+view = desk.View.__new__(desk.View)
+view.reading, view.lock, view.locks, view.found = Reading(), threading.Lock(), {}, {}
+view.ask(range(450))
+@desk.once
+def slow(view):
+    begun.set()
+    end.wait()
+    return 7
+@desk.once
+def quick(view):
+    return 5
+threading.Thread(target=slow, args=[view]).start()
+begun.wait()
+desk.PATIENCE = 0.1
+with flask.Flask("x").test_request_context():
+    try:
+        slow(view)
+    except desk.StillReading as stage:
+        print(stage)
+    print(quick(view))
+end.set()
+print(slow(view), asked)
+"""
+
+
+@unittest.skipUnless(HAS_FLASK, "Flask or waitress is missing")
+class TestTurns(unittest.TestCase):
+    def test_who_asks_of_many_leaves_others_their_turn(self):
+        done = subprocess.run([PYTHON, "-c", TURNS, DESK], capture_output=True, text=True, timeout=60, check=True)
+        self.assertEqual(done.stdout, "Candidates and desks are counted\n5\n7 [200, 200, 50]\n")
+
+
+class TestWhatNeedsAPerson(DeskSchool):
+    WHOLE = ["/?piece", "/?all=1"]  # what a script puts into the page, and the page for who has none
+
+    def links(self, path):
+        """Of each line of a page what it leads to."""
+        found = re.findall(r'<span class="what">(.*?)</span><a class="button small" href="([^"]+)"',
+                           self.browser.get(path))
+        return {re.sub("<[^>]*>", "", words): link.removeprefix(self.browser.prefix) for words, link in found}
+
+    def line(self, path, begin):
+        """Where the line leads that begins so, and how it goes on."""
+        [found] = [(words[len(begin):], link) for words, link in self.links(path).items() if words.startswith(begin)]
+        return found
+
+    def test_printed_papers_that_are_out_of_date(self):
+        begin = " of MON-AM has another desk than on paper"
+        self.office("printed", "MON-AM")
+        self.office("printed", "TUE-AM")
+        self.assertIn('data-load="' + self.browser.prefix + '/"', self.browser.get("/"))
+        for path in self.WHOLE:
+            self.assertNotIn("than on paper", self.browser.words(path))
+        self.office("withdraw", "0001051", "CS-1")
+        *moves, halls = self.office("printed", "MON-AM", "--look").splitlines()
+        self.assertGreater(len(moves), 1)
+        self.assertNotIn("than on paper", self.browser.words("/"))
+        for path in self.WHOLE:
+            said, link = self.line(path, f"{len(moves)} candidates{begin.replace('has', 'have')}: ")
+            self.assertEqual(said, halls.removeprefix("to print again: "))
+            self.assertEqual(link, "/sessions/MON-AM#print")
+            self.assertNotIn("TUE-AM have another", self.browser.words(path))
+        self.assertIn(f"{len(moves)} candidates have another desk", self.browser.words("/sessions/MON-AM/printed"))
+        self.office("printed", "MON-AM")  # the office is as it was, the notebook is not
+        self.assertNotIn("than on paper", self.browser.words("/?piece"))
+
+    def test_not_of_a_session_that_is_over(self):
+        self.office("printed", "MON-AM")
+        self.office("withdraw", "0001051", "CS-1")
+        self.assertIn("than on paper", self.browser.words("/?piece"))
+        self.end()
+        self.environment["TODAY"] = "2027-06-08"
+        self.start()
+        self.assertNotIn("than on paper", self.browser.words("/?piece"))
+
+    def test_sessions_at_one_time(self):
+        self.assertNotIn("at one time:", self.browser.words("/?piece"))
+        self.assertIn("None.", self.browser.words("/overlaps"))
+        for kind, text in (("sessions", SESSIONS), ("papers", PAPERS), ("openings", OPENINGS), ("entries", ENTRIES)):
+            self.run_office("import", kind, self.write(f"{kind}.csv", text))
+        self.assertIn("MON-AM and HL overlap: 1 candidate in both: 0001000 Ada Lin; candidates of both in AULA",
+                      self.office("summary"))
+        self.assertNotIn("at one time:", self.browser.words("/"))
+        for path in self.WHOLE:
+            self.assertEqual(self.line(path, "Sessions at one time: "), ("MON-AM + HL", "/overlaps"))
+        self.assertRegex(self.browser.words("/overlaps"), "MON-AM , HL Ada Lin 0001000 AULA ")
+        text = self.browser.get("/overlaps")
+        for link in ("/candidates/1000", "/sessions/HL#hall-AULA", "/sessions/MON-AM"):
+            self.assertIn(f'href="{self.browser.prefix}{link}"', text)
+        self.browser.get("/sessions/HL")
+
+    def test_the_most_urgent_stands_first(self):
+        self.office("lodge", "0001051", "MON-AM", "hall", "PC1", "")
+        self.office("printed", "TUE-AM")
+        self.office("withdraw", "0001051", "PH-1")
+        found = re.findall(r'<li class="(\w+)"><span class="when">by <time datetime="([^"]+)"',
+                           self.browser.get("/?piece"))
+        urgent = [(["late", "now", "soon", "note"].index(level), day) for level, day in found]
+        self.assertEqual(urgent, sorted(urgent))
+        self.assertGreater(len(self.links("/?piece")), len(self.links("/")))
+
+
+if __name__ == "__main__":
+    unittest.main()
