@@ -21,7 +21,7 @@ def add_reading(parser: ArgumentParser) -> None:
     """The options of a command that reads values as a spreadsheet writes them."""
     parser.add_argument("--dates", choices=["day-first", "month-first"], default="", help="what 01/06/2027 means")
     parser.add_argument("--encoding", help="of CSV files that are not UTF-8, such as cp1252")
-    parser.add_argument("--all", action="store_true", help="print every line")
+    parser.add_argument("--all", action="store_true", help="print a line for each cell, also where many say the same")
 
 
 def add_choices(parser: ArgumentParser) -> None:
@@ -60,10 +60,10 @@ def read_folder(office: Office, path: str, given: Namespace) -> Reading:
 
 def print_lines(reading: Reading, everything: bool) -> None:
     """Prints what was changed, and what is wrong."""
-    from exam_desk.workbook.report import told_lines
+    from exam_desk.workbook.report import together
     command.progress("")
-    for line in told_lines(reading.report.lines, everything):
-        print(plain(line))
+    for line in reading.report.lines if everything else together(reading.report.lines):
+        print(plain(line.whole()))
 
 
 def told(reading: Reading, target: str, lines_name: str, everything: bool) -> int:
@@ -89,7 +89,8 @@ It reads sessions.csv, papers.csv, halls.csv, openings.csv, candidates.csv, arra
 are there, and the office's file if there is one; it changes nothing. Each mistake is a line: file, line, value, cure.
 What the program takes, though it may be wrong, is a note. Files without a mistake it imports into a private copy, and
 notes who would have no desk, who would miss a paper, who would sit otherwise, and which sessions would be at one time.
-The status is 1 if there is a mistake.
+Candidates without an access code are no mistake, since `office take FOLDER --codes` makes them; one line counts them.
+The status is 1 if `office import` would refuse a file: for a mistake, or for a code that is empty.
 """)
 def check_files(parser: ArgumentParser) -> bool:
     from exam_desk import checking
@@ -100,7 +101,7 @@ def check_files(parser: ArgumentParser) -> bool:
     if not checked.counts["files"]:
         raise Trouble("none of the seven files is there")
     print("{files} files, {mistakes} mistakes, {notes} notes".format_map(checked.counts))
-    return bool(checked.counts["mistakes"])
+    return bool(checked.counts["mistakes"] or checked.counts["codes"])
 
 
 @command.named("""\
@@ -236,8 +237,9 @@ def take(parser: ArgumentParser) -> None:
     given = parser.parse_args()
     office = command.existing_office()
     reading = (read_folder if os.path.isdir(given.source) else read_workbook)(office, given.source, given)
+    reading = taking.with_codes(office, reading) if given.codes else reading
     print_lines(reading, given.all)
-    steps = taking.steps_of(taking.with_codes(office, reading) if given.codes else reading)
+    steps = taking.steps_of(reading)
     with changing.rehearse(office, steps, command.progress) as rehearsal:
         command.progress("")
         for answered in rehearsal.answers:

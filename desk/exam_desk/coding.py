@@ -30,9 +30,8 @@ def in_office(office: Office) -> dict[str, list[str]]:
         return {row[0]: list(row) for row in rows}
 
 
-def read(path: str) -> list[list[str]]:
-    """The rows of the file after the header. Raises `Trouble` where the file is not one of candidates."""
-    text = files.read(path)
+def read(text: bytes, path: str) -> list[list[str]]:
+    """The rows of a file after the header. Raises `Trouble` where the file is not one of candidates."""
     if len(text) > files.MOST_BYTES:
         raise Trouble(f"{path} is longer than {files.MOST_BYTES} bytes; split it")
     rows = files.records(text)
@@ -44,6 +43,11 @@ def read(path: str) -> list[list[str]]:
             raise Trouble(f"line {row.line} of {path} is wrong; `office check-files` says how")
         found.append([value.decode() for value in row.fields])
     return found
+
+
+def with_codes(office: Office, text: bytes) -> bytes:
+    """A file of candidates with a code in each field that is empty. Raises `Trouble` as `read`."""
+    return file_of(filled(read(text, "candidates.csv"), in_office(office), set()).rows)
 
 
 def is_right(row: files.Record) -> bool:
@@ -82,7 +86,8 @@ def coded(office: Office, path: str | None, new: list[str]) -> Coded:
     """The rows of a file with codes, or without a file those of the office of who gets another code. Raises `Trouble`
     as `read`, and where one of the new numbers is not there."""
     known = in_office(office)
-    rows = [known[number] for number in dict.fromkeys(new) if number in known] if path is None else read(path)
+    rows = [known[number] for number in dict.fromkeys(new) if number in known] if path is None \
+        else read(files.read(path), path)
     for number in set(new) - {row[0] for row in rows}:
         raise Trouble(f"{number} is not in {path or 'the office'}; a number has seven digits")
     return filled(rows, known, set(new))

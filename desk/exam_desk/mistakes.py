@@ -29,6 +29,7 @@ CURES = {
 }
 COMMAS = [(b",", ""), (b";", "semicolons part the columns: save it with commas"),
           (b"\t", "tabs part the columns: save it with commas")]
+NO_CODE = "code ''"  # the mistakes on empty codes, which are counted apart
 EMPTY_ROW = "an empty row of the spreadsheet: delete it"
 RIGHT = {column: right for kind, header in files.HEADERS.items() for column, right in zip(header, files.FORMS[kind])}
 LOST_ZEROS = re.compile(rb"([0-9]{1,7})(\.0+)?").fullmatch
@@ -68,7 +69,7 @@ class Found:
 
     def add_value(self, line: int, column: str, field: bytes, cure: Cure | Callable[[str, bytes], Cure]) -> None:
         """As `add`, with the value; a cure that is long to make is made only where it is shown."""
-        if self.is_shown(column):
+        if self.is_shown(NO_CODE if column == "code" and not field else column):
             found = cure if isinstance(cure, Cure) else cure(column, field)
             self.shown.append(Mistake(line, f"{column} {files.shown(field)}", found.text, found.write))
 
@@ -143,7 +144,7 @@ def cure(column: str, field: bytes) -> Cure:
     if column in ("name", "title"):
         return Cure(name_cure(field))
     if column == "code" and not field:
-        return Cure("`office codes` fills the codes that are empty, in a new file")
+        return Cure("it is empty; `office take .. --codes` makes one")
     if column == "number" and (number := with_zeros(field)) != field:
         return Cure(f"leading zeros lost? {number.decode('ascii')} ({CURES[column]})", number.decode("ascii"))
     if len(field) > MOST_TO_MEND:
@@ -158,6 +159,11 @@ def cure(column: str, field: bytes) -> Cure:
         ordered = "+".join(name for name in words.FEATURES if name in parts)
         return Cure(f"write {ordered} (this order, each once)", ordered)
     return Cure(CURES[column])
+
+
+def no_codes(count: int) -> str:
+    """What is said once of all candidates without an access code."""
+    return f"{count:,} candidate{' has' if count == 1 else 's have'} no access code; `office take .. --codes` makes them"
 
 
 def date_in_order(text: str) -> str:
@@ -230,7 +236,7 @@ class File:
         if commas:
             self.wrong.add(record.line, "file", commas)
         for name in self.missing:
-            how = "leave it empty, and `office codes` fills it" if name == "code" else CURES[name]
+            how = "leave it empty; `office take .. --codes` makes the codes" if name == "code" else CURES[name]
             self.wrong.add(record.line, "file", f"the column {name} is missing: add it ({how})")
         if len(record.fields) > len(self.header) - len(self.missing):
             self.wrong.add(record.line, "file", "empty columns at the end: delete them")

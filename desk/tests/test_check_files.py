@@ -162,7 +162,7 @@ class Words(unittest.TestCase):
         text = b"number;name\n1000;Ada Lin\n0001017;\n0001034\n"
         self.assertEqual(self.mistakes_in("candidates", text), ([
             "semicolons part the columns: save it with commas",
-            "the column code is missing: add it (leave it empty, and `office codes` fills it)",
+            "the column code is missing: add it (leave it empty; `office take .. --codes` makes the codes)",
             "leading zeros lost? 0001000 (seven digits; format the column as text)", "1 to 80 bytes; it has 0",
             "1 fields in place of 3; values are missing"], []))
         self.assertEqual(self.mistakes_in("openings", b"session,desks,until,reserved\nS1,1,12:00,no\n")[0],
@@ -188,7 +188,7 @@ class Words(unittest.TestCase):
     def test_empty_codes_are_named_with_their_cure_and_are_not_compared(self):
         text = b"number,name,code\n0001000,Ada Lin,\n0001017,Ada Lin,\n"
         self.assertEqual(self.mistakes_in("candidates", text),
-                         (["`office codes` fills the codes that are empty, in a new file"] * 2, []))
+                         (["it is empty; `office take .. --codes` makes one"] * 2, []))
 
     def test_notes_for_a_human_eye(self):
         text = ("number,name,code\n0000001,FranÃ§ois,CODE0001\n0000002,Bo Berg,CODE0002\n0000003,Bo Berg,CODE0002\n"

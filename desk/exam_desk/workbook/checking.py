@@ -1,10 +1,12 @@
 """The check of the files before an import, `mistakes.looked_through`, with cells in place of lines."""
+import itertools
 import re
 from collections.abc import Callable, Iterable, Iterator, Mapping
 from functools import partial
 
 from exam_desk import files, mistakes
 from exam_desk.workbook.cells import place_name
+from exam_desk.workbook.report import Line
 from exam_desk.workbook.rows import Record
 from exam_desk.workbook.tables import Job
 
@@ -26,8 +28,17 @@ def keep_codes(job: Job, candidates: list[Record]) -> None:
     for record in candidates:
         if not record.fields[2] and record.fields[0] in have:
             record.fields[2] = have[record.fields[0]]
-            job.report.change(record.sheet, record.row, record.columns[2],
-                              "code (empty) became the one that the office has", "kept")
+            job.report.change("code (empty) became the one that the office has", record.sheet, record.row,
+                              record.columns[2])
+    tell_empty_codes(job, [record for record in candidates if not record.fields[2]])
+
+
+def tell_empty_codes(job: Job, candidates: list[Record]) -> None:
+    """One line on all of a sheet."""
+    for _, found in itertools.groupby(candidates, lambda record: record.sheet.name):
+        first, *rest = found
+        job.report.lines.append(Line("note", mistakes.no_codes(len(rest) + 1), first.sheet,
+                                     [first.row, *(record.row for record in rest)], first.columns[2], mistakes.NO_CODE))
 
 
 def found_in(job: Job, kind: str, rows: list[Record]) -> Iterator[Found]:
@@ -46,16 +57,15 @@ def put_back(job: Job, kind: str, found: Iterable[Found], said: set[str]) -> Non
     for sort, mistake, at in found:
         what, record = mistake.what.split(" ")[0], at.get(mistake.line)
         if record is None or what == "file":
-            job.report.add(sort, None, None, None, f"{kind}: {mistake.text}")
+            job.report.add(sort, f"{kind}: {mistake.text}")
             continue
         column = record.columns[header.index(what)] if what in header else None
-        lacking = column is None and what in header and what != "code"  # said of the header
-        if sort == "mistake" and what == "code" and not record.fields[2]:
-            job.report.note(record.sheet, record.row, column, "code is empty: `office codes` fills it", "no code")
-        elif sort == "note" or not (lacking or place_name(record.sheet, record.row, column) in said):
+        is_empty = what in header and not record.fields[header.index(what)]
+        is_told = is_empty and (column is None or what == "code")  # of the header, or of all candidates
+        if sort == "note" or not (is_told or place_name(record.sheet, record.row, column) in said):
             text = re.sub(r"\bline ([0-9]+)\b", partial(in_workbook, at), mistake.text)
-            job.report.add(sort, record.sheet, record.row, column, text if what == "row" else f"{mistake.what}: {text}",
-                           mistake.text if sort == "note" else what)
+            job.report.add(sort, text if what == "row" else f"{mistake.what}: {text}", record.sheet, record.row, column,
+                           f"{what} {mistake.text}")
 
 
 def in_workbook(at: Mapping[int, Record], line: re.Match[str]) -> str:

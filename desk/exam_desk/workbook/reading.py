@@ -61,10 +61,10 @@ def mend_folder(folder: str, known: mistakes.Known, way: Way, encoding: str | No
 def read_book(book: Book, job: Job, progress: Progress = lambda text: None) -> Reading:
     """Finds the tables of a workbook, reads their rows, and checks what comes out as the files of an import."""
     for text in book.notes:
-        job.report.note(None, None, None, text)
+        job.report.note(text)
     records = read_sheets(job, usable_sheets(job, book), progress)
     if not records and not job.report.count("mistake"):
-        job.report.mistake(None, None, None, "no sheet has rows of one of the seven kinds: see `office template`")
+        job.report.mistake("no sheet has rows of one of the seven kinds: see `office template`")
     check_files(job, records, progress)
     return Reading(records, job.report)
 

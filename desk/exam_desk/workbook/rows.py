@@ -270,7 +270,7 @@ def read_one(table: Table, row: int, name: str, here: Row, place: int) -> Field:
     except Wrong as fault:
         said = f"{name} is missing{above(table, row, place)}" if cell is None else \
             f"{name} {files.shown(shown_of(cell).encode('utf-8', 'replace'))}: {fault}"
-        table.mistake(row, place, said, name)
+        table.mistake(row, place, said, f"{name} {fault}")
         return (cell.text if cell else ""), True
     if value.why and not (cell is not None and value.text == cell.shown):
         why = f" ({value.why})" if value.why.strip() else ""
