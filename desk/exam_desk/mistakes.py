@@ -189,19 +189,13 @@ def name_cure(field: bytes) -> str:
 def looked_through(kind: str, text: bytes, known: Known, most: int = MOST_COUNTED) -> tuple[Found, Found]:
     """The mistakes of a file and the notes on it, so many of each column; what it brings is known afterwards."""
     file = File(kind, known, most)
-    rows = file.rows(text)
-    if rows is not None and file.look_at(rows):
-        file.note_references()
-        file.take()
-    elif kind in known.keys:
-        known.keys[kind] = None
-    return file.wrong, file.notes
+    return file.looked_through(file.rows(text))
 
 
 class File:
     """A file of rows while it is looked through."""
 
-    def __init__(self, kind: str, known: Known, most: int) -> None:
+    def __init__(self, kind: str, known: Known, most: int = MOST_COUNTED) -> None:
         self.kind, self.known, self.header = kind, known, files.HEADERS[kind]
         self.wrong, self.notes = Found(most), Found(most)
         self.missing: list[str] = []  # the columns that the header lacks; their fields are empty
@@ -209,6 +203,15 @@ class File:
         self.columns = [(column, right, references.get(place), noting.NOTES.get(column, lambda _: ()))
                         for place, (column, right) in enumerate(zip(self.header, files.FORMS[kind]))]
         self.first: dict[tuple[bytes, ...], files.Record] = {}  # the first record of each key
+
+    def looked_through(self, rows: Iterator[files.Record] | None) -> tuple[Found, Found]:
+        """The mistakes of its rows and the notes on them; what they bring is known afterwards."""
+        if rows is not None and self.look_at(rows):
+            self.note_references()
+            self.take()
+        elif self.kind in self.known.keys:
+            self.known.keys[self.kind] = None
+        return self.wrong, self.notes
 
     def rows(self, text: bytes) -> Iterator[files.Record] | None:
         """The records after the header, even where that is wrong in one of the usual ways; None where there is none."""

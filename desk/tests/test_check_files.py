@@ -135,6 +135,34 @@ class Verdicts(sample.SampleSchool):
                     found, _ = mistakes.looked_through(kind, text, mistakes.Known(connection))
                     self.assertEqual(bool(found), said is not None, [*found])
 
+    def test_empty_codes_are_said_once_and_are_no_mistakes(self):
+        """An import refuses the file all the same, and check-files says so and ends as it does; `take --codes` takes it."""
+        self.office("dump", "facts")
+        path, none = os.path.join(self.folder, "facts", "candidates.csv"), os.path.join(self.folder, "none.db")
+        with open(path, encoding="utf-8") as file:
+            rows = [line.rpartition(",")[0] + ',""' for line in file.read().splitlines()[1:]]
+        self.write("facts/candidates.csv", "\n".join(["number,name,code", *rows, ""]))
+        line = "candidates.csv: 60 candidates have no access code; `office take .. --codes` makes them; without them an " \
+            "import refuses the file\n"
+        once = "once imported: 6 without a desk: 2 in MON-AM, 2 in MON-PM, 2 in TUE-AM\n"
+        done = self.run_office("check-files", "facts", OFFICE=none)
+        self.assertEqual((done.returncode, done.stderr), (1, ""))
+        self.assertTrue(done.stdout.startswith(f"{line}NOTE: {once}"), done.stdout)
+        self.assertTrue(done.stdout.endswith("\n7 files, 0 mistakes, 2 notes\n"), done.stdout)
+        self.assertIn("refused 1 record 1 column 3\n", self.refused("import", "candidates", path))
+        self.assertIn("60 candidates without an access code: nothing is changed; give --codes too to make them",
+                      self.run_office("take", "facts", "--yes").stderr)
+        self.office("init", OFFICE=none)
+        said = self.office("take", "facts", "--yes", "--codes", OFFICE=none)
+        self.assertTrue(said.startswith("60 access codes made\n"), said)
+        self.assertNotIn("no access code", said)
+        rows[3] = rows[3].replace('"000', '"', 1)
+        self.write("facts/candidates.csv", "\n".join(["number,name,code", *rows, ""]))
+        said = self.run_office("check-files", "facts", OFFICE=os.path.join(self.folder, "no.db")).stdout
+        self.assertIn("candidates.csv line 5: number '1051': leading zeros lost? 0001051 (seven", said)
+        self.assertIn(line, said)
+        self.assertRegex(said, "\n7 files, [1-9][0-9]* mistakes, 0 notes\n$")
+
     def test_files_at_random(self):
         with tempfile.TemporaryDirectory() as folder, random_files.schools(folder, SEED) as schools:
             for _ in range(TRIES):
