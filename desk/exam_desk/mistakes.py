@@ -141,18 +141,20 @@ class Known:
 def cure(column: str, field: bytes) -> Cure:
     """What to do about a wrong value: to write what `office read` makes of such a cell, or what that says of it."""
     from exam_desk.workbook import cells, days, texts, values  # here, since these ask this module what is right
-    if column == "code" and not field:
-        return Cure("it is empty; `office take .. --codes` makes one")
     if column == "number" and (number := with_zeros(field)) != field:
         return Cure(f"leading zeros lost? {number.decode('ascii')} ({CURES[column]})", number.decode("ascii"))
     if column in ("name", "title") or len(field) > MOST_TO_MEND:
         return Cure(needed(column, field))
     text = field.decode("utf-8", "replace").strip(" '")
     try:
-        better = values.read_value(column, cells.Cell("text", text, text), texts.Way()).text
+        better = values.read_value(column, cells.Cell("text", text, text), texts.Way())
     except texts.Wrong as fault:
         return Cure(str(fault).removesuffix(days.SAY_DATES))
-    return Cure(f"write {better} ({CURES[column]})", better)
+    if column == "code" and not better.text:
+        return Cure("it is empty; `office take .. --codes` makes one")
+    if better.day:  # nobody has looked whether it is that of the session
+        return Cure(needed(column, field))
+    return Cure(f"write {better.text} ({CURES[column]})", better.text)
 
 
 def no_codes(count: int) -> str:

@@ -212,13 +212,16 @@ class Words(unittest.TestCase):
                 ("needs", b"reader+screen", "screen+reader"), ("needs", b"bed", ""), ("name", b"", ""),
                 ("code", b"", ""), ("date", b"13/06/2027", "2027-06-13"), ("date", b"01/06/2027", ""),
                 ("date", b"7 June 2027", "2027-06-07"), ("until", b"2:30 pm", "14:30"), ("start", b"9.30", ""),
-                ("minutes", b"1 h 30", "90"), ("extra", b"", "0"), ("needs", b"Screen, reader", "screen+reader")):
+                ("minutes", b"1 h 30", "90"), ("extra", b"", "0"), ("needs", b"Screen, reader", "screen+reader"),
+                ("start", b"2027-06-07 09:00", "")):
             self.assertEqual(mistakes.cure(column, value).write, write, (column, value))
 
     def test_empty_codes_are_named_with_their_cure_and_are_not_compared(self):
         text = b"number,name,code\n0001000,Ada Lin,\n0001017,Ada Lin,\n"
         self.assertEqual(self.mistakes_in("candidates", text),
                          (["it is empty; `office take .. --codes` makes one"] * 2, []))
+        for empty in (b" ", "\u00a0\u200b".encode()):
+            self.assertEqual(mistakes.cure("code", empty).text, "it is empty; `office take .. --codes` makes one")
 
     def test_notes_for_a_human_eye(self):
         text = ("number,name,code\n0000001,FranÃ§ois,CODE0001\n0000002,Bo Berg,CODE0002\n0000003,Bo Berg,CODE0002\n"

@@ -12,6 +12,8 @@ HOURS = re.compile(r"([0-9]{1,2})(?::([0-5][0-9])(?::00)?|"
 MINUTES = re.compile(r"([0-9]{1,3}) ?(min|mins|minutes|Minuten|')\.?", re.I)
 PERCENT = re.compile(r"([0-9]{1,3})(?:[.,]0+)? ?(%|percent|per cent|Prozent)", re.I)
 HALF_DAY = re.compile(r"(0?[1-9]|1[0-2])(?:[:.]([0-5][0-9]))?(?::00)? ?([ap])\.?m\.?", re.I)
+WITH_DAY = re.compile(r"([0-9]{4}-[0-9]{2}-[0-9]{2})(?:[T ]([0-9]{2}:[0-9]{2})(?::00(?:\.0+)?)?)?")
+SECONDS = re.compile(r":[0-9]{2}:[0-9.]*[1-9]")
 NONE = {"", "-", "none", "no", "keine"}
 NEVER = "a hall that is open until 00:00 suits nobody; midnight is 24:00"
 MIDNIGHT = "midnight? Write 24:00 as text if the hall is open until then"
@@ -21,17 +23,10 @@ def read_time(column: str, cell: Cell, text: str, way: Way) -> Value:
     """The time of a cell; a day that stands there too is given with it."""
     if cell.kind == "number":
         refuse_number(decimal.Decimal(text))
-    value = time_of_text(column, without_seconds(clock_text(decimal.Decimal(text)) if cell.kind == "time" else text))
+    value = time_of_text(column, clock_text(decimal.Decimal(text)) if cell.kind == "time" else text)
     if column == "until" and value.text == "00:00" and cell.kind != "text":
         raise Wrong(MIDNIGHT)
     return value
-
-
-def without_seconds(clock: str) -> str:
-    """The text of a time; raises `Wrong` where it has seconds."""
-    if re.search(r":[0-9]{2}:(?!00(\.0+)?$)", clock):
-        raise Wrong("has seconds: write it without them, as 09:00")
-    return clock
 
 
 def refuse_number(number: decimal.Decimal) -> None:
@@ -56,8 +51,12 @@ def time_of_text(column: str, text: str) -> Value:
         return Value(f"{text[:2]}:{text[2:]}")
     if match := re.fullmatch("([0-9]{1,2})[.h]([0-5][0-9])( Uhr)?", text):
         raise Wrong(f"write {match[1]:0>2}:{match[2]} if that is meant")
-    if re.fullmatch(r"[0-9]{4}-[0-9]{2}-[0-9]{2}[T ][0-9]{2}:[0-9]{2}(:00(\.0+)?)?", text):
-        return Value(text[11:16], "the time of the cell", "", text[:10])
+    if match := WITH_DAY.fullmatch(text):
+        if not match[2]:
+            raise Wrong("is a date, not a time")
+        return Value(match[2], "the time of the cell", "", match[1])
+    if SECONDS.search(text):
+        raise Wrong("has seconds: write a time as 09:00")
     return Value(text)
 
 
@@ -65,14 +64,16 @@ def read_whole(column: str, cell: Cell, text: str, way: Way) -> Value:
     """Minutes, desks, or percent of extra time."""
     if "." not in text:
         refuse_other_digits(cell)
-    if cell.kind != "text":
-        text = {"percent": f"{text}%", "time": ""}.get(cell.kind, text) or \
-            without_seconds(clock_text(decimal.Decimal(text))).removeprefix("0")
+    if cell.kind == "percent":
+        text = f"{text}%"
+    elif cell.kind == "time":
+        text = clock_text(decimal.Decimal(text)).removeprefix("0")
     if column == "extra" and text.lower() in NONE:
         return Value("0", "none" if text else "empty is none")
     number = re.sub(r"^0+(?=[0-9])", "", text)
     done = "zeros in front taken away" if number != text else ""
     number = re.sub(r"^([0-9]+)\.0+$", r"\1", number)
+    note = "is 1 percent; 100 percent is 100" if (column, number) == ("extra", "1") else ""
     if column == "extra" and (match := PERCENT.fullmatch(number)):
         number, done = match[1], reason(done, "percent")
     elif column == "extra" and re.fullmatch(r"0?[.,][0-9]+", number):
@@ -83,4 +84,6 @@ def read_whole(column: str, cell: Cell, text: str, way: Way) -> Value:
     elif column == "minutes" and (match := HOURS.fullmatch(number)):
         hours, minutes = int(match[1]), int(match[2] or match[3] or 0)
         number, done = str(60 * hours + minutes), reason(done, f"{hours} h {minutes} min")
-    return Value(number, done, "is 1 percent; 100 percent is 100" if (column, number, text) == ("extra", "1", "1") else "")
+    elif column == "minutes" and SECONDS.search(number):
+        raise Wrong("has seconds: write the minutes as a number")
+    return Value(number, done, note)

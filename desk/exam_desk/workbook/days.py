@@ -23,12 +23,11 @@ NO_DAY = ("1899-12-30", "1899-12-31", "1900-01-01", "1904-01-01")  # what stands
 
 
 def read_date(column: str, cell: Cell, text: str, way: Way) -> Value:
-    if cell.kind == "time":
-        raise Wrong("is a time, not a date")
     if cell.kind == "number" and re.fullmatch("[0-9]{5}", text):  # nobody sees which day a count of days is
         day = datetime.date(1899, 12, 30) + datetime.timedelta(days=int(text))
         raise Wrong(f"a number without the format of a date: if {day} is meant, give the column the format date")
-    refuse_other_digits(cell)
+    if "." not in text:
+        refuse_other_digits(cell)
     return Value(text) if cell.shown == text and LIKE_A_DATE.fullmatch(text) else date_of_text(text, way)
 
 
@@ -42,13 +41,14 @@ def day_value(text: str, more: str = "") -> Value:
 
 
 def date_of_text(text: str, way: Way) -> Value:
-    if match := re.fullmatch(r"([0-9]{4}-[0-9]{2}-[0-9]{2})(?:[T ](.*))?Z?", text):
-        if (match[2] or "").strip("0:.Z"):
+    if match := re.fullmatch(r"([0-9]{4}-[0-9]{2}-[0-9]{2})(?:[T ]([0-9:.]*)Z?)?", text):
+        if (match[2] or "").strip("0:."):
             raise Wrong(f"has a time too, {match[2][:5]}: leave the date alone in its cell")
         return day_value(match[1])
-    if match := re.fullmatch(r"([0-9]{4})([/.])([0-9]{1,2})\2([0-9]{1,2})|(2[01][0-9]{2})([0-9]{2})([0-9]{2})", text):
-        year, _, month, day = match.groups()[:4] if match[1] else (match[5], "", match[6], match[7])
-        return day_value(f"{year}-{month:0>2}-{day:0>2}")
+    if match := re.fullmatch(r"([0-9]{4})([/.])([0-9]{1,2})\2([0-9]{1,2})", text):
+        return day_value(f"{match[1]}-{match[3]:0>2}-{match[4]:0>2}")
+    if re.fullmatch("2[01][0-9]{6}", text):  # 20270607
+        return day_value(f"{text[:4]}-{text[4:6]}-{text[6:]}")
     if match := WITH_POINTS.fullmatch(text):
         return day_value(f"{match[3]}-{match[2]:0>2}-{match[1]:0>2}", ", the day first as always with points")
     if match := WITH_SLASHES.fullmatch(text):

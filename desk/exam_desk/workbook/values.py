@@ -158,11 +158,13 @@ def is_mark(cell: Cell | None) -> bool | None:
 
 Reader = Callable[[str, Cell, str, Way], Value]  # of a column, a cell, its letters and what the officer said
 READERS: dict[str, tuple[Reader, list[str]]] = {  # with the kinds of cells that a column refuses
-    **dict.fromkeys(["number"], (read_number, ["date", "time", "bool", "percent"])),
+    "number": (read_number, ["date", "time", "bool", "percent"]),
     **dict.fromkeys(["session", "paper", "hall", "code"], (read_code, ["date", "time", "bool", "percent"])),
     **dict.fromkeys(["name", "title"], (read_name, ["date", "time", "bool", "percent"])),
-    **dict.fromkeys(["date"], (read_date, ["bool", "percent"])),
+    "date": (read_date, ["time", "bool", "percent"]),
     **dict.fromkeys(["start", "until"], (read_time, ["bool", "percent"])),
-    **dict.fromkeys(["minutes", "desks", "extra"], (read_whole, ["bool", "date"])),
-    **dict.fromkeys(["reserved"], (read_yes, ["date", "time", "percent"])),
+    "minutes": (read_whole, ["date", "bool", "percent"]),
+    "desks": (read_whole, ["date", "time", "bool", "percent"]),
+    "extra": (read_whole, ["date", "time", "bool"]),
+    "reserved": (read_yes, ["date", "time", "percent"]),
     **dict.fromkeys(["requires", "features", "needs"], (read_features, ["date", "time", "percent", "number", "bool"]))}
