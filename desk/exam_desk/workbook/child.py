@@ -11,7 +11,7 @@ import zipfile
 
 MOST_MEMORY = 1 << 30  # bytes
 MOST_SECONDS = 60  # of the processor
-MISSING = "python3-openpyxl is missing: apt install python3-openpyxl"  # which writes
+MISSING = "python3-openpyxl is missing: apt install python3-openpyxl"
 
 
 def limit(most_written: int) -> None:

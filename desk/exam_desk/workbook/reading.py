@@ -2,6 +2,7 @@
 import os
 import re
 from collections.abc import Callable
+from dataclasses import replace
 from typing import NamedTuple
 
 from exam_desk.trouble import Trouble
@@ -39,18 +40,19 @@ def opened(path: str, encoding: str | None) -> Book:
 
 def mend_folder(folder: str, job: Job, encoding: str | None, progress: Progress) -> Reading:
     """Reads the import files of a folder by the rules of a workbook's cells, each as a sheet of its name."""
-    book = Book("csv", [], [])
+    book, together = Book("csv", [], []), list[str]()
     for name in sorted(os.listdir(folder), key=lambda name: (len(name), name)):
         if match := re.fullmatch(rf"({'|'.join(KINDS)})(-[0-9]+)?\.csv", name):
             found = opened(os.path.join(folder, name), encoding)
             book.sheets.extend(found.sheets)
             book.notes.extend(f"{name}: {note}" for note in found.notes)
-            job.choices.together.append(match[1])
+            together.append(match[1])
         elif name.lower().endswith((".csv", ".xlsx", ".xlsm", ".ods")):
             book.notes.append(f"{name} is none of the seven files; it is not read")
     if not book.sheets:
         raise Trouble("none of the seven files is there", folder)
-    return read_book(book, job, progress)
+    choices = replace(job.choices, together=[*job.choices.together, *together])
+    return read_book(book, replace(job, choices=choices), progress)
 
 
 def read_book(book: Book, job: Job, progress: Progress = lambda text: None) -> Reading:

@@ -180,8 +180,9 @@ def totals(cell: Cell | None) -> bool | None:
 def said_total(text: str) -> bool | None:
     word = bare(text).lower().rstrip(":")
     first = word.split(" ")[0].rstrip(":")
-    return len(text) <= 100 and (word in TOTALS or first in ("total", "totals", "summe")) \
-        if word in TOTALS or first in TOTALS else None
+    if word not in TOTALS and first not in TOTALS:
+        return None
+    return len(text) <= 100 and (word in TOTALS or first in ("total", "totals", "summe"))
 
 
 def is_total(table: Table, row: int, here: Row, is_last: bool) -> bool:
