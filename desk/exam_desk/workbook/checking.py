@@ -58,9 +58,10 @@ def put_back(job: Job, kind: str, sort: str, found: Iterable[mistakes.Mistake], 
         is_empty = what in header and not record.fields[header.index(what)]
         is_told = is_empty and (column is None or what == "code")  # of the header, or of all candidates
         if sort == "note" or not (is_told or place_name(record.sheet, record.row, column) in said):
-            text = re.sub(r"\bline ([0-9]+)\b", partial(in_workbook, rows), mistake.text)
-            job.report.add(sort, text if what == "row" else f"{mistake.what}: {text}", record.sheet, record.row, column,
-                           f"{what} {mistake.text}")
+            text = f"{mistake.what}: {mistake.text}"
+            if what == "row":
+                text = re.sub(r"\bline ([0-9]+)\b", partial(in_workbook, rows), mistake.text)
+            job.report.add(sort, text, record.sheet, record.row, column, f"{what} {mistake.text}")
 
 
 def in_workbook(rows: list[Record], line: re.Match[str]) -> str:
