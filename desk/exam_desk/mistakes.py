@@ -159,7 +159,8 @@ def cure(column: str, field: bytes) -> Cure:
 
 def no_codes(count: int) -> str:
     """What is said once of all candidates without an access code."""
-    return f"{count:,} candidate{' has' if count == 1 else 's have'} no access code; `office take .. --codes` makes them"
+    who = f"{count:,} candidate{' has' if count == 1 else 's have'}"
+    return f"{who} no access code; `office take .. --codes` makes them"
 
 
 def with_zeros(field: bytes) -> bytes:

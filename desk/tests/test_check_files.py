@@ -136,14 +136,14 @@ class Verdicts(sample.SampleSchool):
                     self.assertEqual(bool(found), said is not None, [*found])
 
     def test_empty_codes_are_said_once_and_are_no_mistakes(self):
-        """An import refuses the file all the same, and check-files says so and ends as it does; `take --codes` takes it."""
+        """An import refuses the file all the same, and check-files ends as it does; `take --codes` takes it."""
         self.office("dump", "facts")
         path, none = os.path.join(self.folder, "facts", "candidates.csv"), os.path.join(self.folder, "none.db")
         with open(path, encoding="utf-8") as file:
             rows = [line.rpartition(",")[0] + ',""' for line in file.read().splitlines()[1:]]
         self.write("facts/candidates.csv", "\n".join(["number,name,code", *rows, ""]))
-        line = "candidates.csv: 60 candidates have no access code; `office take .. --codes` makes them; without them an " \
-            "import refuses the file\n"
+        line = "candidates.csv: 60 candidates have no access code; `office take .. --codes` makes them; without them " \
+            "an import refuses the file\n"
         once = "once imported: 6 without a desk: 2 in MON-AM, 2 in MON-PM, 2 in TUE-AM\n"
         done = self.run_office("check-files", "facts", OFFICE=none)
         self.assertEqual((done.returncode, done.stderr), (1, ""))

@@ -238,7 +238,7 @@ class Commands(sample.SampleSchool):
         self.assertIn("or say --dates day-first", done.stdout)
         self.assertFalse(os.path.exists(os.path.join(self.folder, "new")))
         said = self.office("mend", "broken", "new", "--dates", "day-first")
-        self.assertIn("candidates!A2: number 1000 became 0001000 (zeros in front)", said)
+        self.assertIn("candidates!A2:A61: number 1000 became 0001000 (zeros in front); 60 such changes\n", said)
         for kind in corpus.KINDS:
             self.assertEqual(self.rows("facts", kind), self.rows("new", kind))
         self.assertIn("7 files, 0 mistakes", self.office("check-files", "new"))
@@ -267,8 +267,10 @@ class Commands(sample.SampleSchool):
         """Sixty numbers without zeros and without codes, ten of eight digits, twenty entries for no paper."""
         people = [[place if place > 10 else 12345678, f"Ada {place}", None] for place in range(1, 71)]
         sheets = [{"name": "Candidates", "rows": [["number", "name", "code"], *people]},
-                  {"name": "Papers", "rows": [["paper", "title", "session", "minutes", "requires"], ["P1", "P", "S", 60, "-"]]},
-                  {"name": "Entries", "rows": [["number", "paper"], *([f"{place:07}", "XX-9"] for place in range(11, 31))]}]
+                  {"name": "Papers", "rows": [["paper", "title", "session", "minutes", "requires"],
+                                              ["P1", "P", "S", 60, "-"]]},
+                  {"name": "Entries", "rows": [["number", "paper"],
+                                               *([f"{place:07}", "XX-9"] for place in range(11, 31))]}]
         pathlib.Path(self.folder, "b.xlsx").write_bytes(rawbook.xlsx(*sheets))
         done = self.run_office("read", "b.xlsx", "new")
         self.assertEqual((done.returncode, done.stderr), (1, ""))
