@@ -18,11 +18,13 @@ HERE = pathlib.Path(__file__).resolve().parent / "workbooks"
 sys.path.append(str(HERE))
 import corpus  # noqa: E402
 import rawbook  # noqa: E402
+from exam_desk.mistakes import Known  # noqa: E402
 from exam_desk.trouble import Trouble  # noqa: E402
 from exam_desk.workbook import carrying, opening  # noqa: E402
 from exam_desk.workbook.cells import Sheet  # noqa: E402
-from exam_desk.workbook.reading import Reading  # noqa: E402
+from exam_desk.workbook.reading import Reading, mend_folder  # noqa: E402
 from exam_desk.workbook.report import Report, together  # noqa: E402
+from exam_desk.workbook.tables import Job  # noqa: E402
 from exam_desk.workbook.writing import workbook_of, write_folder  # noqa: E402
 
 AT_A_TIME = 4
@@ -152,6 +154,17 @@ class Told(unittest.TestCase):
             self.report.mistake(f"there is no sheet {year}")
         self.assertEqual(len(self.told()), 2 * 5 + 5)
         self.assertEqual(self.report.count("mistake"), 2 * 5 + 5)
+
+
+class Mending(unittest.TestCase):
+    def test_the_choices_of_others_stay(self) -> None:
+        """All files of a kind are one list, and no workbook after them is read so for that."""
+        with tempfile.TemporaryDirectory() as folder:
+            for name in ("entries.csv", "entries-2.csv"):
+                pathlib.Path(folder, name).write_text("number,paper\n0000001,MA-1\n", "utf-8")
+            reading = mend_folder(folder, Job(Known()), None, lambda text: None)
+        self.assertEqual((2, 0), (len(reading.records["entries"]), reading.report.count("mistake")))
+        self.assertEqual([], Job(Known()).choices.together)
 
 
 class Writing(unittest.TestCase):
