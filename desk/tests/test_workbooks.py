@@ -213,6 +213,7 @@ class Commands(sample.SampleSchool):
         done = self.run_office("read", "new.xlsx")
         self.assertEqual(1, done.returncode)
         self.assertIn("no sheet has rows", done.stdout)
+        self.assertIn("NOTE: Sessions!2 is the example of the template; it is not read; 7 such notes\n", done.stdout)
         self.assertEqual(1, self.run_office("template", "new.xlsx").returncode)
 
     @needs_openpyxl
