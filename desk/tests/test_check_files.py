@@ -210,7 +210,7 @@ class Words(unittest.TestCase):
     def test_what_to_write_instead(self):
         for column, value, write in (
                 ("number", b"1051", "0001051"), ("number", b"1051.0", "0001051"), ("number", b"12345678", ""),
-                ("number", b"\xff", ""), ("date", b"7. 6. 2027", "2027-06-07"), ("start", b"9:00:00", "09:00"),
+                ("number", b"\xff", ""), ("number", b"0", ""), ("date", b"7. 6. 2027", "2027-06-07"), ("start", b"9:00:00", "09:00"),
                 ("paper", b" ma-1 ", "MA-1"), ("extra", b"25 %", "25"), ("reserved", b"YES", "yes"),
                 ("needs", b"reader+screen", "screen+reader"), ("needs", b"bed", ""), ("name", b"", ""),
                 ("code", b"", ""), ("date", b"13/06/2027", "2027-06-13"), ("date", b"01/06/2027", ""),
@@ -225,6 +225,12 @@ class Words(unittest.TestCase):
                          (["it is empty; `office take .. --codes` makes one"] * 2, []))
         for empty in (b" ", "\u00a0\u200b".encode()):
             self.assertEqual(mistakes.cure("code", empty).text, "it is empty; `office take .. --codes` makes one")
+
+    def test_cures_are_harmless_on_a_terminal(self):
+        for column, value, cure in (
+                ("needs", "\x1b[2Jbed\u202e", "?[2jbed is none of the features ("),
+                ("paper", "ma\x0b \n1", "a space inside: write MA-1 if that is meant (")):
+            self.assertTrue(mistakes.cure(column, value.encode()).text.startswith(cure), (column, value))
 
     def test_notes_for_a_human_eye(self):
         text = ("number,name,code\n0000001,FranÃ§ois,CODE0001\n0000002,Bo Berg,CODE0002\n0000003,Bo Berg,CODE0002\n"

@@ -78,8 +78,9 @@ def read_code(column: str, cell: Cell, text: str, way: Way) -> Value:
         return code_of_number(text, cell)
     plain = text.translate(DASHES)
     code = plain.upper() if plain.isascii() else plain
-    if re.search(r"\s", code) and files.is_code(re.sub(r"\s+", "-", code).encode()):
-        raise Wrong(f"a space inside: write {re.sub(r'[ ]+', '-', code)} if that is meant ({mistakes.CURES[column]})")
+    joined = re.sub(r"\s+", "-", code)
+    if joined != code and files.is_code(joined.encode()):
+        raise Wrong(f"a space inside: write {joined} if that is meant ({mistakes.CURES[column]})")
     done = reason("a dash made a hyphen" * (plain != text), "small letters made capitals" * (code != plain))
     is_day = column != "code" and LIKE_A_DAY.fullmatch(code)
     return Value(code, done, "looks like what a spreadsheet makes of a code such as MAR-1" if is_day else "")
