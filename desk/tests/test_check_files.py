@@ -210,8 +210,9 @@ class Words(unittest.TestCase):
     def test_what_to_write_instead(self):
         for column, value, write in (
                 ("number", b"1051", "0001051"), ("number", b"1051.0", "0001051"), ("number", b"12345678", ""),
-                ("number", b"\xff", ""), ("number", b"0", ""), ("date", b"7. 6. 2027", "2027-06-07"), ("start", b"9:00:00", "09:00"),
-                ("paper", b" ma-1 ", "MA-1"), ("extra", b"25 %", "25"), ("reserved", b"YES", "yes"),
+                ("number", b"\xff", ""), ("number", b"0", ""), ("date", b"7. 6. 2027", "2027-06-07"),
+                ("start", b"9:00:00", "09:00"), ("paper", b" ma-1 ", "MA-1"), ("extra", b"25 %", "25"),
+                ("reserved", b"YES", "yes"),
                 ("needs", b"reader+screen", "screen+reader"), ("needs", b"bed", ""), ("name", b"", ""),
                 ("code", b"", ""), ("date", b"13/06/2027", "2027-06-13"), ("date", b"01/06/2027", ""),
                 ("date", b"7 June 2027", "2027-06-07"), ("until", b"2:30 pm", "14:30"), ("start", b"9.30", ""),

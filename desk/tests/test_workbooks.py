@@ -290,7 +290,8 @@ class Commands(sample.SampleSchool):
         self.assertEqual((done.returncode, done.stderr), (1, ""))
         told = done.stdout.splitlines()
         for wanted in ("Candidates!A12:A71: number 11 became 0000011 (zeros in front); 60 such changes",
-                       "Candidates!C2:C71: NOTE: 70 candidates have no access code; `office take .. --codes` makes them",
+                       "Candidates!C2:C71: NOTE: 70 candidates have no access code; "
+                       "`office take .. --codes` makes them",
                        "Candidates!A2:A11: MISTAKE: number '12345678': 8 digits; a number has seven; 10 times",
                        "Entries!B2:B21: MISTAKE: paper 'XX-9': is not among the papers; 20 times"):
             self.assertEqual(told.count(wanted), 1, (wanted, told))
