@@ -68,9 +68,10 @@ class Found:
     def __bool__(self) -> bool:
         return bool(self.shown)
 
-    def add(self, line: int, column: str, cure: str | Callable[[str, bytes], Cure], field: bytes | None = None) -> None:
-        """Counts one more on a column, and names the field if one is given. A cure that is long to make is made only where
-        it is shown."""
+    def add(self, line: int, column: str, cure: str | Callable[[str, bytes], Cure],
+            field: bytes | None = None) -> None:
+        """Counts one more on a column, and names the field if one is given. A cure that is long to make is made only
+        where it is shown."""
         kind = NO_CODE if column == "code" and field == b"" else column
         self.count += 1
         self.counts[kind] += 1
