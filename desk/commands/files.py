@@ -21,7 +21,7 @@ def add_reading(parser: ArgumentParser) -> None:
     """The options of a command that reads values as a spreadsheet writes them."""
     parser.add_argument("--dates", choices=["day-first", "month-first"], default="", help="what 01/06/2027 means")
     parser.add_argument("--encoding", help="of CSV files that are not UTF-8, such as cp1252")
-    parser.add_argument("--all", action="store_true", help="print every line")
+    parser.add_argument("--all", action="store_true", help="print a line for each cell, also where many say the same")
 
 
 def add_choices(parser: ArgumentParser) -> None:
@@ -36,40 +36,31 @@ def add_choices(parser: ArgumentParser) -> None:
     parser.add_argument("--hidden", choices=["take", "leave"], default="", help="what becomes of hidden rows")
 
 
-def read_workbook(office: Office, path: str, given: Namespace) -> Reading:
-    """Reads a workbook as the options say. Raises `Trouble` where it cannot be read."""
+def read_source(office: Office, path: str, given: Namespace, is_folder: bool) -> Reading:
+    """Reads a workbook, or a folder of import files, as the options say. Raises `Trouble` where it cannot be read."""
     from exam_desk.checking import office_knows
-    from exam_desk.workbook import reading
-    from exam_desk.workbook.columns import read_columns
-    from exam_desk.workbook.tables import Choices
-    from exam_desk.workbook.texts import Way
-    columns, way = read_columns(given.columns) if given.columns else ({}, Way())
-    choices = Choices(given.sheet, given.leave, given.together, given.hidden)
-    if given.dates:
-        way = Way(given.dates, way.words)
-    return reading.read_workbook(path, office_knows(office), way, columns, choices, given.encoding, command.progress)
-
-
-def read_folder(office: Office, path: str, given: Namespace) -> Reading:
-    """Reads a folder of import files as the options say."""
-    from exam_desk.checking import office_knows
-    from exam_desk.workbook.reading import mend_folder
-    from exam_desk.workbook.texts import Way
-    return mend_folder(path, office_knows(office), Way(given.dates), given.encoding, command.progress)
+    from exam_desk.workbook import columns, reading, tables, texts
+    asked, way = columns.read_columns(given.columns) if given.columns else ({}, texts.Way())
+    choices = tables.Choices(given.sheet, given.leave, given.together, given.hidden)
+    job = tables.Job(office_knows(office), way._replace(dates=given.dates or way.dates), asked, choices)
+    return (reading.mend_folder if is_folder else reading.read_workbook)(path, job, given.encoding, command.progress)
 
 
 def print_lines(reading: Reading, everything: bool) -> None:
     """Prints what was changed, and what is wrong."""
-    from exam_desk.workbook.report import told_lines
+    from exam_desk.workbook.report import together
     command.progress("")
-    for line in told_lines(reading.report.lines, everything):
-        print(plain(line))
+    for line in reading.report.lines if everything else together(reading.report.lines):
+        print(plain(line.whole()))
 
 
-def told(reading: Reading, target: str, lines_name: str, everything: bool) -> int:
-    """Prints the lines; writes the folder where there is no mistake, and gives the status."""
-    from exam_desk.workbook.writing import write_folder
-    print_lines(reading, everything)
+def made(source: str, new: str, given: Namespace, is_folder: bool, lines_name: str) -> int:
+    """Reads a source, prints the lines, and makes the new folder where there is no mistake; gives the status."""
+    from exam_desk.workbook.writing import refuse_there, write_folder
+    target = os.path.abspath(new)
+    refuse_there(target)
+    reading = read_source(command.office(), source, given, is_folder)
+    print_lines(reading, given.all)
     wrong, changed, notes = (reading.report.count(sort) for sort in ("mistake", "change", "note"))
     if wrong:
         print(f"{wrong} mistakes, {changed} changes, {notes} notes: nothing is written")
@@ -89,7 +80,8 @@ It reads sessions.csv, papers.csv, halls.csv, openings.csv, candidates.csv, arra
 are there, and the office's file if there is one; it changes nothing. Each mistake is a line: file, line, value, cure.
 What the program takes, though it may be wrong, is a note. Files without a mistake it imports into a private copy, and
 notes who would have no desk, who would miss a paper, who would sit otherwise, and which sessions would be at one time.
-The status is 1 if there is a mistake.
+Candidates without an access code are no mistake, since `office take FOLDER --codes` makes them; one line counts them.
+The status is 1 if `office import` would refuse a file: for a mistake, or for a code that is empty.
 """)
 def check_files(parser: ArgumentParser) -> bool:
     from exam_desk import checking
@@ -100,7 +92,7 @@ def check_files(parser: ArgumentParser) -> bool:
     if not checked.counts["files"]:
         raise Trouble("none of the seven files is there")
     print("{files} files, {mistakes} mistakes, {notes} notes".format_map(checked.counts))
-    return bool(checked.counts["mistakes"])
+    return bool(checked.counts["mistakes"] or checked.counts["codes"])
 
 
 @command.named("""\
@@ -181,14 +173,12 @@ with a cure; where there is one nothing is written, and the status is 1. The fil
 folder is for its owner alone, and has besides the files all these lines, in mend.txt.
 """)
 def mend(parser: ArgumentParser) -> int:
-    from exam_desk.workbook.writing import refuse_there
     add_reading(parser)
+    parser.set_defaults(columns=None, sheet=None, leave=[], together=[], hidden="")
     parser.add_argument("folder")
     parser.add_argument("new", nargs="?")
     given = parser.parse_args()
-    target = os.path.abspath(given.new or os.path.abspath(given.folder) + "-mended")
-    refuse_there(target)
-    return told(read_folder(command.office(), given.folder, given), target, "mend.txt", given.all)
+    return made(given.folder, given.new or os.path.abspath(given.folder) + "-mended", given, True, "mend.txt")
 
 
 @command.named("""Makes the import files from a workbook: read WORKBOOK [FOLDER]
@@ -204,15 +194,13 @@ through them before the import. Colours of cells and comments are not read, and 
 last save.
 """)
 def read(parser: ArgumentParser) -> int:
-    from exam_desk.workbook.writing import refuse_there
     add_reading(parser)
     parser.add_argument("workbook")
     parser.add_argument("folder", nargs="?")
     add_choices(parser)
     given = parser.parse_args()
-    target = os.path.abspath(given.folder or os.path.splitext(os.path.basename(given.workbook))[0])
-    refuse_there(target)
-    return told(read_workbook(command.office(), given.workbook, given), target, "read.txt", given.all)
+    new = given.folder or os.path.splitext(os.path.basename(given.workbook))[0]
+    return made(given.workbook, new, given, False, "read.txt")
 
 
 @command.named("""Brings a workbook, or a folder of import files, into the office: take WORKBOOK|FOLDER
@@ -235,9 +223,10 @@ def take(parser: ArgumentParser) -> None:
     add_choices(parser)
     given = parser.parse_args()
     office = command.existing_office()
-    reading = (read_folder if os.path.isdir(given.source) else read_workbook)(office, given.source, given)
+    reading = read_source(office, given.source, given, os.path.isdir(given.source))
+    reading = taking.with_codes(office, reading) if given.codes else reading
     print_lines(reading, given.all)
-    steps = taking.steps_of(taking.with_codes(office, reading) if given.codes else reading)
+    steps = taking.steps_of(reading)
     with changing.rehearse(office, steps, command.progress) as rehearsal:
         command.progress("")
         for answered in rehearsal.answers:

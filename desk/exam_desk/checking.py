@@ -10,7 +10,7 @@ from collections.abc import Iterator, Mapping
 from dataclasses import replace
 from typing import NamedTuple
 
-from exam_desk import changing, consequences, files, mistakes, overlaps, private, running, snapshot
+from exam_desk import changing, coding, consequences, files, mistakes, overlaps, private, running, snapshot
 from exam_desk.changing import Step, Tell
 from exam_desk.office import Office
 from exam_desk.reading import Reading
@@ -23,17 +23,20 @@ WORKBOOKS = (".xlsx", ".xlsm", ".ods")
 
 
 class Checked(NamedTuple):
-    """What is said of a folder, and how many files, mistakes and notes there are."""
+    """What is said of a folder, and how many files, mistakes, empty codes and notes there are."""
     lines: list[str]
     counts: Counter[str]
 
 
 def lines_on(name: str, found: mistakes.Found, word: str) -> Iterator[str]:
-    """The lines on a file, of those on one column the first alone."""
+    """The lines on a file, of those on one column the first alone, and one on all empty codes."""
     for mistake in found:
-        yield f"{name} line {mistake.line}: {word}{mistake.what}: {mistake.text}"
+        if mistake.what != mistakes.NO_CODE:
+            yield f"{name} line {mistake.line}: {word}{mistake.what}: {mistake.text}"
     for column, count in found.counts.items():
-        if count > found.most:
+        if column == mistakes.NO_CODE:
+            yield f"{name}: {mistakes.no_codes(count)}; without them an import refuses the file"
+        elif count > found.most:
             yield f"{name}: .. and {count - found.most} more lines on {column}"
 
 
@@ -61,11 +64,16 @@ def texts_in(folder: str) -> dict[str, bytes]:
 
 def check_folder(office: Office, folder: str, tell: Tell, progress: Progress) -> Checked:
     """Looks through the import files of a folder one after the other: each knows what the office has, and what those
-    before it bring. Files without a mistake are tried. Raises `Trouble` as `texts_in`."""
+    before it bring. Files without a mistake are tried, with codes where these are empty. Raises `Trouble` as
+    `texts_in`."""
     texts, known = texts_in(folder), office_knows(office)
     found = {f"{kind}.csv": mistakes.looked_through(kind, text, known, MOST_SHOWN) for kind, text in texts.items()}
-    counts = Counter(files=len(found), mistakes=sum(wrong.count for wrong, _ in found.values()))
-    tried = would_do(office, texts, tell, progress) if texts and not counts["mistakes"] else []
+    codes = sum(wrong.counts[mistakes.NO_CODE] for wrong, _ in found.values())
+    counts = Counter(files=len(found), codes=codes, mistakes=sum(wrong.count for wrong, _ in found.values()) - codes)
+    tried = []
+    if texts and not counts["mistakes"]:
+        more = {"candidates": coding.with_codes(office, texts["candidates"])} if codes else {}
+        tried = would_do(office, texts | more, tell, progress)
     counts["notes"] = sum(notes.count for _, notes in found.values()) + len(tried)
     lines = [line for name, (wrong, notes) in found.items()
              for line in (*lines_on(name, wrong, ""), *lines_on(name, notes, "NOTE: "))]

@@ -30,20 +30,19 @@ def in_office(office: Office) -> dict[str, list[str]]:
         return {row[0]: list(row) for row in rows}
 
 
-def read(path: str) -> list[list[str]]:
-    """The rows of the file after the header. Raises `Trouble` where the file is not one of candidates."""
-    text = files.read(path)
-    if len(text) > files.MOST_BYTES:
-        raise Trouble(f"{path} is longer than {files.MOST_BYTES} bytes; split it")
-    rows = files.records(text)
-    if not files.is_header("candidates", next(rows, None)):
-        raise Trouble(f"line 1 of {path} must be: {','.join(files.HEADERS['candidates'])}")
+def read(text: bytes, path: str) -> list[list[str]]:
+    """The rows of a file after the header. Raises `Trouble` where the file is not one of candidates."""
     found = []
-    for row in rows:
+    for row in files.below_header(text, path, files.HEADERS["candidates"]):
         if not is_right(row):
-            raise Trouble(f"line {row.line} of {path} is wrong; `office check-files` says how")
+            raise Trouble(f"line {row.line} is wrong; `office check-files` says how", path)
         found.append([value.decode() for value in row.fields])
     return found
+
+
+def with_codes(office: Office, text: bytes) -> bytes:
+    """A file of candidates with a code in each field that is empty. Raises `Trouble` as `read`."""
+    return file_of(filled(read(text, "candidates.csv"), in_office(office), set()).rows)
 
 
 def is_right(row: files.Record) -> bool:
@@ -82,7 +81,8 @@ def coded(office: Office, path: str | None, new: list[str]) -> Coded:
     """The rows of a file with codes, or without a file those of the office of who gets another code. Raises `Trouble`
     as `read`, and where one of the new numbers is not there."""
     known = in_office(office)
-    rows = [known[number] for number in dict.fromkeys(new) if number in known] if path is None else read(path)
+    rows = [known[number] for number in dict.fromkeys(new) if number in known] if path is None \
+        else read(files.read(path), path)
     for number in set(new) - {row[0] for row in rows}:
         raise Trouble(f"{number} is not in {path or 'the office'}; a number has seven digits")
     return filled(rows, known, set(new))

@@ -15,6 +15,11 @@ MOST_COUNTED = 100_000  # mistakes of a file; what is behind the last of them is
 MOST_TO_MEND = 200  # bytes of a value for which a better one is sought
 LIMITS = {"sessions": 400, "papers": 2000, "halls": 500, "candidates": 20000}
 MOST_MEMBERS, MOST_OPENINGS = 4096, 256  # of a session
+NUMBER = "printf('%07d', number)"
+IN_OFFICE = {  # of each kind the columns that are looked at, where a file has them
+    "sessions": "code FROM session", "halls": "code FROM hall", "papers": "code, '', session FROM paper",
+    "openings": "session, hall FROM opening", "candidates": f"{NUMBER}, '', code FROM candidate",
+    "entries": f"{NUMBER}, paper FROM entry WHERE live = 1"}
 CODE = "1 to 12 of A-Z, 0-9 and -"
 TIME_CURE = "a time as 09:00; format the column as text"
 FEATURES_CURE = f"features are {', '.join(words.FEATURES)}, in this order, joined by +; - for none"
@@ -29,6 +34,7 @@ CURES = {
 }
 COMMAS = [(b",", ""), (b";", "semicolons part the columns: save it with commas"),
           (b"\t", "tabs part the columns: save it with commas")]
+NO_CODE = "code ''"  # the mistakes on empty codes, which are counted apart
 EMPTY_ROW = "an empty row of the spreadsheet: delete it"
 RIGHT = {column: right for kind, header in files.HEADERS.items() for column, right in zip(header, files.FORMS[kind])}
 LOST_ZEROS = re.compile(rb"([0-9]{1,7})(\.0+)?").fullmatch
@@ -62,21 +68,17 @@ class Found:
     def __bool__(self) -> bool:
         return bool(self.shown)
 
-    def add(self, line: int, column: str, text: str) -> None:
-        if self.is_shown(column):
-            self.shown.append(Mistake(line, column, text))
-
-    def add_value(self, line: int, column: str, field: bytes, cure: Cure | Callable[[str, bytes], Cure]) -> None:
-        """As `add`, with the value; a cure that is long to make is made only where it is shown."""
-        if self.is_shown(column):
-            found = cure if isinstance(cure, Cure) else cure(column, field)
-            self.shown.append(Mistake(line, f"{column} {files.shown(field)}", found.text, found.write))
-
-    def is_shown(self, column: str) -> bool:
-        """Counts one more on a column, and says whether it is to be shown."""
+    def add(self, line: int, column: str, cure: str | Callable[[str, bytes], Cure],
+            field: bytes | None = None) -> None:
+        """Counts one more on a column, and names the field if one is given. A cure that is long to make is made only
+        where it is shown."""
+        kind = NO_CODE if column == "code" and field == b"" else column
         self.count += 1
-        self.counts[column] += 1
-        return self.counts[column] <= self.most
+        self.counts[kind] += 1
+        if self.counts[kind] <= self.most:
+            found = Cure(cure) if isinstance(cure, str) else cure(column, field or b"")
+            what = column if field is None else f"{column} {files.shown(field)}"
+            self.shown.append(Mistake(line, what, found.text, found.write))
 
 
 class Known:
@@ -94,20 +96,13 @@ class Known:
             self.read(connection)
 
     def read(self, connection: sqlite3.Connection) -> None:
-        def rows(query: str) -> Iterator[tuple[bytes, ...]]:
-            return (tuple(str(value).encode() for value in row) for row in connection.execute(query))
-        number = "printf('%07d', number)"
-        for kind in ("sessions", "halls", "papers"):
-            self.keys[kind] = {key for key, in rows(f"SELECT code FROM {kind[:-1]}")}
-        self.papers.update((code, session) for code, session in rows("SELECT code, session FROM paper"))
-        self.openings.update(rows("SELECT session, hall FROM opening"))
-        self.entries.update(rows(f"SELECT {number}, paper FROM entry WHERE live = 1"))
-        self.withdrawn.update(rows(f"SELECT {number}, paper FROM entry WHERE live = 0"))
-        self.standing = {key for key, in rows(f"SELECT {number} FROM standing JOIN appeal USING (number, ref) "
+        def rows(query: str) -> list[tuple[bytes, ...]]:
+            return [tuple(str(value).encode() for value in row) for row in connection.execute(f"SELECT {query}")]
+        for kind, query in IN_OFFICE.items():
+            self.take(kind, rows(query))
+        self.withdrawn.update(rows(f"{NUMBER}, paper FROM entry WHERE live = 0"))
+        self.standing = {key for key, in rows(f"{NUMBER} FROM standing JOIN appeal USING (number, ref) "
                                               f"WHERE state = {states.GRANTED}")}
-        for candidate, code in rows(f"SELECT {number}, code FROM candidate"):
-            self.codes[code].add(candidate)
-        self.keys["candidates"] = set().union(*self.codes.values())
 
     def take(self, kind: str, rows: Sequence[tuple[bytes, ...]]) -> None:
         """Adds the rows of a file."""
@@ -140,30 +135,28 @@ class Known:
 
 
 def cure(column: str, field: bytes) -> Cure:
-    if column in ("name", "title"):
-        return Cure(name_cure(field))
-    if column == "code" and not field:
-        return Cure("`office codes` fills the codes that are empty, in a new file")
-    if column == "number" and (number := with_zeros(field)) != field:
+    """What to do about a wrong value: to write what `office read` makes of such a cell, or what that says of it."""
+    from exam_desk.workbook import cells, days, texts, values  # here, since these ask this module what is right
+    if column == "number" and RIGHT[column](number := with_zeros(field)):
         return Cure(f"leading zeros lost? {number.decode('ascii')} ({CURES[column]})", number.decode("ascii"))
-    if len(field) > MOST_TO_MEND:
-        return Cure(CURES[column])
-    text = field.decode("utf-8", "replace").strip(" %'")
-    time = re.sub("(:[0-9]{2}):00$", r"\1", text).zfill(5)
-    for better in (text, text.upper(), text.lower(), time, date_in_order(text)):
-        if better and RIGHT[column](better.encode()):
-            return Cure(f"write {better} ({CURES[column]})", better)
-    parts = text.split("+")
-    if CURES[column] == FEATURES_CURE and set(parts) <= set(words.FEATURES):
-        ordered = "+".join(name for name in words.FEATURES if name in parts)
-        return Cure(f"write {ordered} (this order, each once)", ordered)
-    return Cure(CURES[column])
+    if column in ("name", "title") or len(field) > MOST_TO_MEND:
+        return Cure(needed(column, field))
+    text = field.decode("utf-8", "replace").strip(" '")
+    try:
+        better = values.read_value(column, cells.Cell("text", text, text), texts.Way())
+    except texts.Wrong as fault:
+        return Cure(words.plain(fault).removesuffix(days.SAY_DATES))
+    if column == "code" and not better.text:
+        return Cure("it is empty; `office take .. --codes` makes one")
+    if better.day:  # nobody has looked whether it is that of the session
+        return Cure(needed(column, field))
+    return Cure(f"write {better.text} ({CURES[column]})", better.text)
 
 
-def date_in_order(text: str) -> str:
-    """A date with points, in which the day comes first; every other text is none."""
-    match = re.fullmatch(r"([0-9]{1,2})\. ?([0-9]{1,2})\. ?([0-9]{4})", text)
-    return f"{match[3]}-{match[2]:0>2}-{match[1]:0>2}" if match else ""
+def no_codes(count: int) -> str:
+    """What is said once of all candidates without an access code."""
+    who = f"{count:,} candidate{' has' if count == 1 else 's have'}"
+    return f"{who} no access code; `office take .. --codes` makes them"
 
 
 def with_zeros(field: bytes) -> bytes:
@@ -172,7 +165,10 @@ def with_zeros(field: bytes) -> bytes:
     return match[1].zfill(7) if match else field
 
 
-def name_cure(field: bytes) -> str:
+def needed(column: str, field: bytes) -> str:
+    """What a value must be."""
+    if column not in ("name", "title"):
+        return CURES[column]
     if not files.is_utf_8(field):
         return "the letters are no UTF-8: save the file as CSV UTF-8"
     if files.CONTROL.search(field):
@@ -183,19 +179,13 @@ def name_cure(field: bytes) -> str:
 def looked_through(kind: str, text: bytes, known: Known, most: int = MOST_COUNTED) -> tuple[Found, Found]:
     """The mistakes of a file and the notes on it, so many of each column; what it brings is known afterwards."""
     file = File(kind, known, most)
-    rows = file.rows(text)
-    if rows is not None and file.look_at(rows):
-        file.note_references()
-        file.take()
-    elif kind in known.keys:
-        known.keys[kind] = None
-    return file.wrong, file.notes
+    return file.looked_through(file.rows(text))
 
 
 class File:
     """A file of rows while it is looked through."""
 
-    def __init__(self, kind: str, known: Known, most: int) -> None:
+    def __init__(self, kind: str, known: Known, most: int = MOST_COUNTED) -> None:
         self.kind, self.known, self.header = kind, known, files.HEADERS[kind]
         self.wrong, self.notes = Found(most), Found(most)
         self.missing: list[str] = []  # the columns that the header lacks; their fields are empty
@@ -203,6 +193,15 @@ class File:
         self.columns = [(column, right, references.get(place), noting.NOTES.get(column, lambda _: ()))
                         for place, (column, right) in enumerate(zip(self.header, files.FORMS[kind]))]
         self.first: dict[tuple[bytes, ...], files.Record] = {}  # the first record of each key
+
+    def looked_through(self, rows: Iterator[files.Record] | None) -> tuple[Found, Found]:
+        """The mistakes of its rows and the notes on them; what they bring is known afterwards."""
+        if rows is not None and self.look_at(rows):
+            self.note_references()
+            self.take()
+        elif self.kind in self.known.keys:
+            self.known.keys[self.kind] = None
+        return self.wrong, self.notes
 
     def rows(self, text: bytes) -> Iterator[files.Record] | None:
         """The records after the header, even where that is wrong in one of the usual ways; None where there is none."""
@@ -230,7 +229,7 @@ class File:
         if commas:
             self.wrong.add(record.line, "file", commas)
         for name in self.missing:
-            how = "leave it empty, and `office codes` fills it" if name == "code" else CURES[name]
+            how = "leave it empty; `office take .. --codes` makes the codes" if name == "code" else CURES[name]
             self.wrong.add(record.line, "file", f"the column {name} is missing: add it ({how})")
         if len(record.fields) > len(self.header) - len(self.missing):
             self.wrong.add(record.line, "file", "empty columns at the end: delete them")
@@ -272,12 +271,12 @@ class File:
             if column in self.missing:
                 continue
             if not right(field):
-                self.wrong.add_value(record.line, column, field, cure)
+                self.wrong.add(record.line, column, cure, field)
                 continue
             if table and field not in (self.known.keys[table] or {field}):
-                self.wrong.add_value(record.line, column, field, Cure(f"is not among the {table}"))
+                self.wrong.add(record.line, column, f"is not among the {table}", field)
             for note in notes(field):
-                self.notes.add_value(record.line, column, field, Cure(note))
+                self.notes.add(record.line, column, note, field)
 
     def mended(self, record: files.Record) -> files.Record:
         """A row with the zeros that its number has lost: what refers to the number is right once the number is."""
@@ -329,7 +328,7 @@ class File:
             number, _, code = record.fields
             sharing = self.known.codes[code] if code else ()
             if len(sharing) > 1:
-                self.notes.add_value(record.line, "number", number, sharers)
+                self.notes.add(record.line, "number", sharers, number)
 
 
 def beginning_of(text: bytes) -> str:

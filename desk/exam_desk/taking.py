@@ -1,21 +1,25 @@
 """From a workbook, or a folder of import files, to the list of imports that brings it into the office."""
 from __future__ import annotations
 
-from exam_desk import coding, lists
+from exam_desk import coding, lists, mistakes
 from exam_desk.changing import Step
 from exam_desk.office import Office
 from exam_desk.trouble import Trouble
 from exam_desk.workbook.checking import file_parts
 from exam_desk.workbook.headers import KINDS
 from exam_desk.workbook.reading import Reading
+from exam_desk.workbook.report import Report
 
 
 def with_codes(office: Office, reading: Reading) -> Reading:
     """What was read with a code for each candidate who has none: that of the office for the number, else a new one."""
-    records = reading.records.get("candidates", [])
+    records, report = reading.records.get("candidates", []), Report()
     coded = coding.filled([record.fields for record in records], coding.in_office(office), set())
     filled = [record._replace(fields=row) for record, row in zip(records, coded.rows)]
-    return reading._replace(records={**reading.records, "candidates": filled})
+    report.lines = [line for line in reading.report.lines if line.what != mistakes.NO_CODE]
+    if coded.made:
+        report.change(f"{lists.count(coded.made, 'access code')} made")
+    return Reading({**reading.records, "candidates": filled}, report)
 
 
 def steps_of(reading: Reading) -> list[Step]:

@@ -135,6 +135,37 @@ class Verdicts(sample.SampleSchool):
                     found, _ = mistakes.looked_through(kind, text, mistakes.Known(connection))
                     self.assertEqual(bool(found), said is not None, [*found])
 
+    def test_empty_codes_are_said_once_and_are_no_mistakes(self):
+        """An import refuses the file all the same, and check-files ends as it does; `take --codes` takes it."""
+        self.office("dump", "facts")
+        path, none = os.path.join(self.folder, "facts", "candidates.csv"), os.path.join(self.folder, "none.db")
+        with open(path, encoding="utf-8") as file:
+            rows = [line.rpartition(",")[0] + ',""' for line in file.read().splitlines()[1:]]
+        self.write("facts/candidates.csv", "\n".join(["number,name,code", *rows, ""]))
+        line = "candidates.csv: 60 candidates have no access code; `office take .. --codes` makes them; without them " \
+            "an import refuses the file\n"
+        once = "once imported: 6 without a desk: 2 in MON-AM, 2 in MON-PM, 2 in TUE-AM\n"
+        done = self.run_office("check-files", "facts", OFFICE=none)
+        self.assertEqual((done.returncode, done.stderr), (1, ""))
+        self.assertTrue(done.stdout.startswith(f"{line}NOTE: {once}"), done.stdout)
+        self.assertTrue(done.stdout.endswith("\n7 files, 0 mistakes, 2 notes\n"), done.stdout)
+        self.assertIn("refused 1 record 1 column 3\n", self.refused("import", "candidates", path))
+        self.assertIn("candidates!C2:C61: code (empty) became the one that the office has; 60 times\n",
+                      self.office("take", "facts", "--yes"))
+        self.office("init", OFFICE=none)
+        done = self.run_office("take", "facts", "--yes", OFFICE=none)
+        self.assertEqual((done.returncode, done.stderr), (1, "office: 60 candidates without an access code: nothing is "
+                                                             "changed; give --codes too to make them\n"))
+        said = self.office("take", "facts", "--yes", "--codes", OFFICE=none)
+        self.assertTrue(said.startswith("60 access codes made\n"), said)
+        self.assertNotIn("no access code", said)
+        rows[3] = rows[3].replace('"000', '"', 1)
+        self.write("facts/candidates.csv", "\n".join(["number,name,code", *rows, ""]))
+        said = self.run_office("check-files", "facts", OFFICE=os.path.join(self.folder, "no.db")).stdout
+        self.assertIn("candidates.csv line 5: number '1051': leading zeros lost? 0001051 (seven", said)
+        self.assertIn(line, said)
+        self.assertRegex(said, "\n7 files, [1-9][0-9]* mistakes, 0 notes\n$")
+
     def test_files_at_random(self):
         with tempfile.TemporaryDirectory() as folder, random_files.schools(folder, SEED) as schools:
             for _ in range(TRIES):
@@ -162,7 +193,7 @@ class Words(unittest.TestCase):
         text = b"number;name\n1000;Ada Lin\n0001017;\n0001034\n"
         self.assertEqual(self.mistakes_in("candidates", text), ([
             "semicolons part the columns: save it with commas",
-            "the column code is missing: add it (leave it empty, and `office codes` fills it)",
+            "the column code is missing: add it (leave it empty; `office take .. --codes` makes the codes)",
             "leading zeros lost? 0001000 (seven digits; format the column as text)", "1 to 80 bytes; it has 0",
             "1 fields in place of 3; values are missing"], []))
         self.assertEqual(self.mistakes_in("openings", b"session,desks,until,reserved\nS1,1,12:00,no\n")[0],
@@ -174,21 +205,33 @@ class Words(unittest.TestCase):
             "write 2027-01-15 (a date as 2027-06-07, from 2000-01-11; format the column as text)",
             "write 09:00 (a time as 09:00; format the column as text)",
             "write 13:30 (a time as 09:00; format the column as text)",
-            "a date as 2027-06-07, from 2000-01-11; format the column as text"])
+            "2027-02-01 or 2027-01-02? Write it so"])
 
     def test_what_to_write_instead(self):
         for column, value, write in (
                 ("number", b"1051", "0001051"), ("number", b"1051.0", "0001051"), ("number", b"12345678", ""),
-                ("number", b"\xff", ""), ("date", b"7. 6. 2027", "2027-06-07"), ("start", b"9:00:00", "09:00"),
-                ("paper", b" ma-1 ", "MA-1"), ("extra", b"25 %", "25"), ("reserved", b"YES", "yes"),
+                ("number", b"\xff", ""), ("number", b"0", ""), ("date", b"7. 6. 2027", "2027-06-07"),
+                ("start", b"9:00:00", "09:00"), ("paper", b" ma-1 ", "MA-1"), ("extra", b"25 %", "25"),
+                ("reserved", b"YES", "yes"),
                 ("needs", b"reader+screen", "screen+reader"), ("needs", b"bed", ""), ("name", b"", ""),
-                ("code", b"", "")):
+                ("code", b"", ""), ("date", b"13/06/2027", "2027-06-13"), ("date", b"01/06/2027", ""),
+                ("date", b"7 June 2027", "2027-06-07"), ("until", b"2:30 pm", "14:30"), ("start", b"9.30", ""),
+                ("minutes", b"1 h 30", "90"), ("extra", b"", "0"), ("needs", b"Screen, reader", "screen+reader"),
+                ("start", b"2027-06-07 09:00", "")):
             self.assertEqual(mistakes.cure(column, value).write, write, (column, value))
 
     def test_empty_codes_are_named_with_their_cure_and_are_not_compared(self):
         text = b"number,name,code\n0001000,Ada Lin,\n0001017,Ada Lin,\n"
         self.assertEqual(self.mistakes_in("candidates", text),
-                         (["`office codes` fills the codes that are empty, in a new file"] * 2, []))
+                         (["it is empty; `office take .. --codes` makes one"] * 2, []))
+        for empty in (b" ", "\u00a0\u200b".encode()):
+            self.assertEqual(mistakes.cure("code", empty).text, "it is empty; `office take .. --codes` makes one")
+
+    def test_cures_are_harmless_on_a_terminal(self):
+        for column, value, cure in (
+                ("needs", "\x1b[2Jbed\u202e", "?[2jbed is none of the features ("),
+                ("paper", "ma\x0b \n1", "a space inside: write MA-1 if that is meant (")):
+            self.assertTrue(mistakes.cure(column, value.encode()).text.startswith(cure), (column, value))
 
     def test_notes_for_a_human_eye(self):
         text = ("number,name,code\n0000001,FranÃ§ois,CODE0001\n0000002,Bo Berg,CODE0002\n0000003,Bo Berg,CODE0002\n"

@@ -191,9 +191,11 @@ class Lists(sample.SampleSchool):
         self.assertRegex(first, "^[B-Z][B-Z2-9]{9}$")
         self.assertEqual(stat.S_IMODE(os.stat(path[:-4] + "-with-codes.csv").st_mode), 0o600)
         self.assertIn("is there already", self.refused("codes", path))
-        for text, said in [("number,name\n", "line 1 of"), ("number,name,code\n1,Bo,\n", "line 2 of"),
-                           ("number,name,code\n0000001,Bo,abc\n", "line 2 of"), ("", "line 1 of")]:
-            self.assertIn(said, self.refused("codes", self.write("bad.csv", text)))
+        header, check = "line 1 must be: number,name,code\n", "line 2 is wrong; `office check-files` says how\n"
+        for text, said in [("number,name\n", header), ("number,name,code\n1,Bo,\n", check),
+                           ("number,name,code\n0000001,Bo,abc\n", check), ("", header)]:
+            bad = self.write("bad.csv", text)
+            self.assertEqual(f"office: {bad}: {said}", self.refused("codes", bad))
         self.assertFalse(os.path.exists(os.path.join(self.folder, "bad-with-codes.csv")))
 
     def codes_in(self, path):

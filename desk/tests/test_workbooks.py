@@ -18,10 +18,13 @@ HERE = pathlib.Path(__file__).resolve().parent / "workbooks"
 sys.path.append(str(HERE))
 import corpus  # noqa: E402
 import rawbook  # noqa: E402
+from exam_desk.mistakes import Known  # noqa: E402
 from exam_desk.trouble import Trouble  # noqa: E402
 from exam_desk.workbook import carrying, opening  # noqa: E402
-from exam_desk.workbook.reading import Reading  # noqa: E402
-from exam_desk.workbook.report import Report, told_lines  # noqa: E402
+from exam_desk.workbook.cells import Sheet  # noqa: E402
+from exam_desk.workbook.reading import Reading, mend_folder  # noqa: E402
+from exam_desk.workbook.report import Report, together  # noqa: E402
+from exam_desk.workbook.tables import Job  # noqa: E402
 from exam_desk.workbook.writing import workbook_of, write_folder  # noqa: E402
 
 AT_A_TIME = 4
@@ -113,18 +116,55 @@ class Child(unittest.TestCase):
 
 
 class Told(unittest.TestCase):
-    def test_each_date_is_told(self) -> None:
-        """All 18 changed dates, of 18 other changes and of 18 wrong dates five each and how many more."""
-        report = Report()
-        for day in range(18):
-            report.change(None, None, 2, f"date {day}", "date")
-            report.change(None, None, 3, f"start {day}", "start")
-            report.mistake(None, None, 2, f"wrong {day}", "date")
-        lines = list(told_lines(report.lines, False))
-        self.assertEqual([line for line in lines if line.startswith("date")], [f"date {day}" for day in range(18)])
-        self.assertEqual(sum(line.startswith(("start", "MISTAKE")) for line in lines), 10)
-        self.assertEqual(lines[28:], ["column C of : .. and 13 more such changes",
-                                      "column B of : .. and 13 more such mistakes"])
+    """Lines that say the same stand together, and nothing that somebody must look at is lost."""
+
+    def setUp(self) -> None:
+        self.report, self.sheet = Report(), Sheet("Form 1")
+
+    def told(self) -> list[str]:
+        return [line.whole() for line in together(self.report.lines)]
+
+    def test_one_line_has_the_count_and_the_places(self) -> None:
+        for row in [2, 3, 4, 6, 8, 9, 11, 13, 15, 16]:
+            self.report.change(f"number {row} became 000000{row} (zeros in front)", self.sheet, row, 1, "numberzeros")
+            self.report.mistake(f"extra '{row}.5': a whole number", self.sheet, row, 3, "extra a whole number")
+        self.report.note("is not read", self.sheet)
+        self.assertEqual(self.told(), [
+            "'Form 1'!A2:A4, A6, A8:A9, A11, A13 and 2 more: number 2 became 0000002 (zeros in front); 10 such changes",
+            "'Form 1': NOTE: is not read",
+            "'Form 1'!C2:C4, C6, C8:C9, C11, C13 and 2 more: MISTAKE: extra '2.5': a whole number; 10 such mistakes"])
+
+    def test_few_texts_have_a_line_each_and_so_has_each_date(self) -> None:
+        for row in range(2, 62):
+            self.report.change(f"start {row % 3}:00 became 0{row % 3}:00", self.sheet, row, 2, "start ")
+            self.report.change(f"date {row // 2}", self.sheet, row, 3, "date")
+        found = self.told()
+        self.assertEqual(len(found), 3 + 30)
+        self.assertEqual(found[0], "'Form 1'!B2, B5, B8, B11, B14 and 15 more: start 2:00 became 02:00; 20 times")
+        self.assertEqual([line for line in found if ": date" in line],
+                         [f"'Form 1'!C{2 * day}:C{2 * day + 1}: date {day}; 2 times" for day in range(1, 31)])
+
+    def test_what_differs_stands_apart(self) -> None:
+        other = Sheet("Form 2")
+        for sheet, column, text in [(self.sheet, 1, "is missing"), (other, 1, "is missing"), (other, 2, "is missing"),
+                                    (other, 2, "8 digits; a number has seven"), (other, 2, "a date, not a time")]:
+            for row in (2, 3):
+                self.report.mistake(f"number {row}: {text}", sheet, row, column, f"number {text}")
+        for year in range(2021, 2026):
+            self.report.mistake(f"there is no sheet {year}")
+        self.assertEqual(len(self.told()), 2 * 5 + 5)
+        self.assertEqual(self.report.count("mistake"), 2 * 5 + 5)
+
+
+class Mending(unittest.TestCase):
+    def test_the_choices_of_others_stay(self) -> None:
+        """All files of a kind are one list, and no workbook after them is read so for that."""
+        with tempfile.TemporaryDirectory() as folder:
+            for name in ("entries.csv", "entries-2.csv"):
+                pathlib.Path(folder, name).write_text("number,paper\n0000001,MA-1\n", "utf-8")
+            reading = mend_folder(folder, Job(Known()), None, lambda text: None)
+        self.assertEqual((2, 0), (len(reading.records["entries"]), reading.report.count("mistake")))
+        self.assertEqual([], Job(Known()).choices.together)
 
 
 class Writing(unittest.TestCase):
@@ -132,7 +172,7 @@ class Writing(unittest.TestCase):
         reading = Reading({"candidates": []}, Report())
         with tempfile.TemporaryDirectory() as folder:
             target = os.path.join(folder, "new")
-            reading.report.mistake(None, None, None, "wrong")
+            reading.report.mistake("wrong")
             with self.assertRaises(Trouble):
                 write_folder(target, reading, "read.txt")
             self.assertEqual([], os.listdir(folder))
@@ -173,6 +213,7 @@ class Commands(sample.SampleSchool):
         done = self.run_office("read", "new.xlsx")
         self.assertEqual(1, done.returncode)
         self.assertIn("no sheet has rows", done.stdout)
+        self.assertIn("NOTE: Sessions!2 is the example of the template; it is not read; 7 such notes\n", done.stdout)
         self.assertEqual(1, self.run_office("template", "new.xlsx").returncode)
 
     @needs_openpyxl
@@ -211,7 +252,8 @@ class Commands(sample.SampleSchool):
         self.assertIn("or say --dates day-first", done.stdout)
         self.assertFalse(os.path.exists(os.path.join(self.folder, "new")))
         said = self.office("mend", "broken", "new", "--dates", "day-first")
-        self.assertIn("candidates!A2: number 1000 became 0001000 (zeros in front)", said)
+        self.assertIn("candidates!A2:A61: number 1000 became 0001000 (zeros in front); 60 such changes\n", said)
+        self.assertEqual(said.count("its columns are parted by"), 1)
         for kind in corpus.KINDS:
             self.assertEqual(self.rows("facts", kind), self.rows("new", kind))
         self.assertIn("7 files, 0 mistakes", self.office("check-files", "new"))
@@ -234,6 +276,28 @@ class Commands(sample.SampleSchool):
         pathlib.Path(self.folder, "facts", "school.xlsx").write_bytes(b"PK")
         said = self.office("check-files", "facts")
         self.assertIn("NOTE: school.xlsx is a workbook: `office read` makes the files of it", said)
+
+    @needs_openpyxl
+    def test_a_workbook_of_many_changes_takes_few_lines(self) -> None:
+        """Sixty numbers without zeros and without codes, ten of eight digits, twenty entries for no paper."""
+        people = [[place if place > 10 else 12345678, f"Ada {place}", None] for place in range(1, 71)]
+        sheets = [{"name": "Candidates", "rows": [["number", "name", "code"], *people]},
+                  {"name": "Papers", "rows": [["paper", "title", "session", "minutes", "requires"],
+                                              ["P1", "P", "S", 60, "-"]]},
+                  {"name": "Entries", "rows": [["number", "paper"],
+                                               *([f"{place:07}", "XX-9"] for place in range(11, 31))]}]
+        pathlib.Path(self.folder, "b.xlsx").write_bytes(rawbook.xlsx(*sheets))
+        done = self.run_office("read", "b.xlsx", "new")
+        self.assertEqual((done.returncode, done.stderr), (1, ""))
+        told = done.stdout.splitlines()
+        for wanted in ("Candidates!A12:A71: number 11 became 0000011 (zeros in front); 60 such changes",
+                       "Candidates!C2:C71: NOTE: 70 candidates have no access code; "
+                       "`office take .. --codes` makes them",
+                       "Candidates!A2:A11: MISTAKE: number '12345678': 8 digits; a number has seven; 10 times",
+                       "Entries!B2:B21: MISTAKE: paper 'XX-9': is not among the papers; 20 times"):
+            self.assertEqual(told.count(wanted), 1, (wanted, told))
+        self.assertLess(len(told), 15, told)
+        self.assertGreater(len(self.run_office("read", "b.xlsx", "new", "--all").stdout.splitlines()), 100)
 
     @needs_openpyxl
     def test_the_office_fills_codes_and_knows_papers(self) -> None:

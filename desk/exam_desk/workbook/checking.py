@@ -1,14 +1,16 @@
 """The check of the files before an import, `mistakes.looked_through`, with cells in place of lines."""
+import itertools
 import re
 from collections.abc import Callable, Iterable, Iterator, Mapping
 from functools import partial
 
 from exam_desk import files, mistakes
 from exam_desk.workbook.cells import place_name
+from exam_desk.workbook.report import Line
 from exam_desk.workbook.rows import Record
 from exam_desk.workbook.tables import Job
 
-Found = tuple[str, mistakes.Mistake, Mapping[int, Record]]  # mistake or note; with the rows by the lines of their file
+FIRST = 2  # the line of a file with its first row
 
 
 def check_files(job: Job, records: Mapping[str, list[Record]], progress: Callable[[str], None]) -> None:
@@ -17,7 +19,10 @@ def check_files(job: Job, records: Mapping[str, list[Record]], progress: Callabl
     said = {line.place for line in job.report.lines if line.sort == "mistake"}
     for kind, rows in records.items():
         progress(f"{kind}: check of {len(rows):,} rows")
-        put_back(job, kind, found_in(job, kind, rows), said)
+        found = mistakes.File(kind, job.known).looked_through(
+            files.Record(line, tuple(map(encoded, record.fields)), True) for line, record in enumerate(rows, FIRST))
+        for sort, lines in zip(("mistake", "note"), found):
+            put_back(job, kind, sort, lines, rows, said)
 
 
 def keep_codes(job: Job, candidates: list[Record]) -> None:
@@ -26,49 +31,50 @@ def keep_codes(job: Job, candidates: list[Record]) -> None:
     for record in candidates:
         if not record.fields[2] and record.fields[0] in have:
             record.fields[2] = have[record.fields[0]]
-            job.report.change(record.sheet, record.row, record.columns[2],
-                              "code (empty) became the one that the office has", "kept")
+            job.report.change("code (empty) became the one that the office has", record.sheet, record.row,
+                              record.columns[2])
+    tell_empty_codes(job, [record for record in candidates if not record.fields[2]])
 
 
-def found_in(job: Job, kind: str, rows: list[Record]) -> Iterator[Found]:
-    first = 0
-    for text, count in file_parts(kind, (record.fields for record in rows)):
-        wrong, notes = mistakes.looked_through(kind, text, job.known)
-        lines = [record.line for record in files.records(text)][1:] if wrong or notes else []
-        at = dict(zip(lines, rows[first:first + count]))
-        yield from [("mistake", each, at) for each in wrong] + [("note", each, at) for each in notes]
-        first += count
+def tell_empty_codes(job: Job, candidates: list[Record]) -> None:
+    """One line on all of a sheet."""
+    for _, found in itertools.groupby(candidates, lambda record: record.sheet.name):
+        first, *rest = found
+        job.report.lines.append(Line("note", mistakes.no_codes(len(rest) + 1), first.sheet,
+                                     [first.row, *(record.row for record in rest)], first.columns[2], mistakes.NO_CODE))
 
 
-def put_back(job: Job, kind: str, found: Iterable[Found], said: set[str]) -> None:
+def put_back(job: Job, kind: str, sort: str, found: Iterable[mistakes.Mistake], rows: list[Record],
+             said: set[str]) -> None:
     """Mistakes of files as lines on the cells from which they come, unless a line on the cell says it."""
     header = files.HEADERS[kind]
-    for sort, mistake, at in found:
-        what, record = mistake.what.split(" ")[0], at.get(mistake.line)
-        if record is None or what == "file":
-            job.report.add(sort, None, None, None, f"{kind}: {mistake.text}")
+    for mistake in found:
+        what = mistake.what.split(" ")[0]
+        if mistake.line < FIRST or what == "file":
+            job.report.add(sort, f"{kind}: {mistake.text}")
             continue
+        record = rows[mistake.line - FIRST]
         column = record.columns[header.index(what)] if what in header else None
-        lacking = column is None and what in header and what != "code"  # said of the header
-        if sort == "mistake" and what == "code" and not record.fields[2]:
-            job.report.note(record.sheet, record.row, column, "code is empty: `office codes` fills it", "no code")
-        elif sort == "note" or not (lacking or place_name(record.sheet, record.row, column) in said):
-            text = re.sub(r"\bline ([0-9]+)\b", partial(in_workbook, at), mistake.text)
-            job.report.add(sort, record.sheet, record.row, column, text if what == "row" else f"{mistake.what}: {text}",
-                           mistake.text if sort == "note" else what)
+        is_empty = what in header and not record.fields[header.index(what)]
+        is_told = is_empty and (column is None or what == "code")  # of the header, or of all candidates
+        if sort == "note" or not (is_told or place_name(record.sheet, record.row, column) in said):
+            text = f"{mistake.what}: {mistake.text}"
+            if what == "row":
+                text = re.sub(r"\bline ([0-9]+)\b", partial(in_workbook, rows), mistake.text)
+            job.report.add(sort, text, record.sheet, record.row, column, f"{what} {mistake.text}")
 
 
-def in_workbook(at: Mapping[int, Record], line: re.Match[str]) -> str:
+def in_workbook(rows: list[Record], line: re.Match[str]) -> str:
     """The row of a workbook from which a line of a file comes."""
-    record = at.get(int(line[1]))
-    return place_name(record.sheet, record.row) if record else line[0]
+    record = rows[int(line[1]) - FIRST]
+    return place_name(record.sheet, record.row)
 
 
 def file_parts(kind: str, rows: Iterable[list[str]]) -> Iterator[tuple[bytes, int]]:
     """The rows in files of a length that an import takes, each with its header and the count of its rows."""
-    header = files.BOM + file_line(files.HEADERS[kind])
+    header = files.BOM + encoded(files.written([files.HEADERS[kind]]))
     part, size = [header], len(header)
-    for line in map(file_line, rows):
+    for line in (encoded(files.written([row])) for row in rows):
         if size + len(line) > files.MOST_BYTES:
             yield b"".join(part), len(part) - 1
             part, size = [header], len(header)
@@ -77,5 +83,5 @@ def file_parts(kind: str, rows: Iterable[list[str]]) -> Iterator[tuple[bytes, in
     yield b"".join(part), len(part) - 1
 
 
-def file_line(fields: list[str]) -> bytes:
-    return files.written([fields]).encode("utf-8", "surrogatepass")
+def encoded(text: str) -> bytes:
+    return text.encode("utf-8", "surrogatepass")

@@ -15,14 +15,14 @@ def usable_sheets(job: Job, book: Book) -> list[Sheet]:
     said = [str(given["sheet"]) for given in job.given.values() if "sheet" in given and book.form != "csv"]
     for name in [*(wanted or []), *leave, *said]:
         if name not in names and (name not in said or folded(name) not in map(folded, names)):
-            job.report.mistake(None, None, None, f"there is no sheet {name}; there are: {', '.join(names)}")
+            job.report.mistake(f"there is no sheet {name}; there are: {', '.join(names)}")
     usable, hidden = list[Sheet](), list[Sheet]()
     for sheet in book.sheets:
         if wanted is not None and sheet.name not in wanted or sheet.name in leave:
-            job.report.note(sheet, None, None, "is not read, as you said")
+            job.report.note("is not read, as you said", sheet)
         elif not sheet.rows:
             if not sheet.hidden and named_kind(sheet.name):
-                job.report.note(sheet, None, None, "is empty")
+                job.report.note("is empty", sheet)
         else:
             (hidden if sheet.hidden and wanted is None else usable).append(sheet)
     job.papers = named_papers(job, usable)
@@ -35,10 +35,10 @@ def usable_sheets(job: Job, book: Book) -> list[Sheet]:
 def tell_hidden(job: Job, sheet: Sheet, shown: set[str]) -> None:
     """A hidden sheet is left, unless it is the only one of its kind: then the officer must say."""
     if alone := set(kinds_of(job, sheet)) - shown:
-        job.report.mistake(sheet, None, None, f"is hidden: show it if it has the {' or '.join(sorted(alone))}, or name "
-                                              "the sheets to read with --sheet")
+        job.report.mistake(f"is hidden: show it if it has the {' or '.join(sorted(alone))}, or name the sheets to read "
+                           "with --sheet", sheet)
     else:
-        job.report.note(sheet, None, None, "is hidden, so it is not read")
+        job.report.note("is hidden, so it is not read", sheet)
 
 
 def said_elsewhere(job: Job, kind: str, sheet: Sheet) -> bool:
@@ -94,10 +94,10 @@ def find_tables(job: Job, sheets: list[Sheet]) -> tuple[list[Table], list[Sheet]
     for sheet in sheets:
         kinds, named = kinds_of(job, sheet), named_kind(sheet.name)
         if not kinds_by_name(job, sheet) and named:
-            job.report.note(sheet, None, None, f"is not read: the file of columns says another sheet of {named}")
+            job.report.note(f"is not read: the file of columns says another sheet of {named}", sheet)
             continue
         if len(kinds) > 1 and not all(kind in job.given for kind in kinds):
-            job.report.mistake(sheet, None, None, f"could be {' or '.join(kinds)}: give the sheet that name")
+            job.report.mistake(f"could be {' or '.join(kinds)}: give the sheet that name", sheet)
             continue
         if not kinds:
             rest.append(sheet)
@@ -120,8 +120,8 @@ def tell_both(job: Job, kind: str, sheets: list[Sheet], place: int) -> bool:
     if len(sheets) < 2 or kind in job.choices.together:
         return False
     names = " and ".join(map(place_name, sheets))
-    job.report.mistake(sheets[place], None, None, f"{names} could both be the {kind}: keep one, or say --together "
-                                                  f"{kind} to read them as one list, or --leave NAME")
+    job.report.mistake(f"{names} could both be the {kind}: keep one, or say --together {kind} to read them as one "
+                       "list, or --leave NAME", sheets[place])
     return True
 
 
@@ -133,7 +133,7 @@ def tell_no_header(job: Job, kind: str, sheet: Sheet) -> None:
         cure = "a table of halls by sessions does not say until when, and who for: write a row for each opening, with "
     else:
         cure = f"no row of the first {WITHIN} is a header of {kind}; it needs "
-    job.report.mistake(sheet, row, None, cure + f"the columns {', '.join(files.HEADERS[kind])}")
+    job.report.mistake(cure + f"the columns {', '.join(files.HEADERS[kind])}", sheet, row)
 
 
 # -- entries in other forms
@@ -149,9 +149,9 @@ def find_entries(job: Job, rest: list[Sheet], tables: list[Table]) -> list[Table
         elif "entries" in kinds_by_name(job, sheet):
             cure = "" if job.papers else "; no papers are known: put them into the workbook, or import them first"
             text = f"neither a header number, paper nor one of number and the codes of papers is found{cure}"
-            job.report.mistake(sheet, min(sheet.rows), None, text)
+            job.report.mistake(text, sheet, min(sheet.rows))
         else:
-            job.report.note(sheet, None, None, "is not read: no row is the header of one of the seven kinds")
+            job.report.note("is not read: no row is the header of one of the seven kinds", sheet)
     crossed = [sheet for sheet, _, marks, _ in lists if marks]
     listed = [table.sheet for table in tables if table.kind == "entries"]
     several = listed or len(crossed) > 1 or crossed and len(crossed) < len(lists)
@@ -162,9 +162,9 @@ def find_entries(job: Job, rest: list[Sheet], tables: list[Table]) -> list[Table
 
 def list_table(job: Job, sheet: Sheet, header: Header, marks: dict[int, str], code: str) -> Table:
     if code:
-        job.report.note(sheet, None, None, f"bears the name of a paper: whom it lists is entered for {code}")
+        job.report.note(f"bears the name of a paper: whom it lists is entered for {code}", sheet)
     else:
-        job.report.note(sheet, header.row, min(marks), f"crosses below {', '.join(marks.values())} are read as entries")
+        job.report.note(f"crosses below {', '.join(marks.values())} are read as entries", sheet, header.row, min(marks))
     return Table(job, "entries", sheet, header, marks, code)
 
 
@@ -192,5 +192,5 @@ def paper_columns(job: Job, sheet: Sheet, header: Header) -> dict[int, str]:
         where = place_name(sheet, crosses[place], place)
         wrong[place] = f"{what}, and has crosses ({where}): correct the code, or delete the column"
     for place, text in sorted(wrong.items()):
-        job.report.mistake(sheet, header.row, place, text)
+        job.report.mistake(text, sheet, header.row, place)
     return marks

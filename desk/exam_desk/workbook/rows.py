@@ -14,7 +14,6 @@ from exam_desk.workbook.values import is_mark
 from exam_desk.words import FEATURES
 
 TOTALS = {"total", "totals", "sum", "summe", "gesamt", "count", "anzahl", "grand total", "subtotal"}
-FIRST_WORDS = {word.split(" ")[0] for word in TOTALS}
 EXAMPLE = "e.g. "  # before the first value of the template's example
 EACH = 10_000  # rows after which the progress is told
 MOST_ABOVE = 1000  # rows in which a value above an empty cell is looked for
@@ -59,25 +58,21 @@ def look_at_hidden(table: Table) -> None:
     """Hidden rows are a mistake until the officer says what becomes of them."""
     rows, choice, last_row = table.sheet.rows, table.job.choices.hidden, max(table.sheet.rows)
     hidden = {row for first, last in table.sheet.hidden_rows for row in range(first, min(last, last_row) + 1)}
-    lines = sorted(row for row in hidden & rows.keys() if row > table.header.row and any(map(seen, rows[row].values())))
-    if not lines:
-        return
-    count = f"row {lines[0]} is" if len(lines) == 1 else f"{len(lines)} rows between {lines[0]} and {lines[-1]} are"
-    if choice == "take":
-        table.note(lines[0], None, f"{count} hidden and read, as you said")
-    elif choice == "":
-        table.mistake(lines[0], None, f"{count} hidden, perhaps by a filter: show them, or say --hidden take "
-                                      "or --hidden leave")
-    for row in lines if choice == "leave" else ():
-        table.note(row, None, "is hidden, so it is not read, as you said", "hidden")
-        del rows[row]
+    filled = [row for row in hidden & rows.keys() if row > table.header.row and any(map(seen, rows[row].values()))]
+    for row in sorted(filled):
+        if not choice:
+            table.mistake(row, None, "is hidden, perhaps by a filter: show it, or say --hidden take or --hidden leave")
+        else:
+            how = "is hidden and read" if choice == "take" else "is hidden, so it is not read"
+            table.note(row, None, f"{how}, as you said")
+        if choice == "leave":
+            del rows[row]
 
 
 def look_at_comments(table: Table) -> None:
-    below = sorted(tuple(place) for place in table.sheet.comments if place[0] > table.header.row)
-    if below:
-        more = f", as have {len(below) - 1} cells more; comments are not read" if below[1:] else ", which is not read"
-        table.note(*below[0], f"has a comment{more}")
+    for row, column in sorted((row, column) for row, column in table.sheet.comments):
+        if row > table.header.row:
+            table.note(row, column, "has a comment, which is not read")
 
 
 def look_at_mixed_dates(table: Table) -> None:
@@ -143,7 +138,8 @@ def counting_rows(table: Table, filled: Mapping[tuple[int, int], Cell]) -> Itera
         elif all(folded(cell.text) == head.get(place) if cell else place not in head for place, cell in here.items()):
             table.note(row, None, "repeats the header; it is not read", "repeated")
         elif is_example(here):
-            table.note(row, None, "is the example of the template; it is not read")
+            text = f"{place_name(table.sheet, row)} is the example of the template; it is not read"
+            table.job.report.note(text, what="example")
         elif is_total(table, row, here, row == last):
             continue
         elif begins_other(table, row):
@@ -176,32 +172,30 @@ def begins_other(table: Table, row: int) -> bool:
     return bool(kinds)
 
 
-def total_word(cell: Cell | None) -> bool:
-    if cell is None or cell.kind != "text" or len(cell.text) > 100 or cell.text[:1].isdigit():
-        return False
-    return bare(cell.text).rstrip(":").lower() in TOTALS or first_word(cell.text) in ("total", "totals", "summe")
-
-
-def may_begin_total(cell: Cell) -> bool:
-    return cell.kind == "text" and not cell.text[:1].isdigit() and first_word(cell.text) in FIRST_WORDS
+def totals(cell: Cell | None) -> bool | None:
+    """Whether a cell says a total; none where it does not begin with a word such as sum."""
+    return said_total(cell.text[:101]) if cell and cell.kind == "text" and not cell.text[:1].isdigit() else None
 
 
 @functools.lru_cache(1 << 16)
-def first_word(text: str) -> str:
-    return bare(text[:100]).lower().split(" ")[0].rstrip(":")
+def said_total(text: str) -> bool | None:
+    word = bare(text).lower().rstrip(":")
+    first = word.split(" ")[0].rstrip(":")
+    if word not in TOTALS and first not in TOTALS:
+        return None
+    return len(text) <= 100 and (word in TOTALS or first in ("total", "totals", "summe"))
 
 
 def is_total(table: Table, row: int, here: Row, is_last: bool) -> bool:
     """Whether a row is a total below the table, which is told and left out."""
     cells, columns = table.sheet.rows[row].values(), table.header.columns
-    if not any(cell.formula or may_begin_total(cell) for cell in cells):
+    if not any(cell.formula or totals(cell) is not None for cell in cells):
         return False
     header = files.HEADERS[table.kind]
     keys = [here.get(columns[name][0]) for name in header[:files.KEYS.get(table.kind, 1)] if name in columns]
-    word = any(map(total_word, cells))
+    word = any(map(totals, cells))
     computed = any(cell and cell.formula for cell in here.values())
-    key_is_word = any(total_word(cell) or cell and may_begin_total(cell) and first_word(cell.text) in TOTALS
-                      for cell in keys)
+    key_is_word = any(totals(cell) is not None for cell in keys)
     if not (key_is_word or word and not all(keys) or computed and not any(keys)):
         return False
     whole = all(any(here.get(place) for place in columns.get(name, [])) for name in header)
@@ -257,7 +251,7 @@ def read_field(table: Table, row: int, name: str, here: Row) -> Field:
     if is_wrong or mistakes.RIGHT[name](text.encode("utf-8", "surrogatepass")):
         return text, is_wrong
     said = text.encode("utf-8", "replace")
-    table.mistake(row, places[0], f"{name} {files.shown(said)}: {mistakes.cure(name, said).text}", name)
+    table.mistake(row, places[0], f"{name} {files.shown(said)}: {mistakes.needed(name, said)}", name)
     return text, True
 
 
@@ -270,7 +264,7 @@ def read_one(table: Table, row: int, name: str, here: Row, place: int) -> Field:
     except Wrong as fault:
         said = f"{name} is missing{above(table, row, place)}" if cell is None else \
             f"{name} {files.shown(shown_of(cell).encode('utf-8', 'replace'))}: {fault}"
-        table.mistake(row, place, said, name)
+        table.mistake(row, place, said, f"{name} {fault}")
         return (cell.text if cell else ""), True
     if value.why and not (cell is not None and value.text == cell.shown):
         why = f" ({value.why})" if value.why.strip() else ""

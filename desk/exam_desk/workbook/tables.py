@@ -86,7 +86,7 @@ class Table:
             tell(self)
 
     def tell(self, sort: str, row: int | None, column: int | None, text: str, what: str = "") -> None:
-        self.job.report.add(sort, self.sheet, row, column, text, what)
+        self.job.report.add(sort, text, self.sheet, row, column, what)
 
     mistake = partialmethod(tell, "mistake")
     change = partialmethod(tell, "change")
@@ -149,7 +149,7 @@ def tell_lacking(table: Table) -> None:
         there.add(MARKED.get(table.kind, "paper"))
     for name in [name for name in files.HEADERS[table.kind] if name not in there]:
         if name == "code" and name not in asked:
-            table.note(table.header.row, None, "there is no column code: `office codes` fills the empty codes")
+            table.note(table.header.row, None, "there is no column code")
         else:
             why = f"; no header is {asked[name]!r}, as the file of columns says" if name in asked else ""
             table.mistake(table.header.row, None, f"the column {name} is missing{why}: add it ({mistakes.CURES[name]})")

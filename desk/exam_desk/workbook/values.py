@@ -38,7 +38,7 @@ def read_value(column: str, cell: Cell | None, way: Way) -> Value:
     value = read(column, found, text, way)
     may_be_empty = column == "code" and not value.text
     if not mistakes.RIGHT[column](value.text.encode("utf-8", "surrogatepass")) and not may_be_empty:
-        raise Wrong(mistakes.cure(column, value.text.encode("utf-8", "replace")).text if cell else "is missing")
+        raise Wrong(mistakes.needed(column, value.text.encode("utf-8", "replace")) if cell else "is missing")
     is_as_shown = value.text == ((cell.shown or None) if cell else "")
     return value._replace(why=reason(done, value.why) or " " * (not is_as_shown))
 
@@ -78,8 +78,9 @@ def read_code(column: str, cell: Cell, text: str, way: Way) -> Value:
         return code_of_number(text, cell)
     plain = text.translate(DASHES)
     code = plain.upper() if plain.isascii() else plain
-    if re.search(r"\s", code) and files.is_code(re.sub(r"\s+", "-", code).encode()):
-        raise Wrong(f"a space inside: write {re.sub(r'[ ]+', '-', code)} if that is meant ({mistakes.CURES[column]})")
+    joined = re.sub(r"\s+", "-", code)
+    if joined != code and files.is_code(joined.encode()):
+        raise Wrong(f"a space inside: write {joined} if that is meant ({mistakes.CURES[column]})")
     done = reason("a dash made a hyphen" * (plain != text), "small letters made capitals" * (code != plain))
     is_day = column != "code" and LIKE_A_DAY.fullmatch(code)
     return Value(code, done, "looks like what a spreadsheet makes of a code such as MAR-1" if is_day else "")
@@ -158,11 +159,13 @@ def is_mark(cell: Cell | None) -> bool | None:
 
 Reader = Callable[[str, Cell, str, Way], Value]  # of a column, a cell, its letters and what the officer said
 READERS: dict[str, tuple[Reader, list[str]]] = {  # with the kinds of cells that a column refuses
-    **dict.fromkeys(["number"], (read_number, ["date", "time", "bool", "percent"])),
+    "number": (read_number, ["date", "time", "bool", "percent"]),
     **dict.fromkeys(["session", "paper", "hall", "code"], (read_code, ["date", "time", "bool", "percent"])),
     **dict.fromkeys(["name", "title"], (read_name, ["date", "time", "bool", "percent"])),
-    **dict.fromkeys(["date"], (read_date, ["bool", "percent"])),
+    "date": (read_date, ["time", "bool", "percent"]),
     **dict.fromkeys(["start", "until"], (read_time, ["bool", "percent"])),
-    **dict.fromkeys(["minutes", "desks", "extra"], (read_whole, ["bool", "date"])),
-    **dict.fromkeys(["reserved"], (read_yes, ["date", "time", "percent"])),
+    "minutes": (read_whole, ["date", "bool", "percent"]),
+    "desks": (read_whole, ["date", "time", "bool", "percent"]),
+    "extra": (read_whole, ["date", "time", "bool"]),
+    "reserved": (read_yes, ["date", "time", "percent"]),
     **dict.fromkeys(["requires", "features", "needs"], (read_features, ["date", "time", "percent", "number", "bool"]))}

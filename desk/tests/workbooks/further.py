@@ -93,8 +93,16 @@ case("name-pairs", xlsx(candidates(["0000001", "Al_xD83D__xDE00_", "CODE0001"]))
      files={"candidates": ["0000001,Al\U0001f600,CODE0001"]})
 case("header-half-letters", xlsx(sheet("Candidates", [*CANDIDATES, "x_xD800_y"], [*ADA, "1"])),
      files={"candidates": [ADA_LINE]}, told=[["Candidates!D1", "not read"]])
-case("extra-one-text", b"number,needs,extra\n0000001,-,1\n", suffix="csv", files={"arrangements":["0000001,-,1"]},
-     told=[["'further-extra-one-text'!C2", "1 percent"]])
+case("extra-one-text", b"number,needs,extra\n0000001,-,1\n0000002,-,01\n0000003,-,1.0\n", suffix="csv",
+     files={"arrangements": [f"000000{n},-,1" for n in range(1, 4)]},
+     told=[[f"'further-extra-one-text'!C{n}", "1 percent"] for n in range(2, 5)])
+case("amounts-of-other-kinds", xlsx(sheet("Sessions", SESSIONS, ["S1", 7.5, ("n", "46539", DATE)], ["S2",
+     "2027-06-02 (Wed)", "2027-06-02"], ["S3", ("n", "0.375", TIME), "9:00"], ["S4", "2027-06-04 09:00", "9:00"]),
+     sheet("Openings", OPENINGS, ["S1", "A", ("n", "0.5", TIME), "12:00", "no"], ["S1", "B", ("n", "0.5", "0%"),
+     "12:00", "no"])), 1, only=True,
+     mistakes=[["Sessions!B2", "a date as"], ["Sessions!C2", "is a date, not a time"], ["Sessions!B3", "a date as"],
+     ["Sessions!C3", "is a date, not a time"], ["Sessions!B4", "made a time"], ["Sessions!B5", "a time too, 09:00"],
+     ["Openings!C2", "made a time"], ["Openings!C3", "a percentage"]])
 case("extra-hundred", xlsx(sheet("Arrangements", ARRANGEMENTS, ["0000001", "-", ("n", "1", "0%")], ["0000002", "-",
      "100 %"], ["0000003", "-", ("n", "0", "0%")], ["0000004", "-", ("n", "-0.25", "0%")])), 1, only=True,
      mistakes=[["Arrangements!C5"]])
@@ -196,9 +204,10 @@ case("minutes-bad", xlsx(sheet("Papers", PAPERS, ["A", "A", "S1", "1,5", "-"], [
      ["F", "F", "S1", ("n", "90.5", "0"), "-"], ["G", "G", "S1", "\u0661\u0660", "-"], ["H", "H", "S1", -90, "-"],
      ["I", "I", "S1", ("b", True), "-"])), 1, only=True, mistakes=[[f"Papers!D{n}"] for n in range(2, 11)])
 case("times-pm", xlsx(sheet("Sessions", SESSIONS, ["S1", "2027-06-01", "12:00 pm"], ["S2", "2027-06-02", "12:30 AM"],
-     ["S3", "2027-06-03", "9 a.m."], ["S4", "2027-06-04", "1.30pm"], ["S5", "2027-06-05", "13:00 pm"])), 1, only=True,
-     mistakes=[["Sessions!C6"]], told=[["Sessions!C2", "12:00"], ["Sessions!C3", "00:30"], ["Sessions!C4", "09:00"],
-     ["Sessions!C5", "13:30"]])
+     ["S3", "2027-06-03", "9 a.m."], ["S4", "2027-06-04", "1.30pm"], ["S5", "2027-06-05", "13:00 pm"], ["S6",
+     "2027-06-06", "9:30:00 PM"], ["S7", "2027-06-07", "9:30:15 PM"])), 1, only=True,
+     mistakes=[["Sessions!C6"], ["Sessions!C8", "seconds"]], told=[["Sessions!C2", "12:00"], ["Sessions!C3", "00:30"],
+     ["Sessions!C4", "09:00"], ["Sessions!C5", "13:30"], ["Sessions!C7", "21:30"]])
 case("times-numbers", xlsx(sheet("Sessions", SESSIONS, ["S1", "2027-06-01", 930], ["S2", "2027-06-02", ("n", "930",
      "0000")], ["S3", "2027-06-03", ("n", "930", '0":"00')], ["S4", "2027-06-04", ("n", "9.3", "0.00")], ["S5",
      "2027-06-05", "9,30"], ["S6", "2027-06-06", "9:00:30"], ["S7", "2027-06-07", "24:00"])), 1, only=True,
