@@ -31,7 +31,6 @@ REFERENCES = {  # the columns whose values other files bring, from the left, and
     "arrangements": [(0, "candidates")],
     "entries": [(0, "candidates"), (1, "papers")],
 }
-UNKNOWN = {"sessions": 4, "papers": 5, "candidates": 6, "halls": 7}  # the refusals of what the office does not have
 KEYS = {"openings": 2, "entries": 2}  # how many columns make the key; elsewhere the first alone
 FIRST_DAY, LAST_DAY = datetime.date(2000, 1, 11), datetime.date(2199, 12, 31)
 BOM = b"\xef\xbb\xbf"
@@ -205,9 +204,3 @@ def shown(field: bytes) -> str:
     """A field for a terminal, in quotes, at most some 60 letters of it."""
     text = words.plain(field[:300].decode("utf-8", "replace"))
     return f"'{text[:57]}..'" if len(text) > 60 else f"'{text}'"
-
-
-def row_shown(fields: tuple[bytes, ...]) -> str:
-    """The fields of a row for a terminal, in one line, at most some 240 letters of it."""
-    text = ",".join(shown(field)[1:-1] for field in fields[:120])
-    return f"{text[:237]}.." if len(text) > 240 or len(fields) > 120 else text

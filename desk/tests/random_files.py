@@ -14,6 +14,7 @@ import sample
 from exam_desk import files, mistakes, snapshot
 from exam_desk.office import Office
 
+UNKNOWN = {"sessions": 4, "papers": 5, "candidates": 6, "halls": 7}  # the refusals of what the office does not have
 VALUES = [
     b"", b" ", b"-", b"0", b"00", b"01", b"1", b"2001", b"2000", b"600", b"601", b"100", b"101", b"+1", b"1.0", b"0001000",
     b"1000", b"00010000", b"0000000", b"9999999", b"2027-02-29", b"2028-02-29", b"2000-01-10", b"2000-01-11",
@@ -46,7 +47,7 @@ def first_refusal(kind: str, text: bytes, known: mistakes.Known) -> str | None:
     for record in found:
         for column, table in files.REFERENCES.get(kind, []):
             if record.fields[column] not in known.keys[table]:
-                return f"refused {files.UNKNOWN[table]}"
+                return f"refused {UNKNOWN[table]}"
     known.take(kind, [record.fields for record in found])
     return "refused 20" if known.passed_limit() else None
 
