@@ -166,13 +166,10 @@ module _ {S : Type 0} (g : Ghosts S) where
 
     chosen_keeps : (old new : OfficeIn S) (chosen : Choice) (told : Told) → http.Does g today old chosen told new
         → KeepsOn old new
-    chosen_keeps old new (choice.Fault fault) told h = unchanged old new h.1
-    chosen_keeps old new (choice.OtherMethod route) told h = unchanged old new h.1
-    chosen_keeps old new (choice.Refused refusal) told h = unchanged old new h.1
-    chosen_keeps old new (choice.Show number page) told h = unchanged old new h.1
     chosen_keeps old new (choice.Lodge lodging) told h = applied_keeps old new (command.Lodge lodging) told h
     chosen_keeps old new (choice.Retract number reference) told h =
         applied_keeps old new (command.Retract number reference) told h
+    chosen_keeps old new _ told h = unchanged old new h.1
 
     answered_keeps : (old new : OfficeIn S) (asked : Result Request Fault) (told : Told)
         → http.AnswersAsked g today old asked told new → KeepsOn old new
@@ -210,13 +207,5 @@ module _ {S : Type 0} (g : Ghosts S) where
     carried_keeps contents errors line.init old new before untold result after told h = unchanged old new h.1
     carried_keeps contents errors (line.serve port) old new before untold result after told h =
         serving_keeps errors contents port old new before untold result after told h
-    carried_keeps contents errors line.migrate old new before untold result after told h =
-        done_keeps contents today old new before result after line.migrate h.1.0 h.1.1 h.1.2
-    carried_keeps contents errors line.check old new before untold result after told h =
-        done_keeps contents today old new before result after line.check h.1.0 h.1.1 h.1.2
-    carried_keeps contents errors (line.import kind path) old new before untold result after told h =
-        done_keeps contents today old new before result after (line.import kind path) h.1.0 h.1.1 h.1.2
-    carried_keeps contents errors (line.apply done) old new before untold result after told h =
-        done_keeps contents today old new before result after (line.apply done) h.1.0 h.1.1 h.1.2
-    carried_keeps contents errors (line.print s which) old new before untold result after told h =
-        done_keeps contents today old new before result after (line.print s which) h.1.0 h.1.1 h.1.2
+    carried_keeps contents errors job old new before untold result after told h =
+        done_keeps contents today old new before result after job h.1.0 h.1.1 h.1.2

@@ -70,12 +70,12 @@ one_named itself (x ∷ tables) t u named (inl p) (inr k) same =
     let differ : same_name x.name u.name ≡ false =
     has_all (λ (w : Table). same_name x.name w.name ≡ false) tables u named.0 k in
     let is : x.name ≡ u.name = ap (λ (w : Table). w.name) (sym p) ∙ same in
-    absurd (let both : true ≡ false = sym (itself u.name) ∙ ap (λ n. same_name n u.name) (sym is) ∙ differ in cc)
+    absurd (cc (itself u.name))
 one_named itself (x ∷ tables) t u named (inr h) (inl q) same =
     let differ : same_name x.name t.name ≡ false =
     has_all (λ (w : Table). same_name x.name w.name ≡ false) tables t named.0 h in
     let is : x.name ≡ t.name = ap (λ (w : Table). w.name) (sym q) ∙ sym same in
-    absurd (let both : true ≡ false = sym (itself t.name) ∙ ap (λ n. same_name n t.name) (sym is) ∙ differ in cc)
+    absurd (cc (itself t.name))
 one_named itself (x ∷ tables) t u named (inr h) (inr k) same = one_named itself tables t u named.1 h k same
 
 -- ---- indexes

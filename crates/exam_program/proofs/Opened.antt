@@ -80,12 +80,7 @@ module _ {S : Type 0} (g : Ghosts S) (was : Held S) where
       → IfOk result (λ it. Finds (state g was) (state g it.database) it.office)
       → IfOk result (λ it. OpensFor (job_shown j) (state g was) (state g it.database) it.office)
   found_for job.Init other result found = absurd (other refl)
-  found_for job.Migrate other result found = found
-  found_for job.Check other result found = found
-  found_for (job.Import kind file) other result found = found
-  found_for (job.Apply command) other result found = found
-  found_for (job.Serve port) other result found = found
-  found_for (job.Sheet session sheet) other result found = found
+  found_for _ other result found = found
 
   -- ---- none is opened
 
@@ -162,9 +157,4 @@ module _ (old new : State) (office : Office) where
   opened_kept line.init opens (settled, inl blank) clean = made_kept (opens.0 blank) clean
   opened_kept line.init opens (settled, inr ours) clean =
       found_kept (opens.1 (ours_not_blank old.now ours)) settled ours clean
-  opened_kept line.migrate opens (settled, ours) clean = found_kept opens settled ours clean
-  opened_kept line.check opens (settled, ours) clean = found_kept opens settled ours clean
-  opened_kept (line.import kind file) opens (settled, ours) clean = found_kept opens settled ours clean
-  opened_kept (line.apply done) opens (settled, ours) clean = found_kept opens settled ours clean
-  opened_kept (line.serve port) opens (settled, ours) clean = found_kept opens settled ours clean
-  opened_kept (line.print session sheet) opens (settled, ours) clean = found_kept opens settled ours clean
+  opened_kept _ opens ready clean = found_kept opens ready.0 ready.1 clean

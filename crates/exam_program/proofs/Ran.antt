@@ -49,34 +49,21 @@ module _ {S O E : Type 0} (g : Ghosts S) (contents : Contents O) (errors : Conte
       × RunsOn g contents errors said (job_shown j) was before untold result now office after told
   runs_opened job.Migrate one other done result is h = absurd (one refl)
   runs_opened job.Check one other done result is h = absurd (other refl)
-  runs_opened job.Init one other done result is h = (h.0, (done, h.1, is))
-  runs_opened (job.Import kind file) one other done result is h = (h.0, (done, h.1, is))
-  runs_opened (job.Apply command) one other done result is h = (h.0, (done, h.1, is))
-  runs_opened (job.Serve port) one other done result is h = (h.0, (done, h.1, is))
-  runs_opened (job.Sheet session sheet) one other done result is h = (h.0, (done, h.1, is))
+  runs_opened _ one other done result is h = (h.0, (done, h.1, is))
 
   -- the tables keep the office in the end
   runs_kept : (j : Job) (result : Result ℕ JobFault) (office : Office)
       → RunsOn g contents errors said j was before untold result now (Some office) after told
       → IsReady said.job (state g was) → IsSound (state g now) → IsKept (state g now) office
-  runs_kept line.migrate result office h ready sound = absurd (let none = h.1 in cc)
-  runs_kept line.check result office h ready sound = absurd (let none = h.1 in cc)
-  runs_kept line.init result office h ready sound = (h.1.kept ready sound).1
-  runs_kept (line.import kind file) result office h ready sound = (h.1.kept ready sound).1
-  runs_kept (line.apply done) result office h ready sound = (h.1.kept ready sound).1
-  runs_kept (line.serve port) result office h ready sound = (h.1.kept ready sound).1
-  runs_kept (line.print session sheet) result office h ready sound = (h.1.kept ready sound).1
+  runs_kept line.migrate result office h ready sound = absurd (cc h.1)
+  runs_kept line.check result office h ready sound = absurd (cc h.1)
+  runs_kept _ result office h ready sound = (h.1.kept ready sound).1
 
 -- the office that is opened is of no older version
 opened_newest : (j : Job) (old new : State) (office : Office) → OpensFor j old new office → HasCleanDisk new
     → (IsBlank old.now → ⊥) → IsNoOlder old.now
 opened_newest line.init old new office opens clean other = (opens.1 other).newest clean
-opened_newest line.migrate old new office opens clean other = opens.newest clean
-opened_newest line.check old new office opens clean other = opens.newest clean
-opened_newest (line.import kind file) old new office opens clean other = opens.newest clean
-opened_newest (line.apply done) old new office opens clean other = opens.newest clean
-opened_newest (line.serve port) old new office opens clean other = opens.newest clean
-opened_newest (line.print session sheet) old new office opens clean other = opens.newest clean
+opened_newest _ old new office opens clean other = opens.newest clean
 
 module _ {S O E : Type 0} (g : Ghosts S) (one_result : OneResult) (contents : Contents O) (errors : Contents E)
     (said : Said) (was : Held S) (before : O) (untold : E) (now : Held S) (after : O)
@@ -92,13 +79,9 @@ module _ {S O E : Type 0} (g : Ghosts S) (one_result : OneResult) (contents : Co
   pub runs_newest : (j : Job) (result : Result ℕ JobFault)
       → RunsOn g contents errors said j was before untold result now (Some office) after told
       → IsNoOlder (state g was).now
-  runs_newest line.migrate result h = absurd (let none = h.1 in cc)
-  runs_newest line.check result h = absurd (let none = h.1 in cc)
-  runs_newest line.init result h = over_newest h.0 h.1
-  runs_newest (line.import kind file) result h = over_newest h.0 h.1
-  runs_newest (line.apply done) result h = over_newest h.0 h.1
-  runs_newest (line.serve port) result h = over_newest h.0 h.1
-  runs_newest (line.print session sheet) result h = over_newest h.0 h.1
+  runs_newest line.migrate result h = absurd (cc h.1)
+  runs_newest line.check result h = absurd (cc h.1)
+  runs_newest _ result h = over_newest h.0 h.1
 
 -- the tables keep the office that was opened, and the one after the line
 pub line_kept : {S O E : Type 0} (g : Ghosts S) (one_result : OneResult) (contents : Contents O) (errors : Contents E)
@@ -122,12 +105,7 @@ pub not_reached : {O : Type 0} (contents : Contents O) (before : O) (result : Re
     (j : coded.Job) → (j ≡ job.Check → ⊥)
     → IsUnopened is_store_refusal before result after → IsNotReached contents (job_shown j) before result after
 not_reached contents before result after job.Check other h = absurd (other refl)
-not_reached contents before result after job.Init other h = h
-not_reached contents before result after job.Migrate other h = h
-not_reached contents before result after (job.Import kind file) other h = h
-not_reached contents before result after (job.Apply command) other h = h
-not_reached contents before result after (job.Serve port) other h = h
-not_reached contents before result after (job.Sheet session sheet) other h = h
+not_reached contents before result after _ other h = h
 
 -- tables that keep the office keep it in the newest version
 pub in_newest : {D : Type 0} (g : disk.Ghosts D) (files : Files D) (office : Office) → HoldOffice g files office
@@ -201,7 +179,8 @@ module _ {D O E : Type 0} (g : disk.Ghosts D) (contents : Contents O) (errors : 
         → HoldStill g line.migrate result v files office
     by_answer (Ok versions) done (Ok status) m tells e = migrated versions m
     by_answer (Ok versions) done (Err fault) m tells e = inr (migrated versions m)
-    by_answer (Err refusal) done (Ok status) m tells e = absurd (let never = e ∙ ap (status_of 0) tells.0 in cc)
+    by_answer (Err refusal) done (Ok status) m tells e =
+        absurd (cc (e ∙ ap (status_of 0) tells.0))
     by_answer (Err refusal) done (Err fault) m tells e =
         inl (hold_same (m.made.same (copied.was_clean, copied.was_open)).1)
 
@@ -215,11 +194,7 @@ module _ {D O E : Type 0} (g : disk.Ghosts D) (contents : Contents O) (errors : 
         → HoldStill g j result v files office
     hold_still line.migrate result h = by_answer h.2.1.0 h.2.0 result h.2.1.1 h.2.1.2 h.2.2
     hold_still line.check result h = hold_same (read_commit h.2.0 (h.2.1.left copied.was_clean))
-    hold_still line.init result h = hold_same (h.1.1.same (copied.was_clean, copied.was_open))
-    hold_still (line.import kind file) result h = hold_same (h.1.1.same (copied.was_clean, copied.was_open))
-    hold_still (line.apply done) result h = hold_same (h.1.1.same (copied.was_clean, copied.was_open))
-    hold_still (line.serve port) result h = hold_same (h.1.1.same (copied.was_clean, copied.was_open))
-    hold_still (line.print session sheet) result h = hold_same (h.1.1.same (copied.was_clean, copied.was_open))
+    hold_still _ result h = hold_same (h.1.1.same (copied.was_clean, copied.was_open))
 
   pub held_after : (result : Result ℕ JobFault) (office : Option Office) (closed : Closed D g)
       → IsLive (file_state now) → Closes now closed

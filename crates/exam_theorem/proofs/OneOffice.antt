@@ -4,7 +4,7 @@ use Rattle.exam_theorem.proofs.Words.{Request, Choice, Fault, MayApply, is_store
 use Rattle.exam_theorem.proofs.Words.{AreFollowed, EndsInOne, Follows, FollowsCommand, FollowsLine, IsFailureOf}
 use Rattle.exam_theorem.proofs.Words.{LineEnd, is_failure, Given, command_of, line_of, of_line, of_request}
 use Rattle.exam_theorem.proofs.Words.{AnswersAsked, DoesCommand, Serves, Outcome}
-use Rattle.std.proofs.Common.{◌≡◌, ◌∙◌, ℕ, List, [], ◌∷◌, Option, None, Some, true, false, refl, sym, ap, subst, inl}
+use Rattle.std.proofs.Common.{◌≡◌, ◌∙◌, ℕ, List, [], ◌∷◌, Option, None, Some, refl, sym, ap, subst, inl}
 use Rattle.std.proofs.Common.{inr}
 use Rattle.std.specs.Prelude.{Result, Ok, Err, IsTrue}
 use Rattle.std.proofs.lemmas.List.Elements.{All-head, All-tail}
@@ -13,6 +13,7 @@ use Rattle.exam_commands.specs.declared.command.Command.TheVariants as command
 use Rattle.exam_request.specs.declared.choice.Choice.TheVariants as choice
 use Rattle.exam_http.specs.Alike.{IsFailure as IsFailureTold}
 use Rattle.exam_http.specs.Answering.{TellsReply}
+use Rattle.exam_http.proofs.Alike.{failed}
 use Rattle.exam_theorem.specs.Following.{IsDone, IsFailure, IsRefused, NoneFails, TellsAnswer}
 use Rattle.exam_theorem.specs.Requests.{Does}
 use Rattle.exam_theorem.specs.declared.orders.Outcome.TheVariants as outcome
@@ -52,8 +53,7 @@ module _ (one_result : OneResult) where
     -- a refusal of the store is a failure
     told_none : (end : LineEnd) → (IsTrue (is_failure end) → ⊥) → (p : Result Reply Refusal) → TellsAnswer p end
         → (e : Refusal) → p ≡ Err e → IsTrue (is_store_refusal e) → ⊥
-    told_none end fine (Ok reply) tells e is bad = let differ : ◌≡◌ {A = Result Reply Refusal} (Ok reply) (Err e) =
-        is in cc
+    told_none end fine (Ok reply) tells e is bad = cc
     told_none end fine (Err r) tells e is bad =
         let same : r ≡ e = cc in
         fine (subst (λ (l : LineEnd). IsTrue (is_failure l)) (sym tells)
@@ -84,17 +84,9 @@ module _ (one_result : OneResult) where
 
   -- ---- requests
 
-  -- the answer to a refusal of the store is that to a failure
-  failed : (e : Refusal) (told : Told) → IsTrue (is_store_refusal e) → told ≡ refusal_told e → IsFailureTold told
-  failed refusal.NoMemory told is tells = inl tells
-  failed refusal.Store told is tells = inr (inl tells)
-  failed refusal.BadStore told is tells = inr (inr tells)
-  failed e told is tells = absurd (let differ : false ≡ true = is in cc)
-
   replied_none : (told : Told) → (IsFailureTold told → ⊥) → (p : Result Reply Refusal) → TellsReply p told
       → (e : Refusal) → p ≡ Err e → IsTrue (is_store_refusal e) → ⊥
-  replied_none told fine (Ok reply) tells e is bad = let differ : ◌≡◌ {A = Result Reply Refusal} (Ok reply) (Err e) =
-      is in cc
+  replied_none told fine (Ok reply) tells e is bad = cc
   replied_none told fine (Err r) tells e is bad =
       let same : r ≡ e = cc in
       fine (failed e told bad (tells ∙ ap refusal_told same))
@@ -112,10 +104,7 @@ module _ (one_result : OneResult) where
     one_choice (choice.Lodge lodging) here there = one_command_told (command.Lodge lodging) here there
     one_choice (choice.Retract number reference) here there =
         one_command_told (command.Retract number reference) here there
-    one_choice (choice.Fault fault) here there = here.1 ∙ sym there.1
-    one_choice (choice.OtherMethod route) here there = here.1 ∙ sym there.1
-    one_choice (choice.Refused e) here there = here.1 ∙ sym there.1
-    one_choice (choice.Show number page) here there = here.1 ∙ sym there.1
+    one_choice _ here there = here.1 ∙ sym there.1
 
     one_asked : (asked : Result Request Fault) → AnswersAsked today before asked first one
         → AnswersAsked today before asked second other → one ≡ other

@@ -1,19 +1,19 @@
 -- A candidate's own rows decide what a request is answered.
-use Rattle.exam_theorem.proofs.Words.{Refusal, Command, Reply, IsGood, IsInOrder, State, Step, MayApply}
-use Rattle.exam_theorem.proofs.Words.{is_store_refusal, Told, answer_text, refusal_told, Asks, Request, Choice, Fault}
+use Rattle.exam_theorem.proofs.Words.{Refusal, Command, Reply, IsGood, IsInOrder, State, Step}
+use Rattle.exam_theorem.proofs.Words.{is_store_refusal, Told, answer_text, Asks, Request, Choice, Fault}
 use Rattle.exam_theorem.proofs.Words.{choice_in, HttpFault, Follows, IsFailureOf, of_request, AnswersAsked, DoesCommand}
 use Rattle.exam_theorem.proofs.Words.{Serves, Tells, Outcome}
 use Rattle.std.proofs.Common.{◌≡◌, ◌⊎◌, ◌∙◌, ℕ, List, Option, None, Some, refl, sym, ap, subst, inl, inr}
-use Rattle.std.specs.Prelude.{Result, Ok, Err, IsTrue, IsSomeAnd, option_and_then}
+use Rattle.std.specs.Prelude.{Result, Ok, Err, IsTrue, IsSomeAnd}
 use Rattle.std.specs.Option.{option_map}
 use Rattle.exam_types.specs.declared.refusal.Refusal.TheVariants as refusal
 use Rattle.exam_commands.specs.declared.command.Command.TheVariants as command
-use Rattle.exam_commands.specs.Own.{OwnRows, own_of, own_rows}
+use Rattle.exam_commands.specs.Own.{OwnRows, own_of}
 use Rattle.exam_laws.proofs.OwnLodging.{same_lodging_answer}
 use Rattle.exam_laws.proofs.OwnRetracting.{same_retraction_answer}
 use Rattle.exam_request.specs.Answer.{ok_told}
 use Rattle.exam_request.specs.Bodies.{page_body}
-use Rattle.exam_request.specs.Choices.{IsBy, IsIdle, IsOwnChoice, candidate_named, choice_of}
+use Rattle.exam_request.specs.Choices.{IsBy, IsIdle, IsOwnChoice, choice_of}
 use Rattle.exam_request.specs.declared.choice.Choice.TheVariants as choice
 use Rattle.exam_request.specs.declared.choice.Named.{Named}
 use Rattle.exam_http.specs.Alike.{AreAlike, IsFailure as IsFailureTold}
@@ -24,29 +24,14 @@ use Rattle.exam_theorem.specs.Requests.{Does}
 use Rattle.exam_theorem.specs.declared.orders.Answered.{Answered}
 use Rattle.exam_theorem.specs.declared.orders.Outcome.TheVariants as outcome
 use Rattle.exam_theorem.proofs.OneOffice.{OneAsked}
+use Rattle.exam_http.proofs.Alike.{at_number, replied, shown, stepped, told_failure}
+use Rattle.exam_http.proofs.Callers.{own_numbered}
 
 -- a page, a lodging or a retraction is that of the candidate that the request names
 abbrev pub OwnChoices : Type 0
 OwnChoices = (request : Request) (named : Option Named) → IsOwnChoice request named (choice_of request named)
 
 -- ---- the candidate that a request names
-
--- what a mapped value is made of
-made_of : {A B : Type 0} (f : A → B) (o : Option A) (b : B) → option_map f o ≡ Some b → (a : A) × (f a ≡ b)
-made_of f None b is = absurd (let differ : None ≡ Some b = is in cc)
-made_of f (Some a) b is = (a, let same : f a ≡ b = cc in same)
-
-numbered : (office : State) (c : ℕ) (rows : OwnRows) → own_of office c ≡ Some rows → rows.number ≡ c
-numbered office c rows is = let made =
-    made_of (own_rows office c) _ rows is in sym (ap (λ (r : OwnRows). r.number) made.1)
-
-own_numbered : (office : State) (request : Request) (rows : OwnRows) → own_named office request ≡ Some rows
-    → own_of office rows.number ≡ Some rows
-own_numbered office request rows is = by (candidate_named request) is
-  where
-    by : (o : Option ℕ) → option_and_then (own_of office) o ≡ Some rows → own_of office rows.number ≡ Some rows
-    by None e = absurd (let differ : None ≡ Some rows = e in cc)
-    by (Some c) e = ap (own_of office) (numbered office c rows e) ∙ e
 
 -- nothing is shown and done, or it is for the candidate who has these rows
 abbrev IsFor : State → Request → Choice → Type 0
@@ -65,45 +50,10 @@ chosen_for own_choice office request =
 
 -- ---- a command
 
--- a refusal of the store is a failure
-failed : (e : Refusal) (told : Told) → IsTrue (is_store_refusal e) → told ≡ refusal_told e → IsFailureTold told
-failed refusal.NoMemory told is tells = inl tells
-failed refusal.Store told is tells = inr (inl tells)
-failed refusal.BadStore told is tells = inr (inr tells)
-failed e told is tells = absurd cc
-
--- equal replies have equal answers
-replied : (a : Result Reply Refusal) (first second : Told) → TellsReply a first → TellsReply a second
-    → AreAlike first second
-replied (Ok r) first second a b = inr (inr (a ∙ sym b))
-replied (Err e) first second a b = inr (inr (a ∙ sym b))
-
 -- it is its step, or a refusal of the store
 abbrev IsStepped : Command → ℕ → State → Result Reply Refusal → Type 0
 IsStepped done today before a =
     ((end : State) × Step done today before a end) ⊎ ((e : Refusal) × (a ≡ Err e) × IsTrue (is_store_refusal e))
-
-stepped : (done : Command) (today : ℕ) (before after : State) (a : Result Reply Refusal)
-    → MayApply done today before a after → IsStepped done today before a
-stepped done today before after (Ok r) may = inl (after, may)
-stepped done today before after (Err e) (same, inl step) = inl (before, step)
-stepped done today before after (Err e) (same, inr is) = inr (e, refl, is)
-
-told_failure : (a : Result Reply Refusal) (e : Refusal) (told : Told) → a ≡ Err e → IsTrue (is_store_refusal e)
-    → TellsReply a told → IsFailureTold told
-told_failure a e told at is tells = failed e told is (subst (λ r. TellsReply r told) at tells)
-
--- own rows are equal at an equal number
-at_number : (one other : State) (candidate number : ℕ) → candidate ≡ number → own_of one number ≡ own_of other number
-    → own_of one candidate ≡ own_of other candidate
-at_number one other candidate number is same = subst (λ c. own_of one c ≡ own_of other c) (sym is) same
-
--- equal rows have equal pages
-shown : (body : OwnRows → List ℕ) (own : Option OwnRows) (first second : Told)
-    → IsSomeAnd own (λ rows. first ≡ ok_told (body rows)) → IsSomeAnd own (λ rows. second ≡ ok_told (body rows))
-    → AreAlike first second
-shown body None first second a b = absurd a
-shown body (Some rows) first second a b = inr (inr (a ∙ sym b))
 
 module _ (own_choice : OwnChoices) (today : ℕ) (one other one_after other_after : State) (first second : Told) where
   joined : (done : Command) (a b : Result Reply Refusal)

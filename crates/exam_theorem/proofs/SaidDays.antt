@@ -1,6 +1,7 @@
 -- The days that a command line and an import file say lie between 2000-01-01 and 2199-12-31.
 use Rattle.exam_theorem.proofs.Words.{Text, IsDay, Refusal, Code, Command, Kind, ImportRows, import_of, Answers, Line}
 use Rattle.exam_theorem.proofs.Words.{HasRowDays, command_of, import_command}
+use Rattle.std.proofs.lemmas.Bool.{cond_both}
 use Rattle.std.proofs.Common.{◌≡◌, ◌+◌, ◌&&◌, ◌++◌, ◌==◌, All, ℕ, Bool, true, false, if◌then◌else◌, List, []}
 use Rattle.std.proofs.Common.{◌∷◌, Option, None, Some, nat_le, length, arith, refl, subst}
 use Rattle.std.specs.Prelude.{Result, Ok, Err, bytes_eq, codes, option_and_then}
@@ -13,14 +14,14 @@ use Rattle.exam_types.specs.Days.{day_of, day_text, is_day, session_day_in, spel
 use Rattle.exam_types.specs.Features.{features_in}
 use Rattle.exam_types.specs.Numbers.{desks_in, extra_in, minutes_in, number_in, start_in, until_in}
 use Rattle.exam_types.specs.Texts.{is_name}
-use Rattle.exam_types.specs.declared.refusal.Refusal.TheVariants.{BadHeader, BadRow, RowConflict, TooMany}
+use Rattle.exam_types.specs.declared.refusal.Refusal.TheVariants.{BadHeader, RowConflict, TooMany}
 use Rattle.exam_commands.specs.declared.command.Command.TheVariants as command
 use Rattle.exam_commands.specs.declared.import_row.Kind.TheVariants as kind
 use Rattle.exam_commands.specs.declared.import_row.Row.{Row}
 use Rattle.exam_commands.specs.declared.import_row.Row.TheVariants as row
 use Rattle.exam_commands.specs.Imports.{conflicts}
 use Rattle.exam_files.specs.ImportFiles.{and_then, field, flag_in, header_of, is_header, is_too_long, row_of}
-use Rattle.exam_files.specs.ImportFiles.{row_of_kind, rows_from, rows_in, rows_of, text_in, value_at}
+use Rattle.exam_files.specs.ImportFiles.{row_of_kind, rows_from, rows_of, text_in, value_at}
 use Rattle.exam_line.specs.Grammar.{grammar}
 use Rattle.exam_line.specs.Lines as line
 use Rattle.exam_store.specs.Stops.{HasRowDay}
@@ -62,9 +63,6 @@ session_day bytes n is = by (day_of bytes) refl is
 abbrev MakesDays : Result Row Refusal → Type 0
 MakesDays made = (x : Row) → made ≡ Ok x → HasRowDay x
 
-refused_days : (e : Refusal) → MakesDays (Err e)
-refused_days e x is = absurd cc
-
 made_days : (x : Row) → HasRowDay x → MakesDays (Ok x)
 made_days x day y is = let same : x ≡ y = cc in subst HasRowDay same day
 
@@ -74,28 +72,23 @@ session_made : (place : ℕ) (code : Option Code) (day start : Option ℕ) → (
     (λ code. and_then (value_at place 2 day)
     (λ day. and_then (value_at place 3 start)
     (λ start. Ok (row.OfSession code (record { day = day; start = start }))))))
-session_made place None day start days = refused_days (BadRow place 1)
-session_made place (Some code) None start days = refused_days (BadRow place 2)
-session_made place (Some code) (Some day) None days = refused_days (BadRow place 3)
 session_made place (Some code) (Some day) (Some start) days =
     made_days (row.OfSession code (record { day = day; start = start })) (days day refl)
+session_made place _ _ _ days = λ x is. absurd cc
 
 -- and other rows, which have no day
 two_made : {X Y : Type 0} (place : ℕ) (x : Option X) (y : Option Y) (make : X → Y → Row)
     → ((x : X) (y : Y) → HasRowDay (make x y))
     → MakesDays (and_then (value_at place 1 x) (λ x. and_then (value_at place 2 y) (λ y. Ok (make x y))))
-two_made place None y make days = refused_days (BadRow place 1)
-two_made place (Some x) None make days = refused_days (BadRow place 2)
 two_made place (Some x) (Some y) make days = made_days (make x y) (days x y)
+two_made place _ _ make days = λ x is. absurd cc
 
 three_made : {X Y Z : Type 0} (place : ℕ) (x : Option X) (y : Option Y) (z : Option Z) (make : X → Y → Z → Row)
     → ((x : X) (y : Y) (z : Z) → HasRowDay (make x y z))
     → MakesDays (and_then (value_at place 1 x)
     (λ x. and_then (value_at place 2 y) (λ y. and_then (value_at place 3 z) (λ z. Ok (make x y z)))))
-three_made place None y z make days = refused_days (BadRow place 1)
-three_made place (Some x) None z make days = refused_days (BadRow place 2)
-three_made place (Some x) (Some y) None make days = refused_days (BadRow place 3)
 three_made place (Some x) (Some y) (Some z) make days = made_days (make x y z) (days x y z)
+three_made place _ _ _ make days = λ x is. absurd cc
 
 five_made : {X Y Z V W : Type 0} (place : ℕ) (x : Option X) (y : Option Y) (z : Option Z) (v : Option V) (w : Option W)
     (make : X → Y → Z → V → W → Row)
@@ -104,12 +97,8 @@ five_made : {X Y Z V W : Type 0} (place : ℕ) (x : Option X) (y : Option Y) (z 
     (λ x. and_then (value_at place 2 y)
     (λ y. and_then (value_at place 3 z)
     (λ z. and_then (value_at place 4 v) (λ v. and_then (value_at place 5 w) (λ w. Ok (make x y z v w)))))))
-five_made place None y z v w make days = refused_days (BadRow place 1)
-five_made place (Some x) None z v w make days = refused_days (BadRow place 2)
-five_made place (Some x) (Some y) None v w make days = refused_days (BadRow place 3)
-five_made place (Some x) (Some y) (Some z) None w make days = refused_days (BadRow place 4)
-five_made place (Some x) (Some y) (Some z) (Some v) None make days = refused_days (BadRow place 5)
 five_made place (Some x) (Some y) (Some z) (Some v) (Some w) make days = made_days (make x y z v w) (days x y z v w)
+five_made place _ _ _ _ _ make days = λ x is. absurd cc
 
 row_days : (k : Kind) (place : ℕ) (fields : List (List ℕ)) → MakesDays (row_of_kind k place fields)
 row_days kind.Sessions place fields =
@@ -144,11 +133,9 @@ row_days kind.Arrangements place fields =
 
 record_days : (k : Kind) (place : ℕ) (fields : List (List ℕ)) → MakesDays (row_of k place fields)
 unfolding row_of
-record_days k place fields = by (length fields == length (header_of k))
-  where
-    by : (b : Bool) → MakesDays (if b then row_of_kind k place fields else Err (BadRow place 0))
-    by true = row_days k place fields
-    by false = refused_days (BadRow place 0)
+record_days k place fields =
+    cond_both (length fields == length (header_of k)) _ _ MakesDays (λ is. row_days k place fields)
+    (λ is x made. absurd cc)
 
 -- the rows of an import have such days
 abbrev DenotesDays : Result ImportRows Refusal → Type 0
@@ -159,8 +146,7 @@ no_rows e import is = absurd cc
 
 unless : (b : Bool) (place : ℕ) (denoted : Result ImportRows Refusal) → DenotesDays denoted
     → DenotesDays (if b then Err (RowConflict place) else denoted)
-unless true place denoted days = no_rows (RowConflict place)
-unless false place denoted days = days
+unless b place denoted days = cond_both b _ _ DenotesDays (λ is. no_rows (RowConflict place)) (λ is. days)
 
 with_row : (k : Kind) (place : ℕ) (rows : List Row) (rest : List (List (List ℕ))) (made : Result Row Refusal)
     → MakesDays made
@@ -184,18 +170,14 @@ records_days k place rows (fields ∷ rest) days =
 
 headed_days : (k : Kind) (records : List (List (List ℕ))) → DenotesDays (rows_of k records)
 headed_days k [] = no_rows BadHeader
-headed_days k (header ∷ rest) = by (is_header k header)
-  where
-    by : (b : Bool) → DenotesDays (if b then rows_from k 1 [] rest else Err BadHeader)
-    by true = records_days k 1 [] rest (All-nil HasRowDay)
-    by false = no_rows BadHeader
+headed_days k (header ∷ rest) =
+    cond_both (is_header k header) _ _ DenotesDays (λ is. records_days k 1 [] rest (All-nil HasRowDay))
+    (λ is. no_rows BadHeader)
 
 file_days : (k : Kind) (bytes : List ℕ) → DenotesDays (import_of k bytes)
-file_days k bytes = by (is_too_long bytes)
-  where
-    by : (b : Bool) → DenotesDays (if b then Err TooMany else rows_in k bytes)
-    by true = no_rows TooMany
-    by false = headed_days k (records default_config (strip_bom bytes))
+file_days k bytes =
+    cond_both (is_too_long bytes) _ _ DenotesDays (λ is. no_rows TooMany)
+    (λ is. headed_days k (records default_config (strip_bom bytes)))
 
 -- ---- the commands of lines
 
@@ -227,8 +209,7 @@ job_said : (j : line.Job) → HasJobDays j → SaysDays (Some j)
 job_said j days job is = let same : j ≡ job = cc in subst HasJobDays same days
 
 either : (b : Bool) (x y : Option line.Job) → SaysDays x → SaysDays y → SaysDays (if b then x else y)
-either true x y here there = here
-either false x y here there = there
+either b x y here there = cond_both b x y SaysDays (λ is. here) (λ is. there)
 
 of_one : {X : Type 0} (make : X → line.Job) (o : Option X) → ((x : X) → HasJobDays (make x))
     → SaysDays (option_map make o)
@@ -280,9 +261,8 @@ with_job given (Some job) s days is = let same : line_with given job ≡ s =
 said_days : (given : Option (Text × ℕ)) (named : Option (Text × List WordRow)) (s : line.Said)
     → option_and_then (λ g. option_and_then (λ n. option_map (line_with g) (line.job_of n.0 n.1)) named) given ≡ Some s
     → HasJobDays s.job
-said_days None named s is = absurd cc
-said_days (Some g) None s is = absurd cc
 said_days (Some g) (Some n) s is = with_job g (line.job_of n.0 n.1) s (any_said n.0 n.1) is
+said_days _ _ s is = absurd cc
 
 -- the command of a line, which is no import, has no rows
 pub line_days : (words : List Text) (l : Line) → Answers (Ok l) words → HasJobDays (line.job_shown l.job)
