@@ -151,7 +151,7 @@ class TestFiles(Uploads):
         plain = ("halls.csv", b"hall,title,features\nR20,Room 20,-\n")
         page = self.upload(("school.xlsx", hidden), plain)
         words = self.browser.words(page)
-        self.assertIn("row 3 is hidden, perhaps by a filter", words)
+        self.assertIn("is hidden, perhaps by a filter", words)
         self.assertIn("is hidden: show it if it has the entries", words)
         self.assertNotIn("/candidates.csv", self.browser.get(page))
         self.browser.post(page + "/hidden", page, book="0", take="1")
