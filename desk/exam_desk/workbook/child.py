@@ -43,8 +43,6 @@ def read(data: bytes) -> bytes:
         lines = carrying.refused(f"it is broken or cut short: {fault}")
     except Trouble as trouble:
         lines = carrying.refused(trouble.sentence)
-    except ModuleNotFoundError:
-        lines = carrying.refused(MISSING)
     except MemoryError:
         lines = carrying.refused(f"it asks for more than {MOST_MEMORY >> 30} GB: it is no school's workbook")
     return lines.encode("utf-8", "surrogatepass")

@@ -14,7 +14,7 @@ from exam_desk.workbook.cells import MOST_CELLS, MOST_UNPACKED, Budget
 
 MOST_DEPTH, MOST_QUIET = 256, 4 << 20  # elements in each other, bytes without a tag
 MOST_TAGS = 6_000_000  # in all parts
-CELL = "http://schemas.openxmlformats.org/spreadsheetml/2006/main c"
+MAIN = "http://schemas.openxmlformats.org/spreadsheetml/2006/main"
 PIECE = 1 << 16
 OPEN_AND_SAVE = "open it in a spreadsheet and save it again"
 
@@ -61,7 +61,7 @@ class Parts:
             nonlocal depth, tags, cells, root
             depth += 1
             tags += 1
-            cells += name == CELL
+            cells += name == f"{MAIN} c"
             root = root or name
             if depth > MOST_DEPTH:
                 raise Trouble("its XML is nested too deep: it is no workbook of a school")
@@ -91,3 +91,8 @@ def refuse_type(*_: object) -> None:
 
 def local(element: Element) -> str:
     return element.tag.rpartition("}")[2]
+
+
+def attributes(element: Element) -> dict[str, str]:
+    """The attributes of an element by their names without namespaces."""
+    return {key.rpartition("}")[2]: value for key, value in element.items()}

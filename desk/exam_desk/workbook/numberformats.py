@@ -12,9 +12,16 @@ MOST_NUMBER = 10 ** 15  # a spreadsheet keeps fifteen digits
 LONG_NUMBER = 10 ** 11  # from here on the format General shows a power of ten
 WINDOWS, MACINTOSH = datetime.datetime(1899, 12, 30), datetime.datetime(1904, 1, 1)  # the day 0
 MACHINE_DATE = "m/d/yy?"  # the date that each machine shows in its own way
-BUILT_IN = {  # formats by number, beside those that openpyxl knows
-            14: MACHINE_DATE, 22: MACHINE_DATE + " h:mm", 32: "h:mm", 33: "h:mm",
-            **{number: MACHINE_DATE for number in (*range(27, 32), *range(34, 37), *range(50, 59))}}
+BUILT_IN = {number: form for first, forms in {  # formats by number
+    0: ["General", "0", "0.00", "#,##0", "#,##0.00", '"$"#,##0_);("$"#,##0)', '"$"#,##0_);[Red]("$"#,##0)',
+        '"$"#,##0.00_);("$"#,##0.00)', '"$"#,##0.00_);[Red]("$"#,##0.00)', "0%", "0.00%", "0.00E+00", "# ?/?", "# ??/??",
+        MACHINE_DATE, "d-mmm-yy", "d-mmm", "mmm-yy", "h:mm AM/PM", "h:mm:ss AM/PM", "h:mm", "h:mm:ss",
+        MACHINE_DATE + " h:mm"],
+    27: [*5 * [MACHINE_DATE], "h:mm", "h:mm", *3 * [MACHINE_DATE], "#,##0_);(#,##0)", "#,##0_);[Red](#,##0)",
+         "#,##0.00_);(#,##0.00)", "#,##0.00_);[Red](#,##0.00)", r'_(* #,##0_);_(* \(#,##0\);_(* "-"_);_(@_)',
+         r'_("$"* #,##0_);_("$"* \(#,##0\);_("$"* "-"_);_(@_)', r'_(* #,##0.00_);_(* \(#,##0.00\);_(* "-"??_);_(@_)',
+         r'_("$"* #,##0.00_)_("$"* \(#,##0.00\)_("$"* "-"??_)_(@_)', "mm:ss", "[h]:mm:ss", "mmss.0", "##0.0E+0", "@",
+         *9 * [MACHINE_DATE]]}.items() for number, form in enumerate(forms, first)}
 NUMBER = re.compile(r"\s*[+-]?([0-9]+\.?[0-9]*|\.[0-9]+)([eE][+-]?[0-9]+)?\s*")
 TOKEN = re.compile(r'"[^"]*"|\\.|_.|\*.|\[[^\]]*\]|General|[0#?]+(?:[0#?,.]*[0#?])?,*|.', re.I)
 DATE_TOKEN = re.compile(r'\[[^\]]*\]|yy\?|AM/PM|([ymdhs])\1*|[\\_*].|"[^"]*"|.', re.I)

@@ -7,7 +7,7 @@ from xml.etree.ElementTree import Element
 
 from exam_desk.trouble import Trouble
 from exam_desk.workbook.cells import MOST_COLUMN, MOST_ROW, MOST_SHEETS, Book, Budget, Cell, Sheet
-from exam_desk.workbook.looking import OPEN_AND_SAVE, Parts, local
+from exam_desk.workbook.looking import OPEN_AND_SAVE, Parts, attributes, local
 from exam_desk.workbook.numberformats import number_cell, whole_seconds
 
 ASIDE = ("tracked-changes", "shapes", "dde-links", "forms")  # what stands among sheets and rows, and has no cells
@@ -36,11 +36,6 @@ def read_ods(archive: zipfile.ZipFile) -> Book:
     if not reader.spreadsheet:
         raise Trouble("it is a document of another kind: save the table as .xlsx or .ods")
     return Book("ods", reader.sheets, parts.notes(r"(Basic|Scripts)/"))
-
-
-def attributes(element: Element) -> dict[str, str]:
-    """The attributes of an element by their names without namespaces."""
-    return {key.rpartition("}")[2]: value for key, value in element.items()}
 
 
 class OdsReader:

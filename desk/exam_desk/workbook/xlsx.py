@@ -1,67 +1,39 @@
-"""Reads .xlsx and .xlsm by openpyxl, after a look at each part. No formula and no macro is run, no link followed.
-
-openpyxl's parser of sheets is used without its cells: these are made for each place of a merged area or of a link too.
-"""
+"""Reads .xlsx and .xlsm: the parts with cells, and what says how these look. No formula and no macro is run, no link
+followed."""
 import datetime
+import posixpath
 import re
-import warnings
 import zipfile
-from collections.abc import Callable, Iterator
-from typing import Any
-from xml.etree.ElementTree import Element, iterparse
-
-import openpyxl.styles.numbers
-from openpyxl.cell import Cell as StyledCell
-from openpyxl.packaging import relationship
-from openpyxl.reader.excel import ExcelReader
-from openpyxl.styles import stylesheet
-from openpyxl.worksheet import _reader
-from openpyxl.xml.constants import SHEET_MAIN_NS
+from collections.abc import Iterator
+from typing import NamedTuple
+from xml.etree.ElementTree import Element
 
 from exam_desk.trouble import Trouble
 from exam_desk.workbook.cells import (MOST_COLUMN, MOST_ROW, MOST_SHEETS, Book, Budget, Cell, Sheet,
                                       area_of, place_name, place_of)
-from exam_desk.workbook.looking import OPEN_AND_SAVE, Parts, local
+from exam_desk.workbook.looking import MAIN, OPEN_AND_SAVE, Parts, attributes, local
 from exam_desk.workbook.numberformats import BUILT_IN, MACINTOSH, WINDOWS, number_cell, shown_text
 
-COMMENTS = "http://schemas.openxmlformats.org/officeDocument/2006/relationships/comments"
-STYLES = "xl/styles.xml"  # the only place where openpyxl looks for them
-openpyxl.styles.numbers.BUILTIN_FORMATS.update(BUILT_IN)
-apply_styles: Callable[[zipfile.ZipFile, Any], object] = stylesheet.apply_stylesheet
-links_beside: Callable[[str], str] = relationship.get_rels_path
-links_of: Callable[[zipfile.ZipFile, str], Any] = relationship.get_dependents
-sheets_reader: Any = _reader
-Style = tuple[str, bool]  # a number format, and whether the font is struck out
+NO = ("0", "false")
+Text = tuple[str, bool]  # and whether a part of it is struck out
+
+
+class Link(NamedTuple):
+    """What a part says of another one."""
+
+    key: str
+    kind: str
+    part: str
 
 
 def read_xlsx(archive: zipfile.ZipFile) -> Book:
     """The workbook of a zip; raises `Trouble` where it cannot be read whole."""
-    warnings.simplefilter("ignore")  # on what is lost when openpyxl saves
-    sheets_reader._cast_number = str  # numbers as they are stored
-    sheets_reader.iterparse = iterparse  # the parser in C: each part has been looked at for entities
     parts = Parts(archive)
     roots = {name: parts.look(name) for name in sorted(parts.names) if re.search(r"\.(xml|rels)$", name, re.I)}
     try:
         return Reader(parts, roots).book()
-    except (Trouble, MemoryError):
-        raise
-    except Exception as fault:  # openpyxl raises whatever its code comes upon
+    except (ValueError, LookupError, ArithmeticError) as fault:
         raise Trouble(f"a part of it is broken ({type(fault).__name__}: {fault}): {OPEN_AND_SAVE}") from fault
-
-
-class SharedText(str):
-    """A text in which nothing is left to be turned; `struck`: a part of it is struck out."""
-
-    struck = False
-
-
-class SharedTexts(list[SharedText]):
-    """The texts to which cells refer by number. No number below 0 is one, nor is one past the last."""
-
-    def __getitem__(self, place: int) -> SharedText:  # type: ignore[override]
-        if not 0 <= place < len(self):
-            raise Trouble("refers to a text that is not there")
-        return super().__getitem__(place)
 
 
 def unescaped(text: str) -> str:
@@ -69,147 +41,159 @@ def unescaped(text: str) -> str:
     return re.sub("_x([0-9A-Fa-f]{4})_", lambda match: chr(int(match[1], 16)), text) if "_x" in text else text
 
 
-def letters_of(element: Element | tuple[()]) -> SharedText:
+def is_struck(look: Element) -> bool:
+    return local(look) == "strike" and look.get("val", "1") not in NO
+
+
+def letters_of(element: Element | tuple[()]) -> Text:
     """The text of an element <si> or <is>, without the <rPh> that say how it is spoken."""
     said = [part for child in element if local(child) != "rPh" for part in child.iter()]
-    text = SharedText(unescaped("".join(part.text or "" for part in said if local(part) == "t")))
-    text.struck = any(local(part) == "strike" and part.get("val", "1") not in ("0", "false") for part in said)
-    return text
+    return unescaped("".join(part.text or "" for part in said if local(part) == "t")), any(map(is_struck, said))
 
 
 class Reader:
     """Reads the sheets of one workbook, whose parts have these first elements."""
 
     def __init__(self, parts: Parts, roots: dict[str, str]) -> None:
-        self.parts, self.archive, self.budget = parts, parts.archive, Budget()
+        self.parts, self.budget = parts, Budget()
         self.roots = {name: root.rpartition(" ") for name, root in roots.items()}
-        if styles := [name for name in self.of_root("styleSheet") if name != STYLES]:
-            raise Trouble(f"its styles stand in an unusual part, {styles[0]}: {OPEN_AND_SAVE}")
-        self.reader = ExcelReader(self.archive.fp, keep_links=False)
-        self.reader.read_manifest()
-        self.reader.read_workbook()
-        apply_styles(self.archive, self.reader.wb)
-        self.epoch = MACINTOSH if self.reader.wb.epoch.year == 1904 else WINDOWS
-        self.texts = SharedTexts()
-        if len(tables := self.of_root("sst")) > 1:
-            raise Trouble(f"it has two tables of texts, as no spreadsheet writes it: {OPEN_AND_SAVE}")
-        for element in self.elements(tables, "si"):
-            self.texts.append(text := letters_of(element))
-            self.budget.keep(text)
-        self.styles: dict[int, Style] = {}
+        self.looks = {0: ("General", False)}  # of each style a number format, and whether the font is struck out
+        self.read_styles(self.only("styleSheet"))
+        self.texts: list[Text] = []
+        for element in self.elements(self.only("sst"), "si"):
+            self.texts.append(letters_of(element))
+            self.budget.keep(self.texts[-1][0])
+            element.clear()
+        self.epoch = WINDOWS
 
-    def of_root(self, root: str) -> list[str]:
-        return [name for name, (_, _, found) in self.roots.items() if found == root]
+    def only(self, root: str) -> str:
+        """The part with this first element, or ''."""
+        found = [name for name, (_, _, first) in self.roots.items() if first == root]
+        if len(found) > 1:
+            raise Trouble(f"it has two parts of texts or styles, {' and '.join(found)}, as no spreadsheet writes it: "
+                          f"{OPEN_AND_SAVE}")
+        return "".join(found)
 
-    def elements(self, parts: list[str], name: str) -> Iterator[Element]:
-        for part in parts:
-            for _, found, element in self.parts.elements(part, "end"):
-                if found == name:
-                    yield element
-                    element.clear()
+    def elements(self, part: str, *names: str) -> Iterator[Element]:
+        """The elements of a part with one of the names; none where there is no such part."""
+        for _, _, element in self.parts.elements(part, "end") if part in self.roots else ():
+            if element.tag.removeprefix(f"{{{MAIN}}}") in names:
+                yield element
+
+    def links(self, part: str) -> list[Link]:
+        """The parts to which a part refers; the first ones stand at ''."""
+        folder, name = posixpath.split(part)
+        beside = posixpath.join(folder, "_rels", f"{name}.rels")
+        return [Link(given.get("Id", ""), given.get("Type", "").rpartition("/")[2],
+                     posixpath.normpath(posixpath.join("/", folder, given.get("Target", ""))).lstrip("/"))
+                for _, found, given in self.parts.elements(beside, "end") if found == "Relationship"] \
+            if beside in self.roots else []
+
+    def read_styles(self, part: str) -> None:
+        found = {local(element): list(element) for element in self.elements(part, "numFmts", "fonts", "cellXfs")}
+        forms = BUILT_IN | {int(each.attrib["numFmtId"]): each.attrib["formatCode"] for each in found.get("numFmts", [])}
+        struck = {place: any(map(is_struck, font)) for place, font in enumerate(found.get("fonts", []))}
+        self.looks |= {place: (forms.get(int(each.get("numFmtId", 0)), "General"),
+                               struck.get(int(each.get("fontId", 0)), False))
+                       for place, each in enumerate(found.get("cellXfs", []))}
 
     def book(self) -> Book:
-        if len(self.reader.parser.sheets) > MOST_SHEETS:
+        part = next((link.part for link in self.links("") if link.kind == "officeDocument"), "xl/workbook.xml")
+        if part not in self.roots:
+            raise Trouble(f"its part {part} is missing: {OPEN_AND_SAVE}")
+        found = list(map(attributes, self.elements(part, "workbookPr", "sheet")))
+        named = [given for given in found if "sheetId" in given]
+        if len(named) > MOST_SHEETS:
             raise Trouble(f"it has more than {MOST_SHEETS} sheets")
-        notes = ["it counts its days from 1904; its dates are read so"] * (self.epoch is MACINTOSH)
-        notes += self.parts.notes(".*vbaProject[.]bin$")
-        sheets = []
-        for named in self.reader.parser.sheets:
-            part = self.reader.parser.rels[named.id].target
-            if part not in self.roots:
-                raise Trouble(f"its part {part} is missing: {OPEN_AND_SAVE}")
-            space, _, root = self.roots[part]
-            if root != "worksheet":
-                notes.append(f"the sheet {named.name} is no table ({root}); it is not read")
-            elif space != SHEET_MAIN_NS:
-                raise Trouble(f"openpyxl cannot read the sheet {named.name}: save it as an .xlsx of the usual form, "
-                              "not as Strict Open XML")
-            else:
-                sheets.append(self.sheet(named, part))
-        return Book("xlsx", sheets, notes)
+        if any(given.get("date1904", "0") not in NO for given in found):
+            self.epoch = MACINTOSH
+        book = Book("xlsx", [], ["it counts its days from 1904; its dates are read so"] * (self.epoch is MACINTOSH))
+        book.notes.extend(self.parts.notes(".*vbaProject[.]bin$"))
+        parts = {link.key: link.part for link in self.links(part)}
+        for given in named:
+            self.take_sheet(book, given["name"], given.get("state", "visible") != "visible", parts[given["id"]])
+        return book
 
-    def sheet(self, named: Any, part: str) -> Sheet:
-        sheet = Sheet(named.name, named.state != "visible")
-        with self.archive.open(part) as stream:
-            parser: Any = sheets_reader.WorkSheetParser(stream, self.texts, data_only=True, epoch=self.reader.wb.epoch)
-            parse = parser.parse_cell
-            parser.parse_cell = lambda element: self.keep(sheet, element, parse, parser)
-            for _ in parser.parse():
-                pass
-        if parser.merged_cells is not None:
-            sheet.merge(area_of(merged.ref) for merged in parser.merged_cells.mergeCell)
-        sheet.hidden_rows = [(int(row), int(row)) for row, look in parser.row_dimensions.items()
-                             if is_hidden(look, "ht")]
-        sheet.hidden_columns = [(int(look["min"]), int(look["max"])) for look in parser.column_dimensions.values()
-                                if is_hidden(look, "width")]
-        sheet.comments = [place_of(ref.partition(":")[0]) for ref in self.comments(part)]
+    def take_sheet(self, book: Book, name: str, hidden: bool, part: str) -> None:
+        if part not in self.roots:
+            raise Trouble(f"its part {part} is missing: {OPEN_AND_SAVE}")
+        space, _, root = self.roots[part]
+        if root != "worksheet":
+            book.notes.append(f"the sheet {name} is no table ({root}); it is not read")
+        elif space != MAIN:
+            raise Trouble(f"the sheet {name} is of an unusual form: save it as an .xlsx of the usual form, not as Strict "
+                          "Open XML")
+        else:
+            book.sheets.append(self.sheet(Sheet(name, hidden), part))
+
+    def sheet(self, sheet: Sheet, part: str) -> Sheet:
+        row = 0
+        for element in self.elements(part, "row", "col", "mergeCell"):
+            given = element.attrib
+            if "ref" in given:
+                sheet.merge([area_of(given["ref"])])
+            elif "min" in given:
+                sheet.hidden_columns += [(int(given["min"]), int(given["max"]))] * is_hidden(given, "width")
+            elif local(element) == "row":
+                row = int(float(given.get("r", row + 1)))
+                sheet.hidden_rows += [(row, row)] * is_hidden(given, "ht")
+                self.keep_row(sheet, row, element)
+                element.clear()
+        comments = [link.part for link in self.links(part) if link.kind == "comments"]
+        for element in [each for found in comments for each in self.elements(found, "comment")]:
+            self.budget.keep("")
+            sheet.comments.append(place_of(element.attrib["ref"].partition(":")[0]))
         return sheet
 
-    def keep(self, sheet: Sheet, element: Any, parse: Callable[[Any], dict[str, Any]], parser: Any) -> None:
-        """Puts a cell into the sheet as openpyxl's parser finds it: no day is computed, a formula is its last
-        result."""
-        text = None
-        if element.get("t") == "inlineStr":
-            text = letters_of(element.find(sheets_reader.INLINE_STRING) or ())
-            element.set("t", "n")  # the parser would make a tree of objects of it
-        try:
-            found = parse(element)
-        except Trouble as trouble:
-            place = place_name(sheet, parser.row_counter, parser.col_counter)
-            raise Trouble(f"{place} {trouble.sentence}: {OPEN_AND_SAVE}") from trouble
-        row, column = found["row"], found["column"]
-        cell = self.cell(found, text or found["value"], element.find(sheets_reader.FORMULA_TAG) is not None)
-        if cell is None:
-            return
-        if not (0 < row <= MOST_ROW and 0 < column <= MOST_COLUMN):
-            raise Trouble("it has a cell beyond the last row or column")
-        if column in sheet.rows.setdefault(row, {}):
-            raise Trouble(f"it has the cell {place_name(sheet, row, column)} twice: {OPEN_AND_SAVE}")
-        self.budget.keep(cell.text)
-        sheet.rows[row][column] = cell
+    def keep_row(self, sheet: Sheet, row: int, element: Element) -> None:
+        """Puts the cells of a row into the sheet: a formula is its last result."""
+        column = 0
+        for part in element:
+            place = part.get("r")
+            row, column = place_of(place) if place else (row, column + 1)
+            cell = self.cell(part, (sheet, row, column))
+            if cell is None:
+                continue
+            if not (0 < row <= MOST_ROW and 0 < column <= MOST_COLUMN):
+                raise Trouble("it has a cell beyond the last row or column")
+            if column in sheet.rows.setdefault(row, {}):
+                raise Trouble(f"it has the cell {place_name(sheet, row, column)} twice: {OPEN_AND_SAVE}")
+            self.budget.keep(cell.text)
+            sheet.rows[row][column] = cell
 
-    def cell(self, found: dict[str, Any], value: Any, formula: bool) -> Cell | None:
-        kind = found["data_type"]
-        if value is None or value == "":
+    def cell(self, element: Element, place: tuple[Sheet, int, int]) -> Cell | None:
+        kind, raw = element.get("t", "n"), element.findtext(f"{{{MAIN}}}v") or ""
+        formula = element.find(f"{{{MAIN}}}f") is not None
+        text, is_part_struck = unescaped(raw) if kind == "str" else raw, False
+        if kind == "s" and raw:
+            if not 0 <= int(raw) < len(self.texts):
+                raise Trouble(f"{place_name(*place)} refers to a text that is not there: {OPEN_AND_SAVE}")
+            text, is_part_struck = self.texts[int(raw)]
+        elif kind == "inlineStr":
+            text, is_part_struck = letters_of(element.find(f"{{{MAIN}}}is") or ())
+        if not text:
             return Cell("pending", "", "", True) if formula and kind not in ("s", "str") else None
-        form, struck = self.style(found["style_id"])
-        if kind == "n" and not isinstance(value, SharedText):
-            made = number_cell(value, form, self.epoch)
-        elif kind in ("n", "s"):
-            text = value if isinstance(value, SharedText) else unescaped(value)
-            shown = shown_text(form, text)
-            made = Cell("text", str(text), shown or "", unseen=shown is None)
-        else:
-            made = other_cell(value, kind)
-        return made and made._replace(formula=formula, struck=struck or getattr(value, "struck", False))
-
-    def style(self, number: int) -> Style:
-        if number not in self.styles:
-            style = self.reader.wb._cell_styles[number]
-            cell = StyledCell(self.reader.wb.create_sheet(), style_array=style)
-            self.styles[number] = cell.number_format, bool(cell.font and cell.font.strike)
-        return self.styles[number]
-
-    def comments(self, part: str) -> Iterator[str]:
-        beside = links_beside(part)
-        links = links_of(self.archive, beside).find(COMMENTS) if beside in self.roots else []
-        for element in self.elements([link.target for link in links if link.target in self.roots], "comment"):
-            self.budget.keep("")
-            yield element.attrib["ref"]
+        form, struck = self.looks[int(element.get("s", 0))]
+        made = number_cell(text, form, self.epoch) if kind == "n" else other_cell(kind, text, form)
+        return made and made._replace(formula=formula, struck=struck or is_part_struck)
 
 
-def other_cell(value: Any, kind: str) -> Cell:
-    """The cell of an error, a truth value, or a day or a time that is stored as text."""
+def other_cell(kind: str, text: str, form: str) -> Cell:
+    """The cell of a text, an error, a truth value, or a day or a time that is stored as text."""
+    if kind in ("s", "str", "inlineStr"):
+        shown = shown_text(form, text)
+        return Cell("text", text, shown or "", unseen=shown is None)
     if kind == "e":
-        return Cell("error", value, value)
-    if isinstance(value, bool):
-        return Cell("bool", str(value).lower(), str(value).upper())
-    if isinstance(value, datetime.datetime | datetime.date):
-        return Cell("date", value.isoformat().removesuffix("T00:00:00"), "")
-    if isinstance(value, datetime.time):
-        return Cell("time", str(value.hour * 3600 + value.minute * 60 + value.second), "")
-    raise Trouble(f"openpyxl reads a {type(value).__name__} in it, which is not known here: {OPEN_AND_SAVE}")
+        return Cell("error", text, text)
+    if kind == "b":
+        return Cell("bool", str(bool(int(text))).lower(), str(bool(int(text))).upper())
+    if kind != "d":
+        raise Trouble(f"it has a cell of the kind {kind[:20]}, which is not known here: {OPEN_AND_SAVE}")
+    if ":" in text[:4]:
+        time = datetime.time.fromisoformat(text.strip("TZ"))
+        return Cell("time", str(time.hour * 3600 + time.minute * 60 + time.second), "")
+    return Cell("date", datetime.datetime.fromisoformat(text.strip("Z")).isoformat().removesuffix("T00:00:00"), "")
 
 
-def is_hidden(look_of: dict[str, str], size: str) -> bool:
-    return look_of.get("hidden", "0") in ("1", "true") or float(look_of.get(size, "1")) == 0
+def is_hidden(given: dict[str, str], size: str) -> bool:
+    return given.get("hidden", "0") not in NO or float(given.get(size, "1")) == 0
