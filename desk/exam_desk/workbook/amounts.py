@@ -4,6 +4,7 @@ import re
 
 from exam_desk import mistakes
 from exam_desk.workbook.cells import Cell
+from exam_desk.workbook.numberformats import clock_text
 from exam_desk.workbook.texts import Value, Way, Wrong, reason, refuse_other_digits
 
 HOURS = re.compile(r"([0-9]{1,2})(?::([0-5][0-9])(?::00)?|"
@@ -12,36 +13,25 @@ MINUTES = re.compile(r"([0-9]{1,3}) ?(min|mins|minutes|Minuten|')\.?", re.I)
 PERCENT = re.compile(r"([0-9]{1,3})(?:[.,]0+)? ?(%|percent|per cent|Prozent)", re.I)
 HALF_DAY = re.compile(r"(0?[1-9]|1[0-2])(?:[:.]([0-5][0-9]))?(?::00)? ?([ap])\.?m\.?", re.I)
 NONE = {"", "-", "none", "no", "keine"}
-SECONDS = "has seconds: write a time as 09:00"
 NEVER = "a hall that is open until 00:00 suits nobody; midnight is 24:00"
 MIDNIGHT = "midnight? Write 24:00 as text if the hall is open until then"
 
 
-def clock_of(seconds: decimal.Decimal) -> str:
-    if seconds < 0 or seconds != int(seconds) or int(seconds) % 60:
-        raise Wrong(SECONDS)
-    minutes = int(seconds) // 60
-    return f"{minutes // 60:02}:{minutes % 60:02}"
-
-
 def read_time(column: str, cell: Cell, text: str, way: Way) -> Value:
     """The time of a cell; a day that stands there too is given with it."""
-    if cell.kind == "text":
-        return time_of_text(column, text)
     if cell.kind == "number":
         refuse_number(decimal.Decimal(text))
-    if cell.kind == "time":
-        value = Value(clock_of(decimal.Decimal(text)))
-    else:
-        day, _, clock = text.partition("T")
-        if clock[5:] not in ("", ":00"):
-            raise Wrong(SECONDS)
-        value = Value(clock[:5], "the time of the cell", "", day)
-        if not clock:
-            raise Wrong("is a date, not a time")
-    if column == "until" and value.text == "00:00":
+    value = time_of_text(column, without_seconds(clock_text(decimal.Decimal(text)) if cell.kind == "time" else text))
+    if column == "until" and value.text == "00:00" and cell.kind != "text":
         raise Wrong(MIDNIGHT)
     return value
+
+
+def without_seconds(clock: str) -> str:
+    """The text of a time; raises `Wrong` where it has seconds."""
+    if re.search(r":[0-9]{2}:(?!00(\.0+)?$)", clock):
+        raise Wrong("has seconds: write it without them, as 09:00")
+    return clock
 
 
 def refuse_number(number: decimal.Decimal) -> None:
@@ -49,7 +39,7 @@ def refuse_number(number: decimal.Decimal) -> None:
     minutes = number * 1440
     if 0 < number < 1 and abs(minutes - round(minutes)) < decimal.Decimal("1e-6"):
         raise Wrong("a number without the format of a time: if "
-                    f"{clock_of(round(minutes) * decimal.Decimal(60))} is meant, give the column the format time")
+                    f"{clock_text(round(minutes) * decimal.Decimal(60))[:5]} is meant, give the column the format time")
     raise Wrong(mistakes.TIME_CURE)
 
 
@@ -73,60 +63,24 @@ def time_of_text(column: str, text: str) -> Value:
 
 def read_whole(column: str, cell: Cell, text: str, way: Way) -> Value:
     """Minutes, desks, or percent of extra time."""
-    if cell.kind == "time":
-        return whole_of_time(column, decimal.Decimal(text))
-    if cell.kind == "number":
-        return whole_of_number(column, text, cell)
-    if cell.kind == "text":
-        return whole_of_text(column, text)
-    if column != "extra":
-        raise Wrong("is a percentage, not a number")
-    if "." in text:
-        raise Wrong("a whole number of percent from 0 to 100")
-    return Value(text, "percent")
-
-
-def whole_of_time(column: str, seconds: decimal.Decimal) -> Value:
-    if column != "minutes":
-        raise Wrong("is a time, not a number")
-    if seconds % 60:
-        raise Wrong("is a time with seconds: write the minutes as a number")
-    return minutes_of(*divmod(int(seconds) // 60, 60))
-
-
-def minutes_of(hours: int, minutes: int, done: str = "") -> Value:
-    return Value(str(60 * hours + minutes), reason(done, f"{hours} h {minutes} min"))
-
-
-def percent_of(part: decimal.Decimal) -> Wrong:
-    """The cure of a part of 1 that stands for percent."""
-    return Wrong(f"{(part * 100).normalize():f} percent? Write the percent as a whole number")
-
-
-def whole_of_number(column: str, text: str, cell: Cell) -> Value:
-    if "." in text:
-        raise percent_of(number) if column == "extra" and (number := decimal.Decimal(text)) < 1 \
-            else Wrong(mistakes.CURES[column])
-    refuse_other_digits(cell)
-    return bare_whole(column, text)
-
-
-def bare_whole(column: str, text: str, done: str = "") -> Value:
-    return Value(text, done, "is 1 percent; 100 percent is 100" if column == "extra" and text == "1" else "")
-
-
-def whole_of_text(column: str, text: str) -> Value:
+    if "." not in text:
+        refuse_other_digits(cell)
+    if cell.kind != "text":
+        text = {"percent": f"{text}%", "time": ""}.get(cell.kind, text) or \
+            without_seconds(clock_text(decimal.Decimal(text))).removeprefix("0")
     if column == "extra" and text.lower() in NONE:
         return Value("0", "none" if text else "empty is none")
     number = re.sub(r"^0+(?=[0-9])", "", text)
     done = "zeros in front taken away" if number != text else ""
     number = re.sub(r"^([0-9]+)\.0+$", r"\1", number)
     if column == "extra" and (match := PERCENT.fullmatch(number)):
-        return Value(match[1], reason(done, "percent"))
-    if column == "extra" and re.fullmatch(r"0?[.,]([0-9]{1,2})", number):
-        raise percent_of(decimal.Decimal(number.replace(",", ".")))
-    if column == "minutes" and (match := MINUTES.fullmatch(number)):
-        return Value(match[1].lstrip("0"), reason(done, "minutes"))
-    if column == "minutes" and (match := HOURS.fullmatch(number)):
-        return minutes_of(int(match[1]), int(match[2] or match[3] or 0), done)
-    return bare_whole(column, number, done)
+        number, done = match[1], reason(done, "percent")
+    elif column == "extra" and re.fullmatch(r"0?[.,][0-9]+", number):
+        percent = (decimal.Decimal(number.replace(",", ".")) * 100).normalize()
+        raise Wrong(f"{percent:f} percent? Write the percent as a whole number")
+    elif column == "minutes" and (match := MINUTES.fullmatch(number)):
+        number, done = match[1].lstrip("0"), reason(done, "minutes")
+    elif column == "minutes" and (match := HOURS.fullmatch(number)):
+        hours, minutes = int(match[1]), int(match[2] or match[3] or 0)
+        number, done = str(60 * hours + minutes), reason(done, f"{hours} h {minutes} min")
+    return Value(number, done, "is 1 percent; 100 percent is 100" if (column, number, text) == ("extra", "1", "1") else "")
