@@ -4,7 +4,7 @@ import re
 
 from exam_desk import mistakes
 from exam_desk.workbook.cells import Cell
-from exam_desk.workbook.texts import Value, Way, Wrong
+from exam_desk.workbook.texts import Value, Way, Wrong, refuse_other_digits
 
 MONTHS = {name: place for place, names in enumerate(
     ["jan january januar", "feb february februar", "mar march mär märz", "apr april", "may mai", "jun june juni",
@@ -16,21 +16,18 @@ WITH_SLASHES = re.compile(r"([0-9]{1,2})([/-])([0-9]{1,2})\2([0-9]{4})")
 AS_TEXT = re.compile(r"([0-9]{1,2})([/.-])([0-9]{1,2})\2([0-9]{2}|[0-9]{4})")  # however a spreadsheet shows a date
 DAY_FIRST = re.compile(r"(?:([^\W\d]+),? )?([0-9]{1,2})(?:\.|st|nd|rd|th)?[ -]([^\W\d]+)\.?,?[ -]([0-9]{4})")
 MONTH_FIRST = re.compile(r"(?:([^\W\d]+),? )?([^\W\d]+)\.? ([0-9]{1,2})(?:st|nd|rd|th)?,? ([0-9]{4})")
-DIGITS = "2[01][0-9]{6}"  # 20270607
+LIKE_A_DATE = re.compile("[0-9]{4}-[0-9]{2}-[0-9]{2}")
 NO_DAY = ("1899-12-30", "1899-12-31", "1900-01-01", "1904-01-01")  # what stands in front of a time alone
 
 
 def read_date(column: str, cell: Cell, text: str, way: Way) -> Value:
-    if cell.kind == "text":
-        return date_of_text(text, way)
-    if cell.kind == "number":
-        return date_of_number(text, cell)
-    day, _, clock = text.partition("T")
     if cell.kind == "time":
         raise Wrong("is a time, not a date")
-    if clock.strip("0:."):
-        raise Wrong(f"has a time too, {clock[:5]}: leave the date alone in its cell")
-    return Value(day) if cell.shown == day else day_value(day)
+    if cell.kind == "number" and re.fullmatch("[0-9]{5}", text):  # nobody sees which day a count of days is
+        day = datetime.date(1899, 12, 30) + datetime.timedelta(days=int(text))
+        raise Wrong(f"a number without the format of a date: if {day} is meant, give the column the format date")
+    refuse_other_digits(cell)
+    return Value(text) if cell.shown == text and LIKE_A_DATE.fullmatch(text) else date_of_text(text, way)
 
 
 def day_value(text: str, more: str = "") -> Value:
@@ -42,25 +39,14 @@ def day_value(text: str, more: str = "") -> Value:
     return Value(text, f"{day:%A}, {day.day} {day:%B} {day.year}{more}")
 
 
-def date_of_number(text: str, cell: Cell) -> Value:
-    """Digits such as 20270607; a count of days is none, since nobody sees which day it is."""
-    if re.fullmatch(DIGITS, text) and cell.shown == text:
-        return day_value(f"{text[:4]}-{text[4:6]}-{text[6:]}")
-    if re.fullmatch("[0-9]{5}", text):
-        day = datetime.date(1899, 12, 30) + datetime.timedelta(days=int(text))
-        raise Wrong(f"a number without the format of a date: if {day} is meant, give the column the format date")
-    raise Wrong(mistakes.CURES["date"])
-
-
 def date_of_text(text: str, way: Way) -> Value:
-    if re.fullmatch("[0-9]{4}-[0-9]{2}-[0-9]{2}", text):
-        return Value(text)
-    if match := re.fullmatch(r"([0-9]{4}-[0-9]{2}-[0-9]{2})[T ](00:00(:00(\.0+)?)?)?Z?", text):
+    if match := re.fullmatch(r"([0-9]{4}-[0-9]{2}-[0-9]{2})(?:[T ](.*))?Z?", text):
+        if (match[2] or "").strip("0:.Z"):
+            raise Wrong(f"has a time too, {match[2][:5]}: leave the date alone in its cell")
         return day_value(match[1])
-    if match := re.fullmatch(r"([0-9]{4})([/.])([0-9]{1,2})\2([0-9]{1,2})", text):
-        return day_value(f"{match[1]}-{match[3]:0>2}-{match[4]:0>2}")
-    if re.fullmatch(DIGITS, text):
-        return day_value(f"{text[:4]}-{text[4:6]}-{text[6:]}")
+    if match := re.fullmatch(r"([0-9]{4})([/.])([0-9]{1,2})\2([0-9]{1,2})|(2[01][0-9]{2})([0-9]{2})([0-9]{2})", text):
+        year, _, month, day = match.groups()[:4] if match[1] else (match[5], "", match[6], match[7])
+        return day_value(f"{year}-{month:0>2}-{day:0>2}")
     if better := mistakes.date_in_order(text):
         return day_value(better, ", the day first as always with points")
     if match := WITH_SLASHES.fullmatch(text):
