@@ -59,25 +59,20 @@ def look_at_hidden(table: Table) -> None:
     """Hidden rows are a mistake until the officer says what becomes of them."""
     rows, choice, last_row = table.sheet.rows, table.job.choices.hidden, max(table.sheet.rows)
     hidden = {row for first, last in table.sheet.hidden_rows for row in range(first, min(last, last_row) + 1)}
-    lines = sorted(row for row in hidden & rows.keys() if row > table.header.row and any(map(seen, rows[row].values())))
-    if not lines:
-        return
-    count = f"row {lines[0]} is" if len(lines) == 1 else f"{len(lines)} rows between {lines[0]} and {lines[-1]} are"
-    if choice == "take":
-        table.note(lines[0], None, f"{count} hidden and read, as you said")
-    elif choice == "":
-        table.mistake(lines[0], None, f"{count} hidden, perhaps by a filter: show them, or say --hidden take "
-                                      "or --hidden leave")
-    for row in lines if choice == "leave" else ():
-        table.note(row, None, "is hidden, so it is not read, as you said", "hidden")
-        del rows[row]
+    for row in sorted(row for row in hidden & rows.keys() if row > table.header.row and any(map(seen, rows[row].values()))):
+        if not choice:
+            table.mistake(row, None, "is hidden, perhaps by a filter: show it, or say --hidden take or --hidden leave")
+        else:
+            how = "is hidden and read" if choice == "take" else "is hidden, so it is not read"
+            table.note(row, None, f"{how}, as you said")
+        if choice == "leave":
+            del rows[row]
 
 
 def look_at_comments(table: Table) -> None:
-    below = sorted(tuple(place) for place in table.sheet.comments if place[0] > table.header.row)
-    if below:
-        more = f", as have {len(below) - 1} cells more; comments are not read" if below[1:] else ", which is not read"
-        table.note(*below[0], f"has a comment{more}")
+    for row, column in sorted(map(tuple, table.sheet.comments)):
+        if row > table.header.row:
+            table.note(row, column, "has a comment, which is not read")
 
 
 def look_at_mixed_dates(table: Table) -> None:
