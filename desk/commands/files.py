@@ -36,26 +36,14 @@ def add_choices(parser: ArgumentParser) -> None:
     parser.add_argument("--hidden", choices=["take", "leave"], default="", help="what becomes of hidden rows")
 
 
-def read_workbook(office: Office, path: str, given: Namespace) -> Reading:
-    """Reads a workbook as the options say. Raises `Trouble` where it cannot be read."""
+def read_source(office: Office, path: str, given: Namespace, is_folder: bool) -> Reading:
+    """Reads a workbook, or a folder of import files, as the options say. Raises `Trouble` where it cannot be read."""
     from exam_desk.checking import office_knows
-    from exam_desk.workbook import reading
-    from exam_desk.workbook.columns import read_columns
-    from exam_desk.workbook.tables import Choices
-    from exam_desk.workbook.texts import Way
-    columns, way = read_columns(given.columns) if given.columns else ({}, Way())
-    choices = Choices(given.sheet, given.leave, given.together, given.hidden)
-    if given.dates:
-        way = Way(given.dates, way.words)
-    return reading.read_workbook(path, office_knows(office), way, columns, choices, given.encoding, command.progress)
-
-
-def read_folder(office: Office, path: str, given: Namespace) -> Reading:
-    """Reads a folder of import files as the options say."""
-    from exam_desk.checking import office_knows
-    from exam_desk.workbook.reading import mend_folder
-    from exam_desk.workbook.texts import Way
-    return mend_folder(path, office_knows(office), Way(given.dates), given.encoding, command.progress)
+    from exam_desk.workbook import columns, reading, tables, texts
+    asked, way = columns.read_columns(given.columns) if given.columns else ({}, texts.Way())
+    choices = tables.Choices(given.sheet, given.leave, given.together, given.hidden)
+    job = tables.Job(office_knows(office), way._replace(dates=given.dates or way.dates), asked, choices)
+    return (reading.mend_folder if is_folder else reading.read_workbook)(path, job, given.encoding, command.progress)
 
 
 def print_lines(reading: Reading, everything: bool) -> None:
@@ -184,12 +172,13 @@ folder is for its owner alone, and has besides the files all these lines, in men
 def mend(parser: ArgumentParser) -> int:
     from exam_desk.workbook.writing import refuse_there
     add_reading(parser)
+    parser.set_defaults(columns=None, sheet=None, leave=[], together=[], hidden="")
     parser.add_argument("folder")
     parser.add_argument("new", nargs="?")
     given = parser.parse_args()
     target = os.path.abspath(given.new or os.path.abspath(given.folder) + "-mended")
     refuse_there(target)
-    return told(read_folder(command.office(), given.folder, given), target, "mend.txt", given.all)
+    return told(read_source(command.office(), given.folder, given, True), target, "mend.txt", given.all)
 
 
 @command.named("""Makes the import files from a workbook: read WORKBOOK [FOLDER]
@@ -213,7 +202,7 @@ def read(parser: ArgumentParser) -> int:
     given = parser.parse_args()
     target = os.path.abspath(given.folder or os.path.splitext(os.path.basename(given.workbook))[0])
     refuse_there(target)
-    return told(read_workbook(command.office(), given.workbook, given), target, "read.txt", given.all)
+    return told(read_source(command.office(), given.workbook, given, False), target, "read.txt", given.all)
 
 
 @command.named("""Brings a workbook, or a folder of import files, into the office: take WORKBOOK|FOLDER
@@ -236,7 +225,7 @@ def take(parser: ArgumentParser) -> None:
     add_choices(parser)
     given = parser.parse_args()
     office = command.existing_office()
-    reading = (read_folder if os.path.isdir(given.source) else read_workbook)(office, given.source, given)
+    reading = read_source(office, given.source, given, os.path.isdir(given.source))
     reading = taking.with_codes(office, reading) if given.codes else reading
     print_lines(reading, given.all)
     steps = taking.steps_of(reading)

@@ -39,13 +39,14 @@ def write_all(connection: sqlite3.Connection, folder: str) -> list[str]:
         "SELECT number, paper FROM entry WHERE live = 0 ORDER BY number, paper")]
     if withdrawn:
         files.put(os.path.join(folder, "withdrawn.txt"), "".join(withdrawn).encode())
-        said.append(f"NOTE: withdrawn entries: {len(withdrawn)}, not in entries.csv, but in withdrawn.txt")
-    return said + appeals_left_out(connection, "in none of the files")
+    return said + left_out(connection, "not in entries.csv, but in withdrawn.txt", "in none of the files")
 
 
-def appeals_left_out(connection: sqlite3.Connection, where: str) -> list[str]:
-    [count] = connection.execute("SELECT count(*) FROM appeal").fetchone()
-    return [f"NOTE: appeals: {count}, {where}"] if count else []
+def left_out(connection: sqlite3.Connection, entries: str, appeals: str) -> list[str]:
+    """What is said of withdrawn entries and of appeals, where there are some."""
+    counted = [("withdrawn entries", "entry WHERE live = 0", entries), ("appeals", "appeal", appeals)]
+    return [f"NOTE: {what}: {count}, {where}" for what, rows, where in counted
+            for count, in connection.execute(f"SELECT count(*) FROM {rows}") if count]
 
 
 def write_folder(office: Office, folder: str) -> list[str]:
@@ -59,8 +60,6 @@ def write_workbook(office: Office, path: str) -> list[str]:
     """Makes a workbook, and gives the lines that say what is there. Raises `Trouble` where it is there already."""
     with contextlib.closing(snapshot.rows(office)) as connection:
         rows = {kind: list(rows_of(connection, kind)) for kind in QUERIES}
-        [withdrawn] = connection.execute("SELECT count(*) FROM entry WHERE live = 0").fetchone()
-        appeals = appeals_left_out(connection, "not in the workbook")
+        notes = left_out(connection, *2 * ["not in the workbook"])
     put_workbook(path, rows)
-    return [*(f"{kind}: {len(rows[kind])}" for kind in QUERIES),
-            *[f"NOTE: withdrawn entries: {withdrawn}, not in the workbook"] * (withdrawn > 0), *appeals]
+    return [*(f"{kind}: {len(rows[kind])}" for kind in QUERIES), *notes]

@@ -11,8 +11,7 @@ import zipfile
 
 MOST_MEMORY = 1 << 30  # bytes
 MOST_SECONDS = 60  # of the processor
-MISSING = "python3-openpyxl is missing: apt install python3-openpyxl"
-LACKS = 3  # the status where it is missing
+MISSING = "python3-openpyxl is missing: apt install python3-openpyxl"  # which writes
 
 
 def limit(most_written: int) -> None:
@@ -52,8 +51,7 @@ def write(data: bytes) -> bytes:
     try:
         from exam_desk.workbook.making import made
     except ModuleNotFoundError:
-        sys.stderr.write(f"{MISSING}\n")
-        sys.exit(LACKS)
+        sys.exit(MISSING)
     return made(*json.loads(data))
 
 

@@ -12,7 +12,7 @@ from collections import Counter
 from exam_desk import files
 from exam_desk.trouble import Trouble
 from exam_desk.workbook import carrying
-from exam_desk.workbook.child import LACKS
+from exam_desk.workbook.child import MISSING
 from exam_desk.workbook.cells import MOST_FILE, Book, Budget, Cell, Sheet
 from exam_desk.workbook.looking import OPEN_AND_SAVE
 
@@ -74,9 +74,7 @@ def ask_child(what: str, data: bytes) -> bytes:
         raise Trouble("it takes too long or too much memory: it is no workbook of a school")
     if done.returncode:
         said = done.stderr.decode("utf-8", "replace").strip().split("\n")[-1]
-        if done.returncode == LACKS:
-            raise Trouble(said)
-        raise Trouble(f"a part of it is broken ({said[:200]}): {OPEN_AND_SAVE}")
+        raise Trouble(MISSING if said == MISSING else f"a part of it is broken ({said[:200]}): {OPEN_AND_SAVE}")
     return done.stdout
 
 

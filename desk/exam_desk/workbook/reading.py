@@ -1,20 +1,18 @@
 """From a workbook, or from import files that a spreadsheet broke, to the rows of the seven kinds."""
 import os
 import re
-from collections.abc import Callable, Mapping
+from collections.abc import Callable
 from typing import NamedTuple
 
-from exam_desk import mistakes
 from exam_desk.trouble import Trouble
 from exam_desk.workbook.cells import Book, Sheet
 from exam_desk.workbook.checking import check_files
 from exam_desk.workbook.finding import find_entries, find_tables, known_papers, usable_sheets
-from exam_desk.workbook.headers import KINDS, Given
+from exam_desk.workbook.headers import KINDS
 from exam_desk.workbook.opening import open_book
 from exam_desk.workbook.report import Report
 from exam_desk.workbook.rows import Record, read_table
-from exam_desk.workbook.tables import Choices, Job
-from exam_desk.workbook.texts import Way
+from exam_desk.workbook.tables import Job
 
 Progress = Callable[[str], None]
 
@@ -26,11 +24,10 @@ class Reading(NamedTuple):
     report: Report
 
 
-def read_workbook(path: str, known: mistakes.Known, way: Way, given: Mapping[str, Given], choices: Choices,
-                  encoding: str | None = None, progress: Progress = lambda text: None) -> Reading:
+def read_workbook(path: str, job: Job, encoding: str | None, progress: Progress) -> Reading:
     """Reads a workbook or a CSV export beside what the office has; raises `Trouble` where it cannot be read."""
     progress("opening")
-    return read_book(opened(path, encoding), Job(known, way, given, choices), progress)
+    return read_book(opened(path, encoding), job, progress)
 
 
 def opened(path: str, encoding: str | None) -> Book:
@@ -40,22 +37,20 @@ def opened(path: str, encoding: str | None) -> Book:
         raise Trouble(f"{path} cannot be read: {trouble.sentence}") from trouble
 
 
-def mend_folder(folder: str, known: mistakes.Known, way: Way, encoding: str | None = None,
-                progress: Progress = lambda text: None) -> Reading:
+def mend_folder(folder: str, job: Job, encoding: str | None, progress: Progress) -> Reading:
     """Reads the import files of a folder by the rules of a workbook's cells, each as a sheet of its name."""
-    book, together = Book("csv", [], []), []
+    book = Book("csv", [], [])
     for name in sorted(os.listdir(folder), key=lambda name: (len(name), name)):
-        match = re.fullmatch(rf"({'|'.join(KINDS)})(-[0-9]+)?\.csv", name)
-        if match:
+        if match := re.fullmatch(rf"({'|'.join(KINDS)})(-[0-9]+)?\.csv", name):
             found = opened(os.path.join(folder, name), encoding)
             book.sheets.extend(found.sheets)
             book.notes.extend(f"{name}: {note}" for note in found.notes)
-            together.append(match[1])
+            job.choices.together.append(match[1])
         elif name.lower().endswith((".csv", ".xlsx", ".xlsm", ".ods")):
             book.notes.append(f"{name} is none of the seven files; it is not read")
     if not book.sheets:
         raise Trouble("none of the seven files is there", folder)
-    return read_book(book, Job(known, way, choices=Choices(together=together)), progress)
+    return read_book(book, job, progress)
 
 
 def read_book(book: Book, job: Job, progress: Progress = lambda text: None) -> Reading:

@@ -14,7 +14,6 @@ from exam_desk.workbook.values import is_mark
 from exam_desk.words import FEATURES
 
 TOTALS = {"total", "totals", "sum", "summe", "gesamt", "count", "anzahl", "grand total", "subtotal"}
-FIRST_WORDS = {word.split(" ")[0] for word in TOTALS}
 EXAMPLE = "e.g. "  # before the first value of the template's example
 EACH = 10_000  # rows after which the progress is told
 MOST_ABOVE = 1000  # rows in which a value above an empty cell is looked for
@@ -70,7 +69,7 @@ def look_at_hidden(table: Table) -> None:
 
 
 def look_at_comments(table: Table) -> None:
-    for row, column in sorted(map(tuple, table.sheet.comments)):
+    for row, column in sorted((row, column) for row, column in table.sheet.comments):
         if row > table.header.row:
             table.note(row, column, "has a comment, which is not read")
 
@@ -171,32 +170,29 @@ def begins_other(table: Table, row: int) -> bool:
     return bool(kinds)
 
 
-def total_word(cell: Cell | None) -> bool:
-    if cell is None or cell.kind != "text" or len(cell.text) > 100 or cell.text[:1].isdigit():
-        return False
-    return bare(cell.text).rstrip(":").lower() in TOTALS or first_word(cell.text) in ("total", "totals", "summe")
-
-
-def may_begin_total(cell: Cell) -> bool:
-    return cell.kind == "text" and not cell.text[:1].isdigit() and first_word(cell.text) in FIRST_WORDS
+def totals(cell: Cell | None) -> bool | None:
+    """Whether a cell says a total; none where it does not begin with a word such as sum."""
+    return said_total(cell.text[:101]) if cell and cell.kind == "text" and not cell.text[:1].isdigit() else None
 
 
 @functools.lru_cache(1 << 16)
-def first_word(text: str) -> str:
-    return bare(text[:100]).lower().split(" ")[0].rstrip(":")
+def said_total(text: str) -> bool | None:
+    word = bare(text).lower().rstrip(":")
+    first = word.split(" ")[0].rstrip(":")
+    return len(text) <= 100 and (word in TOTALS or first in ("total", "totals", "summe")) \
+        if word in TOTALS or first in TOTALS else None
 
 
 def is_total(table: Table, row: int, here: Row, is_last: bool) -> bool:
     """Whether a row is a total below the table, which is told and left out."""
     cells, columns = table.sheet.rows[row].values(), table.header.columns
-    if not any(cell.formula or may_begin_total(cell) for cell in cells):
+    if not any(cell.formula or totals(cell) is not None for cell in cells):
         return False
     header = files.HEADERS[table.kind]
     keys = [here.get(columns[name][0]) for name in header[:files.KEYS.get(table.kind, 1)] if name in columns]
-    word = any(map(total_word, cells))
+    word = any(map(totals, cells))
     computed = any(cell and cell.formula for cell in here.values())
-    key_is_word = any(total_word(cell) or cell and may_begin_total(cell) and first_word(cell.text) in TOTALS
-                      for cell in keys)
+    key_is_word = any(totals(cell) is not None for cell in keys)
     if not (key_is_word or word and not all(keys) or computed and not any(keys)):
         return False
     whole = all(any(here.get(place) for place in columns.get(name, [])) for name in header)

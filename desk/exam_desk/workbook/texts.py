@@ -4,7 +4,7 @@ import functools
 import re
 import unicodedata
 from collections.abc import Callable, Mapping
-from dataclasses import dataclass, field
+from types import MappingProxyType
 from typing import NamedTuple
 
 from exam_desk.workbook.cells import Cell
@@ -26,12 +26,11 @@ class Wrong(Exception):
     """The cell has no value that can be taken; the text is its cure."""
 
 
-@dataclass(frozen=True)
-class Way:
+class Way(NamedTuple):
     """What the officer said on the command line or in the file of columns."""
 
     dates: str = ""  # day-first or month-first: what 01/06/2027 means
-    words: Mapping[str, Mapping[str, str]] = field(default_factory=dict)  # of a column what a word stands for
+    words: Mapping[str, Mapping[str, str]] = MappingProxyType({})  # of a column what a word stands for
 
 
 class Value(NamedTuple):
