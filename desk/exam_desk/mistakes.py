@@ -15,6 +15,11 @@ MOST_COUNTED = 100_000  # mistakes of a file; what is behind the last of them is
 MOST_TO_MEND = 200  # bytes of a value for which a better one is sought
 LIMITS = {"sessions": 400, "papers": 2000, "halls": 500, "candidates": 20000}
 MOST_MEMBERS, MOST_OPENINGS = 4096, 256  # of a session
+NUMBER = "printf('%07d', number)"
+IN_OFFICE = {  # of each kind the columns that are looked at, where a file has them
+    "sessions": "code FROM session", "halls": "code FROM hall", "papers": "code, '', session FROM paper",
+    "openings": "session, hall FROM opening", "candidates": f"{NUMBER}, '', code FROM candidate",
+    "entries": f"{NUMBER}, paper FROM entry WHERE live = 1"}
 CODE = "1 to 12 of A-Z, 0-9 and -"
 TIME_CURE = "a time as 09:00; format the column as text"
 FEATURES_CURE = f"features are {', '.join(words.FEATURES)}, in this order, joined by +; - for none"
@@ -95,20 +100,13 @@ class Known:
             self.read(connection)
 
     def read(self, connection: sqlite3.Connection) -> None:
-        def rows(query: str) -> Iterator[tuple[bytes, ...]]:
-            return (tuple(str(value).encode() for value in row) for row in connection.execute(query))
-        number = "printf('%07d', number)"
-        for kind in ("sessions", "halls", "papers"):
-            self.keys[kind] = {key for key, in rows(f"SELECT code FROM {kind[:-1]}")}
-        self.papers.update((code, session) for code, session in rows("SELECT code, session FROM paper"))
-        self.openings.update(rows("SELECT session, hall FROM opening"))
-        self.entries.update(rows(f"SELECT {number}, paper FROM entry WHERE live = 1"))
-        self.withdrawn.update(rows(f"SELECT {number}, paper FROM entry WHERE live = 0"))
-        self.standing = {key for key, in rows(f"SELECT {number} FROM standing JOIN appeal USING (number, ref) "
+        def rows(query: str) -> list[tuple[bytes, ...]]:
+            return [tuple(str(value).encode() for value in row) for row in connection.execute(f"SELECT {query}")]
+        for kind, query in IN_OFFICE.items():
+            self.take(kind, rows(query))
+        self.withdrawn.update(rows(f"{NUMBER}, paper FROM entry WHERE live = 0"))
+        self.standing = {key for key, in rows(f"{NUMBER} FROM standing JOIN appeal USING (number, ref) "
                                               f"WHERE state = {states.GRANTED}")}
-        for candidate, code in rows(f"SELECT {number}, code FROM candidate"):
-            self.codes[code].add(candidate)
-        self.keys["candidates"] = set().union(*self.codes.values())
 
     def take(self, kind: str, rows: Sequence[tuple[bytes, ...]]) -> None:
         """Adds the rows of a file."""

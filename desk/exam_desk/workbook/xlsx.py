@@ -5,7 +5,6 @@ import posixpath
 import re
 import zipfile
 from collections.abc import Iterator
-from typing import NamedTuple
 from xml.etree.ElementTree import Element
 
 from exam_desk.trouble import Trouble
@@ -16,14 +15,6 @@ from exam_desk.workbook.numberformats import BUILT_IN, MACINTOSH, WINDOWS, numbe
 
 NO = ("0", "false")
 Text = tuple[str, bool]  # and whether a part of it is struck out
-
-
-class Link(NamedTuple):
-    """What a part says of another one."""
-
-    key: str
-    kind: str
-    part: str
 
 
 def read_xlsx(archive: zipfile.ZipFile) -> Book:
@@ -80,14 +71,13 @@ class Reader:
             if element.tag.removeprefix(f"{{{MAIN}}}") in names:
                 yield element
 
-    def links(self, part: str) -> list[Link]:
-        """The parts to which a part refers; the first ones stand at ''."""
+    def links(self, part: str, kind: str = "") -> dict[str, str]:
+        """The parts of a kind to which a part refers, by their keys; the first ones stand at ''."""
         folder, name = posixpath.split(part)
         beside = posixpath.join(folder, "_rels", f"{name}.rels")
-        return [Link(given.get("Id", ""), given.get("Type", "").rpartition("/")[2],
-                     posixpath.normpath(posixpath.join("/", folder, given.get("Target", ""))).lstrip("/"))
-                for _, found, given in self.parts.elements(beside, "end") if found == "Relationship"] \
-            if beside in self.roots else []
+        found = self.parts.elements(beside, "end") if beside in self.roots else ()
+        return {given.get("Id", ""): posixpath.normpath(posixpath.join("/", folder, given.get("Target", ""))).lstrip("/")
+                for _, name, given in found if name == "Relationship" and given.get("Type", "").endswith(kind)}
 
     def read_styles(self, part: str) -> None:
         found = {local(element): list(element) for element in self.elements(part, "numFmts", "fonts", "cellXfs")}
@@ -97,10 +87,13 @@ class Reader:
                                struck.get(int(each.get("fontId", 0)), False))
                        for place, each in enumerate(found.get("cellXfs", []))}
 
-    def book(self) -> Book:
-        part = next((link.part for link in self.links("") if link.kind == "officeDocument"), "xl/workbook.xml")
+    def there(self, part: str) -> str:
         if part not in self.roots:
             raise Trouble(f"its part {part} is missing: {OPEN_AND_SAVE}")
+        return part
+
+    def book(self) -> Book:
+        part = self.there(next(iter(self.links("", "/officeDocument").values()), "xl/workbook.xml"))
         found = list(map(attributes, self.elements(part, "workbookPr", "sheet")))
         named = [given for given in found if "sheetId" in given]
         if len(named) > MOST_SHEETS:
@@ -109,24 +102,20 @@ class Reader:
             self.epoch = MACINTOSH
         book = Book("xlsx", [], ["it counts its days from 1904; its dates are read so"] * (self.epoch is MACINTOSH))
         book.notes.extend(self.parts.notes(".*vbaProject[.]bin$"))
-        parts = {link.key: link.part for link in self.links(part)}
+        parts = self.links(part)
         for given in named:
-            self.take_sheet(book, given["name"], given.get("state", "visible") != "visible", parts[given["id"]])
+            name, part = given["name"], self.there(parts[given["id"]])
+            space, _, root = self.roots[part]
+            if root != "worksheet":
+                book.notes.append(f"the sheet {name} is no table ({root}); it is not read")
+            elif space != MAIN:
+                raise Trouble(f"the sheet {name} is Strict Open XML: save it as an .xlsx of the usual form")
+            else:
+                book.sheets.append(Sheet(name, given.get("state", "visible") != "visible"))
+                self.fill(book.sheets[-1], part)
         return book
 
-    def take_sheet(self, book: Book, name: str, hidden: bool, part: str) -> None:
-        if part not in self.roots:
-            raise Trouble(f"its part {part} is missing: {OPEN_AND_SAVE}")
-        space, _, root = self.roots[part]
-        if root != "worksheet":
-            book.notes.append(f"the sheet {name} is no table ({root}); it is not read")
-        elif space != MAIN:
-            raise Trouble(f"the sheet {name} is of an unusual form: save it as an .xlsx of the usual form, not as Strict "
-                          "Open XML")
-        else:
-            book.sheets.append(self.sheet(Sheet(name, hidden), part))
-
-    def sheet(self, sheet: Sheet, part: str) -> Sheet:
+    def fill(self, sheet: Sheet, part: str) -> None:
         row = 0
         for element in self.elements(part, "row", "col", "mergeCell"):
             given = element.attrib
@@ -139,11 +128,9 @@ class Reader:
                 sheet.hidden_rows += [(row, row)] * is_hidden(given, "ht")
                 self.keep_row(sheet, row, element)
                 element.clear()
-        comments = [link.part for link in self.links(part) if link.kind == "comments"]
-        for element in [each for found in comments for each in self.elements(found, "comment")]:
+        for comment in [each for beside in self.links(part, "/comments").values() for each in self.elements(beside, "comment")]:
             self.budget.keep("")
-            sheet.comments.append(place_of(element.attrib["ref"].partition(":")[0]))
-        return sheet
+            sheet.comments.append(place_of(comment.attrib["ref"].partition(":")[0]))
 
     def keep_row(self, sheet: Sheet, row: int, element: Element) -> None:
         """Puts the cells of a row into the sheet: a formula is its last result."""
