@@ -66,7 +66,7 @@ def together(lines: Iterable[Line]) -> list[Line]:
     """The lines, mistakes last. Lines on a column that say the same, or of a kind, are one line with all their rows."""
     kinds: defaultdict[tuple[object, ...], defaultdict[str, list[Line]]] = defaultdict(lambda: defaultdict(list))
     for line in lines:
-        what = PARTICULAR.sub("", line.what) if line.rows else line.text
+        what = PARTICULAR.sub("", line.what) if line.rows else line.what
         kinds[line.sort, line.sheet and line.sheet.name, line.column, what][line.text].append(line)
     found = [joined(part) for (sort, *_, what), texts in kinds.items()
              for part in (texts.values() if len(texts) <= MOST_TEXTS or (sort, what) == ("change", "date")

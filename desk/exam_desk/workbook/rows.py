@@ -137,7 +137,8 @@ def counting_rows(table: Table, filled: Mapping[tuple[int, int], Cell]) -> Itera
         elif all(folded(cell.text) == head.get(place) if cell else place not in head for place, cell in here.items()):
             table.note(row, None, "repeats the header; it is not read", "repeated")
         elif is_example(here):
-            table.note(row, None, "is the example of the template; it is not read")
+            text = f"{place_name(table.sheet, row)} is the example of the template; it is not read"
+            table.job.report.note(text, what="example")
         elif is_total(table, row, here, row == last):
             continue
         elif begins_other(table, row):
