@@ -71,6 +71,21 @@ class Corpus(unittest.TestCase):
             self.assertEqual(json.loads(done.stdout), ours)
 
 
+    @needs_openpyxl
+    def test_openpyxl_finds_the_same_texts(self) -> None:
+        reader = ("import json, sys, openpyxl; print(json.dumps({sheet.title: [[cell.row, cell.column, cell.value] for row in "
+                  "sheet.iter_rows() for cell in row if cell.data_type == 's'] for sheet in openpyxl.load_workbook("
+                  "sys.argv[1], data_only=True).worksheets}))")
+        for path in sorted((HERE / "made").glob("*.xls[xm]")):
+            done = subprocess.run([str(can_import("openpyxl")), "-c", reader, path], capture_output=True, check=False)
+            if done.returncode == 0:
+                ours = {sheet.name: [[row, column, cell.text] for row, cells in sorted(sheet.rows.items())
+                                     for column, cell in sorted(cells.items()) if cell.kind == "text"]
+                        for sheet in opening.open_book(str(path)).sheets}
+                with self.subTest(path.name):
+                    self.assertEqual(json.loads(done.stdout), ours)
+
+
 class Child(unittest.TestCase):
     """The process that reads ends for itself."""
 

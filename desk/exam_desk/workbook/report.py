@@ -11,7 +11,7 @@ from exam_desk.workbook.cells import Sheet, letters_of, place_name
 WORDS = {"change": "", "note": "NOTE: ", "mistake": "MISTAKE: "}  # in the order in which they are printed
 MOST_PLACES = 5  # of lines that stand together
 MOST_TEXTS = 3  # of one kind that have a line each
-PARTICULAR = re.compile(r"\S*[0-9]\S*|\b[A-Z][A-Z-]+\b")  # numbers, dates and codes
+PARTICULAR = re.compile(r"[0-9]|\b[A-Z][A-Z-]+\b")  # in words that are numbers, dates or codes
 
 
 class Line(NamedTuple):
@@ -66,8 +66,8 @@ def together(lines: Iterable[Line]) -> list[Line]:
     """The lines, mistakes last. Lines on a column that say the same, or of a kind, are one line with all their rows."""
     kinds: defaultdict[tuple[object, ...], defaultdict[str, list[Line]]] = defaultdict(lambda: defaultdict(list))
     for line in lines:
-        what = PARTICULAR.sub("", line.what) if line.rows else line.what
-        kinds[line.sort, line.sheet and line.sheet.name, line.column, what][line.text].append(line)
+        what = [word for word in line.what.split(" ") if not (line.rows and PARTICULAR.search(word))]
+        kinds[line.sort, line.sheet and line.sheet.name, line.column, " ".join(what)][line.text].append(line)
     found = [joined(part) for (sort, *_, what), texts in kinds.items()
              for part in (texts.values() if len(texts) <= MOST_TEXTS or (sort, what) == ("change", "date")
                           else [[*itertools.chain(*texts.values())]])]
