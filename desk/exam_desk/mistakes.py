@@ -139,35 +139,26 @@ class Known:
 
 
 def cure(column: str, field: bytes) -> Cure:
-    if column in ("name", "title"):
-        return Cure(name_cure(field))
+    """What to do about a wrong value: to write what `office read` makes of such a cell, or what that says of it."""
+    from exam_desk.workbook.days import SAY_DATES  # here, since they ask this module what is right
+    from exam_desk.workbook.values import Cell, Way, Wrong, read_value
     if column == "code" and not field:
         return Cure("it is empty; `office take .. --codes` makes one")
     if column == "number" and (number := with_zeros(field)) != field:
         return Cure(f"leading zeros lost? {number.decode('ascii')} ({CURES[column]})", number.decode("ascii"))
-    if len(field) > MOST_TO_MEND:
-        return Cure(CURES[column])
-    text = field.decode("utf-8", "replace").strip(" %'")
-    time = re.sub("(:[0-9]{2}):00$", r"\1", text).zfill(5)
-    for better in (text, text.upper(), text.lower(), time, date_in_order(text)):
-        if better and RIGHT[column](better.encode()):
-            return Cure(f"write {better} ({CURES[column]})", better)
-    parts = text.split("+")
-    if CURES[column] == FEATURES_CURE and set(parts) <= set(words.FEATURES):
-        ordered = "+".join(name for name in words.FEATURES if name in parts)
-        return Cure(f"write {ordered} (this order, each once)", ordered)
-    return Cure(CURES[column])
+    if column in ("name", "title") or len(field) > MOST_TO_MEND:
+        return Cure(needed(column, field))
+    text = field.decode("utf-8", "replace").strip(" '")
+    try:
+        better = read_value(column, Cell("text", text, text), Way()).text
+    except Wrong as fault:
+        return Cure(str(fault).removesuffix(SAY_DATES))
+    return Cure(f"write {better} ({CURES[column]})", better)
 
 
 def no_codes(count: int) -> str:
     """What is said once of all candidates without an access code."""
     return f"{count:,} candidate{' has' if count == 1 else 's have'} no access code; `office take .. --codes` makes them"
-
-
-def date_in_order(text: str) -> str:
-    """A date with points, in which the day comes first; every other text is none."""
-    match = re.fullmatch(r"([0-9]{1,2})\. ?([0-9]{1,2})\. ?([0-9]{4})", text)
-    return f"{match[3]}-{match[2]:0>2}-{match[1]:0>2}" if match else ""
 
 
 def with_zeros(field: bytes) -> bytes:
@@ -176,7 +167,10 @@ def with_zeros(field: bytes) -> bytes:
     return match[1].zfill(7) if match else field
 
 
-def name_cure(field: bytes) -> str:
+def needed(column: str, field: bytes) -> str:
+    """What a value must be."""
+    if column not in ("name", "title"):
+        return CURES[column]
     if not files.is_utf_8(field):
         return "the letters are no UTF-8: save the file as CSV UTF-8"
     if files.CONTROL.search(field):

@@ -202,7 +202,7 @@ class Words(unittest.TestCase):
             "write 2027-01-15 (a date as 2027-06-07, from 2000-01-11; format the column as text)",
             "write 09:00 (a time as 09:00; format the column as text)",
             "write 13:30 (a time as 09:00; format the column as text)",
-            "a date as 2027-06-07, from 2000-01-11; format the column as text"])
+            "2027-02-01 or 2027-01-02? Write it so"])
 
     def test_what_to_write_instead(self):
         for column, value, write in (
@@ -210,7 +210,9 @@ class Words(unittest.TestCase):
                 ("number", b"\xff", ""), ("date", b"7. 6. 2027", "2027-06-07"), ("start", b"9:00:00", "09:00"),
                 ("paper", b" ma-1 ", "MA-1"), ("extra", b"25 %", "25"), ("reserved", b"YES", "yes"),
                 ("needs", b"reader+screen", "screen+reader"), ("needs", b"bed", ""), ("name", b"", ""),
-                ("code", b"", "")):
+                ("code", b"", ""), ("date", b"13/06/2027", "2027-06-13"), ("date", b"01/06/2027", ""),
+                ("date", b"7 June 2027", "2027-06-07"), ("until", b"2:30 pm", "14:30"), ("start", b"9.30", ""),
+                ("minutes", b"1 h 30", "90"), ("extra", b"", "0"), ("needs", b"Screen, reader", "screen+reader")):
             self.assertEqual(mistakes.cure(column, value).write, write, (column, value))
 
     def test_empty_codes_are_named_with_their_cure_and_are_not_compared(self):

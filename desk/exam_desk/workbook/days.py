@@ -13,10 +13,12 @@ MONTHS = {name: place for place, names in enumerate(
 WEEKDAYS = ["monday montag", "tuesday dienstag", "wednesday mittwoch", "thursday donnerstag", "friday freitag",
             "saturday samstag", "sunday sonntag"]
 WITH_SLASHES = re.compile(r"([0-9]{1,2})([/-])([0-9]{1,2})\2([0-9]{4})")
+WITH_POINTS = re.compile(r"([0-9]{1,2})\. ?([0-9]{1,2})\. ?([0-9]{4})")
 AS_TEXT = re.compile(r"([0-9]{1,2})([/.-])([0-9]{1,2})\2([0-9]{2}|[0-9]{4})")  # however a spreadsheet shows a date
 DAY_FIRST = re.compile(r"(?:([^\W\d]+),? )?([0-9]{1,2})(?:\.|st|nd|rd|th)?[ -]([^\W\d]+)\.?,?[ -]([0-9]{4})")
 MONTH_FIRST = re.compile(r"(?:([^\W\d]+),? )?([^\W\d]+)\.? ([0-9]{1,2})(?:st|nd|rd|th)?,? ([0-9]{4})")
 LIKE_A_DATE = re.compile("[0-9]{4}-[0-9]{2}-[0-9]{2}")
+SAY_DATES = ", or say --dates day-first or --dates month-first"
 NO_DAY = ("1899-12-30", "1899-12-31", "1900-01-01", "1904-01-01")  # what stands in front of a time alone
 
 
@@ -47,8 +49,8 @@ def date_of_text(text: str, way: Way) -> Value:
     if match := re.fullmatch(r"([0-9]{4})([/.])([0-9]{1,2})\2([0-9]{1,2})|(2[01][0-9]{2})([0-9]{2})([0-9]{2})", text):
         year, _, month, day = match.groups()[:4] if match[1] else (match[5], "", match[6], match[7])
         return day_value(f"{year}-{month:0>2}-{day:0>2}")
-    if better := mistakes.date_in_order(text):
-        return day_value(better, ", the day first as always with points")
+    if match := WITH_POINTS.fullmatch(text):
+        return day_value(f"{match[3]}-{match[2]:0>2}-{match[1]:0>2}", ", the day first as always with points")
     if match := WITH_SLASHES.fullmatch(text):
         return slashed(int(match[1]), int(match[3]), match[4], way)
     if match := DAY_FIRST.fullmatch(text):
@@ -85,4 +87,4 @@ def slashed(first: int, second: int, year: str, way: Way) -> Value:
         raise Wrong(f"is no date with the {way.dates.replace('-', ' ')}" if way.dates else mistakes.CURES["date"])
     if way.dates:
         return day_value(day_first if way.dates == "day-first" else month_first, f", {way.dates}")
-    raise Wrong(f"{day_first} or {month_first}? Write it so, or say --dates day-first or --dates month-first")
+    raise Wrong(f"{day_first} or {month_first}? Write it so{SAY_DATES}")

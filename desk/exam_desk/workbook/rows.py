@@ -249,7 +249,7 @@ def read_field(table: Table, row: int, name: str, here: Row) -> Field:
     if is_wrong or mistakes.RIGHT[name](text.encode("utf-8", "surrogatepass")):
         return text, is_wrong
     said = text.encode("utf-8", "replace")
-    table.mistake(row, places[0], f"{name} {files.shown(said)}: {mistakes.cure(name, said).text}", name)
+    table.mistake(row, places[0], f"{name} {files.shown(said)}: {mistakes.needed(name, said)}", name)
     return text, True
 
 

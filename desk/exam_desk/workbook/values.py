@@ -38,7 +38,7 @@ def read_value(column: str, cell: Cell | None, way: Way) -> Value:
     value = read(column, found, text, way)
     may_be_empty = column == "code" and not value.text
     if not mistakes.RIGHT[column](value.text.encode("utf-8", "surrogatepass")) and not may_be_empty:
-        raise Wrong(mistakes.cure(column, value.text.encode("utf-8", "replace")).text if cell else "is missing")
+        raise Wrong(mistakes.needed(column, value.text.encode("utf-8", "replace")) if cell else "is missing")
     is_as_shown = value.text == ((cell.shown or None) if cell else "")
     return value._replace(why=reason(done, value.why) or " " * (not is_as_shown))
 
