@@ -140,8 +140,7 @@ class Known:
 
 def cure(column: str, field: bytes) -> Cure:
     """What to do about a wrong value: to write what `office read` makes of such a cell, or what that says of it."""
-    from exam_desk.workbook.days import SAY_DATES  # here, since they ask this module what is right
-    from exam_desk.workbook.values import Cell, Way, Wrong, read_value
+    from exam_desk.workbook import cells, days, texts, values  # here, since these ask this module what is right
     if column == "code" and not field:
         return Cure("it is empty; `office take .. --codes` makes one")
     if column == "number" and (number := with_zeros(field)) != field:
@@ -150,9 +149,9 @@ def cure(column: str, field: bytes) -> Cure:
         return Cure(needed(column, field))
     text = field.decode("utf-8", "replace").strip(" '")
     try:
-        better = read_value(column, Cell("text", text, text), Way()).text
-    except Wrong as fault:
-        return Cure(str(fault).removesuffix(SAY_DATES))
+        better = values.read_value(column, cells.Cell("text", text, text), texts.Way()).text
+    except texts.Wrong as fault:
+        return Cure(str(fault).removesuffix(days.SAY_DATES))
     return Cure(f"write {better} ({CURES[column]})", better)
 
 
