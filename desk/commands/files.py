@@ -54,10 +54,13 @@ def print_lines(reading: Reading, everything: bool) -> None:
         print(plain(line.whole()))
 
 
-def told(reading: Reading, target: str, lines_name: str, everything: bool) -> int:
-    """Prints the lines; writes the folder where there is no mistake, and gives the status."""
-    from exam_desk.workbook.writing import write_folder
-    print_lines(reading, everything)
+def made(source: str, new: str, given: Namespace, is_folder: bool, lines_name: str) -> int:
+    """Reads a source, prints the lines, and makes the new folder where there is no mistake; gives the status."""
+    from exam_desk.workbook.writing import refuse_there, write_folder
+    target = os.path.abspath(new)
+    refuse_there(target)
+    reading = read_source(command.office(), source, given, is_folder)
+    print_lines(reading, given.all)
     wrong, changed, notes = (reading.report.count(sort) for sort in ("mistake", "change", "note"))
     if wrong:
         print(f"{wrong} mistakes, {changed} changes, {notes} notes: nothing is written")
@@ -170,15 +173,12 @@ with a cure; where there is one nothing is written, and the status is 1. The fil
 folder is for its owner alone, and has besides the files all these lines, in mend.txt.
 """)
 def mend(parser: ArgumentParser) -> int:
-    from exam_desk.workbook.writing import refuse_there
     add_reading(parser)
     parser.set_defaults(columns=None, sheet=None, leave=[], together=[], hidden="")
     parser.add_argument("folder")
     parser.add_argument("new", nargs="?")
     given = parser.parse_args()
-    target = os.path.abspath(given.new or os.path.abspath(given.folder) + "-mended")
-    refuse_there(target)
-    return told(read_source(command.office(), given.folder, given, True), target, "mend.txt", given.all)
+    return made(given.folder, given.new or os.path.abspath(given.folder) + "-mended", given, True, "mend.txt")
 
 
 @command.named("""Makes the import files from a workbook: read WORKBOOK [FOLDER]
@@ -194,15 +194,13 @@ through them before the import. Colours of cells and comments are not read, and 
 last save.
 """)
 def read(parser: ArgumentParser) -> int:
-    from exam_desk.workbook.writing import refuse_there
     add_reading(parser)
     parser.add_argument("workbook")
     parser.add_argument("folder", nargs="?")
     add_choices(parser)
     given = parser.parse_args()
-    target = os.path.abspath(given.folder or os.path.splitext(os.path.basename(given.workbook))[0])
-    refuse_there(target)
-    return told(read_source(command.office(), given.workbook, given, False), target, "read.txt", given.all)
+    new = given.folder or os.path.splitext(os.path.basename(given.workbook))[0]
+    return made(given.workbook, new, given, False, "read.txt")
 
 
 @command.named("""Brings a workbook, or a folder of import files, into the office: take WORKBOOK|FOLDER

@@ -68,21 +68,16 @@ class Found:
     def __bool__(self) -> bool:
         return bool(self.shown)
 
-    def add(self, line: int, column: str, text: str) -> None:
-        if self.is_shown(column):
-            self.shown.append(Mistake(line, column, text))
-
-    def add_value(self, line: int, column: str, field: bytes, cure: Cure | Callable[[str, bytes], Cure]) -> None:
-        """As `add`, with the value; a cure that is long to make is made only where it is shown."""
-        if self.is_shown(NO_CODE if column == "code" and not field else column):
-            found = cure if isinstance(cure, Cure) else cure(column, field)
-            self.shown.append(Mistake(line, f"{column} {files.shown(field)}", found.text, found.write))
-
-    def is_shown(self, column: str) -> bool:
-        """Counts one more on a column, and says whether it is to be shown."""
+    def add(self, line: int, column: str, cure: str | Callable[[str, bytes], Cure], field: bytes | None = None) -> None:
+        """Counts one more on a column, where one value is wrong with that; a cure that is long to make is made only where
+        it is shown."""
+        kind = NO_CODE if column == "code" and field == b"" else column
         self.count += 1
-        self.counts[column] += 1
-        return self.counts[column] <= self.most
+        self.counts[kind] += 1
+        if self.counts[kind] <= self.most:
+            found = Cure(cure) if isinstance(cure, str) else cure(column, field or b"")
+            what = column if field is None else f"{column} {files.shown(field)}"
+            self.shown.append(Mistake(line, what, found.text, found.write))
 
 
 class Known:
@@ -272,12 +267,12 @@ class File:
             if column in self.missing:
                 continue
             if not right(field):
-                self.wrong.add_value(record.line, column, field, cure)
+                self.wrong.add(record.line, column, cure, field)
                 continue
             if table and field not in (self.known.keys[table] or {field}):
-                self.wrong.add_value(record.line, column, field, Cure(f"is not among the {table}"))
+                self.wrong.add(record.line, column, f"is not among the {table}", field)
             for note in notes(field):
-                self.notes.add_value(record.line, column, field, Cure(note))
+                self.notes.add(record.line, column, note, field)
 
     def mended(self, record: files.Record) -> files.Record:
         """A row with the zeros that its number has lost: what refers to the number is right once the number is."""
@@ -329,7 +324,7 @@ class File:
             number, _, code = record.fields
             sharing = self.known.codes[code] if code else ()
             if len(sharing) > 1:
-                self.notes.add_value(record.line, "number", number, sharers)
+                self.notes.add(record.line, "number", sharers, number)
 
 
 def beginning_of(text: bytes) -> str:

@@ -65,8 +65,8 @@ def put_back(job: Job, kind: str, sort: str, found: Iterable[mistakes.Mistake], 
 
 def in_workbook(rows: list[Record], line: re.Match[str]) -> str:
     """The row of a workbook from which a line of a file comes."""
-    record = rows[int(line[1]) - FIRST]
-    return place_name(record.sheet, record.row)
+    place = int(line[1]) - FIRST
+    return place_name(rows[place].sheet, rows[place].row) if 0 <= place < len(rows) else line[0]
 
 
 def file_parts(kind: str, rows: Iterable[list[str]]) -> Iterator[tuple[bytes, int]]:
