@@ -150,9 +150,9 @@ class Verdicts(sample.SampleSchool):
         self.assertTrue(done.stdout.startswith(f"{line}NOTE: {once}"), done.stdout)
         self.assertTrue(done.stdout.endswith("\n7 files, 0 mistakes, 2 notes\n"), done.stdout)
         self.assertIn("refused 1 record 1 column 3\n", self.refused("import", "candidates", path))
-        self.assertIn("60 candidates without an access code: nothing is changed; give --codes too to make them",
-                      self.run_office("take", "facts", "--yes").stderr)
         self.office("init", OFFICE=none)
+        self.assertIn("60 candidates without an access code: nothing is changed; give --codes too to make them",
+                      self.run_office("take", "facts", "--yes", OFFICE=none).stderr)
         said = self.office("take", "facts", "--yes", "--codes", OFFICE=none)
         self.assertTrue(said.startswith("60 access codes made\n"), said)
         self.assertNotIn("no access code", said)

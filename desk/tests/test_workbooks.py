@@ -251,7 +251,8 @@ class Commands(sample.SampleSchool):
         self.assertIn("or say --dates day-first", done.stdout)
         self.assertFalse(os.path.exists(os.path.join(self.folder, "new")))
         said = self.office("mend", "broken", "new", "--dates", "day-first")
-        self.assertIn("candidates!A2: number 1000 became 0001000 (zeros in front)", said)
+        self.assertIn("candidates!A2:A61: number 1000 became 0001000 (zeros in front); 60 such changes\n", said)
+        self.assertEqual(said.count("its columns are parted by"), 1)
         for kind in corpus.KINDS:
             self.assertEqual(self.rows("facts", kind), self.rows("new", kind))
         self.assertIn("7 files, 0 mistakes", self.office("check-files", "new"))

@@ -56,7 +56,7 @@ def mend_folder(folder: str, job: Job, encoding: str | None, progress: Progress)
 def read_book(book: Book, job: Job, progress: Progress = lambda text: None) -> Reading:
     """Finds the tables of a workbook, reads their rows, and checks what comes out as the files of an import."""
     for text in book.notes:
-        job.report.note(text)
+        job.report.note(text, what=text.rpartition(": ")[2])
     records = read_sheets(job, usable_sheets(job, book), progress)
     if not records and not job.report.count("mistake"):
         job.report.mistake("no sheet has rows of one of the seven kinds: see `office template`")
