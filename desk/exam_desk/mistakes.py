@@ -69,8 +69,8 @@ class Found:
         return bool(self.shown)
 
     def add(self, line: int, column: str, cure: str | Callable[[str, bytes], Cure], field: bytes | None = None) -> None:
-        """Counts one more on a column, where one value is wrong with that; a cure that is long to make is made only where
-        it is shown."""
+        """Counts one more on a column, where there is one with its value; a cure that is long to make is made only
+        where it is shown."""
         kind = NO_CODE if column == "code" and field == b"" else column
         self.count += 1
         self.counts[kind] += 1
@@ -152,7 +152,8 @@ def cure(column: str, field: bytes) -> Cure:
 
 def no_codes(count: int) -> str:
     """What is said once of all candidates without an access code."""
-    return f"{count:,} candidate{' has' if count == 1 else 's have'} no access code; `office take .. --codes` makes them"
+    who = "candidate has" if count == 1 else "candidates have"
+    return f"{count:,} {who} no access code; `office take .. --codes` makes them"
 
 
 def with_zeros(field: bytes) -> bytes:

@@ -83,4 +83,5 @@ def read_whole(column: str, cell: Cell, text: str, way: Way) -> Value:
     elif column == "minutes" and (match := HOURS.fullmatch(number)):
         hours, minutes = int(match[1]), int(match[2] or match[3] or 0)
         number, done = str(60 * hours + minutes), reason(done, f"{hours} h {minutes} min")
-    return Value(number, done, "is 1 percent; 100 percent is 100" if (column, number, text) == ("extra", "1", "1") else "")
+    is_one = (column, number, text) == ("extra", "1", "1")
+    return Value(number, done, "is 1 percent; 100 percent is 100" if is_one else "")

@@ -120,8 +120,8 @@ def tell_both(job: Job, kind: str, sheets: list[Sheet], place: int) -> bool:
     if len(sheets) < 2 or kind in job.choices.together:
         return False
     names = " and ".join(map(place_name, sheets))
-    job.report.mistake(f"{names} could both be the {kind}: keep one, or say --together {kind} to read them as one list, "
-                       "or --leave NAME", sheets[place])
+    job.report.mistake(f"{names} could both be the {kind}: keep one, or say --together {kind} to read them as one "
+                       "list, or --leave NAME", sheets[place])
     return True
 
 

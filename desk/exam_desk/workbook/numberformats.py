@@ -14,8 +14,8 @@ WINDOWS, MACINTOSH = datetime.datetime(1899, 12, 30), datetime.datetime(1904, 1,
 MACHINE_DATE = "m/d/yy?"  # the date that each machine shows in its own way
 BUILT_IN = {number: form for first, forms in {  # formats by number
     0: ["General", "0", "0.00", "#,##0", "#,##0.00", '"$"#,##0_);("$"#,##0)', '"$"#,##0_);[Red]("$"#,##0)',
-        '"$"#,##0.00_);("$"#,##0.00)', '"$"#,##0.00_);[Red]("$"#,##0.00)', "0%", "0.00%", "0.00E+00", "# ?/?", "# ??/??",
-        MACHINE_DATE, "d-mmm-yy", "d-mmm", "mmm-yy", "h:mm AM/PM", "h:mm:ss AM/PM", "h:mm", "h:mm:ss",
+        '"$"#,##0.00_);("$"#,##0.00)', '"$"#,##0.00_);[Red]("$"#,##0.00)', "0%", "0.00%", "0.00E+00", "# ?/?",
+        "# ??/??", MACHINE_DATE, "d-mmm-yy", "d-mmm", "mmm-yy", "h:mm AM/PM", "h:mm:ss AM/PM", "h:mm", "h:mm:ss",
         MACHINE_DATE + " h:mm"],
     27: [*5 * [MACHINE_DATE], "h:mm", "h:mm", *3 * [MACHINE_DATE], "#,##0_);(#,##0)", "#,##0_);[Red](#,##0)",
          "#,##0.00_);(#,##0.00)", "#,##0.00_);[Red](#,##0.00)", r'_(* #,##0_);_(* \(#,##0\);_(* "-"_);_(@_)',

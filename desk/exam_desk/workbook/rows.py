@@ -58,7 +58,8 @@ def look_at_hidden(table: Table) -> None:
     """Hidden rows are a mistake until the officer says what becomes of them."""
     rows, choice, last_row = table.sheet.rows, table.job.choices.hidden, max(table.sheet.rows)
     hidden = {row for first, last in table.sheet.hidden_rows for row in range(first, min(last, last_row) + 1)}
-    for row in sorted(row for row in hidden & rows.keys() if row > table.header.row and any(map(seen, rows[row].values()))):
+    below = sorted(row for row in hidden & rows.keys() if row > table.header.row)
+    for row in [row for row in below if any(map(seen, rows[row].values()))]:
         if not choice:
             table.mistake(row, None, "is hidden, perhaps by a filter: show it, or say --hidden take or --hidden leave")
         else:

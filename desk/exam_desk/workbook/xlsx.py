@@ -76,12 +76,14 @@ class Reader:
         folder, name = posixpath.split(part)
         beside = posixpath.join(folder, "_rels", f"{name}.rels")
         found = self.parts.elements(beside, "end") if beside in self.roots else ()
-        return {given.get("Id", ""): posixpath.normpath(posixpath.join("/", folder, given.get("Target", ""))).lstrip("/")
+        join, tidy = posixpath.join, posixpath.normpath
+        return {given.get("Id", ""): tidy(join("/", folder, given.get("Target", ""))).lstrip("/")
                 for _, name, given in found if name == "Relationship" and given.get("Type", "").endswith(kind)}
 
     def read_styles(self, part: str) -> None:
         found = {local(element): list(element) for element in self.elements(part, "numFmts", "fonts", "cellXfs")}
-        forms = BUILT_IN | {int(each.attrib["numFmtId"]): each.attrib["formatCode"] for each in found.get("numFmts", [])}
+        forms = BUILT_IN | {int(each.attrib["numFmtId"]): each.attrib["formatCode"]
+                            for each in found.get("numFmts", [])}
         struck = {place: any(map(is_struck, font)) for place, font in enumerate(found.get("fonts", []))}
         self.looks |= {place: (forms.get(int(each.get("numFmtId", 0)), "General"),
                                struck.get(int(each.get("fontId", 0)), False))
@@ -128,7 +130,8 @@ class Reader:
                 sheet.hidden_rows += [(row, row)] * is_hidden(given, "ht")
                 self.keep_row(sheet, row, element)
                 element.clear()
-        for comment in [each for beside in self.links(part, "/comments").values() for each in self.elements(beside, "comment")]:
+        comments = self.links(part, "/comments").values()
+        for comment in [each for beside in comments for each in self.elements(beside, "comment")]:
             self.budget.keep("")
             sheet.comments.append(place_of(comment.attrib["ref"].partition(":")[0]))
 
