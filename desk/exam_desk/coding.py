@@ -32,10 +32,15 @@ def in_office(office: Office) -> dict[str, list[str]]:
 
 def read(text: bytes, path: str) -> list[list[str]]:
     """The rows of a file after the header. Raises `Trouble` where the file is not one of candidates."""
+    if len(text) > files.MOST_BYTES:
+        raise Trouble(f"{path} is longer than {files.MOST_BYTES} bytes; split it")
+    rows = files.records(text)
+    if not files.is_header("candidates", next(rows, None)):
+        raise Trouble(f"line 1 of {path} must be: {','.join(files.HEADERS['candidates'])}")
     found = []
-    for row in files.below_header(text, path, files.HEADERS["candidates"]):
+    for row in rows:
         if not is_right(row):
-            raise Trouble(f"line {row.line} is wrong; `office check-files` says how", path)
+            raise Trouble(f"line {row.line} of {path} is wrong; `office check-files` says how")
         found.append([value.decode() for value in row.fields])
     return found
 

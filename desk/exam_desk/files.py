@@ -13,7 +13,6 @@ from collections.abc import Callable, Iterable, Iterator
 from typing import NamedTuple
 
 from exam_desk import words
-from exam_desk.trouble import Trouble
 
 MOST_BYTES = 4_194_304
 HEADERS = {  # in the order in which they are imported
@@ -79,17 +78,6 @@ def records(text: bytes, comma: bytes = b",") -> Iterator[Record]:
                 fields[-1] = fields[-1][:-1]
             yield Record(line, as_bytes(fields), closed)
         line = reader.line_num + 1
-
-
-def below_header(text: bytes, path: str, header: Iterable[str]) -> Iterator[Record]:
-    """The records after the header. Raises `Trouble` where the file is too long, or has another header."""
-    if len(text) > MOST_BYTES:
-        raise Trouble(f"is longer than {MOST_BYTES} bytes; split it", path)
-    rows = records(text)
-    first = next(rows, None)
-    if first is None or first.fields != tuple(name.encode() for name in header):
-        raise Trouble(f"line 1 must be: {','.join(header)}", path)
-    return rows
 
 
 def as_bytes(fields: list[str]) -> tuple[bytes, ...]:

@@ -11,8 +11,15 @@ def texts_in(path: str, column: str, most: int, known: Collection[str] | None = 
     """The texts of a file by number, in the order of its rows; the header is `number` and the column. Raises `Trouble`
     where it is no such file, where a text has more bytes than the most, or where a number is not among the known
     ones."""
+    text = files.read(path)
+    if len(text) > files.MOST_BYTES:
+        raise Trouble(f"is longer than {files.MOST_BYTES} bytes; split it", path)
+    rows = files.records(text)
+    first = next(rows, None)
+    if first is None or first.fields != (b"number", column.encode()):
+        raise Trouble(f"line 1 must be: number,{column}", path)
     found: dict[str, str] = {}
-    for row in files.below_header(files.read(path), path, ["number", column]):
+    for row in rows:
         if wrong := mistake(row, column, most, known):
             raise Trouble(f"line {row.line}: {wrong}; nothing is done", path)
         number, value = (field.decode() for field in row.fields)
