@@ -22,7 +22,7 @@ from exam_desk.trouble import Trouble
 from exam_desk.workbook.checking import file_parts
 from exam_desk.workbook.opening import open_book
 from exam_desk.workbook.reading import read_book
-from exam_desk.workbook.report import Line
+from exam_desk.workbook.report import Line, together
 from exam_desk.workbook.tables import Choices, Job
 from exam_desk.workbook.texts import Way
 from exam_web.desk import View, desk
@@ -157,7 +157,7 @@ def take_book(upload: Upload, book: Book, view: View) -> None:
             return
     upload.workbooks.append(book)
     report = reading.report
-    book.lines = sorted(report.lines, key=lambda line: line.sort != "mistake")
+    book.lines = sorted(together(report.lines), key=lambda line: line.sort != "mistake")
     book.mistakes, book.changes = report.count("mistake"), report.count("change")
     book.has_hidden = any(sheet.hidden or sheet.hidden_rows for sheet in opened.sheets) and (
         book.hidden != "" or any(HIDDEN in line.text for line in report.lines))

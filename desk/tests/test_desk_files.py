@@ -142,6 +142,13 @@ class TestFiles(Uploads):
                            dates="day-first")
         self.assertIn("X-1,2027-06-01,09:00", self.browser.ask("GET", page + "/sessions.csv")[1].replace('"', ""))
 
+    def test_equal_lines_on_a_workbook_stand_together(self):
+        rows = [[12000 + place, f"N {place}", f"K4WBN7RT{place:02}"] for place in range(1, 31)]
+        page = self.upload(("school.xlsx", workbook({"Candidates": [["number", "name", "code"], *rows]})))
+        words = self.browser.words(page)
+        self.assertIn("30 such changes", words)
+        self.assertNotIn("number 12030 became", words)
+
     def test_hidden_rows_and_sheets(self):
         """They are passed over or a mistake, until a box says that they are read."""
         sheets = {"Candidates": [["number", "name", "code"], [12001, "Nadia", "K4WBN7RTQD"],
