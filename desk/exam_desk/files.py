@@ -100,7 +100,7 @@ def as_bytes(fields: list[str]) -> tuple[bytes, ...]:
 
 
 def guarded(text: str) -> str:
-    """A text of which no spreadsheet makes a formula, even one that parts at semicolons: an apostrophe stands before
+    """A text that no spreadsheet takes for a formula, even one that parts at semicolons: an apostrophe stands before
     each sign with which a formula could begin."""
     return FORMULA.sub(r"\1'\2", text)
 

@@ -86,7 +86,7 @@ def is_note(text: bytes) -> bool:
 
 
 def rows_of_halls(office: Office) -> dict[str, Rows]:
-    """How the desks stand in each hall of which somebody said it."""
+    """How the desks stand in each hall where somebody has said it."""
     nothing: dict[str, tuple[int, str]] = {}
     found = read(office, ROWS, nothing, lambda value: is_map(value, is_rows))
     return {hall: Rows(*rows) for hall, rows in found.items()}

@@ -31,14 +31,14 @@ SEATED = ("SELECT hall, printf('%07d', number) FROM seat JOIN opening USING (ses
 
 
 class Pair(NamedTuple):
-    """Two sessions of which one begins so soon behind the other that they may be at one time."""
+    """Two sessions that may be at one time, since one begins so soon behind the other."""
     early: str
     late: str
     gap: int  # minutes from one start to the other
 
 
 class Overlap(NamedTuple):
-    """Two sessions of which candidates or halls are in both at one time."""
+    """Two sessions with candidates or halls that are in both at one time."""
     early: str
     late: str
     candidates: list[str]  # their numbers

@@ -25,8 +25,8 @@ SESSIONS = {  # by table: which sessions a row that is another can change, as a 
     "entry": "SELECT session FROM {moment}.paper WHERE code IN (SELECT paper FROM different)",
     "candidate": OF_NUMBERS, "arrangement": OF_NUMBERS, "appeal": OF_NUMBERS, "standing": OF_NUMBERS,
 }
-OF_ALL = ["session", "paper"]  # tables of which a row can meet all members of its sessions
-OF_ONE = ["seat", "entry", "candidate", "arrangement", "appeal", "standing"]  # of which it belongs to one candidate
+OF_ALL = ["session", "paper"]  # a row of such a table can meet all members of its sessions
+OF_ONE = ["seat", "entry", "candidate", "arrangement", "appeal", "standing"]  # a row belongs to one candidate
 NEIGHBOURS = ("SELECT seat.session, seat.number FROM {moment}.seat AS seat JOIN halls USING (session, hall)")
 MOMENTS = ("before", "after")
 Touched = dict[str, set[int] | None]  # by session the numbers; None for all of its members

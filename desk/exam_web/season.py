@@ -118,7 +118,7 @@ def clashes(coming: list[counting.Sums]) -> Iterator[Attention]:
 
 
 def out_of_date(coming: list[counting.Sums]) -> Iterator[Attention]:
-    """Sessions of which papers are out that are no longer right, as `office printed` says."""
+    """Sessions whose printed papers are no longer right, as `office printed` says."""
     for each in coming:
         if notebook.printed(desk().office, each.code):
             view().ask(facts.entered(view().reading.rows, each.code))

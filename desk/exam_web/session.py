@@ -165,7 +165,7 @@ def seats_csv(code: str) -> Response:
 @pages.get("/sessions/<code>/print/<sheet>")
 def sheet(code: str, sheet: str, hall: Sequence[str] = ()) -> str:
     """A sheet to print, of all halls or of some, made by the function that the command line uses. A chart asks first
-    how the desks stand of which nobody has said it."""
+    how the desks stand, in each hall where nobody has said it."""
     sums, halls = sums_of(code), hall or request.args.getlist("hall")
     made = output.SHEETS.get(sheet) or abort(404)
     try:

@@ -1,4 +1,4 @@
-"""The tables of a workbook: which columns of which sheet say what, and what is told of its header."""
+"""The tables of a workbook: which columns of which sheet say what, and what is said of its header."""
 from collections.abc import Callable, Mapping
 from dataclasses import dataclass, field
 from functools import partialmethod
@@ -21,7 +21,7 @@ class Choices:
 
     sheets: list[str] | None = None  # those to read, if not all
     leave: list[str] = field(default_factory=list)  # sheets that are not read
-    together: list[str] = field(default_factory=list)  # kinds of which all sheets are one list
+    together: list[str] = field(default_factory=list)  # all sheets of such a kind are one list
     hidden: str = ""  # take or leave: what becomes of hidden rows
 
 
