@@ -11,7 +11,7 @@ import os
 from collections.abc import Iterator, Sequence
 from dataclasses import dataclass, field
 
-from exam_desk import beside, turns
+from exam_desk import beside
 from exam_desk.office import Office
 from exam_desk.words import plain
 
@@ -48,7 +48,6 @@ def write(office: Office, words: Sequence[str], status: int | str, answer: str) 
     now = datetime.datetime.now().isoformat(" ", "seconds")
     columns = [now, office.user, " ".join(shown(words)), str(status), answer]
     line = "\t".join(map(plain, columns)) + "\n"
-    turns.make_folder(office)
     file = beside.open_file(office.path, NAME, flags=os.O_WRONLY | os.O_CREAT | os.O_APPEND)
     with open(file, "wb") as log_file:
         log_file.write(line.encode("utf-8", "backslashreplace"))
@@ -59,7 +58,7 @@ def logged(office: Office, words: Sequence[str], status: str = BEGINS, answer: s
     """A line in the log before a change, which waits until that is on the disk; and one with the outcome after it. In
     place of one that cannot be written a warning has to do."""
     write(office, words, status, answer)
-    beside.sync(turns.inside(office, NAME))
+    beside.sync(beside.folder(office.path, NAME))
     outcome = Outcome()
     try:
         yield outcome

@@ -165,8 +165,8 @@ class Lists(Changing):
         os.remove(self.path)
         carried = changing.carry_out(self.value, STEPS)
         self.assertEqual((carried.refused.first_line(), len(carried.answers)), ("refused 24", 1))
-        with self.assertRaises(Trouble):
-            changing.rehearse(self.value, STEPS)
+        with self.assertRaises(Trouble), changing.rehearse(self.value, STEPS):
+            self.fail("it began")
 
 
 class States(Changing):
@@ -207,7 +207,7 @@ class Full(Changing):
 
     def test_no_room_before_the_first_step(self):
         before = self.state()
-        for name in ("exam_desk.copies.keep_copy", "exam_desk.undo.in_one_file", "exam_desk.logbook.write"):
+        for name in ("exam_desk.copies.keep_copy", "exam_desk.copies.in_one_file", "exam_desk.logbook.write"):
             with mock.patch(name, side_effect=OSError(28, "No space left on device", "/x")):
                 with self.assertRaisesRegex(changing.NotBegun, "nothing is changed: /x: No space left on .*; make room"):
                     changing.carry_out(self.value, STEPS)
@@ -225,7 +225,7 @@ class Full(Changing):
         self.assertEqual((self.state(), self.kept()), (before, []))
 
     def test_what_cannot_be_put_back_is_said_and_its_copy_stays(self):
-        with mock.patch("exam_desk.undo.move_in", side_effect=OSError(5, "Input/output error")):
+        with mock.patch("exam_desk.copies.move_in", side_effect=OSError(5, "Input/output error")):
             with self.assertRaisesRegex(Trouble, "could not be put back as it was .*`office back` lists the copy of"):
                 changing.carry_out(self.value, [STEPS[0], STEPS[0]])
         self.assertEqual(len(self.kept()), 1)
