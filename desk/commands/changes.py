@@ -56,12 +56,10 @@ def back(parser: ArgumentParser) -> None:
     when, what = copies.when_and_what(copy)
     others = notebook.others_than_in(office, copy)
     question = f"put back the office of {when}, before `{plain(what)}`? What was done since then is undone."
-    words = ["back", str(given.number)]
     asked = None if given.yes else agreed(question, copies.taken_away(office, copy))
-    done = changing.go_back(office, words, copy, lambda lines: asked in (None, lines))
-    while not done.is_done:
+    while not (done := changing.go_back(office, ["back", str(given.number)], copy,
+                                        lambda lines: asked in (None, lines))).is_done:
         asked = agreed(f"this has changed since the question, and nothing is done yet: {question}", done.lines)
-        done = changing.go_back(office, words, copy, lambda lines: asked == lines)
     print(f"the office is as it was on {when}, before {plain(what)}")
     print_taken(done.lines)
     print_left(others)

@@ -31,7 +31,8 @@ Value = TypeVar("Value")
 def run(office: Office, words: list[str]) -> int:
     """Runs a command of the program; the status."""
     if words[0].startswith("-"):
-        replace_by(office, ["examoffice", *words])
+        with running.starting(office):
+            os.execv(office.program, ["examoffice", *words])
     if not {"-h", "--help"}.isdisjoint(itertools.takewhile(lambda word: word != "--", words)):
         found = running.help_text(office, words[0])
         command.say(found + (LIST_HELP.format(words[0]) if words[0] in LISTED else ""))
@@ -42,7 +43,8 @@ def run(office: Office, words: list[str]) -> int:
         beside.refuse_stranger(office.path)
         if turns.keep_state(office) is not None:
             raise Trouble("`keep` serves this office already; `office keep stop` ends it")
-        replace_by(office, office.line(*words))
+        with running.starting(office):
+            os.execv(office.program, office.line(*words))
     if words[0] in changing.CHANGES:
         return carry_out(office, changing.Step(tuple(words)))
     return outcome(office, words, printed(dispatch(office, words)))
@@ -117,14 +119,6 @@ def tell_row(office: Office, line: int, answered: changing.Answered) -> int:
     lines = [said, *refusals.explained(office, answered.step.words, answered.ran.complaint)]
     sys.stderr.write("".join(f"{line}\n" for line in lines))
     return answered.ran.status
-
-
-def replace_by(office: Office, line: list[str]) -> None:
-    """Goes on as the program."""
-    try:
-        os.execv(office.program, line)
-    except OSError as fault:
-        raise running.not_started(office, fault) from fault
 
 
 def meant(name: str) -> str:

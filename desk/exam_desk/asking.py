@@ -1,5 +1,5 @@
-"""The client of all the desk: it sends nothing, no access code above all, to a process that is not the one it means. And
-a `serve` of its own to ask.
+"""The client of all the desk: it sends nothing, no access code above all, to a process that is not the one it means.
+And a `serve` of its own to ask.
 
 A port is anybody's as soon as its owner is gone: another user of the machine can take it between two requests. A look
 at who listens does not help before the connection: it says nothing of who is there when the connection comes. So who

@@ -24,9 +24,6 @@ LINKS = {errno.ELOOP: "is a link, which is not followed", errno.ENOTDIR: "is no 
 class Strange(Trouble):
     """What belongs to another, what others may write, or a link: it is not used."""
 
-    def __str__(self) -> str:
-        return f"{self.place} {self.sentence}"
-
 
 def folder(office: str, *names: str) -> str:
     """The path of the folder beside an office's file, or of what lies in it; a link to that file has the folder of the
@@ -49,8 +46,7 @@ def refuse_stranger(office: str) -> None:
         owner = os.stat(office).st_uid
         if owner != os.geteuid():
             name = user_name(owner)
-            how = f"belongs to {name}: work as that user, as with `sudo -u {name} office ..`"
-            raise Strange(how, "the office")
+            raise Strange(f"the office belongs to {name}: work as that user, as with `sudo -u {name} office ..`")
 
 
 def make_folder(office: str, *names: str) -> str:
@@ -89,11 +85,11 @@ def opened(path: str, flags: int, outer: int | None = None) -> int:
         file = os.open(path if outer is None else os.path.basename(path), flags | SAFELY, 0o600, dir_fd=outer)
     except OSError as fault:
         if fault.errno in LINKS:
-            raise Strange(LINKS[fault.errno], path) from None
+            raise Strange(f"{path} {LINKS[fault.errno]}") from None
         raise OSError(fault.errno, fault.strerror, path) from None
     if wrong := strange(os.fstat(file), flags):
         os.close(file)
-        raise Strange(wrong, path)
+        raise Strange(f"{path} {wrong}")
     return file
 
 

@@ -11,6 +11,7 @@ import errno
 import functools
 import itertools
 import os
+import re
 import sqlite3
 import time
 from collections.abc import Callable, Iterable, Iterator, Sequence
@@ -24,6 +25,7 @@ from exam_desk.trouble import Stale, Trouble
 CHANGES = ["import", "withdraw", "reinstate", "close-hall", "decide", "migrate"]
 PAUSE = 0.2  # seconds from one try to the next
 MOST_NAMED = 3  # sessions, candidates, papers or halls in the title of a change
+SAME = re.compile("added 0 changed 0 same [0-9]+\n")  # what the program says of an import of what is there already
 Tell = Callable[[str], None]  # hears which step begins
 Value = TypeVar("Value")
 
@@ -190,10 +192,11 @@ def carry_out(office: Office, steps: Sequence[Step], made_from: str | None = Non
         except (NotBegun, running.NotStarted):
             copies.drop(copy)
             raise
-        if is_undone:
-            copies.drop(copy)
         as_promised = None if promised is None or is_undone else is_in_state(office, promised)
-    return Carried(answers, None if is_undone else copy, as_promised)
+        if is_undone or all(SAME.fullmatch(each.ran.answer) for each in answers) and is_as_in(office, copy):
+            copies.drop(copy)
+            return Carried(answers, None, as_promised)
+    return Carried(answers, copy, as_promised)
 
 
 def has_done_nothing(office: Office, answered: Answered, copy: str) -> bool:
@@ -222,6 +225,13 @@ def is_in_state(office: Office, name: str) -> bool:
         return False
 
 
+def is_as_in(office: Office, copy: str) -> bool:
+    """Whether the office is in the state of a copy; not where either cannot be read."""
+    with contextlib.suppress(Trouble):
+        return is_in_state(office, states.name_now(office, copies.file_in(office, copy)))
+    return False
+
+
 def kept_copy(office: Office, title: str) -> str:
     try:
         return copies.keep_copy(office, title)
@@ -230,8 +240,8 @@ def kept_copy(office: Office, title: str) -> str:
 
 
 def no_copy(office: Office, fault: OSError) -> NotBegun:
-    place = fault.filename or beside.folder(office.path)
-    room = f"; make room, for example in {beside.folder(office.path, copies.DAYS)}" if fault.errno == errno.ENOSPC else ""
+    place, days = fault.filename or beside.folder(office.path), beside.folder(office.path, copies.DAYS)
+    room = f"; make room, for example in {days}" if fault.errno == errno.ENOSPC else ""
     return NotBegun(f"no copy of the office can be kept, so nothing is changed: {place}: {fault.strerror}{room}")
 
 
@@ -320,10 +330,9 @@ def broken_off(office: Office, found: logbook.Unfinished) -> str:
     if not found.copy:
         return f"{what} has no end in the log: it is there whole or not at all; look"
     copy = beside.folder(office.path, copies.PLACE, found.copy)
-    behind = f" behind `{found.done[-1]}`" if found.done else " in its first step"
+    behind = f" behind `{found.done}`" if found.done else " in its first step"
     if copy not in copies.listed(office):
         return f"{what} was broken off{behind}; its copy is gone"
-    with contextlib.suppress(Trouble):
-        if is_in_state(office, states.name_now(office, copies.file_in(office, copy))):
-            return f"{what} was broken off; nothing of it is left"
+    if is_as_in(office, copy):
+        return f"{what} was broken off; nothing of it is left"
     return f"{what} was broken off{behind}: {way_back(copy)}"

@@ -1,5 +1,5 @@
-"""What `keep` does: serves the office, with one lock for all that use it, and comes back after each command. And how it is
-begun in the background, ended, and asked whether it serves.
+"""What `keep` does: serves the office, with one lock for all that use it, and comes back after each command. And how it
+is begun in the background, ended, and asked whether it serves.
 
 It begins `serve` anew whatever ends it or keeps it from beginning. Nothing ends `keep` itself but its signals, or a
 port or a socket that cannot be had.
@@ -148,8 +148,8 @@ class Keep:
         return fault
 
     async def until_over(self, opening: asyncio.Task[None], ended: asyncio.Task[int], day: datetime.date) -> str:
-        """Waits until `serve` is to end, or has ended; gives its fault, "" without one. No length of a night is reckoned,
-        so a missing midnight or a set clock does no harm."""
+        """Waits until `serve` is to end, or has ended; gives its fault, "" without one. No length of a night is
+        reckoned, so a missing midnight or a set clock does no harm."""
         over = asyncio.create_task(self.hold.over.wait())
         try:
             while not (over.done() or ended.done()) and self.office.today() == day:
@@ -306,6 +306,6 @@ def fault_of(state: turns.Said) -> str:
         return f"process {state['pid']} runs, but cannot write down what it does: is the disk full?"
     what = plain(state.get("state", "it begins"))
     if what == "serving":
-        return (f"process {state['pid']} does not serve now: no answer came within {QUESTION_SECONDS} seconds; it begins "
-                "anew by itself")
+        return (f"process {state['pid']} does not serve now: no answer came within {QUESTION_SECONDS} seconds; it "
+                "begins anew by itself")
     return f"process {state['pid']} does not serve now: {what}; it tries again by itself"

@@ -9,7 +9,7 @@ import contextlib
 import datetime
 import os
 from collections.abc import Iterator, Sequence
-from dataclasses import dataclass, field
+from dataclasses import dataclass
 
 from exam_desk import beside
 from exam_desk.office import Office
@@ -35,8 +35,8 @@ class Unfinished:
     when: str
     command: str
     copy: str  # the name of the copy from before a list of steps; "" of a single command
-    done: list[str] = field(default_factory=list)  # the steps that have an end
-    begun: str = ""  # the last step
+    done: str = ""  # the last step that has an end
+    begun: str = ""  # the last one that has begun
 
 
 def shown(words: Sequence[str]) -> list[str]:
@@ -80,7 +80,7 @@ def unfinished(office: Office) -> Unfinished | None:
         elif found and command == found.command:
             found = None
         elif found and command == found.begun:
-            found.done.append(command)
+            found.done = command
     return found
 
 

@@ -42,12 +42,9 @@ def private_copy(path: str, office: str) -> Iterator[str]:
         yield os.path.join(folder, NAME)
 
 
-@contextlib.contextmanager
-def own_folder(office: str) -> Iterator[str]:
+def own_folder(office: str) -> contextlib.AbstractContextManager[str]:
     """A private folder beside an office; in TMPDIR where there is no office."""
-    place = beside.make_folder(office, PLACE) if os.path.isfile(office) else tempfile.gettempdir()
-    with private_folder(place) as folder:
-        yield folder
+    return private_folder(beside.make_folder(office, PLACE) if os.path.isfile(office) else tempfile.gettempdir())
 
 
 @contextlib.contextmanager

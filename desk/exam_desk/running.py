@@ -6,7 +6,7 @@ import os
 import re
 import shutil
 import subprocess
-from collections.abc import Callable
+from collections.abc import Callable, Iterator
 from typing import NamedTuple
 
 from exam_desk.office import Office
@@ -32,23 +32,32 @@ class NotStarted(Trouble):
     """The program cannot be started, so it has changed nothing."""
 
 
+@contextlib.contextmanager
+def starting(office: Office) -> Iterator[None]:
+    """Raises `NotStarted` where the system does not start the program."""
+    try:
+        yield
+    except OSError as fault:
+        said = f"the program cannot be started, so nothing is changed: {office.program}: {fault.strerror}"
+        if shutil.which(office.program) is None:
+            said = f"there is no program {office.program}; EXAMOFFICE names another, and ./try-it --prove builds one"
+        raise NotStarted(said) from fault
+
+
 def run_over(office: Office, path: str, *words: str, data: bytes | None = None, lock: int | None = None,
              output: int | None = subprocess.PIPE) -> Ran:
     """Runs a command over a file. Bytes stand in the place of the file that its last word names: they are whole before
     it begins, whoever is killed then, and on no disk. The program holds the lock too. Its answer goes to an output
     that is given, to ours for None, as it is. Raises `NotStarted`."""
-    with contextlib.ExitStack() as stack:
+    with starting(office), contextlib.ExitStack() as stack:
         given = None
-        try:
-            if data is not None:
-                given = stack.enter_context(open(os.memfd_create("import"), "w+b"))
-                given.write(data)
-                given.flush()
-                words = (*words[:-1], INPUT)
-            done = subprocess.run(office.line_over(path, *words), stdin=given, stdout=output, stderr=subprocess.PIPE,
-                                  pass_fds=() if lock is None else (lock,), check=False)
-        except OSError as fault:
-            raise not_started(office, fault) from fault
+        if data is not None:
+            given = stack.enter_context(open(os.memfd_create("import"), "w+b"))
+            given.write(data)
+            given.flush()
+            words = (*words[:-1], INPUT)
+        done = subprocess.run(office.line_over(path, *words), stdin=given, stdout=output, stderr=subprocess.PIPE,
+                              pass_fds=() if lock is None else (lock,), check=False)
     status = done.returncode if done.returncode >= 0 else 128 - done.returncode
     return Ran(status, (done.stdout or b"").decode("utf-8", "replace"), done.stderr.decode("utf-8", "replace"))
 
@@ -56,11 +65,9 @@ def run_over(office: Office, path: str, *words: str, data: bytes | None = None, 
 def help_text(office: Office, *words: str) -> str:
     """The help of the program, or of one of its commands, in the words that `office` takes: it gives the file and the
     date by itself. Raises `NotStarted`."""
-    try:
+    with starting(office):
         done = subprocess.run([office.program, *words, "--help"], stdout=subprocess.PIPE, stderr=subprocess.DEVNULL,
                               check=False)
-    except OSError as fault:
-        raise not_started(office, fault) from fault
     text = OPTIONS.sub("", USE.sub("office", done.stdout.decode("utf-8", "replace")))
     return NAMED.sub(r"`office \1`", text)
 
@@ -68,20 +75,10 @@ def help_text(office: Office, *words: str) -> str:
 def begun(office: Office, path: str, port: int, number: int) -> subprocess.Popen[bytes]:
     """`serve` over a file at a port, as a child that a signal ends where this process is killed. The thread that begins
     it must live as long: the system asks for that thread. Raises `NotStarted`."""
-    try:
+    with starting(office):
         return subprocess.Popen(
             office.line_over(path, "serve", str(port)), stdin=subprocess.DEVNULL, stdout=subprocess.PIPE,
             stderr=subprocess.PIPE, preexec_fn=end_with(os.getpid(), number))
-    except OSError as fault:
-        raise not_started(office, fault) from fault
-
-
-def not_started(office: Office, fault: OSError) -> NotStarted:
-    """What is said of a program that the system does not start."""
-    if shutil.which(office.program) is None:
-        return NotStarted(f"there is no program {office.program}; EXAMOFFICE names another, and ./try-it --prove "
-                          "builds one")
-    return NotStarted(f"the program cannot be started, so nothing is changed: {office.program}: {fault.strerror}")
 
 
 def end_with(parent: int, number: int) -> Callable[[], None]:

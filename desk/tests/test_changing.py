@@ -169,6 +169,46 @@ class Lists(Changing):
             self.fail("it began")
 
 
+class Same(Changing):
+    """What changes nothing keeps no copy, so that `back 1` takes back the last change that was one."""
+
+    def imported(self, *kinds):
+        """Imports of what is there already."""
+        return [Step(("import", kind, f"{kind}.csv"), (self.examples / f"{kind}.csv").read_bytes()) for kind in kinds]
+
+    def test_an_import_of_what_is_there(self):
+        self.office("withdraw", "0001000", "MA-1")
+        before, kept = self.state(), self.kept()
+        self.assertEqual(self.office("import", "entries", str(self.examples / "entries.csv")),
+                         "added 0 changed 0 same 172\n")
+        self.assertEqual(self.log()[-1][1:], ["0", "added 0 changed 0 same 172"])
+        for steps in (self.imported("halls"), self.imported(*sample.KINDS)):
+            carried = changing.carry_out(self.value, steps, before, before)
+            self.assertEqual((carried.refused, carried.copy, carried.as_promised), (None, None, True))
+            self.assertEqual(len(carried.answers), len(steps))
+        self.assertEqual((self.state(), self.kept()), (before, kept))
+
+    def test_the_name_that_stands(self):
+        for name, count in (("Ada Lin", 0), ("Ada Lind", 1), ("Ada Lind", 1)):
+            self.office("name", "0001000", name)
+            self.assertEqual(len(self.kept()), count, name)
+
+    def test_what_changes_something_keeps_its_copy(self):
+        steps = [*self.imported("sessions"), STEPS[2]]
+        self.assertEqual(self.kept(), [changing.carry_out(self.value, steps).copy])
+        self.change(APPEAL, "HA1", 1)
+        before = self.state()
+        self.office("decide", "0001051", "HA1", "refused", "no")
+        self.assertEqual((self.state(), len(self.kept())), (before, 2))  # an appeal that is refused is no part of a state
+
+    def test_an_answer_alone_is_not_believed(self):
+        """A program that says it, but did more."""
+        liar = self.program(f'[ "$5" = import ] && {sample.built_program()} --db "$2" --today "$4" withdraw 0001000 MA-1 '
+                            ">/dev/null")
+        office = Office(self.path, liar, self.value.today, "tester")
+        self.assertEqual(self.kept(), [changing.carry_out(office, self.imported("halls")).copy])
+
+
 class States(Changing):
     def test_stale(self):
         with changing.rehearse(self.value, STEPS) as rehearsal:
