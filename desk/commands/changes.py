@@ -45,7 +45,7 @@ Notes, the name of the school, rows of desks, printed desks and absences stay as
 others in the copy.
 """)
 def back(parser: ArgumentParser) -> None:
-    from exam_desk import changing, copies, notebook, undo
+    from exam_desk import changing, copies, notebook
     parser.add_argument("number", type=int, nargs="?", help="a number of the list")
     given = command.given(parser, "--yes: do not ask")
     office = command.office()
@@ -56,12 +56,10 @@ def back(parser: ArgumentParser) -> None:
     when, what = copies.when_and_what(copy)
     others = notebook.others_than_in(office, copy)
     question = f"put back the office of {when}, before `{plain(what)}`? What was done since then is undone."
-    words = ["back", str(given.number)]
-    asked = None if given.yes else agreed(question, undo.taken_away(office, copy))
-    done = changing.go_back(office, words, copy, lambda lines: asked in (None, lines))
-    while not done.is_done:
+    asked = None if given.yes else agreed(question, copies.taken_away(office, copy))
+    while not (done := changing.go_back(office, ["back", str(given.number)], copy,
+                                        lambda lines: asked in (None, lines))).is_done:
         asked = agreed(f"this has changed since the question, and nothing is done yet: {question}", done.lines)
-        done = changing.go_back(office, words, copy, lambda lines: asked == lines)
     print(f"the office is as it was on {when}, before {plain(what)}")
     print_taken(done.lines)
     print_left(others)
@@ -214,14 +212,14 @@ def what_if(parser: ArgumentParser) -> int:
 
 def what_if_back(office: Office, words: list[str]) -> None:
     """Says what it would do to put the copy back that the words name."""
-    from exam_desk import changing, consequences, copies, notebook, undo
+    from exam_desk import changing, consequences, copies, notebook
     if len(words) != 1 or not re.fullmatch("[0-9]{1,9}", words[0]):
         raise Trouble("name a copy by its number, as in `office what-if back 1`; `office back` lists them")
     copy = copies.chosen(office, int(words[0]))
     when, what = copies.when_and_what(copy)
-    with changing.rehearse_back(office, copy) as rehearsal:
+    with changing.rehearse(office, [], copy=copy) as rehearsal:
         lines = consequences.of(rehearsal, None, command.show_asked)
     print(f"the office would be as it was on {when}, before {plain(what)}")
-    print_taken(undo.taken_away(office, copy))
+    print_taken(copies.taken_away(office, copy))
     print_left(notebook.others_than_in(office, copy))
     command.say("".join(f"{line}\n" for line in lines))

@@ -2,13 +2,16 @@
 came of it."""
 from __future__ import annotations
 
+import contextlib
 import itertools
 import os
+import subprocess
 import sys
-from collections.abc import Sequence
+from collections.abc import Iterator, Sequence
+from typing import TypeVar
 
 import command
-from exam_desk import beside, changing, refusals, running, turns
+from exam_desk import beside, changing, private, refusals, running, turns
 from exam_desk.office import Office
 from exam_desk.running import Ran
 from exam_desk.trouble import Trouble
@@ -22,12 +25,14 @@ With the entries of a file, whose header is number,paper: office {0} --list FILE
   One copy of the office is kept, and each row has a line in the log. Where a number or a paper is not known nothing is
   changed. A row that is refused is printed, and the others are carried out; `office back 1` takes all of it back.
 """
+Value = TypeVar("Value")
 
 
 def run(office: Office, words: list[str]) -> int:
     """Runs a command of the program; the status."""
     if words[0].startswith("-"):
-        replace_by(office, ["examoffice", *words])
+        with running.starting(office):
+            os.execv(office.program, ["examoffice", *words])
     if not {"-h", "--help"}.isdisjoint(itertools.takewhile(lambda word: word != "--", words)):
         found = running.help_text(office, words[0])
         command.say(found + (LIST_HELP.format(words[0]) if words[0] in LISTED else ""))
@@ -38,48 +43,44 @@ def run(office: Office, words: list[str]) -> int:
         beside.refuse_stranger(office.path)
         if turns.keep_state(office) is not None:
             raise Trouble("`keep` serves this office already; `office keep stop` ends it")
-        replace_by(office, office.line(*words))
-    if words[0] in changing.CHANGES and os.path.isfile(office.path):
-        return changed(office, words)
+        with running.starting(office):
+            os.execv(office.program, office.line(*words))
+    if words[0] in changing.CHANGES:
+        return carry_out(office, changing.Step(tuple(words)))
     return outcome(office, words, printed(dispatch(office, words)))
 
 
-def changed(office: Office, words: list[str]) -> int:
-    """Carries out a change; its status, whatever can be said of what it did."""
-    carried = changing.carry_out(office, [changing.Step(tuple(words))])
-    status = outcome(office, words, printed(carried.answers[0].ran))
-    if words[0] != MIGRATE:  # of the office before it nobody here can read the tables
+def carry_out(office: Office, step: changing.Step, title: str = "") -> int:
+    """Carries out a change of one step; its status, whatever can be said of what it did."""
+    carried = changing.carry_out(office, [step], title=title)
+    status = outcome(office, step.words, printed(carried.answers[0].ran), step.data)
+    if step.words[0] != MIGRATE:  # of the office before it nobody here can read the tables
         command.tell_consequences(carried.copy)
     return status
 
 
-def carry_out(office: Office, step: changing.Step, title: str) -> int:
-    """Carries out a step that a command of the desk made; the status."""
-    carried = changing.carry_out(office, [step], title=title)
-    ran = carried.answers[0].ran
-    command.say(ran.answer)
-    status = outcome(office, step.words, ran, step.data)
-    command.tell_consequences(carried.copy)
-    return status
-
-
 def dispatch(office: Office, words: list[str]) -> Ran:
-    """Runs another command of the program; its answer is printed already where it is empty."""
+    """Runs another command of the program; its answer is printed already where it is empty. The bytes of a sheet go out
+    as they are; only a terminal gets what hides in names as `?`."""
     if words[0] in CHECKING and (os.path.isfile(office.path) or words[0] == "init" and not os.path.exists(office.path)):
-        with turns.alone_if_possible(office, words):
-            return changing.run_patiently(office, words)
+        with if_possible(turns.alone(office, words), None):
+            return changing.run_patiently(office, changing.Step(tuple(words)))
     if words[0] not in running.SHEETS:
-        return running.hand_on(office, office.path, *words)
-    with running.readable(office) as path:
-        return sheet(office, path, words)
-
-
-def sheet(office: Office, path: str, words: list[str]) -> Ran:
-    """Runs the program for a sheet. Its bytes go out as they are; only a terminal gets what hides in names as `?`."""
-    if not sys.stdout.isatty():
-        return running.hand_on(office, path, *words)
-    ran = running.run_over(office, path, *words)
+        return running.run_over(office, office.path, *words, output=None)
+    with if_possible(private.private_copy(office.path, office.path), office.path) as path:
+        ran = running.run_over(office, path, *words, output=subprocess.PIPE if sys.stdout.isatty() else None)
     return ran._replace(answer="\n".join(map(plain, ran.answer.split("\n"))))
+
+
+@contextlib.contextmanager
+def if_possible(context: contextlib.AbstractContextManager[Value], instead: Value) -> Iterator[Value]:
+    """A context; or a value where it cannot begin, such as beside a file that is not there: the program says what is
+    wrong."""
+    with contextlib.ExitStack() as stack:
+        value = instead
+        with contextlib.suppress(OSError):
+            value = stack.enter_context(context)
+        yield value
 
 
 def printed(ran: Ran) -> Ran:
@@ -120,14 +121,6 @@ def tell_row(office: Office, line: int, answered: changing.Answered) -> int:
     return answered.ran.status
 
 
-def replace_by(office: Office, line: list[str]) -> None:
-    """Goes on as the program."""
-    try:
-        os.execv(office.program, line)
-    except OSError as fault:
-        raise running.not_started(office, fault) from fault
-
-
 def meant(name: str) -> str:
     """What a word that is no command may stand for."""
     import difflib  # here, since a slip alone needs it
@@ -143,6 +136,7 @@ def outcome(office: Office, words: Sequence[str], ran: Ran, data: bytes | None =
     if ran.status == 1:
         lines = refusals.explained(office, words, ran.complaint, data)
     elif ran.status == 2:
-        lines = running.usage(office, words[0]) or [f"  `office --help` lists the commands{meant(words[0])}"]
+        usage = [f"  {line}" for line in running.help_text(office, words[0]).split("\n") if line][1:]
+        lines = usage or [f"  `office --help` lists the commands{meant(words[0])}"]
     sys.stderr.write(ran.complaint + "".join(f"{line}\n" for line in lines))
     return ran.status

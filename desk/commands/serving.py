@@ -40,14 +40,10 @@ def desk(parser: ArgumentParser) -> None:
     if given.link:
         command.say(serving.another_link(office) + "\n")
         return
-    serving.serve(office, given.port, bool(os.environ.get("TODAY")),
-                  lambda link: None if is_journal() else command.say(READY.format(office.path, link)))
-
-
-def is_journal() -> bool:
-    """Whether the output goes to the journal, as that of a service: no link is to stand there."""
     output = os.fstat(sys.stdout.fileno())
-    return os.environ.get("JOURNAL_STREAM") == f"{output.st_dev}:{output.st_ino}"
+    is_journal = os.environ.get("JOURNAL_STREAM") == f"{output.st_dev}:{output.st_ino}"  # no link is to stand there
+    serving.serve(office, given.port, bool(os.environ.get("TODAY")),
+                  lambda link: None if is_journal else command.say(READY.format(office.path, link)))
 
 
 @command.named("""\
@@ -65,7 +61,7 @@ request waits up to 30 seconds for its answer. It writes to keep.log in the fold
 where the lock files and the copies of the days are too.
 """)
 def keep(parser: ArgumentParser) -> bool:
-    from exam_desk import beside, keeping, kept
+    from exam_desk import beside, keeping
     parser.add_argument("what", choices=["start", "run", "stop", "status"])
     parser.add_argument("place", type=place_of, nargs="?", default=PORT, help="a port, or a folder for the socket")
     parser.add_argument("--days", type=int, default=DAYS, help="how many copies of days are kept (30)")
@@ -79,11 +75,15 @@ def keep(parser: ArgumentParser) -> bool:
         keeping.run(office, given.place, given.days)
         return False
     if given.what == "stop":
-        kept.stop(office)
+        keeping.stop(office)
         print("ended")
         return False
-    begun = given.what == "start"
-    status = kept.start(office, line_to_run(given.place, given.days)) if begun else kept.status(office)
+    if given.what == "start":
+        where = given.place if given.place.isdigit() else os.path.dirname(given.place)
+        line = [sys.executable, command.OFFICE, "keep", "run", where, "--days", str(given.days)]
+        status = keeping.start(office, line)
+    else:
+        status = keeping.status(office)
     print(status.sentence)
     return not status.serves
 
@@ -102,8 +102,3 @@ def place_of(given: str) -> str:
     if len(os.fsencode(path)) > keeping.MOST_PATH:
         raise ArgumentTypeError(f"the path {path} is longer than {keeping.MOST_PATH} bytes")
     return path
-
-
-def line_to_run(place: str, days: int) -> list[str]:
-    where = place if place.isdigit() else os.path.dirname(place)
-    return [sys.executable, command.OFFICE, "keep", "run", where, "--days", str(days)]

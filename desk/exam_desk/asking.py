@@ -1,4 +1,5 @@
 """The client of all the desk: it sends nothing, no access code above all, to a process that is not the one it means.
+And a `serve` of its own to ask.
 
 A port is anybody's as soon as its owner is gone: another user of the machine can take it between two requests. A look
 at who listens does not help before the connection: it says nothing of who is there when the connection comes. So who
@@ -7,18 +8,32 @@ listened before the connection and still does, is at its other end.
 """
 from __future__ import annotations
 
+import collections
 import contextlib
+import itertools
 import os
 import re
+import signal
 import socket
 import struct
+import subprocess
 import sys
+from collections.abc import Callable, Sequence
 from typing import NamedTuple
+
+from exam_desk import running
+from exam_desk.office import Office
+from exam_desk.trouble import Trouble
 
 HOST = "127.0.0.1"
 SHOWN_HOST = f"{int.from_bytes(socket.inet_aton(HOST), sys.byteorder):08X}"  # as /proc/net/tcp shows it
 LISTENS = b"0A"  # the state of a socket there
 PEER = "3i"  # struct ucred of unix(7): process, user, group
+AT_ONCE = 4  # connections: while `serve` answers the first, the next are made
+SECONDS = 60  # that an answer may take
+TRIES = 5  # of a `serve` that ends before it has answered, or whose port another process takes
+
+Progress = Callable[[int, int], None]  # how many are done, of how many
 
 
 class Server(NamedTuple):
@@ -29,6 +44,84 @@ class Server(NamedTuple):
 
 class Stranger(OSError):
     """Another process listens, or none, or it cannot be seen which: nothing was sent."""
+
+
+class Serve:
+    """Asks a `serve` of its own over a file that nobody else uses. It begins with the first request, as a child of this
+    process, and ends with it, however that ends.
+
+    The thread that asks first must live as long: the system ends `serve` with that thread.
+    """
+
+    def __init__(self, office: Office, path: str, explain: Callable[[str], None]) -> None:
+        """Over a file of an office. `explain` hears a refusal, and may raise what it knows better."""
+        self.office, self.path, self.explain = office, path, explain
+        self.child: subprocess.Popen[bytes] | None = None
+        self.port = 0
+        self.server: Server | None = None  # once it has said that it serves
+
+    def bodies(self, requests: Sequence[bytes], progress: Progress) -> list[bytes]:
+        """The bodies of the answers, which must have the status 200. Raises `Trouble` where the program refuses the
+        office, or ends again and again."""
+        found: list[bytes] = []
+        for _ in range(TRIES):
+            with contextlib.suppress(OSError):
+                return ask_all(self.started(), requests, found, progress)
+            self.close()
+        raise Trouble(f"the program ended {TRIES} times while it was asked; nothing is printed")
+
+    def begin(self) -> subprocess.Popen[bytes]:
+        """Begins `serve` where none runs, and does not wait until it has opened the office."""
+        if self.child is None:
+            self.port = free_port()
+            self.child = running.begun(self.office, self.path, self.port, signal.SIGKILL)
+        return self.child
+
+    def started(self) -> Server:
+        """Who answers. Raises `Trouble` where the program refuses the office, and OSError where another try may do: its
+        port was taken, or a signal ended it."""
+        if self.server is None:
+            child = self.begin()
+            assert child.stdout and child.stderr
+            if not child.stdout.readline().startswith(b"serving"):
+                complaint = child.stderr.readline().decode("utf-8", "replace").strip()
+                if complaint in ("", "net fault"):
+                    raise OSError("serve does not listen")
+                self.explain(complaint)
+                raise Trouble(f"the program does not read the office ({complaint}); `office check` says more; nothing "
+                              "is printed")
+            self.server = Server(child.pid, str(self.port))
+        return self.server
+
+    def close(self) -> None:
+        """Ends `serve`, which has nothing to save."""
+        if self.child is not None:
+            with self.child as child:
+                child.kill()
+        self.child = self.server = None
+
+
+def ask_all(server: Server, requests: Sequence[bytes], found: list[bytes], progress: Progress) -> list[bytes]:
+    """The body of each answer, added to those that are found already. Raises OSError where no whole one comes, and
+    `Trouble` where one has another status than 200."""
+    waiting: collections.deque[socket.socket] = collections.deque()
+    left = iter(requests[len(found):])
+    try:
+        while len(found) < len(requests):
+            waiting.extend(sent(server, request, SECONDS)
+                           for request in itertools.islice(left, AT_ONCE - len(waiting)))
+            answer = received(waiting.popleft())
+            status, body = status_of(answer), body_of(answer)
+            if status == 0:
+                raise ConnectionError("the answer is not whole")
+            if status != 200:
+                raise Trouble(f"the program answered {status} {body.decode('utf-8', 'replace')[:60]}")
+            found.append(body)
+            progress(len(found), len(requests))
+        return found
+    finally:
+        for connection in waiting:
+            connection.close()
 
 
 def address(place: str) -> tuple[socket.AddressFamily, tuple[str, int] | str]:
@@ -47,16 +140,17 @@ def answer(server: Server, request: bytes, seconds: float) -> bytes:
 
 
 def sent(server: Server, request: bytes, seconds: float) -> socket.socket:
-    """A connection over which a request went. Raises `Stranger`, or another OSError where nobody listens; each wait for
-    the server lasts so long at most."""
+    """A connection over which a request went, as far as the server took it. Raises `Stranger`, or another OSError where
+    nobody listens; each wait for the server lasts so long at most."""
     family, where = address(server.place)
     connection = socket.socket(family)
     try:
         connection.settimeout(seconds)
         connection.connect(where)
         refuse_stranger(connection, server)
-        connection.sendall(request)
-        connection.shutdown(socket.SHUT_WR)
+        with contextlib.suppress(OSError):  # what it answered before can be received
+            connection.sendall(request)
+            connection.shutdown(socket.SHUT_WR)
     except BaseException:
         connection.close()
         raise
@@ -64,9 +158,10 @@ def sent(server: Server, request: bytes, seconds: float) -> socket.socket:
 
 
 def received(connection: socket.socket) -> bytes:
-    """All that comes over a connection, which ends then."""
+    """All that comes over a connection before it ends, in whatever way; it is closed then. Raises TimeoutError where a
+    wait lasts too long."""
     parts = []
-    with connection:
+    with connection, contextlib.suppress(ConnectionError):
         while part := connection.recv(1 << 16):
             parts.append(part)
     return b"".join(parts)
@@ -88,7 +183,10 @@ def listens(server: Server) -> bool:
     with contextlib.suppress(OSError):  # it has ended, or is another user's
         socket_name = f"socket:[{listener(int(server.place))}]"
         folder = f"/proc/{server.process}/fd"
-        return any(read_link(f"{folder}/{name}") == socket_name for name in os.listdir(folder))
+        for name in os.listdir(folder):
+            with contextlib.suppress(OSError):  # closed meanwhile
+                if os.readlink(f"{folder}/{name}") == socket_name:
+                    return True
     return False
 
 
@@ -106,12 +204,6 @@ def listener(port: int) -> str:
                 break
             if local == wanted:
                 return inode.decode()
-    return ""
-
-
-def read_link(path: str) -> str:
-    with contextlib.suppress(OSError):  # closed meanwhile
-        return os.readlink(path)
     return ""
 
 

@@ -16,22 +16,20 @@ import stat
 from exam_desk.trouble import Trouble
 
 OTHERS = stat.S_IWGRP | stat.S_IWOTH
-AS_FOLDER = os.O_RDONLY | os.O_DIRECTORY | os.O_NOFOLLOW | os.O_CLOEXEC
-AS_FILE = os.O_NOFOLLOW | os.O_NONBLOCK | os.O_CLOEXEC  # a pipe in the place of a file keeps nobody waiting
+AS_FOLDER = os.O_RDONLY | os.O_DIRECTORY
+SAFELY = os.O_NOFOLLOW | os.O_NONBLOCK  # a pipe in the place of a file keeps nobody waiting
 LINKS = {errno.ELOOP: "is a link, which is not followed", errno.ENOTDIR: "is no folder, or a link to one"}
 
 
 class Strange(Trouble):
     """What belongs to another, what others may write, or a link: it is not used."""
 
-    def __str__(self) -> str:
-        return f"{self.place} {self.sentence}"
 
-
-def folder(office: str) -> str:
-    """The folder beside an office's file; a link to that file has the folder of the file itself."""
+def folder(office: str, *names: str) -> str:
+    """The path of the folder beside an office's file, or of what lies in it; a link to that file has the folder of the
+    file itself."""
     path = os.path.realpath(office)
-    return os.path.join(os.path.dirname(path), "desk-" + os.path.basename(path))
+    return os.path.join(os.path.dirname(path), "desk-" + os.path.basename(path), *names)
 
 
 def user_name(number: int) -> str:
@@ -48,8 +46,7 @@ def refuse_stranger(office: str) -> None:
         owner = os.stat(office).st_uid
         if owner != os.geteuid():
             name = user_name(owner)
-            how = f"belongs to {name}: work as that user, as with `sudo -u {name} office ..`"
-            raise Strange(how, "the office")
+            raise Strange(f"the office belongs to {name}: work as that user, as with `sudo -u {name} office ..`")
 
 
 def make_folder(office: str, *names: str) -> str:
@@ -57,29 +54,27 @@ def make_folder(office: str, *names: str) -> str:
     refuse_stranger(office)
     for count in range(len(names) + 1):
         with contextlib.suppress(FileExistsError):
-            os.mkdir(os.path.join(folder(office), *names[:count]), 0o700)
+            os.mkdir(folder(office, *names[:count]), 0o700)
         os.close(open_folder(office, *names[:count]))
-    return os.path.join(folder(office), *names)
+    return folder(office, *names)
 
 
 def open_folder(office: str, *names: str) -> int:
     """A descriptor of the folder, or of one in it; `Strange` where one on the way is not to be trusted."""
-    refuse_stranger(office)
-    path = folder(office)
-    inner = opened(path, AS_FOLDER)
-    with contextlib.ExitStack() as outer:
-        for name in names:
-            outer.callback(os.close, inner)
-            path = os.path.join(path, name)
-            inner = opened(path, AS_FOLDER, inner)
-    return inner
+    return open_file(office, *names, flags=AS_FOLDER)
 
 
 def open_file(office: str, *names: str, flags: int) -> int:
-    """A descriptor of a file in the folder, for its owner alone where it is new; `Strange` as for a folder."""
+    """A descriptor of a file in the folder; `Strange` as for a folder. A new one is for its owner alone, and so are the
+    folders that are made for it."""
+    refuse_stranger(office)
+    if flags & os.O_CREAT:
+        make_folder(office, *names[:-1])
+    if not names:
+        return opened(folder(office), flags)
     outer = open_folder(office, *names[:-1])
     try:
-        return opened(os.path.join(folder(office), *names), flags | AS_FILE, outer)
+        return opened(folder(office, *names), flags, outer)
     finally:
         os.close(outer)
 
@@ -87,14 +82,14 @@ def open_file(office: str, *names: str, flags: int) -> int:
 def opened(path: str, flags: int, outer: int | None = None) -> int:
     """Opens the last name of a path, in an open folder if there is one. What it raises names the whole path."""
     try:
-        file = os.open(path if outer is None else os.path.basename(path), flags, 0o600, dir_fd=outer)
+        file = os.open(path if outer is None else os.path.basename(path), flags | SAFELY, 0o600, dir_fd=outer)
     except OSError as fault:
         if fault.errno in LINKS:
-            raise Strange(LINKS[fault.errno], path) from None
+            raise Strange(f"{path} {LINKS[fault.errno]}") from None
         raise OSError(fault.errno, fault.strerror, path) from None
     if wrong := strange(os.fstat(file), flags):
         os.close(file)
-        raise Strange(wrong, path)
+        raise Strange(f"{path} {wrong}")
     return file
 
 
@@ -117,7 +112,7 @@ def refuse_strange(path: str) -> None:
 
 def sync(path: str) -> None:
     """Waits until a file, or what a folder lists, is on the disk."""
-    file = os.open(path, os.O_RDONLY | os.O_NOFOLLOW | os.O_CLOEXEC)
+    file = os.open(path, os.O_RDONLY | os.O_NOFOLLOW)
     try:
         os.fsync(file)
     finally:

@@ -11,19 +11,21 @@ import errno
 import functools
 import itertools
 import os
+import re
 import sqlite3
 import time
 from collections.abc import Callable, Iterable, Iterator, Sequence
 from dataclasses import dataclass
 from typing import NamedTuple, TypeVar
 
-from exam_desk import copies, files, logbook, private, refusals, running, states, turns, undo
+from exam_desk import beside, copies, files, logbook, private, refusals, running, states, turns
 from exam_desk.office import Office
 from exam_desk.trouble import Stale, Trouble
 
 CHANGES = ["import", "withdraw", "reinstate", "close-hall", "decide", "migrate"]
 PAUSE = 0.2  # seconds from one try to the next
 MOST_NAMED = 3  # sessions, candidates, papers or halls in the title of a change
+SAME = re.compile("added 0 changed 0 same [0-9]+\n")  # what the program says of an import of what is there already
 Tell = Callable[[str], None]  # hears which step begins
 Value = TypeVar("Value")
 
@@ -63,54 +65,34 @@ class Answered(NamedTuple):
     def first_line(self) -> str:
         return (self.ran.answer + self.ran.complaint).split("\n")[0]
 
-    def is_refused(self) -> bool:
-        """Whether the program says that it did nothing; after refusal 23 the step may be there all the same."""
-        return self.ran.status == 2 or self.ran.complaint.startswith(("refused", "file fault"))
-
 
 class NotBegun(Trouble):
     """There is no room for the copy or the log, or the office cannot be read, so nothing is changed."""
 
 
-class Carried(NamedTuple):
-    """What became of a list of steps."""
+@dataclass
+class Tried:
+    """What the program said of a list of steps."""
     answers: list[Answered]  # of the steps up to the first that is refused
-    copy: str | None  # the path of the copy from before; None where nothing has changed
-    as_promised: bool | None  # whether the office is now as the rehearsal said; None where nothing was promised
 
     @property
     def refused(self) -> Answered | None:
         return refused_of(self.answers)
-
-
-class Back(NamedTuple):
-    """What became of a copy that was to be put back."""
-    is_done: bool
-    lines: list[str]  # for each appeal and decision that this takes away
-    copy: str | None  # the path of the copy of what was there
 
 
 @dataclass
-class Rehearsal:
-    """A list of steps carried out on a private copy. Close it, or use it as a context: then the copies go."""
+class Carried(Tried):
+    """What became of a list of steps."""
+    copy: str | None  # the path of the copy from before; None where nothing has changed
+    as_promised: bool | None  # whether the office is now as the rehearsal said; None where nothing was promised
+
+
+@dataclass
+class Rehearsal(Tried):
+    """A list of steps carried out on a private copy, as long as its context lasts."""
     office: Office
     before: str  # the paths of private copies from before and after
     after: str
-    answers: list[Answered]  # of the steps up to the first that is refused
-    copies: contextlib.ExitStack
-
-    def __enter__(self) -> Rehearsal:
-        return self
-
-    def __exit__(self, *_: object) -> None:
-        self.close()
-
-    def close(self) -> None:
-        self.copies.close()
-
-    @property
-    def refused(self) -> Answered | None:
-        return refused_of(self.answers)
 
     @functools.cached_property
     def made_from(self) -> str:
@@ -123,17 +105,24 @@ class Rehearsal:
         return states.name_now(self.office, self.after)
 
 
+class Back(NamedTuple):
+    """What became of a copy that was to be put back."""
+    is_done: bool
+    lines: list[str]  # for each appeal and decision that this takes away
+    copy: str | None  # the path of the copy of what was there
+
+
 class Turn(NamedTuple):
     """The office for this process alone."""
     office: Office
     lock: int
     tell: Tell
 
-    def carried(self, step: Step, line: tuple[str, ...], status: str) -> Answered:
+    def carried(self, step: Step, status: str) -> Answered:
         """Carries out one step, which the program does whole or not at all; `status` begins its line in the log."""
         self.tell(step.title())
         with begun(self.office, logbook.logged(self.office, [*step.words, *step.about], status)) as outcome:
-            answered = Answered(step, run_patiently(self.office, line, self.lock))
+            answered = Answered(step, run_patiently(self.office, step, self.lock))
             outcome.status, outcome.answer = answered.ran.status, answered.first_line()
         return answered
 
@@ -156,109 +145,69 @@ def refused_of(answers: list[Answered]) -> Answered | None:
     return answers[-1] if answers and answers[-1].ran.status else None
 
 
-def ignore(_: str) -> None:
-    pass
-
-
-def rehearse(office: Office, steps: Sequence[Step], tell: Tell = ignore) -> Rehearsal:
-    """Carries steps out on a private copy, up to the first that is refused. Raises `Trouble` where there is no
-    office."""
-    with contextlib.ExitStack() as stack:
-        rehearsal = stack.enter_context(two_copies(office, office.path))
-        with placed(office, steps) as lines:
-            for step, line in zip(steps, lines):
-                tell(step.title())
-                rehearsal.answers.append(Answered(step, running.run_over(office, rehearsal.after, *line)))
-                if rehearsal.refused:
-                    break
-        stack.pop_all()
-    return rehearsal
-
-
-def rehearse_back(office: Office, copy: str) -> Rehearsal:
-    """As `rehearse`, of a copy that would be put back; one of an earlier version is carried over. Raises `Trouble`
-    where it is no good office."""
-    with contextlib.ExitStack() as stack:
-        rehearsal = stack.enter_context(two_copies(office, copies.file_in(office, copy)))
-        undo.check(office, rehearsal.after)
-        running.run_over(office, rehearsal.after, "migrate")
-        stack.pop_all()
-    return rehearsal
-
-
-def two_copies(office: Office, after: str) -> Rehearsal:
-    """A rehearsal without a step: private copies of the office and of what would be in its place."""
+@contextlib.contextmanager
+def rehearse(office: Office, steps: Sequence[Step], tell: Tell = lambda title: None, copy: str | None = None
+             ) -> Iterator[Rehearsal]:
+    """Carries steps out on a private copy, up to the first that is refused: of the office, or of what would be in its
+    place if a copy were put back, carried over where it is of an earlier version. Raises `Trouble` where there is no
+    office, or the copy is no good one."""
     with contextlib.ExitStack() as stack:
         try:
             before = stack.enter_context(private.private_copy(office.path, office.path))
-            source = before if after == office.path else after  # both are of one moment
+            source = before if copy is None else copies.file_in(office, copy)  # both are of one moment
             after = stack.enter_context(private.private_copy(source, office.path))
         except OSError as fault:
             raise Trouble(fault.strerror or str(fault), fault.filename or office.path) from fault
-        kept = stack.pop_all()
-    return Rehearsal(office, before, after, [], kept)
-
-
-@contextlib.contextmanager
-def placed(office: Office, steps: Sequence[Step]) -> Iterator[list[tuple[str, ...]]]:
-    """The words of the steps as the program gets them: the bytes of imports are in private files meanwhile."""
-    with contextlib.ExitStack() as stack:
-        lines = [step.words for step in steps]
-        try:
-            if any(step.data is not None for step in steps):
-                folder = stack.enter_context(private.own_folder(office.path))
-                lines = [put(folder, place, step) for place, step in enumerate(steps)]
-        except OSError as fault:
-            raise Trouble(f"the files cannot be put down, so nothing is changed: {fault.strerror}",
-                          fault.filename or "") from fault
-        yield lines
-
-
-def put(folder: str, place: int, step: Step) -> tuple[str, ...]:
-    """Puts the bytes of an import into a private file, and gives its words with the path of that."""
-    if step.data is None:
-        return step.words
-    path = os.path.join(folder, f"step-{place}.csv")
-    files.put(path, step.data)
-    return *step.words[:-1], path
+        if copy is not None:
+            copies.check(office, after)
+            running.run_over(office, after, "migrate")
+        rehearsal = Rehearsal([], office, before, after)
+        for step in steps:
+            tell(step.title())
+            rehearsal.answers.append(Answered(step, running.run_over(office, after, *step.words, data=step.data)))
+            if rehearsal.refused:
+                break
+        yield rehearsal
 
 
 def carry_out(office: Office, steps: Sequence[Step], made_from: str | None = None, promised: str | None = None,
-              title: str = "", tell: Tell = ignore) -> Carried:
+              title: str = "", tell: Tell = lambda title: None) -> Carried:
     """Carries steps out in one turn, whole or not at all, with one copy from before.
 
     Where names of states are given, the office must be of the first one, else `Stale` is raised; and it is said whether
     it is of the second one then. Raises `Trouble` where nothing could begin, and nothing is changed.
     """
     if not os.path.isfile(office.path):  # the program says so
-        with placed(office, steps[:1]) as [line]:
-            return Carried([Answered(steps[0], run_patiently(office, line))], None, None)
+        return Carried([Answered(steps[0], run_patiently(office, steps[0]))], None, None)
     title = title or ", ".join(step.title() for step in steps)
-    with placed(office, steps) as lines, turn(office, title, made_from, tell) as taken:
+    with turn(office, title, made_from, tell) as taken:
         copy = kept_copy(office, title)
         try:
             if len(steps) == 1:
-                answers = [taken.carried(steps[0], lines[0], logbook.BEGINS)]
+                answers = [taken.carried(steps[0], logbook.BEGINS)]
                 is_undone = has_done_nothing(office, answers[0], copy)
             else:
-                answers = carried_all(taken, title, list(zip(steps, lines)), copy)
+                answers = carried_all(taken, title, steps, copy)
                 is_undone = refused_of(answers) is not None
         except (NotBegun, running.NotStarted):
             copies.drop(copy)
             raise
-        if is_undone:
-            copies.drop(copy)
         as_promised = None if promised is None or is_undone else is_in_state(office, promised)
-    return Carried(answers, None if is_undone else copy, as_promised)
+        if is_undone or all(SAME.fullmatch(each.ran.answer) for each in answers) and is_as_in(office, copy):
+            copies.drop(copy)
+            return Carried(answers, None, as_promised)
+    return Carried(answers, copy, as_promised)
 
 
 def has_done_nothing(office: Office, answered: Answered, copy: str) -> bool:
-    number = refusals.number_of(answered.ran.complaint)
-    return answered.is_refused() and (number != 23 or copies.is_as_now(office, copy))
+    """Whether the program says that it did nothing; after refusal 23 the step may be there all the same."""
+    if answered.ran.status != 2 and not answered.ran.complaint.startswith(("refused", "file fault")):
+        return False
+    return refusals.number_of(answered.ran.complaint) != 23 or copies.is_as_now(office, copy)
 
 
 @contextlib.contextmanager
-def turn(office: Office, title: str, made_from: str | None = None, tell: Tell = ignore) -> Iterator[Turn]:
+def turn(office: Office, title: str, made_from: str | None = None, tell: Tell = lambda title: None) -> Iterator[Turn]:
     """The office for this process alone, in the state that was looked at. Says of a change without an end what is known
     of it. Raises `Stale` where it is in another state, and `Trouble` where it cannot be had."""
     with begun(office, turns.alone(office, [title])) as lock:
@@ -276,6 +225,13 @@ def is_in_state(office: Office, name: str) -> bool:
         return False
 
 
+def is_as_in(office: Office, copy: str) -> bool:
+    """Whether the office is in the state of a copy; not where either cannot be read."""
+    with contextlib.suppress(Trouble):
+        return is_in_state(office, states.name_now(office, copies.file_in(office, copy)))
+    return False
+
+
 def kept_copy(office: Office, title: str) -> str:
     try:
         return copies.keep_copy(office, title)
@@ -284,8 +240,8 @@ def kept_copy(office: Office, title: str) -> str:
 
 
 def no_copy(office: Office, fault: OSError) -> NotBegun:
-    place = fault.filename or turns.inside(office)
-    room = f"; make room, for example in {turns.inside(office, copies.DAYS)}" if fault.errno == errno.ENOSPC else ""
+    place, days = fault.filename or beside.folder(office.path), beside.folder(office.path, copies.DAYS)
+    room = f"; make room, for example in {days}" if fault.errno == errno.ENOSPC else ""
     return NotBegun(f"no copy of the office can be kept, so nothing is changed: {place}: {fault.strerror}{room}")
 
 
@@ -303,25 +259,25 @@ def begun(office: Office, context: contextlib.AbstractContextManager[Value]) -> 
         yield value
 
 
-def run_patiently(office: Office, words: Sequence[str], lock: int | None = None) -> running.Ran:
+def run_patiently(office: Office, step: Step, lock: int | None = None) -> running.Ran:
     """Runs the program over the office, and tries again for some time while another command has the file."""
     until = time.monotonic() + turns.PATIENCE
     while True:
-        ran = running.run_over(office, office.path, *words, lock=lock)
+        ran = running.run_over(office, office.path, *step.words, data=step.data, lock=lock)
         if refusals.number_of(ran.complaint) != 23 or time.monotonic() > until or not refusals.may_pass(office):
             return ran
         time.sleep(PAUSE)
 
 
-def carried_all(taken: Turn, title: str, steps: list[tuple[Step, tuple[str, ...]]], copy: str) -> list[Answered]:
+def carried_all(taken: Turn, title: str, steps: Sequence[Step], copy: str) -> list[Answered]:
     """Carries out steps up to the first that is refused; then, or where one cannot be saved, the copy is put back."""
     answers: list[Answered] = []
     office = taken.office
-    with (begun(office, undo.ready(office, copy)) as ready,  # it can be moved in when the disk is full
+    with (begun(office, copies.ready(office, copy)) as ready,  # it can be moved in when the disk is full
           begun(office, logbook.logged(office, [title], answer=os.path.basename(copy))) as outcome):
         try:
-            for step, line in steps:
-                answers.append(taken.carried(step, line, logbook.STEP))
+            for step in steps:
+                answers.append(taken.carried(step, logbook.STEP))
                 if refused_of(answers):
                     break
         except BaseException:
@@ -345,12 +301,12 @@ def go_back(office: Office, words: Sequence[str], copy: str, may_go: Callable[[l
     with turn(office, " ".join(words), made_from):
         if not os.path.isdir(copy):
             raise Trouble("this copy is gone by now: `office back` lists what is there; nothing is changed")
-        lines = undo.taken_away(office, copy)
+        lines = copies.taken_away(office, copy)
         if not may_go(lines):
             return Back(False, lines, None)
         when, what = copies.when_and_what(copy)
         with begun(office, logbook.logged(office, words)) as outcome:
-            kept = undo.put_back(office, copy)
+            kept = copies.put_back(office, copy)
             outcome.status, outcome.answer = 0, "; ".join([f"as it was on {when}, before {what}", *lines])
     return Back(True, lines, kept)
 
@@ -358,7 +314,7 @@ def go_back(office: Office, words: Sequence[str], copy: str, may_go: Callable[[l
 def restore(office: Office, ready: str, copy: str) -> None:
     """Puts the copy back in the turn in which it was made."""
     try:
-        undo.move_in(office, ready)
+        copies.move_in(office, ready)
     except OSError as fault:
         raise Trouble(f"a step failed, and the office could not be put back as it was ({fault.strerror}): "
                       f"{way_back(copy)}") from fault
@@ -373,11 +329,10 @@ def broken_off(office: Office, found: logbook.Unfinished) -> str:
     what = f"`{found.command}` of {found.when}"
     if not found.copy:
         return f"{what} has no end in the log: it is there whole or not at all; look"
-    copy = turns.inside(office, copies.PLACE, found.copy)
-    behind = f" behind `{found.done[-1]}`" if found.done else " in its first step"
+    copy = beside.folder(office.path, copies.PLACE, found.copy)
+    behind = f" behind `{found.done}`" if found.done else " in its first step"
     if copy not in copies.listed(office):
         return f"{what} was broken off{behind}; its copy is gone"
-    with contextlib.suppress(Trouble):
-        if is_in_state(office, states.name_now(office, copies.file_in(office, copy))):
-            return f"{what} was broken off; nothing of it is left"
+    if is_as_in(office, copy):
+        return f"{what} was broken off; nothing of it is left"
     return f"{what} was broken off{behind}: {way_back(copy)}"

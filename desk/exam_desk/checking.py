@@ -11,10 +11,10 @@ from dataclasses import replace
 from typing import NamedTuple
 
 from exam_desk import changing, coding, consequences, files, mistakes, overlaps, private, running, snapshot
+from exam_desk.asking import Progress
 from exam_desk.changing import Step, Tell
 from exam_desk.office import Office
 from exam_desk.reading import Reading
-from exam_desk.serving import Progress
 from exam_desk.trouble import Trouble
 from exam_desk.words import plain
 

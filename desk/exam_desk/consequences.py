@@ -7,11 +7,11 @@ from collections.abc import Collection, Iterable
 from typing import NamedTuple
 
 from exam_desk import copies, facts, lists, overlaps, telling, touched
+from exam_desk.asking import Progress
 from exam_desk.changing import Rehearsal
 from exam_desk.names import name_order
 from exam_desk.office import Office
 from exam_desk.reading import Person, Reading
-from exam_desk.serving import Progress
 from exam_desk.telling import Change, counted
 from exam_desk.trouble import Trouble
 from exam_desk.words import plain

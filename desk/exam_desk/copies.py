@@ -1,4 +1,4 @@
-"""Copies of an office from before each change and from each day."""
+"""Copies of an office from before each change and from each day; and how one is put in the place of the office."""
 from __future__ import annotations
 
 import contextlib
@@ -7,8 +7,10 @@ import filecmp
 import os
 import re
 import shutil
+import sqlite3
+from collections.abc import Iterator
 
-from exam_desk import beside, notebook, private, turns
+from exam_desk import appeals, beside, notebook, private, running
 from exam_desk.office import Office
 from exam_desk.trouble import Trouble
 
@@ -19,6 +21,7 @@ PLACE, DAYS = "copies", "days"
 NAME = re.compile(r"(?:([0-9]+) )?([0-9]{4}-[0-9]{2}-[0-9]{2}) ([0-9.]{8,15}) (.*)")  # version 1.0.0 gave no numbers
 DAY = re.compile("[0-9]{4}-[0-9]{2}-[0-9]{2}")
 EMPTY_LOG = 41  # bytes of a second file that holds no change
+UNKNOWN = "nobody can say which appeals and decisions, since what the office holds now cannot be read"
 
 
 def keep_copy(office: Office, command: str) -> str:
@@ -35,7 +38,7 @@ def keep_copy(office: Office, command: str) -> str:
 
 def keep_day(office: Office, day: datetime.date, most: int) -> str | None:
     """Copies the office for a day that has no copy yet, and gives its path; of all days the last ones stay."""
-    if os.path.lexists(turns.inside(office, DAYS, day.isoformat())):
+    if os.path.lexists(beside.folder(office.path, DAYS, day.isoformat())):
         return None
     copy = make(office, DAYS, day.isoformat())
     others = [path for path in sorted(folders(office, DAYS, DAY)) if path != copy]
@@ -47,8 +50,8 @@ def keep_day(office: Office, day: datetime.date, most: int) -> str | None:
 def make(office: Office, place: str, name: str) -> str:
     """Copies the office's two files, and the notebook beside it, into a new folder in a place, whole and on the disk,
     or not at all; its path."""
-    target = os.path.join(turns.make_folder(office, place), name)
-    with private.private_folder(turns.make_folder(office, private.PLACE)) as folder:
+    target = os.path.join(beside.make_folder(office.path, place), name)
+    with private.private_folder(beside.make_folder(office.path, private.PLACE)) as folder:
         making = os.path.join(folder, PLACE)
         os.mkdir(making, 0o700)
         private.copy_files(os.path.realpath(office.path), os.path.join(making, office.base_name()))
@@ -87,23 +90,22 @@ def folders(office: Office, place: str, form: re.Pattern[str]) -> list[str]:
         return []
     try:
         with os.scandir(opened) as entries:
-            return [turns.inside(office, place, entry.name) for entry in entries
+            return [beside.folder(office.path, place, entry.name) for entry in entries
                     if form.fullmatch(entry.name) and entry.is_dir(follow_symlinks=False)]
     finally:
         os.close(opened)
 
 
-def parts(copy: str) -> tuple[str | None, str, str, str]:
+def parts(copy: str) -> re.Match[str]:
     """The name of a copy: its running number, day, time and command."""
     found = NAME.fullmatch(os.path.basename(copy))
     if found is None:
         raise Trouble("is no copy of an office", copy)
-    number, day, time, command = found.groups()
-    return number, day, time, command
+    return found
 
 
 def number_of(copy: str) -> int:
-    return int(parts(copy)[0] or 0)
+    return int(parts(copy)[1] or 0)
 
 
 def listed(office: Office) -> list[str]:
@@ -131,5 +133,69 @@ def prune(office: Office) -> None:
 
 def when_and_what(copy: str) -> tuple[str, str]:
     """When a copy was made, and before which command: its name, readable."""
-    _, day, time, command = parts(copy)
+    _, day, time, command = parts(copy).groups()
     return f"{day} {time[:8].replace('.', ':')}", command
+
+
+def check(office: Office, path: str) -> None:
+    """Raises `Trouble` where a file is no good office; one of an earlier version is tested by a `migrate` of a copy."""
+    said = running.run_over(office, path, "check")
+    if said.complaint.startswith("refused 27"):
+        with private.private_copy(path, office.path) as copy:
+            said = running.run_over(office, copy, "migrate")
+    if said.status != 0:
+        raise Trouble(f"this copy is no good office ({(said.answer + said.complaint).strip()}); nothing is changed")
+
+
+def taken_away(office: Office, copy: str) -> list[str]:
+    """A line for each appeal and decision that the office has and a copy has not."""
+    now, then = appeals.read(office, os.path.realpath(office.path)), appeals.read(office, file_in(office, copy))
+    return [UNKNOWN] if now is None else appeals.lost(now, then or {})
+
+
+def in_one_file(path: str) -> None:
+    """Takes the second file of an office into the first."""
+    with contextlib.closing(sqlite3.connect(path)) as file:
+        file.execute("PRAGMA wal_checkpoint(TRUNCATE)")
+    remove_second(path)
+
+
+def remove_second(path: str) -> None:
+    for ending in ("-wal", "-shm"):
+        with contextlib.suppress(FileNotFoundError):
+            os.remove(path + ending)
+
+
+@contextlib.contextmanager
+def ready(office: Office, copy: str) -> Iterator[str]:
+    """The path of a copy as one file that is on the disk, to be moved into the place of the office."""
+    with private.private_folder(beside.make_folder(office.path, private.PLACE)) as folder:
+        path = os.path.join(folder, office.base_name())
+        private.copy_files(file_in(office, copy), path)
+        in_one_file(path)
+        beside.sync(path)
+        yield path
+
+
+def move_in(office: Office, path: str) -> None:
+    """Moves a file that is ready into the place of the office, with the office alone. It takes no room on the disk."""
+    place = os.path.realpath(office.path)
+    if os.path.exists(place):
+        with contextlib.suppress(sqlite3.Error):  # what is damaged, or has no room, is in a copy
+            in_one_file(place)
+    remove_second(place)
+    beside.sync(os.path.dirname(place))
+    os.replace(path, place)
+    beside.sync(os.path.dirname(place))
+
+
+def put_back(office: Office, copy: str) -> str | None:
+    """Puts a copy in the place of the office, with the office alone; both are on the disk at each moment. Gives the
+    copy of what was there; None where nothing was. Raises `Trouble` where the copy is no good office."""
+    with ready(office, copy) as path:
+        check(office, path)
+        is_there = os.path.exists(os.path.realpath(office.path))
+        _, what = when_and_what(copy)
+        kept = keep_copy(office, f"back to before {what}") if is_there else None
+        move_in(office, path)
+    return kept

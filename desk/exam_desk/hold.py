@@ -7,17 +7,17 @@ sends nothing keeps nobody waiting: `serve` sees whole requests alone, and in a 
 from __future__ import annotations
 
 import asyncio
-import contextlib
 import re
 import resource
-import socket
 import time
 
 from exam_desk import asking
 
 MOST_CLIENTS, CROWD = 4000, 100
 FILES = 2 * MOST_CLIENTS  # that the process may have open, if the system lets it
+END = b"\r\n\r\n"  # of a head
 MOST_HEAD, MOST_BODY = 8192, 4096  # bytes; what is longer is handed on as far as it goes, and `serve` refuses it
+LIMIT = MOST_HEAD - len(END)  # of a reader that looks for the end
 REQUEST_SECONDS, CROWD_SECONDS, ANSWER_SECONDS, GAP_SECONDS = 10, 1, 15, 30
 RENEWAL_SECONDS = 10  # from one 500 after which `serve` begins anew to the next
 PAUSE = 0.02  # seconds from one try to the next
@@ -32,8 +32,8 @@ class Hold:
     def __init__(self) -> None:
         self.server: asking.Server | None = None
         self.opened = asyncio.Event()
-        self.broken = asyncio.Event()  # the server has to begin anew
-        self.fault = ""  # why
+        self.over = asyncio.Event()  # the server is to end: it has to begin anew, or `keep` has another reason
+        self.fault = ""  # why it has to begin anew, as others are shown it
         self.renewed = -float(RENEWAL_SECONDS)  # when it last had to after a 500
         self.turn = asyncio.Lock()
         self.clients = self.asked = self.answered = 0
@@ -44,7 +44,6 @@ class Hold:
 
     def open(self, server: asking.Server) -> None:
         self.server = server
-        self.broken.clear()
         self.opened.set()
 
     def close(self) -> None:
@@ -54,7 +53,7 @@ class Hold:
         """Hands nothing on until another server is there."""
         self.close()
         self.fault = fault
-        self.broken.set()
+        self.over.set()
 
     def waiting(self) -> int:
         """How many requests have no answer yet."""
@@ -63,94 +62,67 @@ class Hold:
     async def take(self, reader: asyncio.StreamReader, writer: asyncio.StreamWriter) -> None:
         self.clients += 1
         try:
-            if self.clients > self.most_clients:
-                await self.send(writer, FULL)
-                return
-            seconds = REQUEST_SECONDS if self.clients < CROWD else CROWD_SECONDS
-            request = await asyncio.wait_for(whole_request(reader), seconds)
-            await self.send(writer, await self.answer(request))
-        except (OSError, asyncio.TimeoutError):
+            answer = FULL
+            if self.clients <= self.most_clients:
+                async with asyncio.timeout(REQUEST_SECONDS if self.clients < CROWD else CROWD_SECONDS):
+                    request = await whole_request(reader)
+                answer = await self.answer(request)
+            writer.write(answer)
+            async with asyncio.timeout(ANSWER_SECONDS):
+                await writer.drain()
+            writer.write_eof()
+        except OSError:  # it is gone, or its time is over
             writer.transport.abort()
         finally:
             self.clients -= 1
             writer.close()
 
-    async def send(self, writer: asyncio.StreamWriter, answer: bytes) -> None:
-        writer.write(answer)
-        await asyncio.wait_for(writer.drain(), ANSWER_SECONDS)
-        writer.write_eof()
-
     async def answer(self, request: bytes) -> bytes:
+        """The answer of `serve`; asks again where it breaks off."""
         self.asked += 1
         try:
-            return await asyncio.wait_for(self.whole_answer(request), GAP_SECONDS)
-        except asyncio.TimeoutError:
+            async with asyncio.timeout(GAP_SECONDS):
+                while not (answer := await self.ask(request)):
+                    await asyncio.sleep(PAUSE)
+            return answer
+        except TimeoutError:
             return LATE
         finally:
             self.answered += 1
 
-    async def whole_answer(self, request: bytes) -> bytes:
-        """The answer of `serve`; asks again where it breaks off."""
-        while True:
-            await self.opened.wait()
-            async with self.turn:
-                answer = await self.ask(self.server, request) if self.server and self.opened.is_set() else b""
-            if answer:
-                return answer
-            await asyncio.sleep(PAUSE)
-
-    async def ask(self, server: asking.Server, request: bytes) -> bytes:
-        """What `serve` answers; nothing where no whole answer comes. Call it with the turn, while it is open."""
-        try:
-            answer = await asyncio.wait_for(answer_of(server, request), ANSWER_SECONDS)
-        except asyncio.TimeoutError:
-            self.give_up(f"no answer within {ANSWER_SECONDS} seconds")
-            return b""
-        except OSError:  # it has ended, and another process may have its port: nothing was sent
-            return b""
+    async def ask(self, request: bytes) -> bytes:
+        """What `serve` answers once it is open and it is this request's turn; nothing where no whole answer comes. Who
+        waits no longer leaves the connection to the end of `serve`."""
+        await self.opened.wait()
+        async with self.turn:
+            if not self.server or not self.opened.is_set():
+                return b""
+            try:
+                async with asyncio.timeout(ANSWER_SECONDS):
+                    answer = await asyncio.to_thread(asking.answer, self.server, request, GAP_SECONDS)
+            except TimeoutError:
+                self.give_up(f"serve begins anew after no answer within {ANSWER_SECONDS} seconds")
+                return b""
+            except OSError:  # it has ended, and another process may have its port: nothing was sent
+                return b""
         status = asking.status_of(answer)
         if status == 500 and time.monotonic() - self.renewed >= RENEWAL_SECONDS:
             self.renewed = time.monotonic()
-            self.give_up("an answer 500")
+            self.give_up("serve begins anew after an answer 500")
         return answer if status else b""
 
 
-async def answer_of(server: asking.Server, request: bytes) -> bytes:
-    """All that a server answers before it closes the connection, in whatever way; raises as `asking.sent`. Others are
-    served meanwhile."""
-    loop = asyncio.get_running_loop()
-    family, where = asking.address(server.place)
-    parts = []
-    with socket.socket(family) as connection:
-        connection.setblocking(False)
-        await loop.sock_connect(connection, where)
-        asking.refuse_stranger(connection, server)
-        with contextlib.suppress(OSError):
-            await loop.sock_sendall(connection, request)
-            connection.shutdown(socket.SHUT_WR)
-            while part := await loop.sock_recv(connection, 1 << 16):
-                parts.append(part)
-    return b"".join(parts)
-
-
 async def whole_request(reader: asyncio.StreamReader) -> bytes:
-    """A request as far as `serve` reads it: the head to its empty line, then as many bytes as the head names."""
-    text = b""
-    while b"\r\n\r\n" not in text and len(text) < MOST_HEAD:
-        part = await reader.read(MOST_HEAD)
-        if not part:
-            return text
-        text += part
-    head, end, body = text.partition(b"\r\n\r\n")
-    if len(head + end) > MOST_HEAD or not end:
-        return text[:MOST_HEAD]
-    wanted = body_length(head)
-    while len(body) < wanted:
-        part = await reader.read(wanted - len(body))
-        if not part:
-            break
-        body += part
-    return head + end + body[:wanted]
+    """A request as far as `serve` reads it: the head to its empty line, then as many bytes as the head names. The limit
+    of the reader is LIMIT."""
+    head = b""
+    try:
+        head = await reader.readuntil(END)
+        return head + await reader.readexactly(body_length(head))
+    except asyncio.IncompleteReadError as fault:  # all that comes
+        return head + fault.partial
+    except asyncio.LimitOverrunError:
+        return await reader.read(MOST_HEAD)
 
 
 def body_length(head: bytes) -> int:

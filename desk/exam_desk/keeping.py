@@ -1,4 +1,5 @@
-"""What `keep` does: serves the office, with one lock for all that use it, and comes back after each command.
+"""What `keep` does: serves the office, with one lock for all that use it, and comes back after each command. And how it
+is begun in the background, ended, and asked whether it serves.
 
 It begins `serve` anew whatever ends it or keeps it from beginning. Nothing ends `keep` itself but its signals, or a
 port or a socket that cannot be had.
@@ -17,8 +18,8 @@ import stat
 import subprocess
 import sys
 import time
-from collections.abc import Iterator
-from typing import Any
+from collections.abc import Iterator, Sequence
+from typing import NamedTuple
 
 from exam_desk import asking, beside, copies, hold, running, turns
 from exam_desk.office import Office
@@ -30,11 +31,21 @@ SOCKET = "keep.socket"  # in the folder that `keep` is given
 MOST_PATH = 107  # bytes of the path of a socket
 BACKLOG = 4096  # a socket without room refuses at once; the system may allow less
 MOST_LOG = 1 << 20  # bytes
+MOST_LINE = 1 << 12  # bytes of what `serve` complains of
 MOST_FAULT = 60  # letters of a fault that others are shown
 LONGEST_PAUSE = 5  # seconds from a `serve` that failed to the next
 TURN_SECONDS = 3  # that commands wait at most until candidates who waited have their answers
 ENDING_SECONDS = 5  # in which `serve` ends by itself
+DAY_PAUSE = 0.5  # seconds from one look at the date to the next
+START_SECONDS, STOP_SECONDS, QUESTION_SECONDS = 60, 20, 5  # that who begins `keep`, ends it or asks it waits at most
+QUESTION = b"GET / HTTP/1.0\r\n\r\n"  # `serve` answers it by 404
 RUNS = "`keep` serves this office already; `office keep status` says where"
+
+
+class Status(NamedTuple):
+    """Whether `keep` serves, and what is to be said of it."""
+    serves: bool
+    sentence: str
 
 
 def say(text: object) -> None:
@@ -53,9 +64,7 @@ class Keep:
     def __init__(self, office: Office, place: str, days: int, lock: int) -> None:
         self.office, self.place, self.days, self.lock = office, place, days, lock
         self.hold = hold.Hold()
-        self.wanted = asyncio.Event()  # a command wants the office, or it is time to end
         self.ending = False
-        self.fault = ""  # what `serve` complained of last
 
     def show(self, **state: object) -> None:
         """Writes into the lock file what `keep` does."""
@@ -68,15 +77,15 @@ class Keep:
 
     def end(self) -> None:
         self.ending = True
-        self.wanted.set()
+        self.hold.over.set()
 
     async def run(self) -> None:
         loop = asyncio.get_running_loop()
         for number in (signal.SIGTERM, signal.SIGINT, signal.SIGHUP):
             loop.add_signal_handler(number, self.end)
-        loop.add_signal_handler(signal.SIGUSR1, self.wanted.set)
+        loop.add_signal_handler(signal.SIGUSR1, self.hold.over.set)
         with listener(self.place) as listening:
-            async with await asyncio.start_server(self.hold.take, sock=listening, backlog=BACKLOG, limit=1 << 16):
+            async with await asyncio.start_server(self.hold.take, sock=listening, backlog=BACKLOG, limit=hold.LIMIT):
                 self.show()
                 await self.serve_again_and_again()
         say("ended")
@@ -91,82 +100,20 @@ class Keep:
                 await asyncio.sleep(min(0.1 * 2 ** failures, LONGEST_PAUSE))
 
     async def served(self) -> bool:
-        """Serves once, and gives whether that failed."""
+        """Serves until a command wants the office, the day ends, `keep` ends, or `serve` fails: then it gives True."""
+        failed = False
         try:
-            return await self.serve()
+            with (contextlib.ExitStack() as turn, contextlib.ExitStack() as want,
+                  turns.opened(self.office, "office.lock") as office):
+                first = turn.enter_context(turns.opened(self.office, "turn.lock"))
+                await self.locked(want.enter_context(turns.opened(self.office, "want.lock")), first)
+                await self.locked(office, first)
+                if not self.ending:
+                    failed = await self.serve_once(want, turn) != ""
         except Exception as fault:  # whatever it is, candidates wait
             self.show_fault(f"serve cannot begin: {fault or type(fault).__name__}")
-            return True
-
-    async def serve(self) -> bool:
-        """Serves until a command wants the office, the day ends, `keep` ends, or `serve` fails: then it gives True."""
-        fault = ""
-        with contextlib.ExitStack() as turn, contextlib.ExitStack() as want, contextlib.ExitStack() as office:
-            first = turn.enter_context(turns.opened(self.office, "turn.lock"))
-            await self.locked(want.enter_context(turns.opened(self.office, "want.lock")), first)
-            await self.locked(office.enter_context(turns.opened(self.office, "office.lock")), first)
-            if not self.ending:
-                fault = await self.serve_once(want, turn)
-        return fault != ""
-
-    async def serve_once(self, want: contextlib.ExitStack, turn: contextlib.ExitStack) -> str:
-        """Runs one `serve`, with the office alone; frees want.lock once it has begun. Gives its fault, or ""."""
-        self.wanted.clear()  # a command wants the office only while it holds want.lock
-        self.hold.broken.clear()
-        day = self.office.today()
-        self.keep_day(day)
-        process = await start_serve(self.office, port := asking.free_port())
-        faults = asyncio.create_task(self.read_faults(process))
-        fault = "serve cannot be watched"
-        try:
-            want.close()
-            fault = await self.until_over(process, asking.Server(process.pid, str(port)), day, turn)
-        finally:
-            self.hold.close()
-            self.show(state=fault[:MOST_FAULT] or "aside")
-            await stopped(process, at_once=self.hold.broken.is_set())
-            await faults
-        if fault:
-            self.show_fault(": ".join(filter(None, [fault, self.fault])))
-        return fault
-
-    async def until_over(self, process: asyncio.subprocess.Process, server: asking.Server, day: datetime.date,
-                         turn: contextlib.ExitStack) -> str:
-        """Waits until `serve` is to end, or has ended; gives its fault, "" without one."""
-        ended, broken = asyncio.create_task(process.wait()), asyncio.create_task(self.hold.broken.wait())
-        ends: list[asyncio.Task[Any]] = [ended, broken, asyncio.create_task(self.wanted.wait()),
-                                         asyncio.create_task(self.day_has_ended(day))]
-        opening = asyncio.create_task(self.open(process, server, day))
-        following = asyncio.create_task(self.let_commands_follow(opening, turn))
-        try:
-            await asyncio.wait([opening, *ends], return_when=asyncio.FIRST_COMPLETED)
-            if opening.done() and opening.result():
-                return opening.result()
-            await asyncio.wait(ends, return_when=asyncio.FIRST_COMPLETED)
-            if broken.done():
-                return f"serve begins anew after {self.hold.fault}"
-            return f"serve ended with status {process.returncode}" if ended.done() else ""
-        finally:
-            for task in (opening, following, *ends):
-                task.cancel()
-
-    async def open(self, process: asyncio.subprocess.Process, server: asking.Server, day: datetime.date) -> str:
-        """Hands requests on once `serve` has said that it serves; gives what speaks against it."""
-        if not (await piped(process.stdout).readline()).startswith(b"serving"):
-            return ""  # it ends
-        if not asking.listens(server):
-            return f"/proc does not show that serve has port {server.place}"
-        self.hold.open(server)
-        self.show(state="serving", serve=process.pid, day=day.isoformat())
-        return ""
-
-    async def let_commands_follow(self, opening: asyncio.Task[str], turn: contextlib.ExitStack) -> None:
-        """Frees turn.lock once those candidates have their answers who wait when `serve` begins."""
-        await asyncio.wait([opening])
-        waited, until = self.hold.asked, time.monotonic() + TURN_SECONDS
-        while self.hold.answered < waited and time.monotonic() < until:
-            await asyncio.sleep(turns.PAUSE)
-        turn.close()
+            failed = True
+        return failed
 
     async def locked(self, file: int, first: int) -> None:
         """Waits until a lock is had or `keep` ends; takes the lock of who goes first while candidates wait."""
@@ -175,13 +122,62 @@ class Keep:
                 turns.try_lock(first)
             await asyncio.sleep(turns.PAUSE)
 
-    async def read_faults(self, process: asyncio.subprocess.Process) -> None:
-        """Reads what `serve` complains of: it would stop at a full pipe."""
-        self.fault = ""
-        while part := await piped(process.stderr).read(1 << 12):
-            for line in part.decode("utf-8", "replace").splitlines():
-                self.fault = line.strip()
-                say(self.fault)
+    async def serve_once(self, want: contextlib.ExitStack, turn: contextlib.ExitStack) -> str:
+        """Runs one `serve`, with the office alone; frees want.lock once it has begun. Gives its fault, or ""."""
+        self.hold.over.clear()  # a command wants the office only while it holds want.lock
+        self.hold.fault = ""
+        day = self.office.today()
+        self.keep_day(day)
+        with running.begun(self.office, self.office.path, port := asking.free_port(), signal.SIGTERM) as process:
+            ended = asyncio.create_task(asyncio.to_thread(process.wait))
+            complaint = asyncio.create_task(asyncio.to_thread(last_complaint, process))
+            fault = "serve cannot be watched"
+            try:
+                want.close()
+                opening = self.open(process, asking.Server(process.pid, str(port)), day, turn)
+                fault = await self.until_over(asyncio.create_task(opening), ended, day)
+            finally:
+                self.hold.close()
+                self.show(state=fault[:MOST_FAULT] or "aside")
+                process.kill() if self.hold.fault else process.terminate()  # what it answered is kept in any case
+                if not (await asyncio.wait([ended], timeout=ENDING_SECONDS))[0]:
+                    process.kill()
+                last = await complaint
+        if fault:
+            self.show_fault(": ".join(filter(None, [fault, last])))
+        return fault
+
+    async def until_over(self, opening: asyncio.Task[None], ended: asyncio.Task[int], day: datetime.date) -> str:
+        """Waits until `serve` is to end, or has ended; gives its fault, "" without one. No length of a night is
+        reckoned, so a missing midnight or a set clock does no harm."""
+        over = asyncio.create_task(self.hold.over.wait())
+        try:
+            while not (over.done() or ended.done()) and self.office.today() == day:
+                await asyncio.wait([over, ended], timeout=DAY_PAUSE, return_when=asyncio.FIRST_COMPLETED)
+                if opening.done():
+                    opening.result()  # raises what went wrong
+        finally:
+            over.cancel()
+            opening.cancel()
+        if self.hold.fault:
+            return self.hold.fault
+        return f"serve ended with status {ended.result()}" if ended.done() else ""
+
+    async def open(self, process: subprocess.Popen[bytes], server: asking.Server, day: datetime.date,
+                   turn: contextlib.ExitStack) -> None:
+        """Hands requests on once `serve` has said that it serves. Frees turn.lock once those candidates have their
+        answers who wait then."""
+        assert process.stdout
+        if (await asyncio.to_thread(process.stdout.readline)).startswith(b"serving"):  # else it ends
+            if asking.listens(server):
+                self.hold.open(server)
+                self.show(state="serving", serve=process.pid, day=day.isoformat())
+            else:
+                self.hold.give_up(f"/proc does not show that serve has port {server.place}")
+        waited, until = self.hold.asked, time.monotonic() + TURN_SECONDS
+        while self.hold.answered < waited and time.monotonic() < until:
+            await asyncio.sleep(turns.PAUSE)
+        turn.close()
 
     def keep_day(self, day: datetime.date) -> None:
         """Keeps a copy of the office at each new day, and the last of them."""
@@ -191,11 +187,15 @@ class Keep:
         except (OSError, Trouble) as fault:
             say(f"no copy of the day: {fault.strerror if isinstance(fault, OSError) and fault.strerror else fault}")
 
-    async def day_has_ended(self, day: datetime.date) -> None:
-        """Waits for another date: no length of a night is reckoned, so a missing midnight or a set clock does no
-        harm."""
-        while self.office.today() == day:
-            await asyncio.sleep(0.5)
+
+def last_complaint(process: subprocess.Popen[bytes]) -> str:
+    """Reads what `serve` complains of, which would stop at a full pipe, and says it; gives what came last."""
+    last = ""
+    assert process.stderr
+    while line := process.stderr.readline(MOST_LINE):
+        last = line.decode("utf-8", "replace").strip()
+        say(last)
+    return last
 
 
 @contextlib.contextmanager
@@ -238,33 +238,6 @@ def bound_in_folder(listening: socket.socket, path: str) -> Iterator[None]:
             os.remove(path)
 
 
-async def start_serve(office: Office, port: int) -> asyncio.subprocess.Process:
-    """Begins `serve`. Raises `Trouble` where the program cannot be started."""
-    try:
-        return await asyncio.create_subprocess_exec(
-            *office.line("serve", str(port)), stdin=subprocess.DEVNULL, stdout=subprocess.PIPE, stderr=subprocess.PIPE,
-            preexec_fn=running.end_with(os.getpid(), signal.SIGTERM))
-    except OSError as fault:
-        raise running.not_started(office, fault) from fault
-
-
-def piped(stream: asyncio.StreamReader | None) -> asyncio.StreamReader:
-    """An output of a process that has a pipe."""
-    assert stream is not None
-    return stream
-
-
-async def stopped(process: asyncio.subprocess.Process, at_once: bool) -> None:
-    """Ends `serve`: what it answered is kept, whenever it ends."""
-    with contextlib.suppress(ProcessLookupError):
-        process.kill() if at_once else process.terminate()
-    try:
-        await asyncio.wait_for(process.wait(), ENDING_SECONDS)
-    except asyncio.TimeoutError:
-        process.kill()
-        await process.wait()
-
-
 def run(office: Office, place: str, days: int) -> None:
     """Serves until a signal ends it. Raises `Trouble` where another `keep` serves the office."""
     signal.signal(signal.SIGUSR1, signal.SIG_IGN)  # a command that comes before the handler need not step it aside
@@ -272,3 +245,67 @@ def run(office: Office, place: str, days: int) -> None:
     if not turns.try_lock(lock, fcntl.lockf):
         raise Trouble(RUNS)
     asyncio.run(Keep(office, place, days, lock).run())
+
+
+def start(office: Office, line: Sequence[str]) -> Status:
+    """Runs `keep` in the background by this line, and waits until it serves. Raises `Trouble` where one runs."""
+    if turns.keep_state(office) is not None:
+        raise Trouble(RUNS)
+    path = os.path.join(beside.make_folder(office.path), JOURNAL)
+    if os.path.exists(path) and os.path.getsize(path) > MOST_LOG // 2:
+        os.replace(path, path + ".old")
+    flags = os.O_WRONLY | os.O_CREAT | os.O_APPEND
+    with open(beside.open_file(office.path, JOURNAL, flags=flags), "wb") as log:
+        process = subprocess.Popen(line, stdin=subprocess.DEVNULL, stdout=log, stderr=log, start_new_session=True)
+    until = time.monotonic() + START_SECONDS
+    while time.monotonic() < until and process.poll() is None:
+        state = turns.keep_state(office)
+        if state and state.get("state", "aside") != "aside":
+            break
+        time.sleep(0.05)
+    return status(office)
+
+
+def stop(office: Office) -> None:
+    """Ends `keep`, and waits until it has ended. Raises `Trouble` where none runs, or where it does not end."""
+    state = turns.keep_state(office)
+    if state is None:
+        raise Trouble("`keep` does not run")
+    turns.signal_keep(state, signal.SIGTERM)
+    until = time.monotonic() + STOP_SECONDS
+    while turns.keep_state(office) is not None:
+        if time.monotonic() > until:
+            raise Trouble("`keep` has not ended yet")
+        time.sleep(0.02)
+
+
+def status(office: Office) -> Status:
+    """What `keep` does; it serves only where `serve` answers through it in time. Raises `Trouble` where none runs."""
+    state = turns.keep_state(office)
+    while state and state.get("state") == "serving":
+        with contextlib.suppress(OSError):
+            server = asking.Server(state["pid"], state["place"])
+            if asking.status_of(asking.answer(server, QUESTION, QUESTION_SECONDS)) == 404:
+                place = plain(asking.shown(state["place"]))
+                return Status(True, f"serving {place}, for {state['day']}, process {state['pid']}")
+        before, state = state, turns.keep_state(office)
+        if state == before:
+            break
+    if state is None:
+        journal = beside.folder(office.path, JOURNAL)
+        why = f"the last lines of {journal} may say why" if os.path.exists(journal) else "`office keep start` begins it"
+        raise Trouble(f"`keep` does not run; {why}")
+    return Status(False, fault_of(state))
+
+
+def fault_of(state: turns.Said) -> str:
+    """Why `keep` does not serve now."""
+    if state["pid"] <= 0:
+        return "`keep` runs in another container or on another machine: ask there"
+    if "place" not in state:
+        return f"process {state['pid']} runs, but cannot write down what it does: is the disk full?"
+    what = plain(state.get("state", "it begins"))
+    if what == "serving":
+        return (f"process {state['pid']} does not serve now: no answer came within {QUESTION_SECONDS} seconds; it "
+                "begins anew by itself")
+    return f"process {state['pid']} does not serve now: {what}; it tries again by itself"

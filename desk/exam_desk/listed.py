@@ -72,7 +72,7 @@ def in_one_turn(taken: changing.Turn, left: Iterator[Row]) -> Iterator[tuple[Row
     """The next rows with what is said of them, until the time of the turn is over or the office cannot be used."""
     until = time.monotonic() + TURN
     for row in left:
-        answered = taken.carried(row.step, row.step.words, logbook.BEGINS)
+        answered = taken.carried(row.step, logbook.BEGINS)
         yield row, answered
         if time.monotonic() >= until or is_hopeless([answered]):
             return

@@ -8,8 +8,8 @@ from collections.abc import Callable, Iterator, Sequence
 from typing import NamedTuple, NoReturn
 
 from exam_desk import asking, beside, files, logbook, refusals, snapshot, turns
+from exam_desk.asking import Serve
 from exam_desk.office import Office
-from exam_desk.serving import Serve
 from exam_desk.trouble import Trouble
 
 TRIES, SECONDS = 3, 60

@@ -9,9 +9,9 @@ import contextlib
 import datetime
 import os
 from collections.abc import Iterator, Sequence
-from dataclasses import dataclass, field
+from dataclasses import dataclass
 
-from exam_desk import beside, turns
+from exam_desk import beside
 from exam_desk.office import Office
 from exam_desk.words import plain
 
@@ -35,8 +35,8 @@ class Unfinished:
     when: str
     command: str
     copy: str  # the name of the copy from before a list of steps; "" of a single command
-    done: list[str] = field(default_factory=list)  # the steps that have an end
-    begun: str = ""  # the last step
+    done: str = ""  # the last step that has an end
+    begun: str = ""  # the last one that has begun
 
 
 def shown(words: Sequence[str]) -> list[str]:
@@ -48,7 +48,6 @@ def write(office: Office, words: Sequence[str], status: int | str, answer: str) 
     now = datetime.datetime.now().isoformat(" ", "seconds")
     columns = [now, office.user, " ".join(shown(words)), str(status), answer]
     line = "\t".join(map(plain, columns)) + "\n"
-    turns.make_folder(office)
     file = beside.open_file(office.path, NAME, flags=os.O_WRONLY | os.O_CREAT | os.O_APPEND)
     with open(file, "wb") as log_file:
         log_file.write(line.encode("utf-8", "backslashreplace"))
@@ -59,7 +58,7 @@ def logged(office: Office, words: Sequence[str], status: str = BEGINS, answer: s
     """A line in the log before a change, which waits until that is on the disk; and one with the outcome after it. In
     place of one that cannot be written a warning has to do."""
     write(office, words, status, answer)
-    beside.sync(turns.inside(office, NAME))
+    beside.sync(beside.folder(office.path, NAME))
     outcome = Outcome()
     try:
         yield outcome
@@ -81,7 +80,7 @@ def unfinished(office: Office) -> Unfinished | None:
         elif found and command == found.command:
             found = None
         elif found and command == found.begun:
-            found.done.append(command)
+            found.done = command
     return found
 
 

@@ -18,7 +18,7 @@ from collections.abc import Iterator
 
 from exam_desk import beside
 
-PLACE, PREFIX, LOCK = "tmp", "office-copy-", "lock"
+PLACE, PREFIX, LOCK, NAME = "tmp", "office-copy-", "lock", "office.db"
 ELSEWHERE = {errno.EACCES, errno.EPERM, errno.EROFS, errno.ENOSPC, errno.EDQUOT}  # another folder may do
 TRIES, PAUSE = 200, 0.02  # seconds from one to the next
 
@@ -31,27 +31,20 @@ def private_copy(path: str, office: str) -> Iterator[str]:
         sweep(tempfile.gettempdir())
     with contextlib.ExitStack() as stack:
         try:
-            copy = copy_into(stack.enter_context(own_folder(office)), source)
+            folder = stack.enter_context(own_folder(office))
+            copy_files(source, os.path.join(folder, NAME))
         except (OSError, beside.Strange) as fault:
             if isinstance(fault, OSError) and fault.errno not in ELSEWHERE:
                 raise
             stack.close()
-            copy = copy_into(stack.enter_context(private_folder(tempfile.gettempdir())), source)
-        yield copy
+            folder = stack.enter_context(private_folder(tempfile.gettempdir()))
+            copy_files(source, os.path.join(folder, NAME))
+        yield os.path.join(folder, NAME)
 
 
-def copy_into(folder: str, source: str) -> str:
-    copy = os.path.join(folder, "office.db")
-    copy_files(source, copy)
-    return copy
-
-
-@contextlib.contextmanager
-def own_folder(office: str) -> Iterator[str]:
+def own_folder(office: str) -> contextlib.AbstractContextManager[str]:
     """A private folder beside an office; in TMPDIR where there is no office."""
-    place = beside.make_folder(office, PLACE) if os.path.isfile(office) else tempfile.gettempdir()
-    with private_folder(place) as folder:
-        yield folder
+    return private_folder(beside.make_folder(office, PLACE) if os.path.isfile(office) else tempfile.gettempdir())
 
 
 @contextlib.contextmanager
@@ -72,7 +65,7 @@ def private_folder(place: str) -> Iterator[str]:
 def claim(folder: str) -> int | None:
     """The lock of a private folder, held; None where another process holds it, or the folder is gone."""
     try:
-        lock = os.open(os.path.join(folder, LOCK), os.O_RDWR | os.O_CREAT | os.O_NOFOLLOW | os.O_CLOEXEC, 0o600)
+        lock = os.open(os.path.join(folder, LOCK), os.O_RDWR | os.O_CREAT | os.O_NOFOLLOW, 0o600)
     except FileNotFoundError:
         return None
     with contextlib.suppress(BlockingIOError):
@@ -117,13 +110,13 @@ def copy_files(source: str, target: str) -> None:
     raise OSError(errno.EBUSY, "changes all the time", source)
 
 
-def open_source(path: str) -> int:
-    return os.open(path, os.O_RDONLY | os.O_NOFOLLOW | os.O_CLOEXEC)
+def no_link(path: str, flags: int) -> int:
+    """Opens a path for `open`, and follows no link; a new file is for its owner alone."""
+    return os.open(path, flags | os.O_NOFOLLOW, 0o600)
 
 
 def copy_file(source: str, target: str) -> None:
-    with (open(open_source(source), "rb") as file,
-          open(os.open(target, os.O_WRONLY | os.O_CREAT | os.O_EXCL, 0o600), "wb") as copy):
+    with open(source, "rb", opener=no_link) as file, open(target, "xb", opener=no_link) as copy:
         shutil.copyfileobj(file, copy, 1 << 20)
 
 
@@ -135,7 +128,7 @@ def moment(path: str) -> tuple[int, int, int, bytes | None] | None:
     if 0 <= time.time_ns() - first.st_mtime_ns < 20_000_000:  # a change within one tick of the clock is not seen
         return None
     try:
-        with open(open_source(path + "-wal"), "rb") as file:
+        with open(path + "-wal", "rb", opener=no_link) as file:
             beginning = file.read(32)
     except FileNotFoundError:
         beginning = None

@@ -16,8 +16,8 @@ from typing import NamedTuple, TypeVar
 
 from exam_desk import answers, asking, bad_rows, facts, private, running, snapshot, turns
 from exam_desk.answers import Appeal, Sitting
+from exam_desk.asking import Progress, Serve, ask_all
 from exam_desk.office import Office
-from exam_desk.serving import Progress, Serve, ask_all
 from exam_desk.trouble import BadRows, Trouble
 
 Found = TypeVar("Found")

@@ -44,23 +44,8 @@ class Said(TypedDict, total=False):
     day: str
 
 
-def inside(office: Office, *names: str) -> str:
-    """The path of the folder, or of what lies in it."""
-    return os.path.join(beside.folder(office.path), *names)
-
-
-def make_folder(office: Office, *names: str) -> str:
-    return beside.make_folder(office.path, *names)
-
-
-def open_inside(office: Office, name: str, flags: int) -> int:
-    """Opens a file of the folder, or makes it where the flags say so."""
-    make_folder(office)
-    return beside.open_file(office.path, name, flags=flags)
-
-
 def open_lock(office: Office, name: str) -> int:
-    return open_inside(office, name, os.O_RDWR | os.O_CREAT)
+    return beside.open_file(office.path, name, flags=os.O_RDWR | os.O_CREAT)
 
 
 def try_lock(file: int, lock: Callable[[int, int], None] = fcntl.flock) -> bool:
@@ -135,7 +120,8 @@ def alone(office: Office, words: Sequence[str]) -> Iterator[int]:
     with opened(office, "turn.lock") as turn, opened(office, "want.lock") as want:
         while not (is_free(turn) and try_lock(want) and is_free(turn)):
             fcntl.flock(want, fcntl.LOCK_UN)
-            wait.pause(lambda: ahead(office, turn))
+            wait.pause(lambda: f"another command ({text_of(office, 'want.lock')})" if is_free(turn) else
+                       "`keep` (it answers candidates who wait)")
         note(want, f"process {os.getpid()}, {' '.join(words)}")
         ask_keep_aside(office)
         with opened(office, "office.lock") as lock:
@@ -150,22 +136,6 @@ def is_taken(office: Office) -> bool:
         return not is_free(want)
 
 
-def ahead(office: Office, turn: int) -> str:
-    """Who goes first, by the lock of candidates who wait."""
-    if not is_free(turn):
-        return "`keep` (it answers candidates who wait)"
-    return f"another command ({text_of(office, 'want.lock')})"
-
-
-@contextlib.contextmanager
-def alone_if_possible(office: Office, words: Sequence[str]) -> Iterator[None]:
-    """As `alone`; where no lock can be made, such as beside a file that is not there, it goes on without."""
-    with contextlib.ExitStack() as stack:
-        with contextlib.suppress(OSError):
-            stack.enter_context(alone(office, words))
-        yield
-
-
 def keep_state(office: Office) -> Said | None:
     """What `keep` has said of itself; None where it does not run.
 
@@ -175,12 +145,10 @@ def keep_state(office: Office) -> Said | None:
         file = beside.open_file(office.path, "keep.lock", flags=os.O_RDONLY)
     except (OSError, beside.Strange):
         return None
-    try:
-        asked = fcntl.fcntl(file, fcntl.F_GETLK, struct.pack(FLOCK, fcntl.F_WRLCK, os.SEEK_SET, 0, 0, 0))
+    with open(file, "rb") as lock:
+        asked = fcntl.fcntl(lock, fcntl.F_GETLK, struct.pack(FLOCK, fcntl.F_WRLCK, os.SEEK_SET, 0, 0, 0))
         kind, *_, process = struct.unpack(FLOCK, asked)
-        text = os.pread(file, NOTE_BYTES, 0)
-    finally:
-        os.close(file)
+        text = lock.read(NOTE_BYTES)
     return None if kind == fcntl.F_UNLCK else said_by(process, text)
 
 

@@ -9,7 +9,7 @@ from contextlib import closing
 from flask import Blueprint, Response, abort, render_template, request
 from werkzeug.wrappers import Response as Answer
 
-from exam_desk import changing, copies, kept, logbook, private, turns, undo
+from exam_desk import changing, copies, keeping, logbook, private, turns
 from exam_desk.trouble import Stale
 from exam_web import effects, output, proposals
 from exam_web.desk import View, desk, office, once, view
@@ -48,7 +48,7 @@ def copy(key: str) -> str:
     path = copy_of(key)
     when, what = copies.when_and_what(path)
     return render_template("copy.html", key=key, when=when, what=what, e=since(view(), path), most=proposals.MOST_ROWS,
-                           lost=undo.taken_away(desk().office, path),
+                           lost=copies.taken_away(desk().office, path),
                            log=[line for line in log_since(when) if line[3] not in (logbook.BEGINS, logbook.STEP)])
 
 
@@ -88,13 +88,13 @@ def back(key: str) -> Answer:
 def keep() -> Answer:
     what, port = request.form.get("what"), request.form.get("port", "")
     if what == "stop":
-        kept.stop(office())
+        keeping.stop(office())
         return lead("office.page", _anchor="serve")
     if what != "start":
         abort(400)
     if not (re.fullmatch("[0-9]{1,5}", port) and LOWEST_PORT <= int(port) <= HIGHEST_PORT):
         raise Wrong(("office.page", {}), "keep", port=whole(LOWEST_PORT, HIGHEST_PORT))
-    status = kept.start(office(), [sys.executable, COMMAND, "keep", "run", port])
+    status = keeping.start(office(), [sys.executable, COMMAND, "keep", "run", port])
     return lead("office.page", shown(status.sentence), "good" if status.serves else "bad", _anchor="serve")
 
 

@@ -46,7 +46,7 @@ def page() -> str:
 def init() -> Response:
     if desk().is_there():
         return lead("season.page")
-    done = running.run(desk().office, "init")
+    done = running.run_over(desk().office, desk().office.path, "init")
     if done.status:
         raise Trouble(done.complaint.strip())
     return lead("season.page", text("The office is there, and empty. Bring a workbook or the seven files."))

@@ -45,7 +45,7 @@ def listening(path="port"):
 
 class Asking(unittest.TestCase):
     def asks(self, server):
-        return asyncio.run(asyncio.wait_for(hold.answer_of(server, REQUEST), 30))
+        return asking.answer(server, REQUEST, 30)
 
     def refuses(self, server, thief):
         """Nothing is sent: whoever listens reads the end."""
@@ -156,18 +156,18 @@ class Held(unittest.IsolatedAsyncioTestCase):
         self.answer = ANSWER.replace(b"200", b"500")
         self.open()
         self.assertEqual(await self.hold.answer(REQUEST), self.answer)
-        self.assertEqual((self.hold.broken.is_set(), self.hold.opened.is_set()), (True, False))
+        self.assertEqual((self.hold.over.is_set(), self.hold.opened.is_set()), (True, False))
         self.got.clear()
-        self.hold.broken.clear()
+        self.hold.over.clear()
         self.open()
         self.assertEqual(await self.hold.answer(REQUEST), self.answer)
-        self.assertEqual((self.hold.broken.is_set(), self.hold.opened.is_set()), (False, True))
+        self.assertEqual((self.hold.over.is_set(), self.hold.opened.is_set()), (False, True))
 
     async def test_no_answer_in_time_begins_anew(self):
         with mock.patch("exam_desk.hold.ANSWER_SECONDS", 0.2), mock.patch("exam_desk.hold.GAP_SECONDS", 1):
             self.open()
             self.assertEqual(await self.hold.answer(REQUEST), hold.LATE)
-        self.assertTrue(self.hold.broken.is_set())
+        self.assertTrue(self.hold.over.is_set())
         self.assertIn("no answer within", self.hold.fault)
         self.assertEqual(len(self.got), 1)
 

@@ -11,7 +11,7 @@ import unittest
 from unittest import mock
 
 import sample
-from exam_desk import copies, logbook, private, undo
+from exam_desk import copies, logbook, private
 
 NOBODY = 65534
 APPEAL = "INSERT INTO appeal VALUES (1051, ?, 'MON-AM', 1, 'PC1', 0, 0, 'a draught', 1, NULL, '2027-05-01')"
@@ -167,7 +167,7 @@ class Copies(Beside):
             events.append(("renamed", target))
             os.rename(source, target)
         with mock.patch("os.fsync", synced), mock.patch("os.replace", renamed):
-            undo.put_back(self.value, copies.listed(self.value)[0])
+            copies.put_back(self.value, copies.listed(self.value)[0])
             kept = copies.listed(self.value)[0]
         place = events.index(("renamed", self.path))
         self.assertRegex(events[0], "/tmp/office-copy-[^/]*/office.db$")

@@ -165,8 +165,48 @@ class Lists(Changing):
         os.remove(self.path)
         carried = changing.carry_out(self.value, STEPS)
         self.assertEqual((carried.refused.first_line(), len(carried.answers)), ("refused 24", 1))
-        with self.assertRaises(Trouble):
-            changing.rehearse(self.value, STEPS)
+        with self.assertRaises(Trouble), changing.rehearse(self.value, STEPS):
+            self.fail("it began")
+
+
+class Same(Changing):
+    """What changes nothing keeps no copy, so that `back 1` takes back the last change that was one."""
+
+    def imported(self, *kinds):
+        """Imports of what is there already."""
+        return [Step(("import", kind, f"{kind}.csv"), (self.examples / f"{kind}.csv").read_bytes()) for kind in kinds]
+
+    def test_an_import_of_what_is_there(self):
+        self.office("withdraw", "0001000", "MA-1")
+        before, kept = self.state(), self.kept()
+        self.assertEqual(self.office("import", "entries", str(self.examples / "entries.csv")),
+                         "added 0 changed 0 same 172\n")
+        self.assertEqual(self.log()[-1][1:], ["0", "added 0 changed 0 same 172"])
+        for steps in (self.imported("halls"), self.imported(*sample.KINDS)):
+            carried = changing.carry_out(self.value, steps, before, before)
+            self.assertEqual((carried.refused, carried.copy, carried.as_promised), (None, None, True))
+            self.assertEqual(len(carried.answers), len(steps))
+        self.assertEqual((self.state(), self.kept()), (before, kept))
+
+    def test_the_name_that_stands(self):
+        for name, count in (("Ada Lin", 0), ("Ada Lind", 1), ("Ada Lind", 1)):
+            self.office("name", "0001000", name)
+            self.assertEqual(len(self.kept()), count, name)
+
+    def test_what_changes_something_keeps_its_copy(self):
+        steps = [*self.imported("sessions"), STEPS[2]]
+        self.assertEqual(self.kept(), [changing.carry_out(self.value, steps).copy])
+        self.change(APPEAL, "HA1", 1)
+        before = self.state()
+        self.office("decide", "0001051", "HA1", "refused", "no")
+        self.assertEqual((self.state(), len(self.kept())), (before, 2))  # an appeal that is refused is no part of a state
+
+    def test_an_answer_alone_is_not_believed(self):
+        """A program that says it, but did more."""
+        liar = self.program(f'[ "$5" = import ] && {sample.built_program()} --db "$2" --today "$4" withdraw 0001000 MA-1 '
+                            ">/dev/null")
+        office = Office(self.path, liar, self.value.today, "tester")
+        self.assertEqual(self.kept(), [changing.carry_out(office, self.imported("halls")).copy])
 
 
 class States(Changing):
@@ -207,7 +247,7 @@ class Full(Changing):
 
     def test_no_room_before_the_first_step(self):
         before = self.state()
-        for name in ("exam_desk.copies.keep_copy", "exam_desk.undo.in_one_file", "exam_desk.logbook.write"):
+        for name in ("exam_desk.copies.keep_copy", "exam_desk.copies.in_one_file", "exam_desk.logbook.write"):
             with mock.patch(name, side_effect=OSError(28, "No space left on device", "/x")):
                 with self.assertRaisesRegex(changing.NotBegun, "nothing is changed: /x: No space left on .*; make room"):
                     changing.carry_out(self.value, STEPS)
@@ -225,7 +265,7 @@ class Full(Changing):
         self.assertEqual((self.state(), self.kept()), (before, []))
 
     def test_what_cannot_be_put_back_is_said_and_its_copy_stays(self):
-        with mock.patch("exam_desk.undo.move_in", side_effect=OSError(5, "Input/output error")):
+        with mock.patch("exam_desk.copies.move_in", side_effect=OSError(5, "Input/output error")):
             with self.assertRaisesRegex(Trouble, "could not be put back as it was .*`office back` lists the copy of"):
                 changing.carry_out(self.value, [STEPS[0], STEPS[0]])
         self.assertEqual(len(self.kept()), 1)

@@ -11,7 +11,7 @@ from unittest import mock
 
 import sample
 
-from exam_desk import asking, lastdays, serving  # beside the tests' folder
+from exam_desk import asking, lastdays  # beside the tests' folder
 from exam_desk.reading import Reading, of_few
 from exam_desk.trouble import Trouble
 
@@ -63,7 +63,7 @@ class Readings(sample.SampleSchool):
         with Reading(self.value) as reading:
             reading.member("MON-AM", "0001306")
             reading.serve.server = asking.Server(os.getpid(), reading.serve.server.place)
-            with mock.patch.object(serving, "TRIES", 1), self.assertRaises(Trouble):
+            with mock.patch.object(asking, "TRIES", 1), self.assertRaises(Trouble):
                 reading.members("MON-AM")
 
     def test_serve_ends_with_a_reading_that_is_killed(self):
@@ -96,7 +96,7 @@ class Kept(sample.KeptSchool):
     def test_few_are_asked_of_keep(self):
         sample.until(lambda: self.state().get("state") == "serving")
         time.sleep(0.1)
-        with mock.patch.object(serving.Serve, "bodies", side_effect=AssertionError("a `serve` of its own")):
+        with mock.patch.object(asking.Serve, "bodies", side_effect=AssertionError("a `serve` of its own")):
             member = of_few(self.value, lambda reading: reading.member("MON-AM", sample.NUMBER))
             self.assertEqual(member.sitting.hall, "PC1")
             self.assertIn("PC1 Computer room, desk 1", "".join(of_few(self.value, looked)))

@@ -14,7 +14,7 @@ import unittest
 from unittest import mock
 
 import sample
-from exam_desk import hold, keeping, turns
+from exam_desk import asking, keeping, turns
 from exam_desk.trouble import Trouble
 
 NOBODY = 65534
@@ -68,14 +68,14 @@ class Ending(sample.KeptSchool):
 class Hanging(sample.SampleSchool):
     def test_a_serve_that_hangs_is_replaced_and_its_client_is_answered(self):
         with (mock.patch("exam_desk.hold.ANSWER_SECONDS", 1), mock.patch("exam_desk.keeping.say"),
-              mock.patch("exam_desk.hold.answer_of", self.hanging_once)):
+              mock.patch("exam_desk.asking.answer", self.hanging_once)):
             self.assertTrue(asyncio.run(self.hangs()).endswith(b'{"error":37}'))
 
-    async def hanging_once(self, server, request, really=hold.answer_of):
+    def hanging_once(self, server, request, seconds, really=asking.answer):
         if not self.asked:
             os.kill(server.process, signal.SIGSTOP)
         self.asked.append(server.process)
-        return await really(server, request)
+        return really(server, request, seconds)
 
     async def hangs(self):
         self.asked = []
