@@ -39,8 +39,8 @@ def add_choices(parser: ArgumentParser) -> None:
 def read_source(office: Office, path: str, given: Namespace, is_folder: bool) -> Reading:
     """Reads a workbook, or a folder of import files, as the options say. Raises `Trouble` where it cannot be read."""
     from exam_desk.checking import office_knows
-    from exam_desk.workbook import columns, reading, tables, texts
-    asked, way = columns.read_columns(given.columns) if given.columns else ({}, texts.Way())
+    from exam_desk.workbook import headers, reading, tables, values
+    asked, way = headers.read_columns(given.columns) if given.columns else ({}, values.Way())
     choices = tables.Choices(given.sheet, given.leave, given.together, given.hidden)
     job = tables.Job(office_knows(office), way._replace(dates=given.dates or way.dates), asked, choices)
     return (reading.mend_folder if is_folder else reading.read_workbook)(path, job, given.encoding, command.progress)
@@ -48,7 +48,7 @@ def read_source(office: Office, path: str, given: Namespace, is_folder: bool) ->
 
 def print_lines(reading: Reading, everything: bool) -> None:
     """Prints what was changed, and what is wrong."""
-    from exam_desk.workbook.report import together
+    from exam_desk.workbook.tables import together
     command.progress("")
     for line in reading.report.lines if everything else together(reading.report.lines):
         print(plain(line.whole()))
@@ -56,7 +56,7 @@ def print_lines(reading: Reading, everything: bool) -> None:
 
 def made(source: str, new: str, given: Namespace, is_folder: bool, lines_name: str) -> int:
     """Reads a source, prints the lines, and makes the new folder where there is no mistake; gives the status."""
-    from exam_desk.workbook.writing import refuse_there, write_folder
+    from exam_desk.workbook.reading import refuse_there, write_folder
     target = os.path.abspath(new)
     refuse_there(target)
     reading = read_source(command.office(), source, given, is_folder)
@@ -257,7 +257,7 @@ column takes, and codes are chosen from lists. The row that begins with `e.g.` i
 leaves out.
 """)
 def template(parser: ArgumentParser) -> None:
-    from exam_desk.workbook.writing import put_workbook
+    from exam_desk.workbook.reading import put_workbook
     parser.add_argument("file")
     path = parser.parse_args().file
     put_workbook(path, {}, example=True)

@@ -5,10 +5,9 @@ from exam_desk import coding, lists, mistakes
 from exam_desk.changing import Step
 from exam_desk.office import Office
 from exam_desk.trouble import Trouble
-from exam_desk.workbook.checking import file_parts
 from exam_desk.workbook.headers import KINDS
-from exam_desk.workbook.reading import Reading
-from exam_desk.workbook.report import Report
+from exam_desk.workbook.reading import Reading, file_parts
+from exam_desk.workbook.tables import Report
 
 
 def with_codes(office: Office, reading: Reading) -> Reading:

@@ -19,12 +19,10 @@ from werkzeug.datastructures import FileStorage
 
 from exam_desk import coding, files, mistakes, private
 from exam_desk.trouble import Trouble
-from exam_desk.workbook.checking import file_parts
 from exam_desk.workbook.opening import open_book
-from exam_desk.workbook.reading import read_book
-from exam_desk.workbook.report import Line, together
-from exam_desk.workbook.tables import Choices, Job
-from exam_desk.workbook.texts import Way
+from exam_desk.workbook.reading import file_parts, read_book
+from exam_desk.workbook.tables import Choices, Job, Line, together
+from exam_desk.workbook.values import Way
 from exam_web.desk import View, desk
 from exam_web.wording import said, shown, text
 

@@ -1,10 +1,12 @@
 """The cells of a workbook as they are stored, and the names of places in it. Nothing is decided here.
 
-A workbook may come from a stranger, so whatever is read and kept has a limit.
+A workbook may come from a stranger, so whatever is read and kept has a limit. The process that reads it hands it over as
+lines of JSON to the one that asked.
 """
 import functools
+import json
 import re
-from collections.abc import Iterable, Sequence
+from collections.abc import Iterable, Iterator, Sequence
 from dataclasses import dataclass, field
 from typing import NamedTuple
 
@@ -67,18 +69,47 @@ class Budget:
             raise Trouble(f"it has more than {MOST_CELLS:,} cells or {MOST_TEXT >> 20} MB of letters: split it")
 
 
+def packed(book: Book) -> Iterator[str]:
+    """The lines of a workbook: one for it, one for each sheet and one for each row. A cell that stood before is the
+    number that it has among all."""
+    yield json.dumps({"form": book.form, "notes": book.notes})
+    known: dict[Cell, int] = {}
+    for sheet in book.sheets:
+        yield json.dumps({**vars(sheet), "rows": {}})
+        for row, cells in sheet.rows.items():
+            line: list[object] = [row]
+            for column, cell in cells.items():
+                line += column, known.get(cell, cell)
+                known.setdefault(cell, len(known))
+            yield json.dumps(line)
+
+
+def unpacked(lines: Iterable[str | bytes]) -> Book:
+    """The workbook of the lines; raises the `Trouble` of one that could not be read."""
+    book, known = Book("", [], []), []
+    for line in lines:
+        found = json.loads(line)
+        if isinstance(found, list):
+            for place, cell in enumerate(found):
+                if isinstance(cell, list):
+                    known.append(Cell(*cell))
+                    found[place] = len(known) - 1
+            book.sheets[-1].rows[found[0]] = {column: known[cell] for column, cell in zip(found[1::2], found[2::2])}
+        elif "refused" in found:
+            raise Trouble(found["refused"])
+        elif "name" in found:
+            book.sheets.append(Sheet(**found))
+        else:
+            book = Book(found["form"], [], found["notes"])
+    return book
+
+
 def place_of(text: str) -> tuple[int, int]:
     """A reference such as AB12 as row and column."""
     match = re.fullmatch(r"\$?([A-Z]{1,3})\$?([0-9]{1,7})", text)
     if not match:
         raise Trouble(f"it has a cell {text[:20]!r}")
     return int(match[2]), sum((ord(letter) - 64) * 26 ** place for place, letter in enumerate(reversed(match[1])))
-
-
-def area_of(text: str) -> tuple[int, int, int, int]:
-    """A reference such as A2:B7 as first row and column, last row and column."""
-    first, _, last = text.partition(":")
-    return (*place_of(first), *place_of(last or first))
 
 
 @functools.cache

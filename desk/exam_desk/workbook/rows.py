@@ -1,16 +1,14 @@
 """The rows of a table: which of them count, and what their cells say."""
 import functools
-from collections.abc import Callable, Iterator, Mapping
+from collections.abc import Iterator, Mapping
 from typing import NamedTuple
 
 from exam_desk import files, mistakes
 from exam_desk.trouble import Trouble
 from exam_desk.workbook.cells import MOST_MERGED, Cell, Sheet, letters_of, place_name
-from exam_desk.workbook.days import AS_TEXT, NO_DAY
-from exam_desk.workbook.headers import KINDS, MARKED, folded, is_header_word, match_header, seen
-from exam_desk.workbook.tables import Table
-from exam_desk.workbook.texts import Value, Wrong, bare, shown_of
-from exam_desk.workbook.values import is_mark
+from exam_desk.workbook.headers import HEADER_WORDS, KINDS, MARKED, Given, folded, match_header, seen, text_cells
+from exam_desk.workbook.tables import Progress, Table
+from exam_desk.workbook.values import AS_TEXT, NO_DAY, Wrong, bare, is_mark, shown_of
 from exam_desk.words import FEATURES
 
 TOTALS = {"total", "totals", "sum", "summe", "gesamt", "count", "anzahl", "grand total", "subtotal"}
@@ -19,7 +17,6 @@ EACH = 10_000  # rows after which the progress is told
 MOST_ABOVE = 1000  # rows in which a value above an empty cell is looked for
 Row = Mapping[int, Cell | None]
 Field = tuple[str, bool]  # its text, and whether that is wrong
-Progress = Callable[[str], None]
 
 
 class Record(NamedTuple):
@@ -33,7 +30,9 @@ class Record(NamedTuple):
 
 def read_table(table: Table, progress: Progress) -> list[Record]:
     look_at_hidden(table)
-    look_at_comments(table)
+    for row, column in sorted((row, column) for row, column in table.sheet.comments):
+        if row > table.header.row:
+            table.note(row, column, "has a comment, which is not read")
     look_at_mixed_dates(table)
     found: list[Record] = []
     formulas: dict[int, int] = {}
@@ -69,12 +68,6 @@ def look_at_hidden(table: Table) -> None:
             del rows[row]
 
 
-def look_at_comments(table: Table) -> None:
-    for row, column in sorted((row, column) for row, column in table.sheet.comments):
-        if row > table.header.row:
-            table.note(row, column, "has a comment, which is not read")
-
-
 def look_at_mixed_dates(table: Table) -> None:
     """True dates beside texts such as 13/06/2027: a spreadsheet of the other order of day and month has turned round
     the days up to the 12th, and left the others as text."""
@@ -94,7 +87,7 @@ def filled_cells(table: Table) -> dict[tuple[int, int], Cell]:
     """What the cells that are merged downwards say for the rows below their first."""
     filled: dict[tuple[int, int], Cell] = {}
     names = {place: name for name, places in table.header.columns.items() for place in places} | table.marks
-    end, covered = max(table.sheet.rows), 0
+    rows, end, covered = table.sheet.rows, max(table.sheet.rows), 0
     for top, left, bottom, right in table.sheet.merged:
         read = [place for place in names if left <= place <= right]
         if bottom <= table.header.row or not read:
@@ -104,9 +97,12 @@ def filled_cells(table: Table) -> dict[tuple[int, int], Cell]:
         if covered > MOST_MERGED:
             raise Trouble(f"its merged cells cover more than {MOST_MERGED:,} rows")
         reach = f"{letters_of(left)}{top}:{letters_of(right)}{bottom}"
-        tell_covered(table, reach, [(row, place) for row in range(top, last + 1) for place in read
-                                    if row > table.header.row and (row, place) != (top, left)])
-        cell = seen(table.sheet.rows.get(top, {}).get(left))
+        for row, place in [(row, place) for row in range(max(top, table.header.row + 1), last + 1) for place in read]:
+            under = seen(rows.get(row, {}).get(place)) if (row, place) != (top, left) else None
+            if under:  # a value that nobody sees
+                text = f"{shown_of(under)!r} is hidden by the merged cells {reach}: split them"
+                table.mistake(row, place, text, "covered")
+        cell = seen(rows.get(top, {}).get(left))
         if cell and left != right:
             table.mistake(top, left, f"{reach} is merged over columns: split it")
         elif cell and top > table.header.row:
@@ -114,14 +110,6 @@ def filled_cells(table: Table) -> dict[tuple[int, int], Cell]:
             text = f"{reach} is merged: {names[left]} {shown_of(cell)} counts for rows {top} to {last}"
             table.change(top, left, text, "merged")
     return filled
-
-
-def tell_covered(table: Table, reach: str, places: list[tuple[int, int]]) -> None:
-    """A value below a merged cell is one that nobody sees."""
-    for row, place in places:
-        if cell := seen(table.sheet.rows.get(row, {}).get(place)):
-            text = f"{shown_of(cell)!r} is hidden by the merged cells {reach}: split them"
-            table.mistake(row, place, text, "covered")
 
 
 def counting_rows(table: Table, filled: Mapping[tuple[int, int], Cell]) -> Iterator[tuple[int, Row]]:
@@ -163,27 +151,25 @@ def is_example(here: Row) -> bool:
 def begins_other(table: Table, row: int) -> bool:
     """Whether a second table begins here, which ends the reading."""
     cells = table.sheet.rows[row]
-    if sum(cell.kind == "text" and is_header_word(cell.text) for cell in cells.values()) < 2:
+    if sum(text.lstrip()[:1].isalpha() and folded(text) in HEADER_WORDS for text in text_cells(cells).values()) < 2:
         return False
-    found = {kind: match_header(kind, row, cells, {}).columns.keys() for kind in KINDS}
+    found = {kind: match_header(kind, row, cells, Given()).columns.keys() for kind in KINDS}
     kinds = [kind for kind, have in found.items() if len(have) >= 2 and files.needed_columns(kind) <= have]
     if kinds:
         table.mistake(row, None, f"a second table begins here ({kinds[0]}?): give it a sheet of its own")
     return bool(kinds)
 
 
+@functools.lru_cache(1 << 16)
 def totals(cell: Cell | None) -> bool | None:
     """Whether a cell says a total; none where it does not begin with a word such as sum."""
-    return said_total(cell.text[:101]) if cell and cell.kind == "text" and not cell.text[:1].isdigit() else None
-
-
-@functools.lru_cache(1 << 16)
-def said_total(text: str) -> bool | None:
-    word = bare(text).lower().rstrip(":")
+    if cell is None or cell.kind != "text" or cell.text[:1].isdigit():
+        return None
+    word = bare(cell.text[:101]).lower().rstrip(":")
     first = word.split(" ")[0].rstrip(":")
     if word not in TOTALS and first not in TOTALS:
         return None
-    return len(text) <= 100 and (word in TOTALS or first in ("total", "totals", "summe"))
+    return len(cell.text) <= 100 and (word in TOTALS or first in ("total", "totals", "summe"))
 
 
 def is_total(table: Table, row: int, here: Row, is_last: bool) -> bool:
@@ -207,9 +193,8 @@ def is_total(table: Table, row: int, here: Row, is_last: bool) -> bool:
 
 
 def tell_struck(table: Table, row: int) -> None:
-    data = table.places()
     for place, cell in table.sheet.rows[row].items():
-        if cell.struck and place not in data:
+        if cell.struck and place not in table.places():
             table.note(row, place, f"{shown_of(cell)!r} is struck out; the row is read", "struck")
 
 
@@ -256,15 +241,20 @@ def read_field(table: Table, row: int, name: str, here: Row) -> Field:
 
 
 def read_one(table: Table, row: int, name: str, here: Row, place: int) -> Field:
+    """The field of one cell. A time that stands with a day is taken if that is the day of the session, or no day."""
     cell = here[place]
     try:
         value = table.job.value(name, cell)
         if value.day:
-            check_day(table, name, here, value)
+            column = "date" if name == "start" else "session"
+            said = table.job.said(column, here.get(table.header.columns.get(column, [0])[0]))
+            if value.day not in (*NO_DAY, said if name == "start" else table.job.days.get(said)):
+                raise Wrong(f"has a date too, {value.day}, which is not that of the session: leave the time alone in "
+                            "its cell")
     except Wrong as fault:
-        said = f"{name} is missing{above(table, row, place)}" if cell is None else \
+        what = f"{name} is missing{above(table, row, place)}" if cell is None else \
             f"{name} {files.shown(shown_of(cell).encode('utf-8', 'replace'))}: {fault}"
-        table.mistake(row, place, said, f"{name} {fault}")
+        table.mistake(row, place, what, f"{name} {fault}")
         return (cell.text if cell else ""), True
     if value.why and not (cell is not None and value.text == cell.shown):
         why = f" ({value.why})" if value.why.strip() else ""
@@ -283,11 +273,3 @@ def above(table: Table, row: int, place: int) -> str:
         return ""
     where, shown = place_name(table.sheet, before, place), shown_of(table.sheet.rows[before][place])
     return f"; {where} above has {shown}: fill it down if it counts here too"
-
-
-def check_day(table: Table, name: str, here: Row, value: Value) -> None:
-    """A time that stands with a day in its cell is taken if that is the day of the session, or no day at all."""
-    column = "date" if name == "start" else "session"
-    said = table.job.said(column, here.get(table.header.columns.get(column, [0])[0]))
-    if value.day not in (*NO_DAY, said if name == "start" else table.job.days.get(said)):
-        raise Wrong(f"has a date too, {value.day}, which is not that of the session: leave the time alone in its cell")

@@ -20,7 +20,7 @@ from openpyxl.xml.constants import SHEET_MAIN_NS
 
 from exam_desk.trouble import Trouble
 from exam_desk.workbook.cells import (MOST_COLUMN, MOST_ROW, MOST_SHEETS, Book, Budget, Cell, Sheet,
-                                      area_of, place_name, place_of)
+                                      place_name, place_of)
 from exam_desk.workbook.looking import OPEN_AND_SAVE, Parts, local
 from exam_desk.workbook.numberformats import BUILT_IN, MACINTOSH, WINDOWS, number_cell, shown_text
 
@@ -137,7 +137,8 @@ class Reader:
             for _ in parser.parse():
                 pass
         if parser.merged_cells is not None:
-            sheet.merge(area_of(merged.ref) for merged in parser.merged_cells.mergeCell)
+            sheet.merge((area.min_row, area.min_col, area.max_row, area.max_col)
+                        for area in parser.merged_cells.mergeCell)
         sheet.hidden_rows = [(int(row), int(row)) for row, look in parser.row_dimensions.items()
                              if is_hidden(look, "ht")]
         sheet.hidden_columns = [(int(look["min"]), int(look["max"])) for look in parser.column_dimensions.values()
