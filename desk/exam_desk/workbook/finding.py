@@ -1,9 +1,10 @@
 """Which sheet of a workbook is what."""
 from exam_desk import files
 from exam_desk.workbook.cells import Book, Sheet, place_name
-from exam_desk.workbook.headers import (KINDS, OF_PEOPLE, WITHIN, Header, find_header, first_rows, folded, is_exact,
-                                        match_header, named_kind, text_cells, words_of)
-from exam_desk.workbook.tables import Job, Table, doubled, first_crosses
+from exam_desk.workbook.headers import (KINDS, WITHIN, find_header, first_rows, folded, is_exact, match_header,
+                                        named_kind, text_cells, words_of)
+from exam_desk.workbook.rows import Table
+from exam_desk.workbook.tables import Job
 
 
 def usable_sheets(job: Job, book: Book) -> list[Sheet]:
@@ -103,8 +104,13 @@ def find_tables(job: Job, sheets: list[Sheet]) -> tuple[list[Table], list[Sheet]
                     rest.append(sheet)
                 else:
                     tell_no_header(job, kind, sheet)
-    tables = [table.told() for these in found.values() if not tell_both(these, 1) for table in these]
-    return tables, rest
+    return [table for tables in found.values() if not tell_both(tables, 1) for table in told(tables)], rest
+
+
+def told(tables: list[Table]) -> list[Table]:
+    for table in tables:
+        table.tell_header()
+    return tables
 
 
 def tell_both(tables: list[Table], place: int) -> bool:
@@ -135,10 +141,9 @@ def find_entries(job: Job, rest: list[Sheet], tables: list[Table]) -> list[Table
     """Tables of candidates by papers, and sheets that bear the name of a paper; a line says which sheet is neither."""
     lists: list[Table] = []
     for sheet in rest:
-        code, header = job.paper(sheet.name), number_header(job, sheet)
-        marks = paper_columns(job, sheet, header) if header and not code else {}
-        if header and (code or marks):
-            lists.append(Table(job, "entries", sheet, header, marks, code))
+        table = list_table(job, sheet)
+        if table and (table.paper or table.marks):
+            lists.append(table)
         elif "entries" in kinds_by_name(job, sheet):
             cure = "" if job.papers else "; no papers are known: put them into the workbook, or import them first"
             text = f"neither a header number, paper nor one of number and the codes of papers is found{cure}"
@@ -150,29 +155,15 @@ def find_entries(job: Job, rest: list[Sheet], tables: list[Table]) -> list[Table
     several = listed or len(crossed) > 1 or crossed and len(crossed) < len(lists)
     if lists and several and tell_both(listed + lists, len(listed)):
         return []
-    return [table.told() for table in lists]
+    return told(lists)
 
 
-def number_header(job: Job, sheet: Sheet) -> Header | None:
-    """The row with a header of the column number, where a sheet lists candidates."""
+def list_table(job: Job, sheet: Sheet) -> Table | None:
+    """A sheet that lists candidates below a header of the column number, with the columns of papers that it has."""
     found = (match_header("entries", row, sheet.rows[row], job.of_kind("entries"), ["number"])
              for row in first_rows(sheet))
-    return next((header for header in found if header.columns), None)
-
-
-def paper_columns(job: Job, sheet: Sheet, header: Header) -> dict[int, str]:
-    """The columns below the codes of papers; crosses below another header are a mistake."""
-    head = {place: cell for place, cell in sheet.rows[header.row].items() if place not in header.columns["number"]}
-    codes = {place: job.said("paper", cell) for place, cell in head.items()}
-    marks = {place: code for place, code in codes.items() if code in job.papers}
-    wrong = doubled(marks, "paper")
-    crosses = first_crosses(sheet, header.row) if marks else {}
-    names = {place for place, text in text_cells(head).items() if folded(text) in OF_PEOPLE}
-    for place in crosses.keys() - marks.keys() - set(header.columns["number"]) - names:
-        what = f"{head[place].text.strip()!r} is no paper that is known" if place in head else \
-            "the column has no header"
-        where = place_name(sheet, crosses[place], place)
-        wrong[place] = f"{what}, and has crosses ({where}): correct the code, or delete the column"
-    for place, text in sorted(wrong.items()):
-        job.report.mistake(text, sheet, header.row, place)
-    return marks
+    header = next((header for header in found if header.columns), None)
+    table = header and Table(job, "entries", sheet, header, job.paper(sheet.name))
+    if table and not table.paper:
+        table.find_papers()
+    return table

@@ -9,7 +9,6 @@ import shutil
 import tempfile
 from collections.abc import Iterable, Iterator, Mapping, Sequence
 from dataclasses import replace
-from functools import partial
 from typing import NamedTuple
 
 from exam_desk import files, mistakes
@@ -18,7 +17,7 @@ from exam_desk.workbook.cells import Book, Sheet, place_name
 from exam_desk.workbook.finding import find_entries, find_tables, known_papers, usable_sheets
 from exam_desk.workbook.headers import KINDS
 from exam_desk.workbook.opening import ask_child, open_book
-from exam_desk.workbook.rows import Record, read_table
+from exam_desk.workbook.rows import Record
 from exam_desk.workbook.tables import Job, Line, Progress, Report
 from exam_desk.words import plain
 
@@ -83,7 +82,7 @@ def read_sheets(job: Job, sheets: list[Sheet], progress: Progress) -> dict[str, 
     for kind in KINDS:
         if kind == "entries":
             tables += find_entries(job, rest, tables)
-        if found := [record for table in tables if table.kind == kind for record in read_table(table, progress)]:
+        if found := [record for table in tables if table.kind == kind for record in table.records(progress)]:
             records[kind] = found
         if kind == "sessions":
             job.days = {record.fields[0]: record.fields[1] for record in found}
@@ -135,15 +134,9 @@ def put_back(job: Job, kind: str, sort: str, found: Iterable[mistakes.Mistake], 
         is_told = is_empty and (column is None or what == "code")  # of the header, or of all candidates
         if sort == "note" or not (is_told or place_name(record.sheet, record.row, column) in said):
             text = f"{mistake.what}: {mistake.text}"
-            if what == "row":
-                text = re.sub(r"\bline ([0-9]+)\b", partial(in_workbook, rows), mistake.text)
+            if what == "row":  # it speaks of another line of the file
+                text = re.sub(r"\bline ([0-9]+)\b", lambda line: place_name(*rows[int(line[1]) - FIRST][:2]), mistake.text)
             job.report.add(sort, text, record.sheet, record.row, column, f"{what} {mistake.text}")
-
-
-def in_workbook(rows: list[Record], line: re.Match[str]) -> str:
-    """The row of a workbook from which a line of a file comes."""
-    record = rows[int(line[1]) - FIRST]
-    return place_name(record.sheet, record.row)
 
 
 # -- the new folder, for its owner alone, whole or not at all

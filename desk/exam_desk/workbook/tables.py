@@ -11,7 +11,7 @@ from typing import NamedTuple
 
 from exam_desk import files, mistakes
 from exam_desk.workbook.cells import Cell, Sheet, letters_of, place_name
-from exam_desk.workbook.headers import MARKED, Given, Header, folded, seen, text_cells
+from exam_desk.workbook.headers import MARKED, OF_PEOPLE, Given, Header, folded, seen, text_cells
 from exam_desk.workbook.values import SHORT_FEATURES, Value, Way, Wrong, is_mark, read_value, shown_of
 
 WORDS = {"change": "", "note": "NOTE: ", "mistake": "MISTAKE: "}  # in the order in which they are printed
@@ -129,15 +129,15 @@ class Job:
 
 
 @dataclass
-class Table:
-    """Where the rows of a kind stand."""
+class Headed:
+    """A sheet whose header says where the rows of a kind stand."""
 
     job: Job
     kind: str
     sheet: Sheet
     header: Header
-    marks: dict[int, str] = field(default_factory=dict)  # of a column of crosses its feature or paper
     paper: str = ""  # the paper whose candidates the sheet lists, or ''
+    marks: dict[int, str] = field(default_factory=dict)  # of a column of crosses its feature or paper
 
     def __post_init__(self) -> None:
         self.head = self.sheet.rows[self.header.row]
@@ -153,24 +153,60 @@ class Table:
     def places(self) -> set[int]:
         return {place for places in self.header.columns.values() for place in places} | set(self.marks)
 
-    def told(self) -> "Table":
-        """The table, when the lines on what its header says have been added."""
-        if self.paper:
-            self.note(None, None, f"bears the name of a paper: whom it lists is entered for {self.paper}")
-        self.tell_crosses("entries")
-        for name, places in self.header.twice.items():
-            columns = ", ".join(map(letters_of, places))
-            self.mistake(self.header.row, places[1], f"columns {columns} could all be {name}: {CURE_TWICE}")
-        for tell in (self.tell_header, self.find_features, self.tell_columns, self.tell_lacking, self.tell_unread):
-            tell()
-        return self
+    def below(self) -> dict[int, dict[int, Cell]]:
+        """The rows below the header, in order."""
+        return {row: self.sheet.rows[row] for row in sorted(self.sheet.rows) if row > self.header.row}
+
+    def first_places(self, counts: Callable[[Cell], object]) -> dict[int, int]:
+        """Of each column with cells that count below the header the first row with one."""
+        return {place: row for row, cells in reversed(self.below().items()) for place, cell in cells.items()
+                if counts(cell)}
+
+    def first_crosses(self) -> dict[int, int]:
+        """Of each column with crosses below the header the first row with one. Numbers count as crosses where a column
+        has nothing else than 1 and 0."""
+        others = self.first_places(lambda cell: is_mark(cell) is None)
+        return {place: row for place, row in self.first_places(is_mark).items()
+                if place not in others or self.sheet.rows[row][place].kind != "number"}
+
+    def find_papers(self) -> None:
+        """The columns below the codes of papers; crosses below another header are a mistake."""
+        head = {place: cell for place, cell in self.head.items() if place not in self.places()}
+        codes = {place: self.job.said("paper", cell) for place, cell in head.items()}
+        marks = {place: code for place, code in codes.items() if code in self.job.papers}
+        wrong = doubled(marks, "paper")
+        crosses = self.first_crosses() if marks else {}
+        names = {place for place, text in text_cells(head).items() if folded(text) in OF_PEOPLE}
+        for place in crosses.keys() - marks.keys() - self.places() - names:
+            what = f"{head[place].text.strip()!r} is no paper that is known" if place in head else \
+                "the column has no header"
+            where = place_name(self.sheet, crosses[place], place)
+            wrong[place] = f"{what}, and has crosses ({where}): correct the code, or delete the column"
+        self.tell_wrong(wrong)
+        self.marks = marks
+
+    def tell_wrong(self, columns: Mapping[int, str]) -> None:
+        for place in sorted(columns):
+            self.mistake(self.header.row, place, columns[place])
 
     def tell_crosses(self, what: str) -> None:
         if self.marks:
             names = ", ".join(self.marks.values())
             self.note(self.header.row, min(self.marks), f"crosses below {names} are read as {what}")
 
+    # -- what is told of the header
+
     def tell_header(self) -> None:
+        if self.paper:
+            self.note(None, None, f"bears the name of a paper: whom it lists is entered for {self.paper}")
+        self.tell_crosses("entries")
+        for name, places in self.header.twice.items():
+            columns = ", ".join(map(letters_of, places))
+            self.mistake(self.header.row, places[1], f"columns {columns} could all be {name}: {CURE_TWICE}")
+        for tell in (self.tell_names, self.find_features, self.tell_columns, self.tell_lacking, self.tell_unread):
+            tell()
+
+    def tell_names(self) -> None:
         row = self.header.row
         above = sorted(line for line in self.sheet.rows if line < row)
         if above:
@@ -190,15 +226,13 @@ class Table:
         marks = {place: SHORT_FEATURES[folded(text)] for place, text in text_cells(self.head).items()
                  if place not in self.places() and folded(text) in SHORT_FEATURES}
         if feature in self.header.columns:
-            crosses = first_crosses(self.sheet, self.header.row)
-            wrong = {place: f"{name} has crosses beside the column {feature}: keep one of the two"
-                     for place, name in marks.items() if place in crosses}
+            crosses = self.first_crosses()
+            self.tell_wrong({place: f"{name} has crosses beside the column {feature}: keep one of the two"
+                             for place, name in marks.items() if place in crosses})
         else:
-            wrong = doubled(marks, "feature")
+            self.tell_wrong(doubled(marks, "feature"))
             self.marks = marks
-        for place in sorted(wrong):
-            self.mistake(self.header.row, place, wrong[place])
-        self.tell_crosses(feature)
+            self.tell_crosses(feature)
 
     def tell_columns(self) -> None:
         """Columns that are read, and whose header is struck out, or that are hidden."""
@@ -225,7 +259,7 @@ class Table:
 
     def tell_unread(self) -> None:
         """Columns with values that are no columns of the office."""
-        there = first_places(self.sheet, self.header.row, seen)
+        there = self.first_places(seen)
         papers = self.job.papers if self.kind == "candidates" else set()
         for place in sorted({*there, *self.head} - self.places()):
             if place not in self.head:
@@ -242,17 +276,3 @@ def doubled(marks: Mapping[int, str], what: str) -> dict[int, str]:
     """Of each column of crosses that says what one before it says, that it is a mistake."""
     return {place: f"the {what} {name} has two columns" for place, name in marks.items()
             if name in [marks[other] for other in marks if other < place]}
-
-
-def first_places(sheet: Sheet, header: int, counts: Callable[[Cell], object]) -> dict[int, int]:
-    """Of each column with cells that count below the header the first row with one."""
-    below = sorted((row for row in sheet.rows if row > header), reverse=True)
-    return {place: row for row in below for place, cell in sheet.rows[row].items() if counts(cell)}
-
-
-def first_crosses(sheet: Sheet, header: int) -> dict[int, int]:
-    """Of each column with crosses below the header the first row with one. Numbers count as crosses where a column has
-    nothing else than 1 and 0."""
-    others = first_places(sheet, header, lambda cell: is_mark(cell) is None)
-    return {place: row for place, row in first_places(sheet, header, is_mark).items()
-            if place not in others or sheet.rows[row][place].kind != "number"}
