@@ -1,9 +1,10 @@
 """The cells of a workbook as they are stored, and the names of places in it. Nothing is decided here.
 
-A workbook may come from a stranger, so whatever is read and kept has a limit. The process that reads it hands it over as
-lines of JSON to the one that asked.
+A workbook may come from a stranger, so whatever is read and kept has a limit. The process that reads it hands it over
+as lines of JSON to the one that asked.
 """
 import functools
+import itertools
 import json
 import re
 from collections.abc import Iterable, Iterator, Sequence
@@ -55,11 +56,12 @@ class Book(NamedTuple):
     notes: list[str]
 
 
+@dataclass
 class Budget:
     """What may still be kept of a workbook."""
 
-    def __init__(self) -> None:
-        self.cells, self.text = MOST_CELLS, MOST_TEXT
+    cells: int = MOST_CELLS
+    text: int = MOST_TEXT
 
     def keep(self, text: str, cells: int = 1) -> None:
         """Takes some cells of one text out of the budget; raises `Trouble` where nothing is left."""
@@ -70,37 +72,32 @@ class Budget:
 
 
 def packed(book: Book) -> Iterator[str]:
-    """The lines of a workbook: one for it, one for each sheet and one for each row. A cell that stood before is the
-    number that it has among all."""
+    """The lines of a workbook: one for it, one for each sheet and one for each row, with the cells that are new and the
+    numbers of its cells among all."""
     yield json.dumps({"form": book.form, "notes": book.notes})
     known: dict[Cell, int] = {}
     for sheet in book.sheets:
         yield json.dumps({**vars(sheet), "rows": {}})
         for row, cells in sheet.rows.items():
-            line: list[object] = [row]
-            for column, cell in cells.items():
-                line += column, known.get(cell, cell)
-                known.setdefault(cell, len(known))
-            yield json.dumps(line)
+            new = [cell for cell in dict.fromkeys(cells.values()) if cell not in known]
+            known.update(zip(new, itertools.count(len(known))))
+            yield json.dumps([row, new, [*cells], [known[cell] for cell in cells.values()]])
 
 
 def unpacked(lines: Iterable[str | bytes]) -> Book:
     """The workbook of the lines; raises the `Trouble` of one that could not be read."""
-    book, known = Book("", [], []), []
-    for line in lines:
-        found = json.loads(line)
-        if isinstance(found, list):
-            for place, cell in enumerate(found):
-                if isinstance(cell, list):
-                    known.append(Cell(*cell))
-                    found[place] = len(known) - 1
-            book.sheets[-1].rows[found[0]] = {column: known[cell] for column, cell in zip(found[1::2], found[2::2])}
-        elif "refused" in found:
-            raise Trouble(found["refused"])
-        elif "name" in found:
+    first, *rest = lines
+    found = json.loads(first)
+    if "refused" in found:
+        raise Trouble(found["refused"])
+    book, known = Book(found["form"], [], found["notes"]), list[Cell]()
+    for found in map(json.loads, rest):
+        if isinstance(found, dict):
             book.sheets.append(Sheet(**found))
         else:
-            book = Book(found["form"], [], found["notes"])
+            row, new, columns, numbers = found
+            known += [Cell(*cell) for cell in new]
+            book.sheets[-1].rows[row] = {column: known[number] for column, number in zip(columns, numbers)}
     return book
 
 

@@ -33,8 +33,8 @@ def tell_hidden(job: Job, hidden: list[Sheet], usable: list[Sheet]) -> None:
     shown = {kind for sheet in usable for kind in kinds_of(job, sheet)} if hidden else set()
     for sheet in hidden:
         if alone := set(kinds_of(job, sheet)) - shown:
-            kinds = " or ".join(sorted(alone))
-            job.report.mistake(f"is hidden: show it if it has the {kinds}, or name the sheets to read with --sheet", sheet)
+            job.report.mistake(f"is hidden: show it if it has the {' or '.join(sorted(alone))}, or name the sheets to "
+                               "read with --sheet", sheet)
         else:
             job.report.note("is hidden, so it is not read", sheet)
 

@@ -1,5 +1,5 @@
-"""Headers of sheets: by which words a sheet is of a kind, and a column one of the import files. A file of columns (TOML)
-says what the headers and the words of an export mean."""
+"""Headers of sheets: by which words a sheet is of a kind, and a column one of the import files. A file of columns
+(TOML) says what the headers and the words of an export mean."""
 import functools
 import re
 import unicodedata

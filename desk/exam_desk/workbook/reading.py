@@ -1,5 +1,5 @@
-"""From a workbook, or from import files that a spreadsheet broke, to the rows of the seven kinds, which are checked as the
-files of an import are; and to a new folder of these files."""
+"""From a workbook, or from import files that a spreadsheet broke, to the rows of the seven kinds, which are checked as
+the files of an import are; and to a new folder of these files."""
 import contextlib
 import itertools
 import json
@@ -135,7 +135,8 @@ def put_back(job: Job, kind: str, sort: str, found: Iterable[mistakes.Mistake], 
         if sort == "note" or not (is_told or place_name(record.sheet, record.row, column) in said):
             text = f"{mistake.what}: {mistake.text}"
             if what == "row":  # it speaks of another line of the file
-                text = re.sub(r"\bline ([0-9]+)\b", lambda line: place_name(*rows[int(line[1]) - FIRST][:2]), mistake.text)
+                text = re.sub(r"\bline ([0-9]+)\b", lambda line: place_name(*rows[int(line[1]) - FIRST][:2]),
+                              mistake.text)
             job.report.add(sort, text, record.sheet, record.row, column, f"{what} {mistake.text}")
 
 

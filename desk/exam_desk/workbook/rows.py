@@ -76,8 +76,9 @@ class Table(Headed):
         texts = [row for row, cell in cells if cell.kind == "text" and AS_TEXT.fullmatch(bare(cell.text))]
         for row, cell in cells if texts else ():
             if cell.kind == "date" and cell.text[8:10] <= "12":
-                text = f"date {shown_of(cell)}: a true date, but {place_name(self.sheet, texts[0], place)} is a text: such " \
-                       "a mixture arises where a spreadsheet turns day and month round; type these dates again as 2027-06-07"
+                beside = place_name(self.sheet, texts[0], place)
+                text = f"date {shown_of(cell)}: a true date, but {beside} is a text: such a mixture arises where a " \
+                       "spreadsheet turns day and month round; type these dates again as 2027-06-07"
                 self.mistake(row, place, text, "mixed")
 
     def filled_cells(self) -> dict[tuple[int, int], Cell]:

@@ -1,5 +1,5 @@
-"""The tables of a workbook: which columns of which sheet say what. And what is told of it: lines with a place, which are
-changes, notes or mistakes."""
+"""Where the tables of a workbook stand, and what is told of it: lines with a place, which are changes, notes or
+mistakes."""
 import functools
 import itertools
 import re
@@ -238,8 +238,8 @@ class Headed:
         """Columns that are read, and whose header is struck out, or that are hidden."""
         for place in sorted(self.places()):
             if place in self.head and self.head[place].struck:
-                text = f"the header {shown_of(self.head[place])!r} is struck out: delete the column, or take the line " \
-                       "away if it counts"
+                text = f"the header {shown_of(self.head[place])!r} is struck out: delete the column, or take the " \
+                       "line away if it counts"
                 self.mistake(self.header.row, place, text)
             if any(first <= place <= last for first, last in self.sheet.hidden_columns):
                 self.note(self.header.row, place, f"column {letters_of(place)} is hidden; it is read")

@@ -39,7 +39,7 @@ WEEKDAYS = ["monday montag", "tuesday dienstag", "wednesday mittwoch", "thursday
 SHORT_MONTH = "|".join(name for name in MONTHS if len(name) == 3)
 LIKE_A_DAY = re.compile(f"([0-9]{{1,2}}-({SHORT_MONTH})|({SHORT_MONTH})-[0-9]{{2}})", re.I)
 LIKE_A_DATE = re.compile("[0-9]{4}-[0-9]{2}-[0-9]{2}")
-DATES = [re.compile(form) for form in (  # each form of a date; the first that a text has counts
+DATES = [re.compile(form) for form in (  # the first form that a text has counts
     r"(?P<year>[0-9]{4})-(?P<month>[0-9]{2})-(?P<day>[0-9]{2})(?:[T ](?P<time>[0-9:.]*)Z?)?",
     r"(?P<year>[0-9]{4})(?P<mark>[/.])(?P<month>[0-9]{1,2})(?P=mark)(?P<day>[0-9]{1,2})",
     "(?P<year>2[01][0-9]{2})(?P<month>[0-9]{2})(?P<day>[0-9]{2})",
@@ -56,10 +56,16 @@ HOURS = re.compile(r"([0-9]{1,2})(?::([0-5][0-9])(?::00)?|"
                    r" ?(?:h|hrs?|hours?|Std\.?) ?(?:([0-5]?[0-9]) ?(?:min|mins|minutes|m)?)?)", re.I)
 MINUTES = re.compile(r"([0-9]{1,3}) ?(min|mins|minutes|Minuten|')\.?", re.I)
 PERCENT = re.compile(r"([0-9]{1,3})(?:[.,]0+)? ?(%|percent|per cent|Prozent)", re.I)
-HALF_DAY = re.compile(r"(0?[1-9]|1[0-2])(?:[:.]([0-5][0-9]))?(?::00)? ?([ap])\.?m\.?", re.I)
-WITH_DAY = re.compile(r"([0-9]{4}-[0-9]{2}-[0-9]{2})(?:[T ]([0-9]{2}:[0-9]{2})(?::00(?:\.0+)?)?)?")
+TIMES = [re.compile(form) for form in (
+    r"(?P<hour>[0-9]{1,2}):(?P<minute>[0-9]{2})(?::00(?:\.0+)?)?",
+    r"(?i)(?P<hour>0?[1-9]|1[0-2])(?:[:.](?P<minute>[0-5][0-9]))?(?::00)? ?(?P<half>[ap])\.?m\.?",
+    "(?P<hour>[01][0-9]|2[0-3])(?P<minute>[0-5][0-9])",
+    "(?P<hour>[0-9]{1,2})(?P<doubt>[.h])(?P<minute>[0-5][0-9])( Uhr)?",
+    r"(?P<day>[0-9]{4}-[0-9]{2}-[0-9]{2})(?:[T ](?P<hour>[0-9]{2}):(?P<minute>[0-9]{2})(?::00(?:\.0+)?)?)?")]
 SECONDS = re.compile(r":[0-9]{2}:[0-9.]*[1-9]")
-MIDNIGHT = "midnight? Write 24:00 as text if the hall is open until then"
+UNREAD = {  # the kinds that no column takes
+    "pending": "a formula that no spreadsheet has computed: open the workbook in one and save it, or type the value",
+    "error": "an error of a formula: mend it, or type the value"}
 AGAIN = "type it again in a column of the format text"
 MADE = {  # the kinds that a spreadsheet makes of what is typed
     "date": f"a spreadsheet made a date of it: {AGAIN}", "time": f"a spreadsheet made a time of it: {AGAIN}",
@@ -91,7 +97,14 @@ class Value(NamedTuple):
 def read_value(column: str, cell: Cell | None, way: Way) -> Value:
     """The value of a cell, or of an empty one, as a column of the import files asks for it; raises `Wrong`."""
     found = cell or EMPTY
-    refuse_unread(found)
+    if found.kind in UNREAD:
+        raise Wrong(UNREAD[found.kind])
+    if len(found.text) > MOST_LETTERS:
+        raise Wrong(f"has {len(found.text):,} letters; at most {MOST_LETTERS} are looked at")
+    if found.struck:
+        raise Wrong("is struck out: delete the row, or take the line away if it counts")
+    if found.unseen:
+        raise Wrong("is in the cell, but its number format shows nothing: delete it, or give it another format")
     text, done = cleaned(found.text)
     if cell and cell.kind == "text" and text in way.words.get(column, {}):
         return Value(way.words[column][text], "by the file of columns")
@@ -104,21 +117,6 @@ def read_value(column: str, cell: Cell | None, way: Way) -> Value:
         raise Wrong(mistakes.needed(column, value.text.encode("utf-8", "replace")) if cell else "is missing")
     is_as_shown = value.text == ((cell.shown or None) if cell else "")
     return value._replace(why=reason(done, value.why) or " " * (not is_as_shown))
-
-
-def refuse_unread(cell: Cell) -> None:
-    """Raises `Wrong` for a cell that no reader looks at."""
-    if cell.kind == "pending":
-        raise Wrong("a formula that no spreadsheet has computed: open the workbook in one and save it, or type the "
-                    "value")
-    if cell.kind == "error":
-        raise Wrong("an error of a formula: mend it, or type the value")
-    if len(cell.text) > MOST_LETTERS:
-        raise Wrong(f"has {len(cell.text):,} letters; at most {MOST_LETTERS} are looked at")
-    if cell.struck:
-        raise Wrong("is struck out: delete the row, or take the line away if it counts")
-    if cell.unseen:
-        raise Wrong("is in the cell, but its number format shows nothing: delete it, or give it another format")
 
 
 def refuse_other_digits(cell: Cell) -> None:
@@ -159,6 +157,10 @@ def bare(text: str) -> str:
 
 def reason(*parts: str) -> str:
     return ", ".join(filter(None, parts))
+
+
+def first_match(forms: list[re.Pattern[str]], text: str) -> re.Match[str] | None:
+    return next(filter(None, (form.fullmatch(text) for form in forms)), None)
 
 
 def is_mark(cell: Cell | None) -> bool | None:
@@ -267,7 +269,7 @@ def read_date(column: str, cell: Cell, text: str, way: Way) -> Value:
         raise Wrong(f"a number without the format of a date: if {day} is meant, give the column the format date")
     if "." not in text:
         refuse_other_digits(cell)
-    match = next(filter(None, (form.fullmatch(text) for form in DATES)), None)
+    match = first_match(DATES, text)
     if not match or cell.shown == text and LIKE_A_DATE.fullmatch(text):
         return Value(text)
     said = match.groupdict("")
@@ -316,40 +318,33 @@ def slashed(first: int, second: int, year: str, way: Way) -> Value:
 # -- times of day, minutes, desks and percent
 
 def read_time(column: str, cell: Cell, text: str, way: Way) -> Value:
-    """The time of a cell; a day that stands there too is given with it. A number is none, whatever part of a day it is."""
+    """The time of a cell, with the day that stands there too. A number is none, whatever part of a day it is."""
     if cell.kind == "number":
         minutes = decimal.Decimal(text) * 1440
         if 0 < minutes < 1440 and abs(minutes - round(minutes)) < decimal.Decimal("1e-6"):
             clock = clock_text(round(minutes) * decimal.Decimal(60))[:5]
             raise Wrong(f"a number without the format of a time: if {clock} is meant, give the column the format time")
         raise Wrong(mistakes.TIME_CURE)
-    value = time_of_text(column, clock_text(decimal.Decimal(text)) if cell.kind == "time" else text)
-    if column == "until" and value.text == "00:00" and cell.kind != "text":
-        raise Wrong(MIDNIGHT)
-    return value
-
-
-def time_of_text(column: str, text: str) -> Value:
-    if match := re.fullmatch(r"([0-9]{1,2}):([0-9]{2})(?::00(?:\.0+)?)?", text):
-        text = f"{match[1]:0>2}:{match[2]}"
-        is_never = column == "until" and text == "00:00"
-        return Value(text, "", "a hall that is open until 00:00 suits nobody; midnight is 24:00" * is_never)
-    if match := HALF_DAY.fullmatch(text):
-        hour = int(match[1]) % 12 + (12 if match[3].lower() == "p" else 0)
-        if column == "until" and hour == 0:
-            raise Wrong(MIDNIGHT)
-        return Value(f"{hour:02}:{match[2] or '00'}")
-    if re.fullmatch("([01][0-9]|2[0-3])[0-5][0-9]", text):
-        return Value(f"{text[:2]}:{text[2:]}")
-    if match := re.fullmatch("([0-9]{1,2})[.h]([0-5][0-9])( Uhr)?", text):
-        raise Wrong(f"write {match[1]:0>2}:{match[2]} if that is meant")
-    if match := WITH_DAY.fullmatch(text):
-        if not match[2]:
-            raise Wrong("is a date, not a time")
-        return Value(match[2], "the time of the cell", "", match[1])
-    if SECONDS.search(text):
-        raise Wrong("has seconds: write a time as 09:00")
-    return Value(text)
+    if cell.kind == "time":
+        text = clock_text(decimal.Decimal(text))
+    match = first_match(TIMES, text)
+    if not match:
+        if SECONDS.search(text):
+            raise Wrong("has seconds: write a time as 09:00")
+        return Value(text)
+    said = match.groupdict("")
+    if not said["hour"]:
+        raise Wrong("is a date, not a time")
+    hour = int(said["hour"]) % 12 + 12 * (said["half"].lower() == "p") if "half" in said else int(said["hour"])
+    time = f"{hour:02}:{said['minute'] or '00'}"
+    if "doubt" in said:
+        raise Wrong(f"write {time} if that is meant")
+    if column == "until" and (hour == 0 if "half" in said else time == "00:00" and cell.kind != "text"):
+        raise Wrong("midnight? Write 24:00 as text if the hall is open until then")
+    if "day" in said:
+        return Value(time, "the time of the cell", "", said["day"])
+    is_never = column == "until" and time == "00:00" and ":" in text
+    return Value(time, "", "a hall that is open until 00:00 suits nobody; midnight is 24:00" * is_never)
 
 
 def read_whole(column: str, cell: Cell, text: str, way: Way) -> Value:
