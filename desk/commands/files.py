@@ -26,12 +26,12 @@ def add_reading(parser: ArgumentParser) -> None:
 
 def add_choices(parser: ArgumentParser) -> None:
     """The options of a command that reads a workbook."""
-    from exam_desk.workbook.headers import KINDS
+    from exam_desk.files import HEADERS
     parser.add_argument("--columns", metavar="FILE", help="a file .toml which says what the headers and words mean")
     parser.add_argument("--sheet", action="append", metavar="NAME",
                         help="read this sheet, and no other that is not named")
     parser.add_argument("--leave", action="append", metavar="NAME", default=[], help="do not read this sheet")
-    parser.add_argument("--together", action="append", choices=KINDS, default=[],
+    parser.add_argument("--together", action="append", choices=[*HEADERS], default=[],
                         help="read all sheets of this kind as one list")
     parser.add_argument("--hidden", choices=["take", "leave"], default="", help="what becomes of hidden rows")
 
@@ -41,8 +41,8 @@ def read_source(office: Office, path: str, given: Namespace, is_folder: bool) ->
     from exam_desk.checking import office_knows
     from exam_desk.workbook import headers, reading, tables, values
     asked, way = headers.read_columns(given.columns) if given.columns else ({}, values.Way())
-    choices = tables.Choices(given.sheet, given.leave, given.together, given.hidden)
-    job = tables.Job(office_knows(office), way._replace(dates=given.dates or way.dates), asked, choices)
+    job = tables.Job(office_knows(office), way._replace(dates=given.dates or way.dates), asked, given.sheet, given.leave,
+                     given.together, given.hidden)
     return (reading.mend_folder if is_folder else reading.read_workbook)(path, job, given.encoding, command.progress)
 
 
@@ -54,22 +54,21 @@ def print_lines(reading: Reading, everything: bool) -> None:
         print(plain(line.whole()))
 
 
-def made(source: str, new: str, given: Namespace, is_folder: bool, lines_name: str) -> int:
-    """Reads a source, prints the lines, and makes the new folder where there is no mistake; gives the status."""
+def made(source: str, new: str, given: Namespace, is_folder: bool, lines_name: str) -> bool:
+    """Reads a source, prints the lines, and makes the new folder unless there is a mistake; gives whether there is."""
     from exam_desk.workbook.reading import refuse_there, write_folder
     target = os.path.abspath(new)
     refuse_there(target)
     reading = read_source(command.office(), source, given, is_folder)
     print_lines(reading, given.all)
-    wrong, changed, notes = (reading.report.count(sort) for sort in ("mistake", "change", "note"))
-    if wrong:
-        print(f"{wrong} mistakes, {changed} changes, {notes} notes: nothing is written")
-        return 1
+    counts = ", ".join(f"{reading.report.count(sort)} {sort}s" for sort in ("mistake", "change", "note"))
+    if reading.report.count("mistake"):
+        print(f"{counts}: nothing is written")
+        return True
     for kind, count in write_folder(target, reading, lines_name).items():
         print(f"{kind}: {count}")
-    place = plain(os.path.join(target, lines_name))
-    print(f"0 mistakes, {changed} changes, {notes} notes: look through them in {place}")
-    return 0
+    print(f"{counts}: look through them in {plain(os.path.join(target, lines_name))}")
+    return False
 
 
 @command.named("""Looks through the import files of a folder before any import: check-files FOLDER.
@@ -172,7 +171,7 @@ change is a line with its file, column and line of the file, such as candidates!
 with a cure; where there is one nothing is written, and the status is 1. The files of FOLDER stay as they are. The new
 folder is for its owner alone, and has besides the files all these lines, in mend.txt.
 """)
-def mend(parser: ArgumentParser) -> int:
+def mend(parser: ArgumentParser) -> bool:
     add_reading(parser)
     parser.set_defaults(columns=None, sheet=None, leave=[], together=[], hidden="")
     parser.add_argument("folder")
@@ -193,7 +192,7 @@ with its cell; what cannot be decided is a MISTAKE with a cure. Where there is o
 through them before the import. Colours of cells and comments are not read, and the results of formulas are those of the
 last save.
 """)
-def read(parser: ArgumentParser) -> int:
+def read(parser: ArgumentParser) -> bool:
     add_reading(parser)
     parser.add_argument("workbook")
     parser.add_argument("folder", nargs="?")
@@ -260,5 +259,5 @@ def template(parser: ArgumentParser) -> None:
     from exam_desk.workbook.reading import put_workbook
     parser.add_argument("file")
     path = parser.parse_args().file
-    put_workbook(path, {}, example=True)
+    put_workbook(path)
     command.say(f"{plain(path)}: fill it, then office read {plain(path)}\n")

@@ -162,7 +162,7 @@ class Mending(unittest.TestCase):
                 pathlib.Path(folder, name).write_text("number,paper\n0000001,MA-1\n", "utf-8")
             reading = mend_folder(folder, Job(Known()), None, lambda text: None)
         self.assertEqual((2, 0), (len(reading.records["entries"]), reading.report.count("mistake")))
-        self.assertEqual([], Job(Known()).choices.together)
+        self.assertEqual([], Job(Known()).together)
 
 
 class Writing(unittest.TestCase):

@@ -54,7 +54,7 @@ def write(data: bytes) -> bytes:
         from exam_desk.workbook.making import made
     except ModuleNotFoundError:
         sys.exit(MISSING)
-    return made(*json.loads(data))
+    return made(json.loads(data))
 
 
 if __name__ == "__main__":

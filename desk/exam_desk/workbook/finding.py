@@ -1,7 +1,7 @@
 """Which sheet of a workbook is what."""
 from exam_desk import files
 from exam_desk.workbook.cells import Book, Sheet, place_name
-from exam_desk.workbook.headers import (KINDS, WITHIN, find_header, first_rows, folded, is_exact, match_header,
+from exam_desk.workbook.headers import (WITHIN, find_header, folded, is_exact, match_header,
                                         named_kind, text_cells, words_of)
 from exam_desk.workbook.rows import Table
 from exam_desk.workbook.tables import Job
@@ -9,7 +9,7 @@ from exam_desk.workbook.tables import Job
 
 def usable_sheets(job: Job, book: Book) -> list[Sheet]:
     """The sheets that are to be read; of the others a line says why they are not."""
-    wanted, leave = job.choices.sheets, job.choices.leave
+    wanted, leave = job.sheets, job.leave
     names = [sheet.name for sheet in book.sheets]
     said = [given.sheet for given in job.given.values() if given.sheet and book.form != "csv"]
     for name in [*(wanted or []), *leave, *said]:
@@ -61,7 +61,7 @@ def kinds_of(job: Job, sheet: Sheet) -> list[str]:
         return kinds  # the officer has named their headers
     if job.paper(sheet.name):
         return []  # a list of those who sit it
-    kinds = [kind for kind in KINDS if may_be(job, kind, sheet) and find_header(kind, sheet, job.of_kind(kind), True)]
+    kinds = [kind for kind in files.HEADERS if may_be(job, kind, sheet) and find_header(kind, sheet, job.of_kind(kind), True)]
     exact = [kind for kind in kinds if is_exact(kind, sheet)]
     return exact if len(exact) == 1 else kinds
 
@@ -116,7 +116,7 @@ def told(tables: list[Table]) -> list[Table]:
 def tell_both(tables: list[Table], place: int) -> bool:
     """Whether only one of the tables of a kind may count, which is a mistake on the sheet of this one."""
     job, kind = tables[0].job, tables[0].kind
-    if len(tables) < 2 or kind in job.choices.together:
+    if len(tables) < 2 or kind in job.together:
         return False
     names = " and ".join(place_name(table.sheet) for table in tables)
     job.report.mistake(f"{names} could both be the {kind}: keep one, or say --together {kind} to read them as one "
@@ -161,7 +161,7 @@ def find_entries(job: Job, rest: list[Sheet], tables: list[Table]) -> list[Table
 def list_table(job: Job, sheet: Sheet) -> Table | None:
     """A sheet that lists candidates below a header of the column number, with the columns of papers that it has."""
     found = (match_header("entries", row, sheet.rows[row], job.of_kind("entries"), ["number"])
-             for row in first_rows(sheet))
+             for row in sorted(sheet.rows)[:WITHIN])
     header = next((header for header in found if header.columns), None)
     table = header and Table(job, "entries", sheet, header, job.paper(sheet.name))
     if table and not table.paper:

@@ -13,7 +13,6 @@ from exam_desk.workbook.cells import Cell, Sheet
 from exam_desk.workbook.values import Way, bare
 
 WITHIN = 20  # rows of a sheet in which its header is looked for
-KINDS = list(files.HEADERS)
 SHEET_NAMES = {
     "sessions": "sessions sittings prüfungstermine termine",
     "papers": "papers exams subjects examinations prüfungen fächer",
@@ -80,7 +79,7 @@ def words_of(kind: str, column: str) -> frozenset[str]:
     return frozenset({column, *WORDS.get(column, "").split(), *OF_KIND.get((kind, column), "").split()})
 
 
-HEADER_WORDS = frozenset[str]().union(*(words_of(kind, column) for kind in KINDS for column in files.HEADERS[kind]))
+HEADER_WORDS = frozenset[str]().union(*(words_of(kind, column) for kind in files.HEADERS for column in files.HEADERS[kind]))
 
 
 def seen(cell: Cell | None) -> Cell | None:
@@ -92,10 +91,6 @@ def seen(cell: Cell | None) -> Cell | None:
 
 def text_cells(cells: Mapping[int, Cell]) -> dict[int, str]:
     return {column: cell.text for column, cell in cells.items() if cell.kind == "text" and len(cell.text) <= 200}
-
-
-def first_rows(sheet: Sheet) -> list[int]:
-    return sorted(sheet.rows)[:WITHIN]
 
 
 def named_kind(name: str) -> str | None:
@@ -126,7 +121,7 @@ def match_header(kind: str, row: int, cells: Mapping[int, Cell], given: Given, n
 def find_header(kind: str, sheet: Sheet, given: Given, whole: bool = False) -> Header | None:
     """The header of a kind among the first rows of a sheet; `whole` asks for every column of the kind."""
     needed = set(files.HEADERS[kind]) - {"code"} if whole else files.needed_columns(kind)
-    found = [match_header(kind, row, sheet.rows[row], given) for row in first_rows(sheet)]
+    found = [match_header(kind, row, sheet.rows[row], given) for row in sorted(sheet.rows)[:WITHIN]]
     good = [header for header in found if header.columns and needed <= (have := {*header.columns, *given.fixed})
             and len(have) > 1]
     return max(good, key=lambda header: len(header.columns)) if good else None

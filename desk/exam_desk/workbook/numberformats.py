@@ -120,15 +120,6 @@ def shown_number(form: str, number: decimal.Decimal) -> str | None:
     return ("-" if number < 0 and place >= len(numeric) else "") + "".join(map(str, pieces)).strip()
 
 
-def shown_token(token: str, number: decimal.Decimal) -> str | None:
-    """What a piece of a number format shows; none where that is not known."""
-    if token.lower() == "general":
-        return f"{float(number):.5E}" if number >= LONG_NUMBER else format(number, "f") if number else "0"
-    if token[0] == "[":
-        return token[2:-1].split("-")[0] if token.startswith("[$") else ""
-    return shown_digits(token, number) if token[0] in "0#" else literal(token)
-
-
 def literal(token: str) -> str | None:
     """The letters that a piece of a number format shows as they are; none of a piece that means something."""
     if len(token) > 1 and token[0] in '_*"\\':
@@ -136,7 +127,14 @@ def literal(token: str) -> str | None:
     return token if token in " -+/():!^&'~{}<>=$€£%" else None
 
 
-def shown_digits(token: str, number: decimal.Decimal) -> str | None:
+def shown_token(token: str, number: decimal.Decimal) -> str | None:
+    """What a piece of a number format shows; none where that is not known."""
+    if token.lower() == "general":
+        return f"{float(number):.5E}" if number >= LONG_NUMBER else format(number, "f") if number else "0"
+    if token[0] == "[":
+        return token[2:-1].split("-")[0] if token.startswith("[$") else ""
+    if token[0] not in "0#":
+        return literal(token)
     match = DIGITS.fullmatch(token.replace("#,##", "#,"))
     if not match:
         return None

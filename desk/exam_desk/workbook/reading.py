@@ -15,7 +15,6 @@ from exam_desk import files, mistakes
 from exam_desk.trouble import Trouble
 from exam_desk.workbook.cells import Book, Sheet, place_name
 from exam_desk.workbook.finding import find_entries, find_tables, known_papers, usable_sheets
-from exam_desk.workbook.headers import KINDS
 from exam_desk.workbook.opening import ask_child, open_book
 from exam_desk.workbook.rows import Record
 from exam_desk.workbook.tables import Job, Line, Progress, Report
@@ -49,7 +48,7 @@ def mend_folder(folder: str, job: Job, encoding: str | None, progress: Progress)
     """Reads the import files of a folder by the rules of a workbook's cells, each as a sheet of its name."""
     book, together = Book("csv", [], []), list[str]()
     for name in sorted(os.listdir(folder), key=lambda name: (len(name), name)):
-        if match := re.fullmatch(rf"({'|'.join(KINDS)})(-[0-9]+)?\.csv", name):
+        if match := re.fullmatch(rf"({'|'.join(files.HEADERS)})(-[0-9]+)?\.csv", name):
             found = opened(os.path.join(folder, name), encoding)
             book.sheets.extend(found.sheets)
             book.notes.extend(f"{name}: {note}" for note in found.notes)
@@ -58,8 +57,7 @@ def mend_folder(folder: str, job: Job, encoding: str | None, progress: Progress)
             book.notes.append(f"{name} is none of the seven files; it is not read")
     if not book.sheets:
         raise Trouble("none of the seven files is there", folder)
-    choices = replace(job.choices, together=[*job.choices.together, *together])
-    return read_book(book, replace(job, choices=choices), progress)
+    return read_book(book, replace(job, together=[*job.together, *together]), progress)
 
 
 def read_book(book: Book, job: Job, progress: Progress = lambda text: None) -> Reading:
@@ -79,7 +77,7 @@ def read_sheets(job: Job, sheets: list[Sheet], progress: Progress) -> dict[str, 
     them."""
     tables, rest = find_tables(job, sheets)
     records: dict[str, list[Record]] = {}
-    for kind in KINDS:
+    for kind in files.HEADERS:
         if kind == "entries":
             tables += find_entries(job, rest, tables)
         if found := [record for table in tables if table.kind == kind for record in table.records(progress)]:
@@ -186,7 +184,7 @@ def write_folder(target: str, reading: Reading, lines_name: str) -> dict[str, in
         text = "".join(f"{plain(line.whole())}\n" for line in reading.report.lines)
         files.put(os.path.join(making, lines_name), text.encode("utf-8", "backslashreplace"))
         return {kind: write_kind(making, kind, (record.fields for record in reading.records[kind]))
-                for kind in KINDS if reading.records.get(kind)}
+                for kind in files.HEADERS if reading.records.get(kind)}
 
 
 def write_kind(folder: str, kind: str, rows: Iterable[list[str]]) -> int:
@@ -198,15 +196,15 @@ def write_kind(folder: str, kind: str, rows: Iterable[list[str]]) -> int:
     return counted
 
 
-def workbook_of(rows: Rows, example: bool = False) -> bytes:
-    """An .xlsx of the rows of each kind; the example is a row that `read` leaves out."""
-    return ask_child("write", json.dumps([rows, example]).encode())
+def workbook_of(rows: Rows | None) -> bytes:
+    """An .xlsx of the rows of each kind, or of an example of each, which `read` leaves out."""
+    return ask_child("write", json.dumps(rows).encode())
 
 
-def put_workbook(path: str, rows: Rows, example: bool = False) -> None:
+def put_workbook(path: str, rows: Rows | None = None) -> None:
     """Makes a workbook for its owner alone. Raises `Trouble` where something has its name, or openpyxl is missing."""
     if not path.endswith(".xlsx"):
         raise Trouble("the name of the workbook must end in .xlsx")
     if os.path.lexists(path):
         raise Trouble(f"{path} is there already; name another")
-    files.put(path, workbook_of(rows, example))
+    files.put(path, workbook_of(rows))

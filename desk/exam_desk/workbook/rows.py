@@ -6,7 +6,7 @@ from typing import NamedTuple
 from exam_desk import files, mistakes
 from exam_desk.trouble import Trouble
 from exam_desk.workbook.cells import MOST_MERGED, Cell, Sheet, letters_of, place_name
-from exam_desk.workbook.headers import HEADER_WORDS, KINDS, MARKED, Given, folded, match_header, seen, text_cells
+from exam_desk.workbook.headers import HEADER_WORDS, MARKED, Given, folded, match_header, seen, text_cells
 from exam_desk.workbook.tables import Headed, Progress
 from exam_desk.workbook.values import AS_TEXT, NO_DAY, Wrong, bare, is_mark, shown_of
 from exam_desk.words import FEATURES
@@ -56,7 +56,7 @@ class Table(Headed):
 
     def look_at_hidden(self) -> None:
         """Hidden rows are a mistake until the officer says what becomes of them."""
-        rows, choice, end = self.sheet.rows, self.job.choices.hidden, max(self.sheet.rows)
+        rows, choice, end = self.sheet.rows, self.job.hidden, max(self.sheet.rows)
         hidden = {row for first, last in self.sheet.hidden_rows for row in range(first, min(last, end) + 1)}
         for row in sorted(row for row in hidden & self.below().keys() if any(map(seen, rows[row].values()))):
             if choice == "take":
@@ -151,7 +151,7 @@ class Table(Headed):
         cells = self.sheet.rows[row]
         if sum(text.lstrip()[:1].isalpha() and folded(text) in HEADER_WORDS for text in text_cells(cells).values()) < 2:
             return False
-        found = {kind: match_header(kind, row, cells, Given()).columns.keys() for kind in KINDS}
+        found = {kind: match_header(kind, row, cells, Given()).columns.keys() for kind in files.HEADERS}
         kinds = [kind for kind, have in found.items() if len(have) >= 2 and files.needed_columns(kind) <= have]
         if kinds:
             self.mistake(row, None, f"a second table begins here ({kinds[0]}?): give it a sheet of its own")

@@ -86,24 +86,17 @@ def joined(lines: list[Line]) -> Line:
     return first._replace(text=first.text + more, rows=[row for line in lines for row in line.rows])
 
 
-@dataclass(frozen=True)
-class Choices:
-    """What the officer chose for doubtful sheets and rows."""
-
-    sheets: list[str] | None = None  # those to read, if not all
-    leave: list[str] = field(default_factory=list)  # sheets that are not read
-    together: list[str] = field(default_factory=list)  # all sheets of such a kind are one list
-    hidden: str = ""  # take or leave: what becomes of hidden rows
-
-
 @dataclass
 class Job:
-    """One reading of a workbook."""
+    """One reading of a workbook, with what the officer chose for doubtful sheets and rows."""
 
     known: mistakes.Known
     way: Way = Way()
     given: Mapping[str, Given] = field(default_factory=dict)  # of each kind what the file of columns says
-    choices: Choices = Choices()
+    sheets: list[str] | None = None  # those to read, if not all
+    leave: list[str] = field(default_factory=list)  # sheets that are not read
+    together: list[str] = field(default_factory=list)  # all sheets of such a kind are one list
+    hidden: str = ""  # take or leave: what becomes of hidden rows
     report: Report = field(default_factory=Report)
     papers: set[str] = field(default_factory=set)  # codes that the office or the workbook has
     days: dict[str, str] = field(default_factory=dict)  # of the sessions of the workbook
