@@ -54,8 +54,8 @@ def print_lines(reading: Reading, everything: bool) -> None:
         print(plain(line.whole()))
 
 
-def made(source: str, new: str, given: Namespace, is_folder: bool, lines_name: str) -> bool:
-    """Reads a source, prints the lines, and makes the new folder unless there is a mistake; gives whether there is."""
+def made(source: str, new: str, given: Namespace, is_folder: bool, lines_name: str) -> int:
+    """Reads a source, prints the lines, and makes the new folder where there is no mistake; gives the status."""
     from exam_desk.workbook.reading import refuse_there, write_folder
     target = os.path.abspath(new)
     refuse_there(target)
@@ -64,11 +64,11 @@ def made(source: str, new: str, given: Namespace, is_folder: bool, lines_name: s
     counts = ", ".join(f"{reading.report.count(sort)} {sort}s" for sort in ("mistake", "change", "note"))
     if reading.report.count("mistake"):
         print(f"{counts}: nothing is written")
-        return True
+        return 1
     for kind, count in write_folder(target, reading, lines_name).items():
         print(f"{kind}: {count}")
     print(f"{counts}: look through them in {plain(os.path.join(target, lines_name))}")
-    return False
+    return 0
 
 
 @command.named("""Looks through the import files of a folder before any import: check-files FOLDER.
@@ -171,7 +171,7 @@ change is a line with its file, column and line of the file, such as candidates!
 with a cure; where there is one nothing is written, and the status is 1. The files of FOLDER stay as they are. The new
 folder is for its owner alone, and has besides the files all these lines, in mend.txt.
 """)
-def mend(parser: ArgumentParser) -> bool:
+def mend(parser: ArgumentParser) -> int:
     add_reading(parser)
     parser.set_defaults(columns=None, sheet=None, leave=[], together=[], hidden="")
     parser.add_argument("folder")
@@ -192,7 +192,7 @@ with its cell; what cannot be decided is a MISTAKE with a cure. Where there is o
 through them before the import. Colours of cells and comments are not read, and the results of formulas are those of the
 last save.
 """)
-def read(parser: ArgumentParser) -> bool:
+def read(parser: ArgumentParser) -> int:
     add_reading(parser)
     parser.add_argument("workbook")
     parser.add_argument("folder", nargs="?")

@@ -1,4 +1,5 @@
-"""The cells of a workbook as they are stored, and the names of places in it. Nothing is decided here.
+"""The cells of a workbook as they are stored, the names of places in it, and the parts that hold them. Nothing is
+decided here.
 
 A workbook may come from a stranger, so whatever is read and kept has a limit. The process that reads it hands it over
 as lines of JSON to the one that asked.
@@ -7,9 +8,12 @@ import functools
 import itertools
 import json
 import re
+import xml.parsers.expat
+import zipfile
 from collections.abc import Iterable, Iterator, Sequence
 from dataclasses import dataclass, field
-from typing import NamedTuple
+from typing import IO, NamedTuple
+from xml.etree.ElementTree import Element, iterparse
 
 from exam_desk.trouble import Trouble
 
@@ -19,6 +23,11 @@ MOST_CELLS = 2_000_000  # that are not empty, in all
 MOST_TEXT = 128 << 20  # letters that are kept, in all
 MOST_SHEETS, MOST_ROW, MOST_COLUMN = 500, 1_048_576, 16_384
 MOST_MERGED = 200_000  # rows that merged cells cover
+MOST_DEPTH, MOST_QUIET = 256, 4 << 20  # elements in each other, bytes without a tag
+MOST_TAGS = 6_000_000  # in all parts
+PIECE = 1 << 16  # bytes that are looked at together
+CELL = "http://schemas.openxmlformats.org/spreadsheetml/2006/main c"
+OPEN_AND_SAVE = "open it in a spreadsheet and save it again"
 
 
 class Cell(NamedTuple):
@@ -126,3 +135,78 @@ def place_name(sheet: Sheet | None, row: int | None = None, column: int | None =
     name = sheet.name if re.fullmatch(r"\w+", sheet.name) else "'" + sheet.name.replace("'", "''") + "'"
     place = f"{letters_of(column or 0)}{row or ''}"
     return f"{name}!{place}" if place else name
+
+
+class Parts:
+    """The parts of a zip, with what may still be read of them. A look at each comes before anything reads it: a
+    document type is refused, so no entity exists. Nothing is unpacked to the disk, no other file is opened."""
+
+    def __init__(self, archive: zipfile.ZipFile) -> None:
+        self.archive, self.names = archive, set(archive.namelist())
+        self.tags = MOST_TAGS
+        if len(self.names) != len(archive.infolist()):
+            raise Trouble("it has two parts of one name, as no spreadsheet writes it")
+        if sum(part.file_size for part in archive.infolist()) > MOST_UNPACKED:
+            raise Trouble(f"more than {MOST_UNPACKED >> 20} MB come out of it: it is no workbook of a school")
+        if any(part.flag_bits & 1 for part in archive.infolist()):
+            raise Trouble("it has a password: save it without one")
+
+    def notes(self, macros: str) -> list[str]:
+        """What is said of a workbook whose macros stand in parts with names of this pattern."""
+        return ["it holds macros; they are not run"] if any(re.match(macros, name) for name in self.names) else []
+
+    def elements(self, name: str, *events: str) -> Iterator[tuple[str, str, Element]]:
+        """The elements of a part that was looked at, with their events and their names without namespaces."""
+        with self.archive.open(name) as stream:
+            for event, element in iterparse(stream, events):
+                yield event, local(element), element
+
+    def look(self, name: str) -> str:
+        """Looks through a part, and gives the name of its first element, behind its namespace."""
+        try:
+            with self.archive.open(name) as stream:
+                return self.parse(stream)
+        except (zipfile.BadZipFile, OSError, EOFError, NotImplementedError) as fault:
+            raise Trouble(f"its part {name} is broken: {fault}") from fault
+        except (xml.parsers.expat.ExpatError, ValueError, LookupError, ArithmeticError) as fault:
+            raise Trouble(f"a part of it is broken ({fault}): {OPEN_AND_SAVE}") from fault
+
+    def parse(self, stream: IO[bytes]) -> str:
+        parser = xml.parsers.expat.ParserCreate(namespace_separator=" ")
+        depth = tags = cells = before = quiet = 0
+        root = ""
+
+        def start(name: str, _: dict[str, str]) -> None:
+            nonlocal depth, tags, cells, root
+            depth += 1
+            tags += 1
+            cells += name == CELL
+            root = root or name
+            if depth > MOST_DEPTH:
+                raise Trouble("its XML is nested too deep: it is no workbook of a school")
+
+        def stop(_: str) -> None:
+            nonlocal depth
+            depth -= 1
+        parser.StartDoctypeDeclHandler = refuse_type
+        parser.StartElementHandler, parser.EndElementHandler = start, stop
+        while piece := stream.read(PIECE):
+            parser.Parse(piece)
+            quiet, before = quiet + len(piece) if tags == before else 0, tags
+            if quiet > MOST_QUIET:
+                raise Trouble("a piece of its XML has no end: it is no workbook of a school")
+            if cells > MOST_CELLS:
+                Budget().keep("", cells)
+            if tags > self.tags:
+                raise Trouble(f"it has more than {MOST_TAGS:,} elements: it is no workbook of a school")
+        parser.Parse(b"", True)
+        self.tags -= tags
+        return root
+
+
+def refuse_type(*_: object) -> None:
+    raise Trouble("it holds a document type, which no spreadsheet writes")
+
+
+def local(element: Element) -> str:
+    return element.tag.rpartition("}")[2]

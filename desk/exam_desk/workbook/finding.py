@@ -1,8 +1,8 @@
 """Which sheet of a workbook is what."""
 from exam_desk import files
 from exam_desk.workbook.cells import Book, Sheet, place_name
-from exam_desk.workbook.headers import (WITHIN, find_header, folded, is_exact, match_header,
-                                        named_kind, text_cells, words_of)
+from exam_desk.workbook.headers import (HEADER_WORDS, WITHIN, find_header, folded, is_exact, match_header, named_kind,
+                                        text_cells)
 from exam_desk.workbook.rows import Table
 from exam_desk.workbook.tables import Job
 
@@ -21,7 +21,7 @@ def usable_sheets(job: Job, book: Book) -> list[Sheet]:
             job.report.note("is not read, as you said", sheet)
         elif sheet.rows:
             (hidden if sheet.hidden and wanted is None else usable).append(sheet)
-        elif not sheet.hidden and named_kind(sheet.name):
+        elif not sheet.hidden and named_kind(sheet):
             job.report.note("is empty", sheet)
     job.papers = named_papers(job, usable)
     tell_hidden(job, hidden, usable)
@@ -48,7 +48,7 @@ def may_be(job: Job, kind: str, sheet: Sheet) -> bool:
 def kinds_by_name(job: Job, sheet: Sheet) -> list[str]:
     """The kinds that the file of columns or else the name of the sheet says."""
     given = [kind for kind, said in job.given.items() if said.sheet and may_be(job, kind, sheet)]
-    named = named_kind(sheet.name)
+    named = named_kind(sheet)
     return given or ([named] if named and may_be(job, named, sheet) else [])
 
 
@@ -61,7 +61,8 @@ def kinds_of(job: Job, sheet: Sheet) -> list[str]:
         return kinds  # the officer has named their headers
     if job.paper(sheet.name):
         return []  # a list of those who sit it
-    kinds = [kind for kind in files.HEADERS if may_be(job, kind, sheet) and find_header(kind, sheet, job.of_kind(kind), True)]
+    kinds = [kind for kind in files.HEADERS
+             if may_be(job, kind, sheet) and find_header(kind, sheet, job.of_kind(kind), True)]
     exact = [kind for kind in kinds if is_exact(kind, sheet)]
     return exact if len(exact) == 1 else kinds
 
@@ -88,7 +89,7 @@ def find_tables(job: Job, sheets: list[Sheet]) -> tuple[list[Table], list[Sheet]
     rest: list[Sheet] = []
     found: dict[str, list[Table]] = {}
     for sheet in sheets:
-        kinds, named = kinds_of(job, sheet), named_kind(sheet.name)
+        kinds, named = kinds_of(job, sheet), named_kind(sheet)
         if named and not kinds_by_name(job, sheet):
             job.report.note(f"is not read: the file of columns says another sheet of {named}", sheet)
         elif not kinds:
@@ -127,7 +128,7 @@ def tell_both(tables: list[Table], place: int) -> bool:
 def tell_no_header(job: Job, kind: str, sheet: Sheet) -> None:
     row = min(sheet.rows)
     have = {folded(text) for text in text_cells(sheet.rows[row]).values()}
-    lacks_session = kind == "openings" and not words_of(kind, "session") & have
+    lacks_session = kind == "openings" and not HEADER_WORDS[kind, "session"] & have
     if lacks_session and len(sheet.rows[row]) > 2:
         cure = "a table of halls by sessions does not say until when, and who for: write a row for each opening, with "
     else:

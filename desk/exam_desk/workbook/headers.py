@@ -47,6 +47,8 @@ OF_KIND = {("papers", "paper"): "code subject", ("papers", "title"): "name subje
            ("papers", "requires"): "features needs", ("halls", "hall"): "code",
            ("halls", "title"): "name hallname roomname", ("sessions", "session"): "code",
            ("entries", "paper"): "subject code"}
+HEADER_WORDS = {(kind, column): {column, *WORDS.get(column, "").split(), *OF_KIND.get((kind, column), "").split()}
+                for kind, header in files.HEADERS.items() for column in header}
 FIRST_NAME = "firstname firstnames givenname forename vorname".split()
 LAST_NAME = "lastname surname familyname nachname".split()
 OF_PEOPLE = {"name", *WORDS["name"].split(), *FIRST_NAME, *LAST_NAME}
@@ -74,14 +76,6 @@ def folded(text: str) -> str:
     return re.sub(r"[\W_]+", "", unicodedata.normalize("NFKC", bare(text)).casefold()) + ("%" if "%" in text else "")
 
 
-@functools.cache
-def words_of(kind: str, column: str) -> frozenset[str]:
-    return frozenset({column, *WORDS.get(column, "").split(), *OF_KIND.get((kind, column), "").split()})
-
-
-HEADER_WORDS = frozenset[str]().union(*(words_of(kind, column) for kind in files.HEADERS for column in files.HEADERS[kind]))
-
-
 def seen(cell: Cell | None) -> Cell | None:
     """A cell, or none where it holds only what no eye sees."""
     if cell is None or cell.kind != "text" or cell.text.isascii() and not cell.text.isspace():
@@ -93,9 +87,8 @@ def text_cells(cells: Mapping[int, Cell]) -> dict[int, str]:
     return {column: cell.text for column, cell in cells.items() if cell.kind == "text" and len(cell.text) <= 200}
 
 
-def named_kind(name: str) -> str | None:
-    word = folded(name)
-    return next((kind for kind, names in SHEET_NAMES.items() if word in names.split()), None)
+def named_kind(sheet: Sheet) -> str | None:
+    return next((kind for kind, names in SHEET_NAMES.items() if folded(sheet.name) in names.split()), None)
 
 
 def match_header(kind: str, row: int, cells: Mapping[int, Cell], given: Given, names: Sequence[str] = ()) -> Header:
@@ -105,7 +98,7 @@ def match_header(kind: str, row: int, cells: Mapping[int, Cell], given: Given, n
     for name in names or files.HEADERS[kind]:
         asked = given.headers.get(name, [])
         joined = [asked] if isinstance(asked, str) else asked
-        words = [frozenset([folded(each)]) for each in joined] or [words_of(kind, name)]
+        words = [{folded(each)} for each in joined] or [HEADER_WORDS[kind, name]]
         places = [sorted((column for column, head in heads.items() if head in these),
                          key=lambda column: (heads[column] != name, column)) for these in words]
         if all(places):

@@ -6,8 +6,8 @@ from collections.abc import Iterator
 from xml.etree.ElementTree import Element
 
 from exam_desk.trouble import Trouble
-from exam_desk.workbook.cells import MOST_COLUMN, MOST_ROW, MOST_SHEETS, Book, Budget, Cell, Sheet
-from exam_desk.workbook.looking import OPEN_AND_SAVE, Parts, local
+from exam_desk.workbook.cells import (MOST_COLUMN, MOST_ROW, MOST_SHEETS, OPEN_AND_SAVE, Book, Budget, Cell, Parts,
+                                      Sheet, local)
 from exam_desk.workbook.numberformats import number_cell, whole_seconds
 
 ASIDE = ("tracked-changes", "shapes", "dde-links", "forms")  # what stands among sheets and rows, and has no cells

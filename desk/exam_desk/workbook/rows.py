@@ -13,6 +13,7 @@ from exam_desk.words import FEATURES
 
 TOTALS = {"total", "totals", "sum", "summe", "gesamt", "count", "anzahl", "grand total", "subtotal"}
 EXAMPLE = "e.g. "  # before the first value of the template's example
+ANY_HEADER = set[str]().union(*HEADER_WORDS.values())
 EACH = 10_000  # rows after which the progress is told
 MOST_ABOVE = 1000  # rows in which a value above an empty cell is looked for
 Row = Mapping[int, Cell | None]  # by column, what is read of a row
@@ -149,7 +150,7 @@ class Table(Headed):
     def begins_other(self, row: int) -> bool:
         """Whether a second table begins here, which ends the reading."""
         cells = self.sheet.rows[row]
-        if sum(text.lstrip()[:1].isalpha() and folded(text) in HEADER_WORDS for text in text_cells(cells).values()) < 2:
+        if sum(text.lstrip()[:1].isalpha() and folded(text) in ANY_HEADER for text in text_cells(cells).values()) < 2:
             return False
         found = {kind: match_header(kind, row, cells, Given()).columns.keys() for kind in files.HEADERS}
         kinds = [kind for kind, have in found.items() if len(have) >= 2 and files.needed_columns(kind) <= have]
@@ -241,12 +242,11 @@ class Table(Headed):
 
     def above(self, row: int, place: int) -> str:
         """What stands above an empty cell, if it was meant to be filled down."""
-        lines = range(row - 1, max(self.header.row, row - MOST_ABOVE), -1)
-        before = next((line for line in lines if place in self.sheet.rows.get(line, {})), None)
-        if before is None:
-            return ""
-        where, shown = place_name(self.sheet, before, place), shown_of(self.sheet.rows[before][place])
-        return f"; {where} above has {shown}: fill it down if it counts here too"
+        for line in range(row - 1, max(self.header.row, row - MOST_ABOVE), -1):
+            if cell := self.sheet.rows.get(line, {}).get(place):
+                where = place_name(self.sheet, line, place)
+                return f"; {where} above has {shown_of(cell)}: fill it down if it counts here too"
+        return ""
 
 
 def is_example(here: Row) -> bool:

@@ -19,9 +19,8 @@ from openpyxl.worksheet import _reader
 from openpyxl.xml.constants import COMMENTS_NS, SHEET_MAIN_NS
 
 from exam_desk.trouble import Trouble
-from exam_desk.workbook.cells import (MOST_COLUMN, MOST_ROW, MOST_SHEETS, Book, Budget, Cell, Sheet, place_name,
-                                      place_of)
-from exam_desk.workbook.looking import OPEN_AND_SAVE, Parts, local
+from exam_desk.workbook.cells import (MOST_COLUMN, MOST_ROW, MOST_SHEETS, OPEN_AND_SAVE, Book, Budget, Cell, Parts,
+                                      Sheet, local, place_name, place_of)
 from exam_desk.workbook.numberformats import BUILT_IN, MACINTOSH, WINDOWS, number_cell, shown_text
 
 STYLES = "xl/styles.xml"  # the only place where openpyxl looks for them
@@ -51,6 +50,13 @@ class SharedText(str):
     struck = False
 
 
+class SharedTexts(dict[int, SharedText]):
+    """The texts to which cells refer by number."""
+
+    def __missing__(self, number: int) -> SharedText:
+        raise Trouble("refers to a text that is not there")
+
+
 def unescaped(text: str) -> str:
     """A text in which _x000D_ stands for the letter of this number."""
     return re.sub("_x([0-9A-Fa-f]{4})_", lambda match: chr(int(match[1], 16)), text) if "_x" in text else text
@@ -77,7 +83,7 @@ class Reader:
         self.reader.read_workbook()
         apply_stylesheet(self.archive, self.reader.wb)
         self.epoch = MACINTOSH if self.reader.wb.epoch.year == 1904 else WINDOWS
-        self.texts: dict[int, SharedText] = {}  # to which cells refer by number; below 0 there is none
+        self.texts = SharedTexts()
         if len(tables := self.of_root("sst")) > 1:
             raise Trouble(f"it has two tables of texts, as no spreadsheet writes it: {OPEN_AND_SAVE}")
         for number, element in enumerate(self.elements(tables, "si")):
@@ -142,9 +148,9 @@ class Reader:
             element.set("t", "n")  # the parser would make a tree of objects of it
         try:
             found = parse(element)
-        except KeyError as fault:
+        except Trouble as trouble:
             place = place_name(sheet, parser.row_counter, parser.col_counter)
-            raise Trouble(f"{place} refers to a text that is not there: {OPEN_AND_SAVE}") from fault
+            raise Trouble(f"{place} {trouble.sentence}: {OPEN_AND_SAVE}") from trouble
         row, column = found["row"], found["column"]
         cell = self.cell(found, text or found["value"], element.find(sheets_reader.FORMULA_TAG) is not None)
         if cell is None:
