@@ -26,12 +26,12 @@ def add_reading(parser: ArgumentParser) -> None:
 
 def add_choices(parser: ArgumentParser) -> None:
     """The options of a command that reads a workbook."""
-    from exam_desk.workbook.headers import KINDS
+    from exam_desk.files import HEADERS
     parser.add_argument("--columns", metavar="FILE", help="a file .toml which says what the headers and words mean")
     parser.add_argument("--sheet", action="append", metavar="NAME",
                         help="read this sheet, and no other that is not named")
     parser.add_argument("--leave", action="append", metavar="NAME", default=[], help="do not read this sheet")
-    parser.add_argument("--together", action="append", choices=KINDS, default=[],
+    parser.add_argument("--together", action="append", choices=[*HEADERS], default=[],
                         help="read all sheets of this kind as one list")
     parser.add_argument("--hidden", choices=["take", "leave"], default="", help="what becomes of hidden rows")
 
@@ -39,16 +39,16 @@ def add_choices(parser: ArgumentParser) -> None:
 def read_source(office: Office, path: str, given: Namespace, is_folder: bool) -> Reading:
     """Reads a workbook, or a folder of import files, as the options say. Raises `Trouble` where it cannot be read."""
     from exam_desk.checking import office_knows
-    from exam_desk.workbook import columns, reading, tables, texts
-    asked, way = columns.read_columns(given.columns) if given.columns else ({}, texts.Way())
-    choices = tables.Choices(given.sheet, given.leave, given.together, given.hidden)
-    job = tables.Job(office_knows(office), way._replace(dates=given.dates or way.dates), asked, choices)
+    from exam_desk.workbook import headers, reading, tables, values
+    asked, way = headers.read_columns(given.columns) if given.columns else ({}, values.Way())
+    job = tables.Job(office_knows(office), way._replace(dates=given.dates or way.dates), asked, given.sheet, given.leave,
+                     given.together, given.hidden)
     return (reading.mend_folder if is_folder else reading.read_workbook)(path, job, given.encoding, command.progress)
 
 
 def print_lines(reading: Reading, everything: bool) -> None:
     """Prints what was changed, and what is wrong."""
-    from exam_desk.workbook.report import together
+    from exam_desk.workbook.tables import together
     command.progress("")
     for line in reading.report.lines if everything else together(reading.report.lines):
         print(plain(line.whole()))
@@ -56,19 +56,18 @@ def print_lines(reading: Reading, everything: bool) -> None:
 
 def made(source: str, new: str, given: Namespace, is_folder: bool, lines_name: str) -> int:
     """Reads a source, prints the lines, and makes the new folder where there is no mistake; gives the status."""
-    from exam_desk.workbook.writing import refuse_there, write_folder
+    from exam_desk.workbook.reading import refuse_there, write_folder
     target = os.path.abspath(new)
     refuse_there(target)
     reading = read_source(command.office(), source, given, is_folder)
     print_lines(reading, given.all)
-    wrong, changed, notes = (reading.report.count(sort) for sort in ("mistake", "change", "note"))
-    if wrong:
-        print(f"{wrong} mistakes, {changed} changes, {notes} notes: nothing is written")
+    counts = ", ".join(f"{reading.report.count(sort)} {sort}s" for sort in ("mistake", "change", "note"))
+    if reading.report.count("mistake"):
+        print(f"{counts}: nothing is written")
         return 1
     for kind, count in write_folder(target, reading, lines_name).items():
         print(f"{kind}: {count}")
-    place = plain(os.path.join(target, lines_name))
-    print(f"0 mistakes, {changed} changes, {notes} notes: look through them in {place}")
+    print(f"{counts}: look through them in {plain(os.path.join(target, lines_name))}")
     return 0
 
 
@@ -257,8 +256,8 @@ column takes, and codes are chosen from lists. The row that begins with `e.g.` i
 leaves out.
 """)
 def template(parser: ArgumentParser) -> None:
-    from exam_desk.workbook.writing import put_workbook
+    from exam_desk.workbook.reading import put_workbook
     parser.add_argument("file")
     path = parser.parse_args().file
-    put_workbook(path, {}, example=True)
+    put_workbook(path)
     command.say(f"{plain(path)}: fill it, then office read {plain(path)}\n")

@@ -9,7 +9,7 @@ from collections.abc import Callable, Iterator
 from exam_desk import files, snapshot
 from exam_desk.office import Office
 from exam_desk.words import clock, feature_text
-from exam_desk.workbook.writing import new_folder, put_workbook, write_kind
+from exam_desk.workbook.reading import new_folder, put_workbook, write_kind
 
 QUERIES = {
     "sessions": "SELECT code, day, start AS clock FROM session ORDER BY day, start, code",

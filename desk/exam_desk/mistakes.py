@@ -136,16 +136,16 @@ class Known:
 
 def cure(column: str, field: bytes) -> Cure:
     """What to do about a wrong value: to write what `office read` makes of such a cell, or what that says of it."""
-    from exam_desk.workbook import cells, days, texts, values  # here, since these ask this module what is right
+    from exam_desk.workbook import cells, values  # here, since these ask this module what is right
     if column == "number" and RIGHT[column](number := with_zeros(field)):
         return Cure(f"leading zeros lost? {number.decode('ascii')} ({CURES[column]})", number.decode("ascii"))
     if column in ("name", "title") or len(field) > MOST_TO_MEND:
         return Cure(needed(column, field))
     text = field.decode("utf-8", "replace").strip(" '")
     try:
-        better = values.read_value(column, cells.Cell("text", text, text), texts.Way())
-    except texts.Wrong as fault:
-        return Cure(words.plain(fault).removesuffix(days.SAY_DATES))
+        better = values.read_value(column, cells.Cell("text", text, text), values.Way())
+    except values.Wrong as fault:
+        return Cure(words.plain(fault).removesuffix(values.SAY_DATES))
     if column == "code" and not better.text:
         return Cure("it is empty; `office take .. --codes` makes one")
     if better.day:  # nobody has looked whether it is that of the session

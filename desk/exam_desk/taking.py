@@ -1,14 +1,12 @@
 """From a workbook, or a folder of import files, to the list of imports that brings it into the office."""
 from __future__ import annotations
 
-from exam_desk import coding, lists, mistakes
+from exam_desk import coding, files, lists, mistakes
 from exam_desk.changing import Step
 from exam_desk.office import Office
 from exam_desk.trouble import Trouble
-from exam_desk.workbook.checking import file_parts
-from exam_desk.workbook.headers import KINDS
-from exam_desk.workbook.reading import Reading
-from exam_desk.workbook.report import Report
+from exam_desk.workbook.reading import Reading, file_parts
+from exam_desk.workbook.tables import Report
 
 
 def with_codes(office: Office, reading: Reading) -> Reading:
@@ -32,7 +30,7 @@ def steps_of(reading: Reading) -> list[Step]:
         raise Trouble(f"{lists.count(empty, 'candidate')} without an access code: nothing is changed; give --codes too "
                       "to make them")
     steps = [Step(("import", kind, f"{kind}.csv" if place == 1 else f"{kind}-{place}.csv"), text)
-             for kind in KINDS if (rows := [record.fields for record in reading.records.get(kind, [])])
+             for kind in files.HEADERS if (rows := [record.fields for record in reading.records.get(kind, [])])
              for place, (text, _) in enumerate(file_parts(kind, rows), 1)]  # several where they are too many for one
     if not steps:
         raise Trouble("there is no row to import")

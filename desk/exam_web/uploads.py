@@ -19,12 +19,10 @@ from werkzeug.datastructures import FileStorage
 
 from exam_desk import coding, files, mistakes, private
 from exam_desk.trouble import Trouble
-from exam_desk.workbook.checking import file_parts
 from exam_desk.workbook.opening import open_book
-from exam_desk.workbook.reading import read_book
-from exam_desk.workbook.report import Line, together
-from exam_desk.workbook.tables import Choices, Job
-from exam_desk.workbook.texts import Way
+from exam_desk.workbook.reading import file_parts, read_book
+from exam_desk.workbook.tables import Job, Line, together
+from exam_desk.workbook.values import Way
 from exam_web.desk import View, desk
 from exam_web.wording import said, shown, text
 
@@ -149,9 +147,9 @@ def take_book(upload: Upload, book: Book, view: View) -> None:
         try:
             opened = open_book(path)
             names = [sheet.name for sheet in opened.sheets if sheet.hidden or book.hidden == "take"]
-            choices = Choices(names if book.hidden == "take" else None, names if book.hidden == "leave" else [],
-                              hidden=book.hidden)
-            reading = read_book(opened, Job(mistakes.Known(view.reading.rows), book.way, {}, choices))
+            reading = read_book(opened, Job(mistakes.Known(view.reading.rows), book.way,
+                                            sheets=names if book.hidden == "take" else None,
+                                            leave=names if book.hidden == "leave" else [], hidden=book.hidden))
         except Trouble as trouble:
             upload.note(book.name, said(trouble.sentence))
             return

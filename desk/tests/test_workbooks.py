@@ -20,12 +20,10 @@ import corpus  # noqa: E402
 import rawbook  # noqa: E402
 from exam_desk.mistakes import Known  # noqa: E402
 from exam_desk.trouble import Trouble  # noqa: E402
-from exam_desk.workbook import carrying, opening  # noqa: E402
-from exam_desk.workbook.cells import Sheet  # noqa: E402
-from exam_desk.workbook.reading import Reading, mend_folder  # noqa: E402
-from exam_desk.workbook.report import Report, together  # noqa: E402
-from exam_desk.workbook.tables import Job  # noqa: E402
-from exam_desk.workbook.writing import workbook_of, write_folder  # noqa: E402
+from exam_desk.workbook import opening  # noqa: E402
+from exam_desk.workbook.cells import Sheet, packed, unpacked  # noqa: E402
+from exam_desk.workbook.reading import Reading, mend_folder, workbook_of, write_folder  # noqa: E402
+from exam_desk.workbook.tables import Job, Report, together  # noqa: E402
 
 AT_A_TIME = 4
 
@@ -112,7 +110,7 @@ class Child(unittest.TestCase):
 
     def test_a_workbook_goes_over_as_it_is(self) -> None:
         book = opening.read_csv("number,name\n17,\"Ada \u00e9 \u202e\nLin\"\n".encode(), "list")
-        self.assertEqual(book, carrying.unpacked(carrying.packed(book)))
+        self.assertEqual(book, unpacked(packed(book)))
 
 
 class Told(unittest.TestCase):
@@ -164,7 +162,7 @@ class Mending(unittest.TestCase):
                 pathlib.Path(folder, name).write_text("number,paper\n0000001,MA-1\n", "utf-8")
             reading = mend_folder(folder, Job(Known()), None, lambda text: None)
         self.assertEqual((2, 0), (len(reading.records["entries"]), reading.report.count("mistake")))
-        self.assertEqual([], Job(Known()).choices.together)
+        self.assertEqual([], Job(Known()).together)
 
 
 class Writing(unittest.TestCase):

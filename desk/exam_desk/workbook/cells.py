@@ -1,12 +1,19 @@
-"""The cells of a workbook as they are stored, and the names of places in it. Nothing is decided here.
+"""The cells of a workbook as they are stored, the names of places in it, and the parts that hold them. Nothing is
+decided here.
 
-A workbook may come from a stranger, so whatever is read and kept has a limit.
+A workbook may come from a stranger, so whatever is read and kept has a limit. The process that reads it hands it over
+as lines of JSON to the one that asked.
 """
 import functools
+import itertools
+import json
 import re
-from collections.abc import Iterable, Sequence
+import xml.parsers.expat
+import zipfile
+from collections.abc import Iterable, Iterator, Sequence
 from dataclasses import dataclass, field
-from typing import NamedTuple
+from typing import IO, NamedTuple
+from xml.etree.ElementTree import Element, iterparse
 
 from exam_desk.trouble import Trouble
 
@@ -16,6 +23,11 @@ MOST_CELLS = 2_000_000  # that are not empty, in all
 MOST_TEXT = 128 << 20  # letters that are kept, in all
 MOST_SHEETS, MOST_ROW, MOST_COLUMN = 500, 1_048_576, 16_384
 MOST_MERGED = 200_000  # rows that merged cells cover
+MOST_DEPTH, MOST_QUIET = 256, 4 << 20  # elements in each other, bytes without a tag
+MOST_TAGS = 6_000_000  # in all parts
+PIECE = 1 << 16  # bytes that are looked at together
+CELL = "http://schemas.openxmlformats.org/spreadsheetml/2006/main c"
+OPEN_AND_SAVE = "open it in a spreadsheet and save it again"
 
 
 class Cell(NamedTuple):
@@ -53,11 +65,12 @@ class Book(NamedTuple):
     notes: list[str]
 
 
+@dataclass
 class Budget:
     """What may still be kept of a workbook."""
 
-    def __init__(self) -> None:
-        self.cells, self.text = MOST_CELLS, MOST_TEXT
+    cells: int = MOST_CELLS
+    text: int = MOST_TEXT
 
     def keep(self, text: str, cells: int = 1) -> None:
         """Takes some cells of one text out of the budget; raises `Trouble` where nothing is left."""
@@ -67,18 +80,42 @@ class Budget:
             raise Trouble(f"it has more than {MOST_CELLS:,} cells or {MOST_TEXT >> 20} MB of letters: split it")
 
 
+def packed(book: Book) -> Iterator[str]:
+    """The lines of a workbook: one for it, one for each sheet and one for each row, with the cells that are new and the
+    numbers of its cells among all."""
+    yield json.dumps({"form": book.form, "notes": book.notes})
+    known: dict[Cell, int] = {}
+    for sheet in book.sheets:
+        yield json.dumps({**vars(sheet), "rows": {}})
+        for row, cells in sheet.rows.items():
+            new = [cell for cell in dict.fromkeys(cells.values()) if cell not in known]
+            known.update(zip(new, itertools.count(len(known))))
+            yield json.dumps([row, new, [*cells], [known[cell] for cell in cells.values()]])
+
+
+def unpacked(lines: Iterable[str | bytes]) -> Book:
+    """The workbook of the lines; raises the `Trouble` of one that could not be read."""
+    first, *rest = lines
+    found = json.loads(first)
+    if "refused" in found:
+        raise Trouble(found["refused"])
+    book, known = Book(found["form"], [], found["notes"]), list[Cell]()
+    for found in map(json.loads, rest):
+        if isinstance(found, dict):
+            book.sheets.append(Sheet(**found))
+        else:
+            row, new, columns, numbers = found
+            known += [Cell(*cell) for cell in new]
+            book.sheets[-1].rows[row] = {column: known[number] for column, number in zip(columns, numbers)}
+    return book
+
+
 def place_of(text: str) -> tuple[int, int]:
     """A reference such as AB12 as row and column."""
     match = re.fullmatch(r"\$?([A-Z]{1,3})\$?([0-9]{1,7})", text)
     if not match:
         raise Trouble(f"it has a cell {text[:20]!r}")
     return int(match[2]), sum((ord(letter) - 64) * 26 ** place for place, letter in enumerate(reversed(match[1])))
-
-
-def area_of(text: str) -> tuple[int, int, int, int]:
-    """A reference such as A2:B7 as first row and column, last row and column."""
-    first, _, last = text.partition(":")
-    return (*place_of(first), *place_of(last or first))
 
 
 @functools.cache
@@ -98,3 +135,78 @@ def place_name(sheet: Sheet | None, row: int | None = None, column: int | None =
     name = sheet.name if re.fullmatch(r"\w+", sheet.name) else "'" + sheet.name.replace("'", "''") + "'"
     place = f"{letters_of(column or 0)}{row or ''}"
     return f"{name}!{place}" if place else name
+
+
+class Parts:
+    """The parts of a zip, with what may still be read of them. A look at each comes before anything reads it: a
+    document type is refused, so no entity exists. Nothing is unpacked to the disk, no other file is opened."""
+
+    def __init__(self, archive: zipfile.ZipFile) -> None:
+        self.archive, self.names = archive, set(archive.namelist())
+        self.tags = MOST_TAGS
+        if len(self.names) != len(archive.infolist()):
+            raise Trouble("it has two parts of one name, as no spreadsheet writes it")
+        if sum(part.file_size for part in archive.infolist()) > MOST_UNPACKED:
+            raise Trouble(f"more than {MOST_UNPACKED >> 20} MB come out of it: it is no workbook of a school")
+        if any(part.flag_bits & 1 for part in archive.infolist()):
+            raise Trouble("it has a password: save it without one")
+
+    def notes(self, macros: str) -> list[str]:
+        """What is said of a workbook whose macros stand in parts with names of this pattern."""
+        return ["it holds macros; they are not run"] if any(re.match(macros, name) for name in self.names) else []
+
+    def elements(self, name: str, *events: str) -> Iterator[tuple[str, str, Element]]:
+        """The elements of a part that was looked at, with their events and their names without namespaces."""
+        with self.archive.open(name) as stream:
+            for event, element in iterparse(stream, events):
+                yield event, local(element), element
+
+    def look(self, name: str) -> str:
+        """Looks through a part, and gives the name of its first element, behind its namespace."""
+        try:
+            with self.archive.open(name) as stream:
+                return self.parse(stream)
+        except (zipfile.BadZipFile, OSError, EOFError, NotImplementedError) as fault:
+            raise Trouble(f"its part {name} is broken: {fault}") from fault
+        except (xml.parsers.expat.ExpatError, ValueError, LookupError, ArithmeticError) as fault:
+            raise Trouble(f"a part of it is broken ({fault}): {OPEN_AND_SAVE}") from fault
+
+    def parse(self, stream: IO[bytes]) -> str:
+        parser = xml.parsers.expat.ParserCreate(namespace_separator=" ")
+        depth = tags = cells = before = quiet = 0
+        root = ""
+
+        def start(name: str, _: dict[str, str]) -> None:
+            nonlocal depth, tags, cells, root
+            depth += 1
+            tags += 1
+            cells += name == CELL
+            root = root or name
+            if depth > MOST_DEPTH:
+                raise Trouble("its XML is nested too deep: it is no workbook of a school")
+
+        def stop(_: str) -> None:
+            nonlocal depth
+            depth -= 1
+        parser.StartDoctypeDeclHandler = refuse_type
+        parser.StartElementHandler, parser.EndElementHandler = start, stop
+        while piece := stream.read(PIECE):
+            parser.Parse(piece)
+            quiet, before = quiet + len(piece) if tags == before else 0, tags
+            if quiet > MOST_QUIET:
+                raise Trouble("a piece of its XML has no end: it is no workbook of a school")
+            if cells > MOST_CELLS:
+                Budget().keep("", cells)
+            if tags > self.tags:
+                raise Trouble(f"it has more than {MOST_TAGS:,} elements: it is no workbook of a school")
+        parser.Parse(b"", True)
+        self.tags -= tags
+        return root
+
+
+def refuse_type(*_: object) -> None:
+    raise Trouble("it holds a document type, which no spreadsheet writes")
+
+
+def local(element: Element) -> str:
+    return element.tag.rpartition("}")[2]

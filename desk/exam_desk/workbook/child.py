@@ -1,6 +1,6 @@
 """A process of its own, with limits of memory and time, that reads or makes one workbook: child.py WHAT < BYTES
 
-`read` answers with the lines of `carrying`, `write` with the bytes of an .xlsx. A bomb ends this process alone.
+`read` answers with the lines of `cells.packed`, `write` with the bytes of an .xlsx. A bomb ends this process alone.
 """
 import io
 import json
@@ -25,7 +25,7 @@ def limit(most_written: int) -> None:
 
 def read(data: bytes) -> bytes:
     from exam_desk.trouble import Trouble
-    from exam_desk.workbook import carrying
+    from exam_desk.workbook.cells import packed
     try:
         with zipfile.ZipFile(io.BytesIO(data)) as archive:
             names = archive.namelist()
@@ -37,16 +37,16 @@ def read(data: bytes) -> bytes:
                 raise Trouble("it is no workbook: save it as .xlsx or .ods")
             else:
                 from exam_desk.workbook.xlsx import read_xlsx as reader
-            lines = "\n".join(carrying.packed(reader(archive)))
+            return "\n".join(packed(reader(archive))).encode()
     except (zipfile.BadZipFile, ValueError, NotImplementedError, EOFError) as fault:
-        lines = carrying.refused(f"it is broken or cut short: {fault}")
+        why = f"it is broken or cut short: {fault}"
     except Trouble as trouble:
-        lines = carrying.refused(trouble.sentence)
+        why = trouble.sentence
     except ModuleNotFoundError:
-        lines = carrying.refused(MISSING)
+        why = MISSING
     except MemoryError:
-        lines = carrying.refused(f"it asks for more than {MOST_MEMORY >> 30} GB: it is no school's workbook")
-    return lines.encode("utf-8", "surrogatepass")
+        why = f"it asks for more than {MOST_MEMORY >> 30} GB: it is no school's workbook"
+    return json.dumps({"refused": why}).encode()
 
 
 def write(data: bytes) -> bytes:
@@ -54,7 +54,7 @@ def write(data: bytes) -> bytes:
         from exam_desk.workbook.making import made
     except ModuleNotFoundError:
         sys.exit(MISSING)
-    return made(*json.loads(data))
+    return made(json.loads(data))
 
 
 if __name__ == "__main__":

@@ -1,18 +1,17 @@
 """Which sheet of a workbook is what."""
 from exam_desk import files
 from exam_desk.workbook.cells import Book, Sheet, place_name
-from exam_desk.workbook.headers import (KINDS, WITHIN, Header, find_header, folded, is_exact, match_header, named_kind,
-                                        names_people, text_cells, words_of)
-from exam_desk.workbook.tables import Job, Table, first_crosses
-
-Found = tuple[Sheet, Header]
+from exam_desk.workbook.headers import (HEADER_WORDS, WITHIN, find_header, folded, is_exact, match_header, named_kind,
+                                        text_cells)
+from exam_desk.workbook.rows import Table
+from exam_desk.workbook.tables import Job
 
 
 def usable_sheets(job: Job, book: Book) -> list[Sheet]:
     """The sheets that are to be read; of the others a line says why they are not."""
-    wanted, leave = job.choices.sheets, job.choices.leave
+    wanted, leave = job.sheets, job.leave
     names = [sheet.name for sheet in book.sheets]
-    said = [str(given["sheet"]) for given in job.given.values() if "sheet" in given and book.form != "csv"]
+    said = [given.sheet for given in job.given.values() if given.sheet and book.form != "csv"]
     for name in [*(wanted or []), *leave, *said]:
         if name not in names and (name not in said or folded(name) not in map(folded, names)):
             job.report.mistake(f"there is no sheet {name}; there are: {', '.join(names)}")
@@ -20,52 +19,50 @@ def usable_sheets(job: Job, book: Book) -> list[Sheet]:
     for sheet in book.sheets:
         if wanted is not None and sheet.name not in wanted or sheet.name in leave:
             job.report.note("is not read, as you said", sheet)
-        elif not sheet.rows:
-            if not sheet.hidden and named_kind(sheet.name):
-                job.report.note("is empty", sheet)
-        else:
+        elif sheet.rows:
             (hidden if sheet.hidden and wanted is None else usable).append(sheet)
+        elif not sheet.hidden and named_kind(sheet):
+            job.report.note("is empty", sheet)
     job.papers = named_papers(job, usable)
-    shown = {kind for sheet in usable for kind in kinds_of(job, sheet)} if hidden else set()
-    for sheet in hidden:
-        tell_hidden(job, sheet, shown)
+    tell_hidden(job, hidden, usable)
     return usable
 
 
-def tell_hidden(job: Job, sheet: Sheet, shown: set[str]) -> None:
+def tell_hidden(job: Job, hidden: list[Sheet], usable: list[Sheet]) -> None:
     """A hidden sheet is left, unless it is the only one of its kind: then the officer must say."""
-    if alone := set(kinds_of(job, sheet)) - shown:
-        job.report.mistake(f"is hidden: show it if it has the {' or '.join(sorted(alone))}, or name the sheets to read "
-                           "with --sheet", sheet)
-    else:
-        job.report.note("is hidden, so it is not read", sheet)
+    shown = {kind for sheet in usable for kind in kinds_of(job, sheet)} if hidden else set()
+    for sheet in hidden:
+        if alone := set(kinds_of(job, sheet)) - shown:
+            job.report.mistake(f"is hidden: show it if it has the {' or '.join(sorted(alone))}, or name the sheets to "
+                               "read with --sheet", sheet)
+        else:
+            job.report.note("is hidden, so it is not read", sheet)
 
 
-def said_elsewhere(job: Job, kind: str, sheet: Sheet) -> bool:
-    """Whether the file of columns says another sheet of a kind."""
-    said = str(job.of_kind(kind).get("sheet", ""))
-    return said != "" and folded(said) != folded(sheet.name)
+def may_be(job: Job, kind: str, sheet: Sheet) -> bool:
+    """Whether the file of columns does not say another sheet of a kind."""
+    said = job.of_kind(kind).sheet
+    return not said or folded(said) == folded(sheet.name)
 
 
 def kinds_by_name(job: Job, sheet: Sheet) -> list[str]:
     """The kinds that the file of columns or else the name of the sheet says."""
-    given = [kind for kind, said in job.given.items() if "sheet" in said and not said_elsewhere(job, kind, sheet)]
-    named = named_kind(sheet.name)
-    return given or ([named] if named and not said_elsewhere(job, named, sheet) else [])
+    given = [kind for kind, said in job.given.items() if said.sheet and may_be(job, kind, sheet)]
+    named = named_kind(sheet)
+    return given or ([named] if named and may_be(job, named, sheet) else [])
 
 
 def kinds_of(job: Job, sheet: Sheet) -> list[str]:
     """The kinds that a sheet may be."""
     if kinds := kinds_by_name(job, sheet):
         return kinds
-    told = [kind for kind, said in job.given.items() if "sheet" not in said
-            and any(name in files.HEADERS[kind] and not isinstance(value, dict) for name, value in said.items())]
+    told = [kind for kind, said in job.given.items() if said.headers and not said.sheet]
     if kinds := [kind for kind in told if find_header(kind, sheet, job.given[kind])]:
         return kinds  # the officer has named their headers
     if job.paper(sheet.name):
         return []  # a list of those who sit it
-    kinds = [kind for kind in KINDS if not said_elsewhere(job, kind, sheet)
-             and find_header(kind, sheet, job.of_kind(kind), True)]
+    kinds = [kind for kind in files.HEADERS
+             if may_be(job, kind, sheet) and find_header(kind, sheet, job.of_kind(kind), True)]
     exact = [kind for kind in kinds if is_exact(kind, sheet)]
     return exact if len(exact) == 1 else kinds
 
@@ -79,9 +76,9 @@ def named_papers(job: Job, sheets: list[Sheet]) -> set[str]:
     codes = known_papers(job)
     for sheet in sheets:
         kinds = kinds_by_name(job, sheet)
-        may_be = not kinds or "papers" in kinds
-        if may_be and (header := find_header("papers", sheet, job.of_kind("papers"), not kinds)):
-            place = header.columns.get("paper", [0])[0]
+        header = find_header("papers", sheet, job.of_kind("papers"), not kinds)
+        if header and "paper" in header.columns and (not kinds or "papers" in kinds):
+            [place, *_] = header.columns["paper"]
             codes |= {job.said("paper", cells[place]) for row, cells in sheet.rows.items()
                       if row > header.row and place in cells}
     return codes - {""}
@@ -90,45 +87,48 @@ def named_papers(job: Job, sheets: list[Sheet]) -> set[str]:
 def find_tables(job: Job, sheets: list[Sheet]) -> tuple[list[Table], list[Sheet]]:
     """The tables of the sheets, and the sheets that are none of them."""
     rest: list[Sheet] = []
-    found: dict[str, list[Found]] = {}
+    found: dict[str, list[Table]] = {}
     for sheet in sheets:
-        kinds, named = kinds_of(job, sheet), named_kind(sheet.name)
-        if not kinds_by_name(job, sheet) and named:
+        kinds, named = kinds_of(job, sheet), named_kind(sheet)
+        if named and not kinds_by_name(job, sheet):
             job.report.note(f"is not read: the file of columns says another sheet of {named}", sheet)
-            continue
-        if len(kinds) > 1 and not all(kind in job.given for kind in kinds):
-            job.report.mistake(f"could be {' or '.join(kinds)}: give the sheet that name", sheet)
-            continue
-        if not kinds:
+        elif not kinds:
             rest.append(sheet)
-        for kind in kinds:
-            header = find_header(kind, sheet, job.of_kind(kind))
-            if header:
-                found.setdefault(kind, []).append((sheet, header))
-            elif kind == "entries":
-                rest.append(sheet)
-            else:
-                tell_no_header(job, kind, sheet)
-    tables = []
-    for kind, sheets_of in found.items():
-        if not tell_both(job, kind, [sheet for sheet, _ in sheets_of], 1):
-            tables += [Table(job, kind, sheet, header) for sheet, header in sheets_of]
-    return tables, rest
+        elif len(kinds) > 1 and not all(kind in job.given for kind in kinds):
+            job.report.mistake(f"could be {' or '.join(kinds)}: give the sheet that name", sheet)
+        else:
+            headers = {kind: find_header(kind, sheet, job.of_kind(kind)) for kind in kinds}
+            for kind, header in headers.items():
+                if header:
+                    found.setdefault(kind, []).append(Table(job, kind, sheet, header))
+                elif kind == "entries":
+                    rest.append(sheet)
+                else:
+                    tell_no_header(job, kind, sheet)
+    return [table for tables in found.values() if not tell_both(tables, 1) for table in told(tables)], rest
 
 
-def tell_both(job: Job, kind: str, sheets: list[Sheet], place: int) -> bool:
-    if len(sheets) < 2 or kind in job.choices.together:
+def told(tables: list[Table]) -> list[Table]:
+    for table in tables:
+        table.tell_header()
+    return tables
+
+
+def tell_both(tables: list[Table], place: int) -> bool:
+    """Whether only one of the tables of a kind may count, which is a mistake on the sheet of this one."""
+    job, kind = tables[0].job, tables[0].kind
+    if len(tables) < 2 or kind in job.together:
         return False
-    names = " and ".join(map(place_name, sheets))
+    names = " and ".join(place_name(table.sheet) for table in tables)
     job.report.mistake(f"{names} could both be the {kind}: keep one, or say --together {kind} to read them as one "
-                       "list, or --leave NAME", sheets[place])
+                       "list, or --leave NAME", tables[place].sheet)
     return True
 
 
 def tell_no_header(job: Job, kind: str, sheet: Sheet) -> None:
     row = min(sheet.rows)
     have = {folded(text) for text in text_cells(sheet.rows[row]).values()}
-    lacks_session = kind == "openings" and not words_of(kind, "session") & have
+    lacks_session = kind == "openings" and not HEADER_WORDS[kind, "session"] & have
     if lacks_session and len(sheet.rows[row]) > 2:
         cure = "a table of halls by sessions does not say until when, and who for: write a row for each opening, with "
     else:
@@ -140,57 +140,31 @@ def tell_no_header(job: Job, kind: str, sheet: Sheet) -> None:
 
 def find_entries(job: Job, rest: list[Sheet], tables: list[Table]) -> list[Table]:
     """Tables of candidates by papers, and sheets that bear the name of a paper; a line says which sheet is neither."""
-    lists: list[tuple[Sheet, Header, dict[int, str], str]] = []
+    lists: list[Table] = []
     for sheet in rest:
-        code, header = job.paper(sheet.name), number_header(job, sheet)
-        marks = paper_columns(job, sheet, header) if header and not code else {}
-        if header and (code or marks):
-            lists.append((sheet, header, marks, code))
+        table = list_table(job, sheet)
+        if table and (table.paper or table.marks):
+            lists.append(table)
         elif "entries" in kinds_by_name(job, sheet):
             cure = "" if job.papers else "; no papers are known: put them into the workbook, or import them first"
             text = f"neither a header number, paper nor one of number and the codes of papers is found{cure}"
             job.report.mistake(text, sheet, min(sheet.rows))
         else:
             job.report.note("is not read: no row is the header of one of the seven kinds", sheet)
-    crossed = [sheet for sheet, _, marks, _ in lists if marks]
-    listed = [table.sheet for table in tables if table.kind == "entries"]
+    crossed = [table for table in lists if table.marks]
+    listed = [table for table in tables if table.kind == "entries"]
     several = listed or len(crossed) > 1 or crossed and len(crossed) < len(lists)
-    if lists and several and tell_both(job, "entries", listed + [sheet for sheet, *_ in lists], len(listed)):
+    if lists and several and tell_both(listed + lists, len(listed)):
         return []
-    return [list_table(job, *found) for found in lists]
+    return told(lists)
 
 
-def list_table(job: Job, sheet: Sheet, header: Header, marks: dict[int, str], code: str) -> Table:
-    if code:
-        job.report.note(f"bears the name of a paper: whom it lists is entered for {code}", sheet)
-    else:
-        job.report.note(f"crosses below {', '.join(marks.values())} are read as entries", sheet, header.row, min(marks))
-    return Table(job, "entries", sheet, header, marks, code)
-
-
-def number_header(job: Job, sheet: Sheet) -> Header | None:
-    """The row with a header of the column number, where a sheet lists candidates."""
-    found = (match_header("entries", row, sheet.rows[row], job.of_kind("entries"))
+def list_table(job: Job, sheet: Sheet) -> Table | None:
+    """A sheet that lists candidates below a header of the column number, with the columns of papers that it has."""
+    found = (match_header("entries", row, sheet.rows[row], job.of_kind("entries"), ["number"])
              for row in sorted(sheet.rows)[:WITHIN])
-    header = next((header for header in found if "number" in header.columns), None)
-    return header and Header(header.row, *({name: places for name, places in columns.items() if name == "number"}
-                                           for columns in (header.columns, header.twice)))
-
-
-def paper_columns(job: Job, sheet: Sheet, header: Header) -> dict[int, str]:
-    """The columns below the codes of papers; crosses below another header are a mistake."""
-    head = {place: cell for place, cell in sheet.rows[header.row].items() if place not in header.columns["number"]}
-    codes = {place: job.said("paper", cell) for place, cell in head.items()}
-    marks = {place: code for place, code in codes.items() if code in job.papers}
-    wrong = {place: f"the paper {code} has two columns" for place, code in marks.items()
-             if code in [marks[other] for other in marks if other < place]}
-    crosses = first_crosses(sheet, header.row) if marks else {}
-    names = {place for place, text in text_cells(head).items() if names_people(text)}
-    for place in crosses.keys() - marks.keys() - set(header.columns["number"]) - names:
-        what = f"{head[place].text.strip()!r} is no paper that is known" if place in head else \
-            "the column has no header"
-        where = place_name(sheet, crosses[place], place)
-        wrong[place] = f"{what}, and has crosses ({where}): correct the code, or delete the column"
-    for place, text in sorted(wrong.items()):
-        job.report.mistake(text, sheet, header.row, place)
-    return marks
+    header = next((header for header in found if header.columns), None)
+    table = header and Table(job, "entries", sheet, header, job.paper(sheet.name))
+    if table and not table.paper:
+        table.find_papers()
+    return table

@@ -1,16 +1,18 @@
-"""Headers of sheets: by which words a sheet is of a kind, and a column one of the import files."""
+"""Headers of sheets: by which words a sheet is of a kind, and a column one of the import files. A file of columns
+(TOML) says what the headers and the words of an export mean."""
 import functools
 import re
 import unicodedata
-from collections.abc import Collection, Mapping
+from collections.abc import Mapping, Sequence
+from types import MappingProxyType
 from typing import NamedTuple
 
-from exam_desk import files
+from exam_desk import files, mistakes
+from exam_desk.trouble import Trouble
 from exam_desk.workbook.cells import Cell, Sheet
-from exam_desk.workbook.texts import bare
+from exam_desk.workbook.values import Way, bare
 
 WITHIN = 20  # rows of a sheet in which its header is looked for
-KINDS = list(files.HEADERS)
 SHEET_NAMES = {
     "sessions": "sessions sittings prüfungstermine termine",
     "papers": "papers exams subjects examinations prüfungen fächer",
@@ -45,10 +47,20 @@ OF_KIND = {("papers", "paper"): "code subject", ("papers", "title"): "name subje
            ("papers", "requires"): "features needs", ("halls", "hall"): "code",
            ("halls", "title"): "name hallname roomname", ("sessions", "session"): "code",
            ("entries", "paper"): "subject code"}
+HEADER_WORDS = {(kind, column): {column, *WORDS.get(column, "").split(), *OF_KIND.get((kind, column), "").split()}
+                for kind, header in files.HEADERS.items() for column in header}
 FIRST_NAME = "firstname firstnames givenname forename vorname".split()
 LAST_NAME = "lastname surname familyname nachname".split()
+OF_PEOPLE = {"name", *WORDS["name"].split(), *FIRST_NAME, *LAST_NAME}
 MARKED = {"papers": "requires", "halls": "features", "arrangements": "needs"}  # may be columns of crosses
-Given = Mapping[str, object]  # of a kind what the file of columns says: a header, headers, {always = ..}, sheet
+
+
+class Given(NamedTuple):
+    """What the file of columns says of a kind."""
+
+    headers: Mapping[str, str | list[str]] = MappingProxyType({})  # of a column its header, or those that are joined
+    fixed: Mapping[str, str] = MappingProxyType({})  # of a column the value that all rows have
+    sheet: str = ""  # the name of the sheet that has the kind
 
 
 class Header(NamedTuple):
@@ -64,21 +76,6 @@ def folded(text: str) -> str:
     return re.sub(r"[\W_]+", "", unicodedata.normalize("NFKC", bare(text)).casefold()) + ("%" if "%" in text else "")
 
 
-@functools.cache
-def words_of(kind: str, column: str) -> frozenset[str]:
-    return frozenset({column, *WORDS.get(column, "").split(), *OF_KIND.get((kind, column), "").split()})
-
-
-@functools.lru_cache(1 << 14)
-def is_header_word(text: str) -> bool:
-    return len(text) <= 200 and text.lstrip()[:1].isalpha() and any(
-        folded(text) in words_of(kind, column) for kind, header in files.HEADERS.items() for column in header)
-
-
-def names_people(text: str) -> bool:
-    return folded(text) in {*words_of("candidates", "name"), *FIRST_NAME, *LAST_NAME}
-
-
 def seen(cell: Cell | None) -> Cell | None:
     """A cell, or none where it holds only what no eye sees."""
     if cell is None or cell.kind != "text" or cell.text.isascii() and not cell.text.isspace():
@@ -90,52 +87,93 @@ def text_cells(cells: Mapping[int, Cell]) -> dict[int, str]:
     return {column: cell.text for column, cell in cells.items() if cell.kind == "text" and len(cell.text) <= 200}
 
 
-def named_kind(name: str) -> str | None:
-    word = folded(name)
-    return next((kind for kind, names in SHEET_NAMES.items() if word in names.split()), None)
+def named_kind(sheet: Sheet) -> str | None:
+    return next((kind for kind, names in SHEET_NAMES.items() if folded(sheet.name) in names.split()), None)
 
 
-def wanted(kind: str, name: str, given: Given) -> list[Collection[str]]:
-    """For each part of a column of the office the words that its header may be."""
-    asked = given.get(name)
-    several = asked if isinstance(asked, list) else [asked] if isinstance(asked, str) else []
-    return [words_of(kind, name)] if asked is None else [{folded(each)} for each in several]
-
-
-def match_header(kind: str, row: int, cells: Mapping[int, Cell], given: Given) -> Header:
-    """A row as the header of a kind."""
+def match_header(kind: str, row: int, cells: Mapping[int, Cell], given: Given, names: Sequence[str] = ()) -> Header:
+    """A row as the header of a kind, or of some of its columns."""
     heads = {column: folded(text) for column, text in text_cells(cells).items()}
     header = Header(row, {}, {})
-    for name in files.HEADERS[kind]:
-        places = [sorted((column for column, head in heads.items() if head in words),
-                         key=lambda column: (heads[column] != name, column)) for words in wanted(kind, name, given)]
-        if places and all(places):
+    for name in names or files.HEADERS[kind]:
+        asked = given.headers.get(name, [])
+        joined = [asked] if isinstance(asked, str) else asked
+        words = [{folded(each)} for each in joined] or [HEADER_WORDS[kind, name]]
+        places = [sorted((column for column, head in heads.items() if head in these),
+                         key=lambda column: (heads[column] != name, column)) for these in words]
+        if all(places):
             header.columns[name] = [columns[0] for columns in places]
         header.twice.update({name: columns for columns in places if len(columns) > 1})
-    if kind == "candidates" and "name" not in header.columns and "name" not in given:
-        first = [column for column, head in heads.items() if head in FIRST_NAME]
-        last = [column for column, head in heads.items() if head in LAST_NAME]
-        if len(first) == 1 and len(last) == 1:
-            header.columns["name"] = [first[0], last[0]]
+    if kind == "candidates" and "name" not in {*header.columns, *given.headers, *given.fixed}:
+        first, last = ([column for column, head in heads.items() if head in words] for words in (FIRST_NAME, LAST_NAME))
+        if len(first) == len(last) == 1:
+            header.columns["name"] = first + last
     return header
 
 
 def find_header(kind: str, sheet: Sheet, given: Given, whole: bool = False) -> Header | None:
     """The header of a kind among the first rows of a sheet; `whole` asks for every column of the kind."""
-    best: Header | None = None
-    always = {name for name, value in given.items() if isinstance(value, dict)}
     needed = set(files.HEADERS[kind]) - {"code"} if whole else files.needed_columns(kind)
-    for row in sorted(sheet.rows)[:WITHIN]:
-        header = match_header(kind, row, sheet.rows[row], given)
-        have = always | header.columns.keys()
-        if needed <= have and len(have) > 1 and len(header.columns) > (len(best.columns) if best else 0):
-            best = header
-    return best
+    found = [match_header(kind, row, sheet.rows[row], given) for row in sorted(sheet.rows)[:WITHIN]]
+    good = [header for header in found if header.columns and needed <= (have := {*header.columns, *given.fixed})
+            and len(have) > 1]
+    return max(good, key=lambda header: len(header.columns)) if good else None
 
 
 def is_exact(kind: str, sheet: Sheet) -> bool:
     """Whether a sheet has just the columns of a kind, under their own names."""
-    header = find_header(kind, sheet, {}, True)
-    cells = sheet.rows[header.row] if header else {}
-    names = [cells[columns[0]].text for columns in header.columns.values()] if header else []
-    return names == files.HEADERS[kind] and len(cells) == len(names)
+    header = find_header(kind, sheet, Given(), True)
+    names = sorted(cell.text for cell in sheet.rows[header.row].values()) if header else []
+    return names == sorted(files.HEADERS[kind])
+
+
+# -- the file of columns
+
+def read_columns(path: str) -> tuple[dict[str, Given], Way]:
+    """What a file of columns says; raises `Trouble` where it says something else."""
+    import tomllib
+    try:
+        with open(path, "rb") as file:
+            found = tomllib.load(file)
+        words, dates = found.pop("words", {}), found.pop("dates", "")
+        given = {kind: given_of(kind, said) for kind, said in found.items()}
+        check_words(words)
+        if dates not in ("", "day-first", "month-first"):
+            raise Trouble("dates is day-first or month-first")
+    except (tomllib.TOMLDecodeError, UnicodeDecodeError, Trouble) as fault:
+        raise Trouble(str(fault), path) from fault
+    return given, Way(dates, words)
+
+
+def given_of(kind: str, said: object) -> Given:
+    if kind not in files.HEADERS or not isinstance(said, dict):
+        raise Trouble(f"{kind} is none of the seven kinds, nor `words` nor `dates`")
+    headers, fixed = dict[str, str | list[str]](), dict[str, str]()
+    for name, value in said.items():
+        texts = value if isinstance(value, list) else [value]
+        if name != "sheet" and name not in files.HEADERS[kind]:
+            raise Trouble(f"[{kind}] has {name}; its columns are {', '.join(files.HEADERS[kind])}")
+        if isinstance(value, dict) and name != "sheet":
+            fixed[name] = str(value.get("always", ""))
+            if set(value) != {"always"} or not mistakes.RIGHT[name](fixed[name].encode()):
+                raise Trouble(f'[{kind}] {name}: write {{ always = ".." }}, with {mistakes.CURES[name]}')
+        elif not texts or not all(isinstance(text, str) and text.strip() for text in texts) or \
+                name == "sheet" and value is texts:
+            raise Trouble(f'[{kind}] {name}: write a header such as "Pupil ID"')
+        elif value is texts and name not in ("name", "title"):
+            raise Trouble(f"[{kind}] {name}: one header; only names and titles are joined of several")
+        else:
+            headers[name] = value
+    sheet = str(headers.pop("sheet", ""))
+    return Given(headers, fixed, sheet)
+
+
+def check_words(words: object) -> None:
+    if not isinstance(words, dict):
+        raise Trouble("words: write a table such as [words.features]")
+    for name, meant in words.items():
+        if name not in mistakes.RIGHT or not isinstance(meant, dict):
+            raise Trouble(f"[words.{name}]: {name} is no column of the import files")
+        for value in meant.values():
+            if not isinstance(value, str) or not mistakes.RIGHT[name](value.encode()):
+                raise Trouble(f"[words.{name}] {value!r} is no value of {name} ({mistakes.CURES[name]})")

@@ -37,21 +37,22 @@ HEAD = {"font": Font(bold=True), "fill": PatternFill("solid", fgColor="DDDDDD")}
 GREY = {"font": Font(italic=True, color="888888")}
 
 
-def made(rows: Mapping[str, Sequence[Sequence[str]]], example: bool) -> bytes:
-    """The workbook of the rows of each kind, which are texts; the example is a row that `read` leaves out."""
+def made(rows: Mapping[str, Sequence[Sequence[str]]] | None) -> bytes:
+    """The workbook of the rows of each kind, which are texts, or of an example of each, which `read` leaves out."""
     book = Workbook()
     book.remove(book.active)
-    for kind in files.HEADERS:
+    for kind, [first, *more] in EXAMPLES.items():
         sheet = book.create_sheet(kind.capitalize())
-        fill(sheet, kind, rows.get(kind, []))
-        for place, text in enumerate([EXAMPLE + EXAMPLES[kind][0], *EXAMPLES[kind][1:]] if example else [], 1):
-            put(sheet, 2, place, text, **GREY)
+        if rows is None:
+            fill(sheet, kind, [[EXAMPLE + first, *more]], **GREY)
+        else:
+            fill(sheet, kind, rows.get(kind, []))
     out = io.BytesIO()
     book.save(out)
     return out.getvalue()
 
 
-def fill(sheet: Any, kind: str, rows: Sequence[Sequence[str]]) -> None:
+def fill(sheet: Any, kind: str, rows: Sequence[Sequence[str]], **looks: Any) -> None:
     sheet.freeze_panes = "A2"
     for place, name in enumerate(files.HEADERS[kind]):
         letter = get_column_letter(place + 1)
@@ -65,7 +66,7 @@ def fill(sheet: Any, kind: str, rows: Sequence[Sequence[str]]) -> None:
     like = None
     for number, row in enumerate(rows, 2):
         for place, text in enumerate(row, 1):
-            like = put(sheet, number, place, text, like)
+            like = put(sheet, number, place, text, like, **looks)
 
 
 def list_of(kind: str, place: int, name: str) -> Any:

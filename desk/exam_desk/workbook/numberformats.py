@@ -15,6 +15,10 @@ MACHINE_DATE = "m/d/yy?"  # the date that each machine shows in its own way
 BUILT_IN = {  # formats by number, beside those that openpyxl knows
             14: MACHINE_DATE, 22: MACHINE_DATE + " h:mm", 32: "h:mm", 33: "h:mm",
             **{number: MACHINE_DATE for number in (*range(27, 32), *range(34, 37), *range(50, 59))}}
+PAINTED = {  # the words of a format of dates, in python's; n is a minute
+    "yyyy": "%Y", "yy": "%y", "mmmm": "%B", "mmm": "%b", "mm": "%m", "m": "%-m", "dddd": "%A", "ddd": "%a", "dd": "%d",
+    "d": "%-d", "hh": "%H", "h": "%-H", "nn": "%M", "n": "%-M", "ss": "%S", "s": "%-S", "am/pm": "%p", ".": ".",
+    ",": ","}
 NUMBER = re.compile(r"\s*[+-]?([0-9]+\.?[0-9]*|\.[0-9]+)([eE][+-]?[0-9]+)?\s*")
 TOKEN = re.compile(r'"[^"]*"|\\.|_.|\*.|\[[^\]]*\]|General|[0#?]+(?:[0#?,.]*[0#?])?,*|.', re.I)
 DATE_TOKEN = re.compile(r'\[[^\]]*\]|yy\?|AM/PM|([ymdhs])\1*|[\\_*].|"[^"]*"|.', re.I)
@@ -116,15 +120,6 @@ def shown_number(form: str, number: decimal.Decimal) -> str | None:
     return ("-" if number < 0 and place >= len(numeric) else "") + "".join(map(str, pieces)).strip()
 
 
-def shown_token(token: str, number: decimal.Decimal) -> str | None:
-    """What a piece of a number format shows; none where that is not known."""
-    if token.lower() == "general":
-        return f"{float(number):.5E}" if number >= LONG_NUMBER else format(number, "f") if number else "0"
-    if token[0] == "[":
-        return token[2:-1].split("-")[0] if token.startswith("[$") else ""
-    return shown_digits(token, number) if token[0] in "0#" else literal(token)
-
-
 def literal(token: str) -> str | None:
     """The letters that a piece of a number format shows as they are; none of a piece that means something."""
     if len(token) > 1 and token[0] in '_*"\\':
@@ -132,7 +127,14 @@ def literal(token: str) -> str | None:
     return token if token in " -+/():!^&'~{}<>=$€£%" else None
 
 
-def shown_digits(token: str, number: decimal.Decimal) -> str | None:
+def shown_token(token: str, number: decimal.Decimal) -> str | None:
+    """What a piece of a number format shows; none where that is not known."""
+    if token.lower() == "general":
+        return f"{float(number):.5E}" if number >= LONG_NUMBER else format(number, "f") if number else "0"
+    if token[0] == "[":
+        return token[2:-1].split("-")[0] if token.startswith("[$") else ""
+    if token[0] not in "0#":
+        return literal(token)
     match = DIGITS.fullmatch(token.replace("#,##", "#,"))
     if not match:
         return None
@@ -166,18 +168,13 @@ def painted(form: str, when: datetime.datetime) -> str:
     foreign = locale_of(form) & 0x3ff not in (0, 9) and {"mmm", "mmmm", "ddd", "dddd"} & set(words)
     if foreign or locale_of(form) >= OTHER_DIGITS:
         return ""
-    numbers = {"h": (when.hour + 11) % 12 + 1 if "am/pm" in words else when.hour, "n": when.minute, "s": when.second,
-               "d": when.day, "m": when.month}
-    known = {word: text for letter, number in numbers.items()
-             for word, text in ((letter, f"{number}"), (2 * letter, f"{number:02}"))}
-    known |= {"yyyy": f"{when.year}", "yy": f"{when:%y}", "mmm": f"{when:%b}", "mmmm": f"{when:%B}",
-              "ddd": f"{when:%a}", "dddd": f"{when:%A}", "am/pm": f"{when:%p}", ".": ".", ",": ","}
+    known = PAINTED | ({"h": "%-I", "hh": "%I"} if "am/pm" in words else {})
     out, after_hour = "", False
     for place, word in enumerate(words):
         later = next((other for other in words[place + 1:] if other[0] in "hsdy"), "")
         if word in ("m", "mm") and (after_hour or later in ("s", "ss")):
             word = word.replace("m", "n")
-        text = "" if word[0] == "[" else known[word] if word in known else literal(word)
+        text = "" if word[0] == "[" else when.strftime(known[word]) if word in known else literal(word)
         if text is None:
             return ""
         out += text

@@ -6,14 +6,15 @@ from collections.abc import Iterator
 from xml.etree.ElementTree import Element
 
 from exam_desk.trouble import Trouble
-from exam_desk.workbook.cells import MOST_COLUMN, MOST_ROW, MOST_SHEETS, Book, Budget, Cell, Sheet
-from exam_desk.workbook.looking import OPEN_AND_SAVE, Parts, local
+from exam_desk.workbook.cells import (MOST_COLUMN, MOST_ROW, MOST_SHEETS, OPEN_AND_SAVE, Book, Budget, Cell, Parts,
+                                      Sheet, local)
 from exam_desk.workbook.numberformats import number_cell, whole_seconds
 
 ASIDE = ("tracked-changes", "shapes", "dde-links", "forms")  # what stands among sheets and rows, and has no cells
 IN_LETTERS = ("annotation", "frame", "custom-shape", "control", "ruby-text", "note")  # in letters, and none of them
 SPACES = {"s": "\0", "tab": "\1", "line-break": "\2"}  # what stands in letters as an element
 FAMILIES = {"p": "paragraph", "span": "text", "a": "text"}  # of the styles of what stands in a cell
+DURATION = re.compile(r"PT([0-9]+)H([0-9]+)M([0-9]+)(?:[.,]([0-9]+))?S")
 NUMBERS = {"float": "General", "currency": "General", "percentage": "0%"}
 Style = tuple[str, str | None]  # a family and a name, none of what all of the family have
 
@@ -158,16 +159,22 @@ class OdsReader:
     def cell(self, part: Element, given: dict[str, str], struck: bool) -> Cell | None:
         paragraphs = [inside for inside in part if local(inside) == "p"]
         shown, formula, kind = "\n".join(map(letters, paragraphs)), "formula" in given, given.get("value-type")
+        value = given.get(f"{kind}-value", "")
         if kind == "error" or formula and re.match(r"Err:[0-9]+$|#[A-Z/0]+[!?]?$", shown):
             return Cell("error", shown or "#VALUE!", shown, formula)
         if kind in NUMBERS:
             found = number_cell(given.get("value", ""), NUMBERS[kind])
             if found and paragraphs:  # a writer that gives no letters leaves them to the reader
                 found = found._replace(shown=shown)
-        elif kind in ("date", "time", "boolean"):
-            found = typed_cell(kind, given.get(f"{kind}-value", ""), shown)
-        elif text := shown or given.get("string-value", ""):
-            found = Cell("text", text, shown)
+        elif kind == "boolean":
+            found = Cell("bool", value, shown)
+        elif kind == "date":
+            found = Cell("date", re.sub(r"T00:00:00(\.0+)?$", "", value), shown)
+        elif kind == "time" and (match := DURATION.fullmatch(value)):
+            seconds = int(match[1]) * 3600 + int(match[2]) * 60 + decimal.Decimal(f"{match[3]}.{match[4] or 0}")
+            found = Cell("time", str(whole_seconds(seconds)), shown)
+        elif kind == "time" or shown or given.get("string-value"):
+            found = Cell("text", shown or value or given.get("string-value", ""), shown)
         else:
             return Cell("pending", "", "", True) if formula and kind is None else None
         struck = struck or any(self.is_struck(style, family) for inside in paragraphs
@@ -205,16 +212,3 @@ def styles_in(element: Element) -> Iterator[Style]:
     for inside in element:
         if local(inside) not in IN_LETTERS:
             yield from styles_in(inside)
-
-
-def typed_cell(kind: str, text: str, shown: str) -> Cell:
-    """The cell of a day, of a time, which is a duration, or of a truth value."""
-    match = re.fullmatch(r"PT([0-9]+)H([0-9]+)M([0-9]+)(?:[.,]([0-9]+))?S", text)
-    if kind == "boolean":
-        return Cell("bool", text, shown)
-    if kind == "date":
-        return Cell("date", re.sub(r"T00:00:00(\.0+)?$", "", text), shown)
-    if not match:
-        return Cell("text", shown or text, shown)
-    seconds = decimal.Decimal(f"{int(match[1]) * 3600 + int(match[2]) * 60 + int(match[3])}.{match[4] or 0}")
-    return Cell("time", str(whole_seconds(seconds)), shown)

@@ -11,10 +11,8 @@ from collections import Counter
 
 from exam_desk import files
 from exam_desk.trouble import Trouble
-from exam_desk.workbook import carrying
 from exam_desk.workbook.child import MISSING
-from exam_desk.workbook.cells import MOST_FILE, Book, Budget, Cell, Sheet
-from exam_desk.workbook.looking import OPEN_AND_SAVE
+from exam_desk.workbook.cells import MOST_FILE, OPEN_AND_SAVE, Book, Budget, Cell, Sheet, unpacked
 
 CHILD = pathlib.Path(__file__).resolve().parent / "child.py"
 PYTHON = "/usr/bin/python3"  # the one for which Debian installs its libraries
@@ -57,7 +55,7 @@ def is_zip(data: bytes) -> bool:
 
 
 def read_zip(data: bytes) -> Book:
-    return carrying.unpacked(ask_child("read", data).decode("utf-8", "surrogatepass").split("\n"))
+    return unpacked(ask_child("read", data).split(b"\n"))
 
 
 def ask_child(what: str, data: bytes) -> bytes:

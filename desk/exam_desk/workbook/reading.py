@@ -1,21 +1,27 @@
-"""From a workbook, or from import files that a spreadsheet broke, to the rows of the seven kinds."""
+"""From a workbook, or from import files that a spreadsheet broke, to the rows of the seven kinds, which are checked as
+the files of an import are; and to a new folder of these files."""
+import contextlib
+import itertools
+import json
 import os
 import re
-from collections.abc import Callable
+import shutil
+import tempfile
+from collections.abc import Iterable, Iterator, Mapping, Sequence
 from dataclasses import replace
 from typing import NamedTuple
 
+from exam_desk import files, mistakes
 from exam_desk.trouble import Trouble
-from exam_desk.workbook.cells import Book, Sheet
-from exam_desk.workbook.checking import check_files
+from exam_desk.workbook.cells import Book, Sheet, place_name
 from exam_desk.workbook.finding import find_entries, find_tables, known_papers, usable_sheets
-from exam_desk.workbook.headers import KINDS
-from exam_desk.workbook.opening import open_book
-from exam_desk.workbook.report import Report
-from exam_desk.workbook.rows import Record, read_table
-from exam_desk.workbook.tables import Job
+from exam_desk.workbook.opening import ask_child, open_book
+from exam_desk.workbook.rows import Record
+from exam_desk.workbook.tables import Job, Line, Progress, Report
+from exam_desk.words import plain
 
-Progress = Callable[[str], None]
+FIRST = 2  # the line of a file with its first row
+Rows = Mapping[str, Sequence[Sequence[str]]]  # by kind
 
 
 class Reading(NamedTuple):
@@ -42,7 +48,7 @@ def mend_folder(folder: str, job: Job, encoding: str | None, progress: Progress)
     """Reads the import files of a folder by the rules of a workbook's cells, each as a sheet of its name."""
     book, together = Book("csv", [], []), list[str]()
     for name in sorted(os.listdir(folder), key=lambda name: (len(name), name)):
-        if match := re.fullmatch(rf"({'|'.join(KINDS)})(-[0-9]+)?\.csv", name):
+        if match := re.fullmatch(rf"({'|'.join(files.HEADERS)})(-[0-9]+)?\.csv", name):
             found = opened(os.path.join(folder, name), encoding)
             book.sheets.extend(found.sheets)
             book.notes.extend(f"{name}: {note}" for note in found.notes)
@@ -51,8 +57,7 @@ def mend_folder(folder: str, job: Job, encoding: str | None, progress: Progress)
             book.notes.append(f"{name} is none of the seven files; it is not read")
     if not book.sheets:
         raise Trouble("none of the seven files is there", folder)
-    choices = replace(job.choices, together=[*job.choices.together, *together])
-    return read_book(book, replace(job, choices=choices), progress)
+    return read_book(book, replace(job, together=[*job.together, *together]), progress)
 
 
 def read_book(book: Book, job: Job, progress: Progress = lambda text: None) -> Reading:
@@ -62,6 +67,7 @@ def read_book(book: Book, job: Job, progress: Progress = lambda text: None) -> R
     records = read_sheets(job, usable_sheets(job, book), progress)
     if not records and not job.report.count("mistake"):
         job.report.mistake("no sheet has rows of one of the seven kinds: see `office template`")
+    keep_codes(job, records.get("candidates", []))
     check_files(job, records, progress)
     return Reading(records, job.report)
 
@@ -71,13 +77,134 @@ def read_sheets(job: Job, sheets: list[Sheet], progress: Progress) -> dict[str, 
     them."""
     tables, rest = find_tables(job, sheets)
     records: dict[str, list[Record]] = {}
-    for kind in KINDS:
+    for kind in files.HEADERS:
         if kind == "entries":
             tables += find_entries(job, rest, tables)
-        if found := [record for table in tables if table.kind == kind for record in read_table(table, progress)]:
+        if found := [record for table in tables if table.kind == kind for record in table.records(progress)]:
             records[kind] = found
         if kind == "sessions":
             job.days = {record.fields[0]: record.fields[1] for record in found}
         if kind == "papers":
             job.papers = known_papers(job) | {record.fields[0] for record in found}
     return records
+
+
+# -- what `office check-files` would say of the files
+
+def keep_codes(job: Job, candidates: list[Record]) -> None:
+    """A candidate without a code keeps the one that the office has. One line tells of all others of a sheet."""
+    have = {number.decode(): code.decode() for code, numbers in job.known.codes.items() for number in numbers}
+    for record in candidates:
+        if not record.fields[2] and record.fields[0] in have:
+            record.fields[2] = have[record.fields[0]]
+            job.report.change("code (empty) became the one that the office has", record.sheet, record.row,
+                              record.columns[2])
+    without = [record for record in candidates if not record.fields[2]]
+    for _, records in itertools.groupby(without, lambda record: record.sheet.name):
+        found = list(records)
+        job.report.lines.append(Line("note", mistakes.no_codes(len(found)), found[0].sheet,
+                                     [record.row for record in found], found[0].columns[2], mistakes.NO_CODE))
+
+
+def check_files(job: Job, records: Mapping[str, list[Record]], progress: Progress) -> None:
+    """Adds to the report what `office check-files` would say of the files, with cells in place of lines."""
+    said = {line.place for line in job.report.lines if line.sort == "mistake"}
+    for kind, rows in records.items():
+        progress(f"{kind}: check of {len(rows):,} rows")
+        found = mistakes.File(kind, job.known).looked_through(
+            files.Record(line, tuple(map(encoded, record.fields)), True) for line, record in enumerate(rows, FIRST))
+        for sort, lines in zip(("mistake", "note"), found):
+            put_back(job, kind, sort, lines, rows, said)
+
+
+def put_back(job: Job, kind: str, sort: str, found: Iterable[mistakes.Mistake], rows: list[Record],
+             said: set[str]) -> None:
+    """Mistakes of files as lines on the cells from which they come, unless a line on the cell says it."""
+    header = files.HEADERS[kind]
+    for mistake in found:
+        what = mistake.what.split(" ")[0]
+        if mistake.line < FIRST or what == "file":
+            job.report.add(sort, f"{kind}: {mistake.text}")
+            continue
+        record = rows[mistake.line - FIRST]
+        column = record.columns[header.index(what)] if what in header else None
+        is_empty = what in header and not record.fields[header.index(what)]
+        is_told = is_empty and (column is None or what == "code")  # of the header, or of all candidates
+        if sort == "note" or not (is_told or place_name(record.sheet, record.row, column) in said):
+            text = f"{mistake.what}: {mistake.text}"
+            if what == "row":  # it speaks of another line of the file
+                text = re.sub(r"\bline ([0-9]+)\b", lambda line: place_name(*rows[int(line[1]) - FIRST][:2]),
+                              mistake.text)
+            job.report.add(sort, text, record.sheet, record.row, column, f"{what} {mistake.text}")
+
+
+# -- the new folder, for its owner alone, whole or not at all
+
+def file_parts(kind: str, rows: Iterable[list[str]]) -> Iterator[tuple[bytes, int]]:
+    """The rows in files of a length that an import takes, each with its header and the count of its rows."""
+    header = files.BOM + encoded(files.written([files.HEADERS[kind]]))
+    part, size = [header], len(header)
+    for line in (encoded(files.written([row])) for row in rows):
+        if size + len(line) > files.MOST_BYTES:
+            yield b"".join(part), len(part) - 1
+            part, size = [header], len(header)
+        part.append(line)
+        size += len(line)
+    yield b"".join(part), len(part) - 1
+
+
+def encoded(text: str) -> bytes:
+    return text.encode("utf-8", "surrogatepass")
+
+
+def refuse_there(target: str) -> None:
+    """Raises `Trouble` where something has the name of the folder."""
+    if os.path.lexists(target):
+        raise Trouble(f"{target} is there already; name a new folder")
+
+
+@contextlib.contextmanager
+def new_folder(target: str) -> Iterator[str]:
+    """A folder for its owner alone, which gets its name when all is in it. Raises `Trouble` where that is there."""
+    refuse_there(target)
+    making = tempfile.mkdtemp(prefix=".making-", dir=os.path.dirname(os.path.abspath(target)))
+    try:
+        yield making
+        os.rename(making, os.path.abspath(target))
+    finally:
+        shutil.rmtree(making, ignore_errors=True)
+
+
+def write_folder(target: str, reading: Reading, lines_name: str) -> dict[str, int]:
+    """Makes the folder with the files and all lines of the report; gives the count of rows of each kind. Raises
+    `Trouble` where a line is a mistake."""
+    if reading.report.count("mistake"):
+        raise Trouble("there are mistakes, so nothing is written", target)
+    with new_folder(target) as making:
+        text = "".join(f"{plain(line.whole())}\n" for line in reading.report.lines)
+        files.put(os.path.join(making, lines_name), text.encode("utf-8", "backslashreplace"))
+        return {kind: write_kind(making, kind, (record.fields for record in reading.records[kind]))
+                for kind in files.HEADERS if reading.records.get(kind)}
+
+
+def write_kind(folder: str, kind: str, rows: Iterable[list[str]]) -> int:
+    """Writes the files of a kind, and gives the count of their rows."""
+    counted = 0
+    for place, (text, count) in enumerate(file_parts(kind, rows), 1):
+        files.put(os.path.join(folder, f"{kind}.csv" if place == 1 else f"{kind}-{place}.csv"), text)
+        counted += count
+    return counted
+
+
+def workbook_of(rows: Rows | None) -> bytes:
+    """An .xlsx of the rows of each kind, or of an example of each, which `read` leaves out."""
+    return ask_child("write", json.dumps(rows).encode())
+
+
+def put_workbook(path: str, rows: Rows | None = None) -> None:
+    """Makes a workbook for its owner alone. Raises `Trouble` where something has its name, or openpyxl is missing."""
+    if not path.endswith(".xlsx"):
+        raise Trouble("the name of the workbook must end in .xlsx")
+    if os.path.lexists(path):
+        raise Trouble(f"{path} is there already; name another")
+    files.put(path, workbook_of(rows))

@@ -1,25 +1,23 @@
 """The rows of a table: which of them count, and what their cells say."""
 import functools
-from collections.abc import Callable, Iterator, Mapping
+from collections.abc import Iterator, Mapping
 from typing import NamedTuple
 
 from exam_desk import files, mistakes
 from exam_desk.trouble import Trouble
 from exam_desk.workbook.cells import MOST_MERGED, Cell, Sheet, letters_of, place_name
-from exam_desk.workbook.days import AS_TEXT, NO_DAY
-from exam_desk.workbook.headers import KINDS, MARKED, folded, is_header_word, match_header, seen
-from exam_desk.workbook.tables import Table
-from exam_desk.workbook.texts import Value, Wrong, bare, shown_of
-from exam_desk.workbook.values import is_mark
+from exam_desk.workbook.headers import HEADER_WORDS, MARKED, Given, folded, match_header, seen, text_cells
+from exam_desk.workbook.tables import Headed, Progress
+from exam_desk.workbook.values import AS_TEXT, NO_DAY, Wrong, bare, is_mark, shown_of
 from exam_desk.words import FEATURES
 
 TOTALS = {"total", "totals", "sum", "summe", "gesamt", "count", "anzahl", "grand total", "subtotal"}
 EXAMPLE = "e.g. "  # before the first value of the template's example
+ANY_HEADER = set[str]().union(*HEADER_WORDS.values())
 EACH = 10_000  # rows after which the progress is told
 MOST_ABOVE = 1000  # rows in which a value above an empty cell is looked for
-Row = Mapping[int, Cell | None]
+Row = Mapping[int, Cell | None]  # by column, what is read of a row
 Field = tuple[str, bool]  # its text, and whether that is wrong
-Progress = Callable[[str], None]
 
 
 class Record(NamedTuple):
@@ -31,128 +29,224 @@ class Record(NamedTuple):
     fields: list[str]
 
 
-def read_table(table: Table, progress: Progress) -> list[Record]:
-    look_at_hidden(table)
-    look_at_comments(table)
-    look_at_mixed_dates(table)
-    found: list[Record] = []
-    formulas: dict[int, int] = {}
-    for count, (row, here) in enumerate(counting_rows(table, filled_cells(table)), 1):
-        tell_struck(table, row)
-        results = [place for place, cell in here.items()
-                   if cell and cell.formula and cell.kind not in ("pending", "error")]
-        formulas = dict.fromkeys(results, row) | formulas
-        found += read_row(table, row, here)
-        if count % EACH == 0:
-            progress(f"{table.kind}: {count:,} rows")
-    for place, row in formulas.items():
-        table.note(row, place, f"formulas in column {letters_of(place)}: their last results are read")
-    if not found:
-        table.note(None, None, f"has no {table.kind}; no file of them is written")
-    return found
+class Table(Headed):
+    """A table, whose rows are read."""
 
+    def records(self, progress: Progress) -> list[Record]:
+        self.look_at_hidden()
+        for row, column in sorted((row, column) for row, column in self.sheet.comments if row > self.header.row):
+            self.note(row, column, "has a comment, which is not read")
+        self.look_at_mixed_dates()
+        found: list[Record] = []
+        formulas: dict[int, int] = {}
+        for count, (row, here) in enumerate(self.counting_rows(self.filled_cells()), 1):
+            self.tell_struck(row)
+            results = [place for place, cell in here.items()
+                       if cell and cell.formula and cell.kind not in ("pending", "error")]
+            formulas = dict.fromkeys(results, row) | formulas
+            found += self.read_row(row, here)
+            if count % EACH == 0:
+                progress(f"{self.kind}: {count:,} rows")
+        for place, row in formulas.items():
+            self.note(row, place, f"formulas in column {letters_of(place)}: their last results are read")
+        if not found:
+            self.note(None, None, f"has no {self.kind}; no file of them is written")
+        return found
 
-# -- which rows count
+    # -- which rows count
 
-def look_at_hidden(table: Table) -> None:
-    """Hidden rows are a mistake until the officer says what becomes of them."""
-    rows, choice, last_row = table.sheet.rows, table.job.choices.hidden, max(table.sheet.rows)
-    hidden = {row for first, last in table.sheet.hidden_rows for row in range(first, min(last, last_row) + 1)}
-    filled = [row for row in hidden & rows.keys() if row > table.header.row and any(map(seen, rows[row].values()))]
-    for row in sorted(filled):
-        if not choice:
-            table.mistake(row, None, "is hidden, perhaps by a filter: show it, or say --hidden take or --hidden leave")
+    def look_at_hidden(self) -> None:
+        """Hidden rows are a mistake until the officer says what becomes of them."""
+        rows, choice, end = self.sheet.rows, self.job.hidden, max(self.sheet.rows)
+        hidden = {row for first, last in self.sheet.hidden_rows for row in range(first, min(last, end) + 1)}
+        for row in sorted(row for row in hidden & self.below().keys() if any(map(seen, rows[row].values()))):
+            if choice == "take":
+                self.note(row, None, "is hidden and read, as you said")
+            elif choice == "leave":
+                self.note(row, None, "is hidden, so it is not read, as you said")
+                del rows[row]
+            else:
+                text = "is hidden, perhaps by a filter: show it, or say --hidden take or --hidden leave"
+                self.mistake(row, None, text)
+
+    def look_at_mixed_dates(self) -> None:
+        """True dates beside texts such as 13/06/2027: a spreadsheet of the other order of day and month has turned
+        round the days up to the 12th, and left the others as text."""
+        [place, *_] = self.header.columns.get("date", [0])
+        cells = [(row, cells[place]) for row, cells in self.below().items() if place in cells]
+        texts = [row for row, cell in cells if cell.kind == "text" and AS_TEXT.fullmatch(bare(cell.text))]
+        for row, cell in cells if texts else ():
+            if cell.kind == "date" and cell.text[8:10] <= "12":
+                beside = place_name(self.sheet, texts[0], place)
+                text = f"date {shown_of(cell)}: a true date, but {beside} is a text: such a mixture arises where a " \
+                       "spreadsheet turns day and month round; type these dates again as 2027-06-07"
+                self.mistake(row, place, text, "mixed")
+
+    def filled_cells(self) -> dict[tuple[int, int], Cell]:
+        """What the cells that are merged downwards say for the rows below their first."""
+        filled: dict[tuple[int, int], Cell] = {}
+        names = {place: name for name, places in self.header.columns.items() for place in places} | self.marks
+        rows, end, covered = self.sheet.rows, max(self.sheet.rows), 0
+        for top, left, bottom, right in self.sheet.merged:
+            read = [place for place in names if left <= place <= right]
+            if bottom <= self.header.row or not read:
+                continue
+            last = min(bottom, end)
+            covered += max(0, last - top)
+            if covered > MOST_MERGED:
+                raise Trouble(f"its merged cells cover more than {MOST_MERGED:,} rows")
+            reach = f"{letters_of(left)}{top}:{letters_of(right)}{bottom}"
+            self.tell_covered(reach, [(row, place) for row in range(max(top, self.header.row + 1), last + 1)
+                                      for place in read if (row, place) != (top, left)])
+            cell = seen(rows.get(top, {}).get(left))
+            if cell and left != right:
+                self.mistake(top, left, f"{reach} is merged over columns: split it")
+            elif cell and top > self.header.row:
+                filled |= dict.fromkeys([(row, left) for row in range(top + 1, last + 1)], cell)
+                text = f"{reach} is merged: {names[left]} {shown_of(cell)} counts for rows {top} to {last}"
+                self.change(top, left, text, "merged")
+        return filled
+
+    def tell_covered(self, reach: str, places: list[tuple[int, int]]) -> None:
+        """A value below a merged cell is one that nobody sees."""
+        for row, place in places:
+            if cell := seen(self.sheet.rows.get(row, {}).get(place)):
+                text = f"{shown_of(cell)!r} is hidden by the merged cells {reach}: split them"
+                self.mistake(row, place, text, "covered")
+
+    def counting_rows(self, filled: Mapping[tuple[int, int], Cell]) -> Iterator[tuple[int, Row]]:
+        """The rows that are read, each with its cells of the table; of those that are left a line says why."""
+        below, data = self.below(), self.places()
+        last = max((row for row, cells in below.items() if not data.isdisjoint(cells)), default=0)
+        head = {place: folded(cell.text) for place, cell in self.head.items() if place in data}
+        for row, cells in below.items():
+            own = {place: seen(cells.get(place)) for place in data}
+            here = {place: cell or filled.get((row, place)) for place, cell in own.items()} if filled else own
+            if not any(own.values()):
+                self.tell_beside(row)
+            elif all(folded(cell.text) == head.get(at) if cell else at not in head for at, cell in here.items()):
+                self.note(row, None, "repeats the header; it is not read", "repeated")
+            elif is_example(here):
+                text = f"{place_name(self.sheet, row)} is the example of the template; it is not read"
+                self.job.report.note(text, what="example")
+            elif self.is_total(row, here, row == last):
+                continue
+            elif self.begins_other(row):
+                break
+            else:
+                yield row, here
+
+    def tell_beside(self, row: int) -> None:
+        places = [place for place, cell in self.sheet.rows[row].items() if seen(cell)]
+        if places:
+            shown = shown_of(self.sheet.rows[row][min(places)])
+            self.note(row, min(places), f"{shown!r} stands beside empty columns; the row is not read", "beside")
+
+    def tell_struck(self, row: int) -> None:
+        for place, cell in self.sheet.rows[row].items():
+            if cell.struck and place not in self.places():
+                self.note(row, place, f"{shown_of(cell)!r} is struck out; the row is read", "struck")
+
+    def begins_other(self, row: int) -> bool:
+        """Whether a second table begins here, which ends the reading."""
+        cells = self.sheet.rows[row]
+        if sum(text.lstrip()[:1].isalpha() and folded(text) in ANY_HEADER for text in text_cells(cells).values()) < 2:
+            return False
+        found = {kind: match_header(kind, row, cells, Given()).columns.keys() for kind in files.HEADERS}
+        kinds = [kind for kind, have in found.items() if len(have) >= 2 and files.needed_columns(kind) <= have]
+        if kinds:
+            self.mistake(row, None, f"a second table begins here ({kinds[0]}?): give it a sheet of its own")
+        return bool(kinds)
+
+    def is_total(self, row: int, here: Row, is_last: bool) -> bool:
+        """Whether a row is a total below the table, which is told and left out."""
+        cells, columns = self.sheet.rows[row].values(), self.header.columns
+        if not any(cell.formula or totals(cell) is not None for cell in cells):
+            return False
+        header = files.HEADERS[self.kind]
+        keys = [here.get(columns[name][0]) for name in header[:files.KEYS.get(self.kind, 1)] if name in columns]
+        word = any(map(totals, cells))
+        computed = any(cell and cell.formula for cell in here.values())
+        key_is_word = any(totals(cell) is not None for cell in keys)
+        if not (key_is_word or word and not all(keys) or computed and not any(keys)):
+            return False
+        whole = all(any(here.get(place) for place in columns.get(name, [])) for name in header)
+        if whole or not (is_last or word or key_is_word):
+            self.mistake(row, None, "is this a total? Delete the row, or give it another code")
         else:
-            how = "is hidden and read" if choice == "take" else "is hidden, so it is not read"
-            table.note(row, None, f"{how}, as you said")
-        if choice == "leave":
-            del rows[row]
+            self.note(row, None, "looks like a total; it is not read", "total")
+        return True
 
+    # -- what a row says
 
-def look_at_comments(table: Table) -> None:
-    for row, column in sorted((row, column) for row, column in table.sheet.comments):
-        if row > table.header.row:
-            table.note(row, column, "has a comment, which is not read")
+    def read_row(self, row: int, here: Row) -> list[Record]:
+        """The records of a row: one, or in a table of papers one for each cross."""
+        header, columns = files.HEADERS[self.kind], self.header.columns
+        read = [self.read_field(row, name, here) for name in header]
+        fields, is_wrong = [text for text, _ in read], any(wrong for _, wrong in read)
+        places = [columns[name][0] if name in columns else None for name in header]
+        crosses = self.read_marks(row, here)
+        if self.kind == "entries" and (self.paper or self.marks):  # a number with a mistake is entered for nothing
+            papers: list[tuple[int | None, str]] = [(place, self.marks[place]) for place in crosses]
+            return [Record(self.sheet, row, [places[0], place], [fields[0], paper])
+                    for place, paper in papers or [(None, self.paper)] if paper and not is_wrong]
+        if self.marks:
+            named = {self.marks[place] for place in crosses}
+            fields[header.index(MARKED[self.kind])] = "+".join(name for name in FEATURES if name in named) or "-"
+        return [Record(self.sheet, row, places, fields)]
 
+    def read_marks(self, row: int, here: Row) -> list[int]:
+        marks = {place: is_mark(here[place]) for place in self.marks}
+        for place in [place for place, mark in marks.items() if mark is None]:
+            text = f"{shown_of(here[place])!r} is neither a cross nor empty (below {self.marks[place]})"
+            self.mistake(row, place, text, "cross")
+        return [place for place, mark in marks.items() if mark]
 
-def look_at_mixed_dates(table: Table) -> None:
-    """True dates beside texts such as 13/06/2027: a spreadsheet of the other order of day and month has turned round
-    the days up to the 12th, and left the others as text."""
-    place = table.header.columns.get("date", [0])[0]
-    cells = [(row, cells[place]) for row, cells in sorted(table.sheet.rows.items())
-             if row > table.header.row and place in cells]
-    texts = [row for row, cell in cells if cell.kind == "text" and AS_TEXT.fullmatch(bare(cell.text))]
-    for row, cell in cells if texts else ():
-        if cell.kind == "date" and cell.text[8:10] <= "12":
-            beside = place_name(table.sheet, texts[0], place)
-            table.mistake(row, place, f"date {shown_of(cell)}: a true date, but {beside} is a text: such a mixture "
-                          "arises where a spreadsheet turns day and month round; type these dates again as 2027-06-07",
-                          "mixed")
+    def read_field(self, row: int, name: str, here: Row) -> Field:
+        places = self.header.columns.get(name)
+        if not places:
+            return self.fixed.get(name, ""), False
+        if len(places) == 1:
+            return self.read_one(row, name, here, places[0])
+        found = [self.read_one(row, name, here, place) for place in places if here[place]]
+        text, is_wrong = " ".join(text for text, _ in found), any(wrong for _, wrong in found)
+        if is_wrong or mistakes.RIGHT[name](text.encode("utf-8", "surrogatepass")):
+            return text, is_wrong
+        said = text.encode("utf-8", "replace")
+        self.mistake(row, places[0], f"{name} {files.shown(said)}: {mistakes.needed(name, said)}", name)
+        return text, True
 
+    def read_one(self, row: int, name: str, here: Row, place: int) -> Field:
+        """The field of one cell. A time is taken beside a day if that is the day of the session, or no day."""
+        cell = here[place]
+        try:
+            value = self.job.value(name, cell)
+            if value.day:
+                column = "date" if name == "start" else "session"
+                said = self.job.said(column, here.get(self.header.columns.get(column, [0])[0]))
+                if value.day not in (*NO_DAY, said if name == "start" else self.job.days.get(said)):
+                    raise Wrong(f"has a date too, {value.day}, which is not that of the session: leave the time alone "
+                                "in its cell")
+        except Wrong as fault:
+            what = f"{name} is missing{self.above(row, place)}" if cell is None else \
+                f"{name} {files.shown(shown_of(cell).encode('utf-8', 'replace'))}: {fault}"
+            self.mistake(row, place, what, f"{name} {fault}")
+            return (cell.text if cell else ""), True
+        if value.why and not (cell is not None and value.text == cell.shown):
+            why = f" ({value.why})" if value.why.strip() else ""
+            group = name if name == "date" else name + value.why.split(",")[0]
+            self.change(row, place, f"{name} {shown_of(cell)} became {value.text or '(empty)'}{why}", group)
+        if value.note:
+            self.note(row, place, f"{name} {value.text} {value.note}", name + value.note)
+        return value.text, False
 
-def filled_cells(table: Table) -> dict[tuple[int, int], Cell]:
-    """What the cells that are merged downwards say for the rows below their first."""
-    filled: dict[tuple[int, int], Cell] = {}
-    names = {place: name for name, places in table.header.columns.items() for place in places} | table.marks
-    end, covered = max(table.sheet.rows), 0
-    for top, left, bottom, right in table.sheet.merged:
-        read = [place for place in names if left <= place <= right]
-        if bottom <= table.header.row or not read:
-            continue
-        last = min(bottom, end)
-        covered += max(0, last - top)
-        if covered > MOST_MERGED:
-            raise Trouble(f"its merged cells cover more than {MOST_MERGED:,} rows")
-        reach = f"{letters_of(left)}{top}:{letters_of(right)}{bottom}"
-        tell_covered(table, reach, [(row, place) for row in range(top, last + 1) for place in read
-                                    if row > table.header.row and (row, place) != (top, left)])
-        cell = seen(table.sheet.rows.get(top, {}).get(left))
-        if cell and left != right:
-            table.mistake(top, left, f"{reach} is merged over columns: split it")
-        elif cell and top > table.header.row:
-            filled |= dict.fromkeys([(row, left) for row in range(top + 1, last + 1)], cell)
-            text = f"{reach} is merged: {names[left]} {shown_of(cell)} counts for rows {top} to {last}"
-            table.change(top, left, text, "merged")
-    return filled
-
-
-def tell_covered(table: Table, reach: str, places: list[tuple[int, int]]) -> None:
-    """A value below a merged cell is one that nobody sees."""
-    for row, place in places:
-        if cell := seen(table.sheet.rows.get(row, {}).get(place)):
-            text = f"{shown_of(cell)!r} is hidden by the merged cells {reach}: split them"
-            table.mistake(row, place, text, "covered")
-
-
-def counting_rows(table: Table, filled: Mapping[tuple[int, int], Cell]) -> Iterator[tuple[int, Row]]:
-    """The rows that are read, each with its cells of the table; of those that are left a line says why."""
-    cells, data = table.sheet.rows, table.places()
-    rows = sorted(row for row in cells if row > table.header.row)
-    last = max((row for row in rows if any(place in cells[row] for place in data)), default=0)
-    head = {place: folded(cell.text) for place, cell in table.head.items() if place in data}
-    for row in rows:
-        own = {place: seen(cells[row].get(place)) for place in data}
-        here = {place: cell or filled.get((row, place)) for place, cell in own.items()} if filled else own
-        if not any(own.values()):
-            tell_beside(table, row)
-        elif all(folded(cell.text) == head.get(place) if cell else place not in head for place, cell in here.items()):
-            table.note(row, None, "repeats the header; it is not read", "repeated")
-        elif is_example(here):
-            text = f"{place_name(table.sheet, row)} is the example of the template; it is not read"
-            table.job.report.note(text, what="example")
-        elif is_total(table, row, here, row == last):
-            continue
-        elif begins_other(table, row):
-            break
-        else:
-            yield row, here
-
-
-def tell_beside(table: Table, row: int) -> None:
-    places = [place for place, cell in table.sheet.rows[row].items() if seen(cell)]
-    if places:
-        shown = shown_of(table.sheet.rows[row][min(places)])
-        table.note(row, min(places), f"{shown!r} stands beside empty columns; the row is not read", "beside")
+    def above(self, row: int, place: int) -> str:
+        """What stands above an empty cell, if it was meant to be filled down."""
+        for line in range(row - 1, max(self.header.row, row - MOST_ABOVE), -1):
+            if cell := self.sheet.rows.get(line, {}).get(place):
+                where = place_name(self.sheet, line, place)
+                return f"; {where} above has {shown_of(cell)}: fill it down if it counts here too"
+        return ""
 
 
 def is_example(here: Row) -> bool:
@@ -160,134 +254,13 @@ def is_example(here: Row) -> bool:
     return first is not None and first.kind == "text" and first.text.startswith(EXAMPLE)
 
 
-def begins_other(table: Table, row: int) -> bool:
-    """Whether a second table begins here, which ends the reading."""
-    cells = table.sheet.rows[row]
-    if sum(cell.kind == "text" and is_header_word(cell.text) for cell in cells.values()) < 2:
-        return False
-    found = {kind: match_header(kind, row, cells, {}).columns.keys() for kind in KINDS}
-    kinds = [kind for kind, have in found.items() if len(have) >= 2 and files.needed_columns(kind) <= have]
-    if kinds:
-        table.mistake(row, None, f"a second table begins here ({kinds[0]}?): give it a sheet of its own")
-    return bool(kinds)
-
-
+@functools.lru_cache(1 << 16)
 def totals(cell: Cell | None) -> bool | None:
     """Whether a cell says a total; none where it does not begin with a word such as sum."""
-    return said_total(cell.text[:101]) if cell and cell.kind == "text" and not cell.text[:1].isdigit() else None
-
-
-@functools.lru_cache(1 << 16)
-def said_total(text: str) -> bool | None:
-    word = bare(text).lower().rstrip(":")
+    if cell is None or cell.kind != "text" or cell.text[:1].isdigit():
+        return None
+    word = bare(cell.text[:101]).lower().rstrip(":")
     first = word.split(" ")[0].rstrip(":")
     if word not in TOTALS and first not in TOTALS:
         return None
-    return len(text) <= 100 and (word in TOTALS or first in ("total", "totals", "summe"))
-
-
-def is_total(table: Table, row: int, here: Row, is_last: bool) -> bool:
-    """Whether a row is a total below the table, which is told and left out."""
-    cells, columns = table.sheet.rows[row].values(), table.header.columns
-    if not any(cell.formula or totals(cell) is not None for cell in cells):
-        return False
-    header = files.HEADERS[table.kind]
-    keys = [here.get(columns[name][0]) for name in header[:files.KEYS.get(table.kind, 1)] if name in columns]
-    word = any(map(totals, cells))
-    computed = any(cell and cell.formula for cell in here.values())
-    key_is_word = any(totals(cell) is not None for cell in keys)
-    if not (key_is_word or word and not all(keys) or computed and not any(keys)):
-        return False
-    whole = all(any(here.get(place) for place in columns.get(name, [])) for name in header)
-    if whole or not (is_last or word or key_is_word):
-        table.mistake(row, None, "is this a total? Delete the row, or give it another code")
-    else:
-        table.note(row, None, "looks like a total; it is not read", "total")
-    return True
-
-
-def tell_struck(table: Table, row: int) -> None:
-    data = table.places()
-    for place, cell in table.sheet.rows[row].items():
-        if cell.struck and place not in data:
-            table.note(row, place, f"{shown_of(cell)!r} is struck out; the row is read", "struck")
-
-
-# -- what a row says
-
-def read_row(table: Table, row: int, here: Row) -> list[Record]:
-    """The records of a row: one, or in a table of papers one for each cross."""
-    header, columns = files.HEADERS[table.kind], table.header.columns
-    read = [read_field(table, row, name, here) for name in header]
-    fields, is_wrong = [text for text, _ in read], any(wrong for _, wrong in read)
-    places = [columns[name][0] if name in columns else None for name in header]
-    crosses = read_marks(table, row, here)
-    if table.kind == "entries" and (table.paper or table.marks):  # a number with a mistake is entered for nothing
-        papers: list[tuple[int | None, str]] = [(place, table.marks[place]) for place in crosses]
-        return [Record(table.sheet, row, [places[0], place], [fields[0], paper])
-                for place, paper in papers or [(None, table.paper)] if paper and not is_wrong]
-    if table.marks:
-        named = {table.marks[place] for place in crosses}
-        fields[header.index(MARKED[table.kind])] = "+".join(name for name in FEATURES if name in named) or "-"
-    return [Record(table.sheet, row, places, fields)]
-
-
-def read_marks(table: Table, row: int, here: Row) -> list[int]:
-    marks = {place: is_mark(here[place]) for place in table.marks}
-    for place in [place for place, mark in marks.items() if mark is None]:
-        text = f"{shown_of(here[place])!r} is neither a cross nor empty (below {table.marks[place]})"
-        table.mistake(row, place, text, "cross")
-    return [place for place, mark in marks.items() if mark]
-
-
-def read_field(table: Table, row: int, name: str, here: Row) -> Field:
-    places = table.header.columns.get(name)
-    if not places:
-        return table.fixed.get(name, ""), False
-    if len(places) == 1:
-        return read_one(table, row, name, here, places[0])
-    found = [read_one(table, row, name, here, place) for place in places if here[place]]
-    text, is_wrong = " ".join(text for text, _ in found), any(wrong for _, wrong in found)
-    if is_wrong or mistakes.RIGHT[name](text.encode("utf-8", "surrogatepass")):
-        return text, is_wrong
-    said = text.encode("utf-8", "replace")
-    table.mistake(row, places[0], f"{name} {files.shown(said)}: {mistakes.needed(name, said)}", name)
-    return text, True
-
-
-def read_one(table: Table, row: int, name: str, here: Row, place: int) -> Field:
-    cell = here[place]
-    try:
-        value = table.job.value(name, cell)
-        if value.day:
-            check_day(table, name, here, value)
-    except Wrong as fault:
-        said = f"{name} is missing{above(table, row, place)}" if cell is None else \
-            f"{name} {files.shown(shown_of(cell).encode('utf-8', 'replace'))}: {fault}"
-        table.mistake(row, place, said, f"{name} {fault}")
-        return (cell.text if cell else ""), True
-    if value.why and not (cell is not None and value.text == cell.shown):
-        why = f" ({value.why})" if value.why.strip() else ""
-        group = name if name == "date" else name + value.why.split(",")[0]
-        table.change(row, place, f"{name} {shown_of(cell)} became {value.text or '(empty)'}{why}", group)
-    if value.note:
-        table.note(row, place, f"{name} {value.text} {value.note}", name + value.note)
-    return value.text, False
-
-
-def above(table: Table, row: int, place: int) -> str:
-    """What stands above an empty cell, if it was meant to be filled down."""
-    lines = range(row - 1, max(table.header.row, row - MOST_ABOVE), -1)
-    before = next((line for line in lines if place in table.sheet.rows.get(line, {})), None)
-    if before is None:
-        return ""
-    where, shown = place_name(table.sheet, before, place), shown_of(table.sheet.rows[before][place])
-    return f"; {where} above has {shown}: fill it down if it counts here too"
-
-
-def check_day(table: Table, name: str, here: Row, value: Value) -> None:
-    """A time that stands with a day in its cell is taken if that is the day of the session, or no day at all."""
-    column = "date" if name == "start" else "session"
-    said = table.job.said(column, here.get(table.header.columns.get(column, [0])[0]))
-    if value.day not in (*NO_DAY, said if name == "start" else table.job.days.get(said)):
-        raise Wrong(f"has a date too, {value.day}, which is not that of the session: leave the time alone in its cell")
+    return len(cell.text) <= 100 and (word in TOTALS or first in ("total", "totals", "summe"))

@@ -1,54 +1,112 @@
-"""The tables of a workbook: which columns of which sheet say what, and what is said of its header."""
-from collections.abc import Callable, Mapping
+"""Where the tables of a workbook stand, and what is told of it: lines with a place, which are changes, notes or
+mistakes."""
+import functools
+import itertools
+import re
+from collections import defaultdict
+from collections.abc import Callable, Iterable, Mapping
 from dataclasses import dataclass, field
 from functools import partialmethod
+from typing import NamedTuple
 
 from exam_desk import files, mistakes
-from exam_desk.workbook.cells import Cell, Sheet, letters_of
-from exam_desk.workbook.headers import MARKED, Given, Header, folded, seen, text_cells
-from exam_desk.workbook.report import Report
-from exam_desk.workbook.texts import Value, Way, Wrong, shown_of
-from exam_desk.workbook.values import is_mark, read_value
-from exam_desk.words import FEATURES
+from exam_desk.workbook.cells import Cell, Sheet, letters_of, place_name
+from exam_desk.workbook.headers import MARKED, OF_PEOPLE, Given, Header, folded, seen, text_cells
+from exam_desk.workbook.values import SHORT_FEATURES, Value, Way, Wrong, is_mark, read_value, shown_of
 
+WORDS = {"change": "", "note": "NOTE: ", "mistake": "MISTAKE: "}  # in the order in which they are printed
+MOST_PLACES = 5  # of lines that stand together
+MOST_TEXTS = 3  # of one kind that have a line each
 MOST_VALUES = 50_000  # that are kept, lest they are read again
+PARTICULAR = re.compile(r"[0-9]|\b[A-Z][A-Z-]+\b")  # in words that are numbers, dates or codes
 CURE_TWICE = "keep one header, or say which in a file of columns"
+Progress = Callable[[str], None]
 
 
-@dataclass(frozen=True)
-class Choices:
-    """What the officer chose for doubtful sheets and rows."""
+class Line(NamedTuple):
+    """A line on a workbook, or lines that stand together."""
 
-    sheets: list[str] | None = None  # those to read, if not all
-    leave: list[str] = field(default_factory=list)  # sheets that are not read
-    together: list[str] = field(default_factory=list)  # all sheets of such a kind are one list
-    hidden: str = ""  # take or leave: what becomes of hidden rows
+    sort: str  # mistake, change or note
+    text: str
+    sheet: Sheet | None
+    rows: list[int]
+    column: int | None
+    what: str  # what lines of one kind say alike
+
+    @property
+    def place(self) -> str:
+        """Such as Candidates!A17, or Candidates!A2:A9, A17 and 37 more."""
+        if self.sheet is None or not self.rows:
+            return place_name(self.sheet, None, self.column)
+        follow_up = itertools.groupby(enumerate(sorted(self.rows)), lambda pair: pair[1] - pair[0])
+        shown = [[row for _, row in run] for _, run in itertools.islice(follow_up, MOST_PLACES)]
+        cells = (":".join(f"{letters_of(self.column or 0)}{row}" for row in sorted({run[0], run[-1]})) for run in shown)
+        more = len(self.rows) - sum(map(len, shown))
+        return f"{place_name(self.sheet)}!{', '.join(cells)}" + (f" and {more:,} more" if more else "")
+
+    def whole(self) -> str:
+        return ": ".join(filter(None, [self.place, f"{WORDS[self.sort]}{self.text}"]))
+
+
+class Report:
+    """The lines in the order in which they are found."""
+
+    def __init__(self) -> None:
+        self.lines: list[Line] = []
+
+    def add(self, sort: str, text: str, sheet: Sheet | None = None, row: int | None = None, column: int | None = None,
+            what: str = "") -> None:
+        self.lines.append(Line(sort, text, sheet, [row] if row else [], column, what or text))
+
+    mistake = partialmethod(add, "mistake")
+    change = partialmethod(add, "change")
+    note = partialmethod(add, "note")
+
+    def count(self, sort: str) -> int:
+        return sum(line.sort == sort for line in self.lines)
+
+
+def together(lines: Iterable[Line]) -> list[Line]:
+    """The lines, mistakes last. Lines on a column that say the same, or of a kind, are one line with all their rows."""
+    kinds: defaultdict[tuple[object, ...], defaultdict[str, list[Line]]] = defaultdict(lambda: defaultdict(list))
+    for line in lines:
+        what = [word for word in line.what.split(" ") if not (line.rows and PARTICULAR.search(word))]
+        kinds[line.sort, line.sheet and line.sheet.name, line.column, " ".join(what)][line.text].append(line)
+    found = [joined(part) for (sort, *_, what), texts in kinds.items()
+             for part in (texts.values() if len(texts) <= MOST_TEXTS or (sort, what) == ("change", "date")
+                          else [[*itertools.chain(*texts.values())]])]
+    return sorted(found, key=lambda line: [*WORDS].index(line.sort))
+
+
+def joined(lines: list[Line]) -> Line:
+    """Lines of one kind as one."""
+    first = lines[0]
+    how = "times" if all(line.text == first.text for line in lines) else f"such {first.sort}s"
+    more = f"; {len(lines):,} {how}" if len(lines) > 1 else ""
+    return first._replace(text=first.text + more, rows=[row for line in lines for row in line.rows])
 
 
 @dataclass
 class Job:
-    """One reading of a workbook."""
+    """One reading of a workbook, with what the officer chose for doubtful sheets and rows."""
 
     known: mistakes.Known
     way: Way = Way()
     given: Mapping[str, Given] = field(default_factory=dict)  # of each kind what the file of columns says
-    choices: Choices = Choices()
+    sheets: list[str] | None = None  # those to read, if not all
+    leave: list[str] = field(default_factory=list)  # sheets that are not read
+    together: list[str] = field(default_factory=list)  # all sheets of such a kind are one list
+    hidden: str = ""  # take or leave: what becomes of hidden rows
     report: Report = field(default_factory=Report)
     papers: set[str] = field(default_factory=set)  # codes that the office or the workbook has
     days: dict[str, str] = field(default_factory=dict)  # of the sessions of the workbook
-    values: dict[tuple[str, Cell | None], Value] = field(default_factory=dict)  # that were read before
+
+    def __post_init__(self) -> None:
+        read = functools.partial(read_value, way=self.way)
+        self.value: Callable[[str, Cell | None], Value] = functools.lru_cache(MOST_VALUES)(read)
 
     def of_kind(self, kind: str) -> Given:
-        return self.given.get(kind, {})
-
-    def value(self, column: str, cell: Cell | None) -> Value:
-        """The value of a cell as a column asks for it; many cells say the same."""
-        found = self.values.get((column, cell))
-        if found is None:
-            found = read_value(column, cell, self.way)
-            if len(self.values) < MOST_VALUES:
-                self.values[column, cell] = found
-        return found
+        return self.given.get(kind, Given())
 
     def said(self, column: str, cell: Cell | None) -> str:
         """The value of a cell, or '' where it has none; a line through it counts elsewhere."""
@@ -64,26 +122,19 @@ class Job:
 
 
 @dataclass
-class Table:
-    """Where the rows of a kind stand."""
+class Headed:
+    """A sheet whose header says where the rows of a kind stand."""
 
     job: Job
     kind: str
     sheet: Sheet
     header: Header
-    marks: dict[int, str] = field(default_factory=dict)  # of a column of crosses its feature or paper
     paper: str = ""  # the paper whose candidates the sheet lists, or ''
+    marks: dict[int, str] = field(default_factory=dict)  # of a column of crosses its feature or paper
 
     def __post_init__(self) -> None:
-        """Adds the lines on what the header says; `fixed` has of a column of the office a value for all rows."""
-        self.fixed = {name: str(value["always"]) for name, value in self.job.of_kind(self.kind).items()
-                      if isinstance(value, dict) and "always" in value}
         self.head = self.sheet.rows[self.header.row]
-        for name, places in self.header.twice.items():
-            columns = ", ".join(map(letters_of, places))
-            self.mistake(self.header.row, places[1], f"columns {columns} could all be {name}: {CURE_TWICE}")
-        for tell in (tell_header, find_features, tell_columns, tell_lacking, tell_unread):
-            tell(self)
+        self.fixed = self.job.of_kind(self.kind).fixed  # of a column of the office a value for all rows
 
     def tell(self, sort: str, row: int | None, column: int | None, text: str, what: str = "") -> None:
         self.job.report.add(sort, text, self.sheet, row, column, what)
@@ -95,90 +146,126 @@ class Table:
     def places(self) -> set[int]:
         return {place for places in self.header.columns.values() for place in places} | set(self.marks)
 
+    def below(self) -> dict[int, dict[int, Cell]]:
+        """The rows below the header, in order."""
+        return {row: self.sheet.rows[row] for row in sorted(self.sheet.rows) if row > self.header.row}
 
-def tell_header(table: Table) -> None:
-    row, head = table.header.row, table.head
-    above = sorted(line for line in table.sheet.rows if line < row)
-    if above:
-        rows = f"rows {above[0]} to {above[-1]} above it are" if len(above) > 1 else f"row {above[0]} above it is"
-        table.note(row, None, f"is taken as the header; {rows} not read")
-    for name, places in table.header.columns.items():
-        shown = [head[place].text.strip() for place in places]
-        if shown != [name]:
-            verb = "are" if len(shown) > 1 else "is"
-            table.note(row, places[0], f"{' and '.join(map(repr, shown))} {verb} read as {name}")
+    def first_places(self, counts: Callable[[Cell], object]) -> dict[int, int]:
+        """Of each column with cells that count below the header the first row with one."""
+        return {place: row for row, cells in reversed(self.below().items()) for place, cell in cells.items()
+                if counts(cell)}
 
+    def first_crosses(self) -> dict[int, int]:
+        """Of each column with crosses below the header the first row with one. Numbers count as crosses where a column
+        has nothing else than 1 and 0."""
+        others = self.first_places(lambda cell: is_mark(cell) is None)
+        return {place: row for place, row in self.first_places(is_mark).items()
+                if place not in others or self.sheet.rows[row][place].kind != "number"}
 
-def find_features(table: Table) -> None:
-    """Columns of crosses below features are read in place of the column of features."""
-    feature, row = MARKED.get(table.kind), table.header.row
-    if not feature or feature in table.fixed:
-        return
-    short = {name.replace("-", ""): name for name in FEATURES}
-    marks = {place: short[folded(text)] for place, text in text_cells(table.head).items()
-             if place not in table.places() and folded(text) in short}
-    if feature in table.header.columns:
-        crosses = first_crosses(table.sheet, row)
-        wrong = {place: f"{name} has crosses beside the column {feature}: keep one of the two"
-                 for place, name in marks.items() if place in crosses}
-    else:
-        wrong = {place: f"the feature {name} has two columns" for place, name in marks.items()
-                 if name in [marks[other] for other in marks if other < place]}
-        table.marks |= marks
-    for place in sorted(wrong):
-        table.mistake(row, place, wrong[place])
-    if table.marks:
-        names = ", ".join(table.marks.values())
-        table.note(row, min(table.marks), f"crosses below {names} are read as {feature}")
+    def find_papers(self) -> None:
+        """The columns below the codes of papers; crosses below another header are a mistake."""
+        head = {place: cell for place, cell in self.head.items() if place not in self.places()}
+        codes = {place: self.job.said("paper", cell) for place, cell in head.items()}
+        marks = {place: code for place, code in codes.items() if code in self.job.papers}
+        wrong = doubled(marks, "paper")
+        crosses = self.first_crosses() if marks else {}
+        names = {place for place, text in text_cells(head).items() if folded(text) in OF_PEOPLE}
+        for place in crosses.keys() - marks.keys() - self.places() - names:
+            what = f"{head[place].text.strip()!r} is no paper that is known" if place in head else \
+                "the column has no header"
+            where = place_name(self.sheet, crosses[place], place)
+            wrong[place] = f"{what}, and has crosses ({where}): correct the code, or delete the column"
+        self.tell_wrong(wrong)
+        self.marks = marks
 
+    def tell_wrong(self, columns: Mapping[int, str]) -> None:
+        for place in sorted(columns):
+            self.mistake(self.header.row, place, columns[place])
 
-def tell_columns(table: Table) -> None:
-    """Columns that are read, and whose header is struck out, or that are hidden."""
-    for place in sorted(table.places()):
-        if place in table.head and table.head[place].struck:
-            table.mistake(table.header.row, place, f"the header {shown_of(table.head[place])!r} is struck out: delete "
-                                                   "the column, or take the line away if it counts")
-        if any(first <= place <= last for first, last in table.sheet.hidden_columns):
-            table.note(table.header.row, place, f"column {letters_of(place)} is hidden; it is read")
+    def tell_crosses(self, what: str) -> None:
+        if self.marks:
+            names = ", ".join(self.marks.values())
+            self.note(self.header.row, min(self.marks), f"crosses below {names} are read as {what}")
 
+    # -- what is told of the header
 
-def tell_lacking(table: Table) -> None:
-    """The columns of the kind that the sheet does not have."""
-    asked, there = table.job.of_kind(table.kind), {*table.header.columns, *table.fixed}
-    if table.marks or table.paper:
-        there.add(MARKED.get(table.kind, "paper"))
-    for name in [name for name in files.HEADERS[table.kind] if name not in there]:
-        if name == "code" and name not in asked:
-            table.note(table.header.row, None, "there is no column code")
+    def tell_header(self) -> None:
+        if self.paper:
+            self.note(None, None, f"bears the name of a paper: whom it lists is entered for {self.paper}")
+        self.tell_crosses("entries")
+        for name, places in self.header.twice.items():
+            columns = ", ".join(map(letters_of, places))
+            self.mistake(self.header.row, places[1], f"columns {columns} could all be {name}: {CURE_TWICE}")
+        for tell in (self.tell_names, self.find_features, self.tell_columns, self.tell_lacking, self.tell_unread):
+            tell()
+
+    def tell_names(self) -> None:
+        row = self.header.row
+        above = sorted(line for line in self.sheet.rows if line < row)
+        if above:
+            rows = f"rows {above[0]} to {above[-1]} above it are" if len(above) > 1 else f"row {above[0]} above it is"
+            self.note(row, None, f"is taken as the header; {rows} not read")
+        for name, places in self.header.columns.items():
+            shown = [self.head[place].text.strip() for place in places]
+            if shown != [name]:
+                verb = "are" if len(shown) > 1 else "is"
+                self.note(row, places[0], f"{' and '.join(map(repr, shown))} {verb} read as {name}")
+
+    def find_features(self) -> None:
+        """Columns of crosses below features are read in place of the column of features."""
+        feature = MARKED.get(self.kind)
+        if not feature or feature in self.fixed:
+            return
+        marks = {place: SHORT_FEATURES[folded(text)] for place, text in text_cells(self.head).items()
+                 if place not in self.places() and folded(text) in SHORT_FEATURES}
+        if feature in self.header.columns:
+            crosses = self.first_crosses()
+            self.tell_wrong({place: f"{name} has crosses beside the column {feature}: keep one of the two"
+                             for place, name in marks.items() if place in crosses})
         else:
-            why = f"; no header is {asked[name]!r}, as the file of columns says" if name in asked else ""
-            table.mistake(table.header.row, None, f"the column {name} is missing{why}: add it ({mistakes.CURES[name]})")
+            self.tell_wrong(doubled(marks, "feature"))
+            self.marks = marks
+            self.tell_crosses(feature)
+
+    def tell_columns(self) -> None:
+        """Columns that are read, and whose header is struck out, or that are hidden."""
+        for place in sorted(self.places()):
+            if place in self.head and self.head[place].struck:
+                text = f"the header {shown_of(self.head[place])!r} is struck out: delete the column, or take the " \
+                       "line away if it counts"
+                self.mistake(self.header.row, place, text)
+            if any(first <= place <= last for first, last in self.sheet.hidden_columns):
+                self.note(self.header.row, place, f"column {letters_of(place)} is hidden; it is read")
+
+    def tell_lacking(self) -> None:
+        """The columns of the kind that the sheet does not have."""
+        asked, there = self.job.of_kind(self.kind).headers, {*self.header.columns, *self.fixed}
+        if self.marks or self.paper:
+            there.add(MARKED.get(self.kind, "paper"))
+        for name in [name for name in files.HEADERS[self.kind] if name not in there]:
+            if name == "code" and name not in asked:
+                self.note(self.header.row, None, "there is no column code")
+            else:
+                why = f"; no header is {asked[name]!r}, as the file of columns says" if name in asked else ""
+                text = f"the column {name} is missing{why}: add it ({mistakes.CURES[name]})"
+                self.mistake(self.header.row, None, text)
+
+    def tell_unread(self) -> None:
+        """Columns with values that are no columns of the office."""
+        there = self.first_places(seen)
+        papers = self.job.papers if self.kind == "candidates" else set()
+        for place in sorted({*there, *self.head} - self.places()):
+            if place not in self.head:
+                text = f"column {letters_of(place)} has values but no header; it is not read"
+                self.note(there[place], place, text)
+            elif self.job.said("paper", self.head[place]) in papers:
+                text = f"{shown_of(self.head[place])} is a paper: put the crosses on a sheet Entries, with the numbers"
+                self.mistake(self.header.row, place, text)
+            else:
+                self.note(self.header.row, place, f"the column {shown_of(self.head[place]).strip()!r} is not read")
 
 
-def tell_unread(table: Table) -> None:
-    """Columns with values that are no columns of the office."""
-    row, head = table.header.row, table.head
-    there = first_places(table.sheet, row, seen)
-    papers = table.job.papers if table.kind == "candidates" else set()
-    for place in sorted({*there, *head} - table.places()):
-        if place not in head:
-            table.note(there[place], place, f"column {letters_of(place)} has values but no header; it is not read")
-        elif table.job.said("paper", head[place]) in papers:
-            text = f"{shown_of(head[place])} is a paper: put the crosses on a sheet Entries, with the numbers"
-            table.mistake(row, place, text)
-        else:
-            table.note(row, place, f"the column {shown_of(head[place]).strip()!r} is not read")
-
-
-def first_places(sheet: Sheet, header: int, counts: Callable[[Cell], object]) -> dict[int, int]:
-    """Of each column with cells that count below the header the first row with one."""
-    below = sorted((row for row in sheet.rows if row > header), reverse=True)
-    return {place: row for row in below for place, cell in sheet.rows[row].items() if counts(cell)}
-
-
-def first_crosses(sheet: Sheet, header: int) -> dict[int, int]:
-    """Of each column with crosses below the header the first row with one. Numbers count as crosses where a column has
-    nothing else than 1 and 0."""
-    others = first_places(sheet, header, lambda cell: is_mark(cell) is None)
-    return {place: row for place, row in first_places(sheet, header, is_mark).items()
-            if place not in others or sheet.rows[row][place].kind != "number"}
+def doubled(marks: Mapping[int, str], what: str) -> dict[int, str]:
+    """Of each column of crosses that says what one before it says, that it is a mistake."""
+    return {place: f"the {what} {name} has two columns" for place, name in marks.items()
+            if name in [marks[other] for other in marks if other < place]}

@@ -1,34 +1,110 @@
 """What a cell says as a value of the office: `read_value` has a rule for each column of the import files."""
+import datetime
+import decimal
+import functools
 import re
+import unicodedata
 from collections.abc import Callable, Mapping
+from types import MappingProxyType
+from typing import NamedTuple
 
 from exam_desk import files, mistakes, noting
-from exam_desk.workbook.amounts import NONE, read_time, read_whole
 from exam_desk.workbook.cells import Cell
-from exam_desk.workbook.days import MONTHS, read_date
-from exam_desk.workbook.texts import DASHES, Value, Way, Wrong, bare, cleaned, reason, refuse_other_digits
-from exam_desk.words import FEATURES
+from exam_desk.workbook.numberformats import clock_text
+from exam_desk.words import FEATURES, plain
 
 MOST_LETTERS = 1000  # of a cell: the patterns take long for longer ones
+INVISIBLE = dict.fromkeys([0xad, 0x61c, 0x180e, 0x200b, 0x200e, 0x200f, *range(0x202a, 0x202f), *range(0x2060, 0x2070),
+                           0xfeff, *range(0xfff9, 0xfffc)])
+SPACES = re.compile(r"[\u00a0\u1680\u2007\u202f\u2000-\u200a\u3000\u205f]")
+OTHER_LETTERS: dict[str, Callable[[str], str]] = {  # what is done to letters beyond ASCII
+    "accents composed": lambda text: unicodedata.normalize("NFC", text),
+    "invisible marks taken out": lambda text: text.translate(INVISIBLE),
+    "hard spaces made plain": lambda text: SPACES.sub(" ", text)}
+DASHES = dict.fromkeys(map(ord, "\u2010\u2011\u2012\u2013\u2014\u2212"), "-")
+GROUPS = re.compile(r"(?<=[0-9])[ ,.'\u00a0\u202f](?=[0-9]{3}(?![0-9]))")
 QUOTES = tuple("'\u2018\u2019`\u00b4")
 YES = {"yes", "y", "true", "1", "x", "✓", "✔", "ja", "j", "wahr", "oui", "vrai", "si", "sí"}
 NO = {"no", "n", "false", "0", "-", "nein", "falsch", "non", "faux", ""}
-SHORT_MONTH = "|".join(name for name in MONTHS if len(name) == 3)
-LIKE_A_DAY = re.compile(f"([0-9]{{1,2}}-({SHORT_MONTH})|({SHORT_MONTH})-[0-9]{{2}})", re.I)
+NONE = {"", "-", "none", "no", "keine"}
+SHORT_FEATURES = {name.replace("-", ""): name for name in FEATURES}
 NEAR = {"wheelchair": "step-free", "accessible": "step-free", "pc": "computer", "laptop": "computer",
         "separateroom": "small-room"}
-EMPTY = Cell("text", "", "")
+MONTHS = {name: place for place, names in enumerate(
+    ["jan january januar", "feb february februar", "mar march mär märz", "apr april", "may mai", "jun june juni",
+     "jul july juli", "aug august", "sep sept september", "oct october okt oktober", "nov november",
+     "dec december dez dezember"], 1) for name in names.split()}
+WEEKDAYS = ["monday montag", "tuesday dienstag", "wednesday mittwoch", "thursday donnerstag", "friday freitag",
+            "saturday samstag", "sunday sonntag"]
+SHORT_MONTH = "|".join(name for name in MONTHS if len(name) == 3)
+LIKE_A_DAY = re.compile(f"([0-9]{{1,2}}-({SHORT_MONTH})|({SHORT_MONTH})-[0-9]{{2}})", re.I)
+LIKE_A_DATE = re.compile("[0-9]{4}-[0-9]{2}-[0-9]{2}")
+DATES = [re.compile(form) for form in (  # the first form that a text has counts
+    r"(?P<year>[0-9]{4})-(?P<month>[0-9]{2})-(?P<day>[0-9]{2})(?:[T ](?P<time>[0-9:.]*)Z?)?",
+    r"(?P<year>[0-9]{4})(?P<mark>[/.])(?P<month>[0-9]{1,2})(?P=mark)(?P<day>[0-9]{1,2})",
+    "(?P<year>2[01][0-9]{2})(?P<month>[0-9]{2})(?P<day>[0-9]{2})",
+    r"(?P<day>[0-9]{1,2})(?P<point>\.) ?(?P<month>[0-9]{1,2})\. ?(?P<year>[0-9]{4})",
+    r"(?P<first>[0-9]{1,2})(?P<mark>[/-])(?P<second>[0-9]{1,2})(?P=mark)(?P<year>[0-9]{4})",
+    r"(?:(?P<weekday>[^\W\d]+),? )?(?P<day>[0-9]{1,2})(?:\.|st|nd|rd|th)?[ -](?P<name>[^\W\d]+)\.?,?[ -]"
+    r"(?P<year>[0-9]{4})",
+    r"(?:(?P<weekday>[^\W\d]+),? )?(?P<name>[^\W\d]+)\.? (?P<day>[0-9]{1,2})(?:st|nd|rd|th)?,? (?P<year>[0-9]{4})",
+    r"[0-9]{1,2}[/.-][0-9]{1,2}[/.-](?P<short>[0-9]{2})")]
+AS_TEXT = re.compile(r"([0-9]{1,2})([/.-])([0-9]{1,2})\2([0-9]{2}|[0-9]{4})")  # however a spreadsheet shows a date
+SAY_DATES = ", or say --dates day-first or --dates month-first"
+NO_DAY = ("1899-12-30", "1899-12-31", "1900-01-01", "1904-01-01")  # what stands in front of a time alone
+HOURS = re.compile(r"([0-9]{1,2})(?::([0-5][0-9])(?::00)?|"
+                   r" ?(?:h|hrs?|hours?|Std\.?) ?(?:([0-5]?[0-9]) ?(?:min|mins|minutes|m)?)?)", re.I)
+MINUTES = re.compile(r"([0-9]{1,3}) ?(min|mins|minutes|Minuten|')\.?", re.I)
+PERCENT = re.compile(r"([0-9]{1,3})(?:[.,]0+)? ?(%|percent|per cent|Prozent)", re.I)
+TIMES = [re.compile(form) for form in (
+    r"(?P<hour>[0-9]{1,2}):(?P<minute>[0-9]{2})(?::00(?:\.0+)?)?",
+    r"(?i)(?P<hour>0?[1-9]|1[0-2])(?:[:.](?P<minute>[0-5][0-9]))?(?::00)? ?(?P<half>[ap])\.?m\.?",
+    "(?P<hour>[01][0-9]|2[0-3])(?P<minute>[0-5][0-9])",
+    "(?P<hour>[0-9]{1,2})(?P<doubt>[.h])(?P<minute>[0-5][0-9])( Uhr)?",
+    r"(?P<day>[0-9]{4}-[0-9]{2}-[0-9]{2})(?:[T ](?P<hour>[0-9]{2}):(?P<minute>[0-9]{2})(?::00(?:\.0+)?)?)?")]
+SECONDS = re.compile(r":[0-9]{2}:[0-9.]*[1-9]")
+UNREAD = {  # the kinds that no column takes
+    "pending": "a formula that no spreadsheet has computed: open the workbook in one and save it, or type the value",
+    "error": "an error of a formula: mend it, or type the value"}
 AGAIN = "type it again in a column of the format text"
 MADE = {  # the kinds that a spreadsheet makes of what is typed
     "date": f"a spreadsheet made a date of it: {AGAIN}", "time": f"a spreadsheet made a time of it: {AGAIN}",
     "bool": f"a spreadsheet made TRUE or FALSE of it: {AGAIN}", "percent": f"it is a percentage: {AGAIN}",
     "number": "it is a number: type it as text"}
+EMPTY = Cell("text", "", "")
+
+
+class Wrong(Exception):
+    """The cell has no value that can be taken; the text is its cure."""
+
+
+class Way(NamedTuple):
+    """What the officer said on the command line or in the file of columns."""
+
+    dates: str = ""  # day-first or month-first: what 01/06/2027 means
+    words: Mapping[str, Mapping[str, str]] = MappingProxyType({})  # of a column what a word stands for
+
+
+class Value(NamedTuple):
+    """The value of a cell, as the import files have it."""
+
+    text: str
+    why: str = ""  # what was done, where the value is another text than the cell shows
+    note: str = ""  # what only the officer's eye can judge
+    day: str = ""  # of a time the day that stands in its cell too
 
 
 def read_value(column: str, cell: Cell | None, way: Way) -> Value:
     """The value of a cell, or of an empty one, as a column of the import files asks for it; raises `Wrong`."""
     found = cell or EMPTY
-    refuse_unread(found)
+    if found.kind in UNREAD:
+        raise Wrong(UNREAD[found.kind])
+    if len(found.text) > MOST_LETTERS:
+        raise Wrong(f"has {len(found.text):,} letters; at most {MOST_LETTERS} are looked at")
+    if found.struck:
+        raise Wrong("is struck out: delete the row, or take the line away if it counts")
+    if found.unseen:
+        raise Wrong("is in the cell, but its number format shows nothing: delete it, or give it another format")
     text, done = cleaned(found.text)
     if cell and cell.kind == "text" and text in way.words.get(column, {}):
         return Value(way.words[column][text], "by the file of columns")
@@ -43,20 +119,63 @@ def read_value(column: str, cell: Cell | None, way: Way) -> Value:
     return value._replace(why=reason(done, value.why) or " " * (not is_as_shown))
 
 
-def refuse_unread(cell: Cell) -> None:
-    """Raises `Wrong` for a cell that no reader looks at."""
-    if cell.kind == "pending":
-        raise Wrong("a formula that no spreadsheet has computed: open the workbook in one and save it, or type the "
-                    "value")
-    if cell.kind == "error":
-        raise Wrong("an error of a formula: mend it, or type the value")
-    if len(cell.text) > MOST_LETTERS:
-        raise Wrong(f"has {len(cell.text):,} letters; at most {MOST_LETTERS} are looked at")
-    if cell.struck:
-        raise Wrong("is struck out: delete the row, or take the line away if it counts")
-    if cell.unseen:
-        raise Wrong("is in the cell, but its number format shows nothing: delete it, or give it another format")
+def refuse_other_digits(cell: Cell) -> None:
+    """Raises `Wrong` where a number is shown as other digits: 17 under the format "2027"000 is shown as 2027017."""
+    if cell.kind != "number":
+        return
+    shown = re.sub(r"[^0-9.,-]", "", GROUPS.sub("", cell.shown)).strip(".,")
+    same = re.sub(r"[.,]0+$", "", shown).lstrip("0") == re.sub(r"\.0+$", "", cell.text).lstrip("0")
+    if not shown or not same:
+        how = f"shown as {cell.shown}" if cell.shown else "shown by a format of its own"
+        raise Wrong(f"is the number {cell.text}, but {how}: type what counts as text")
 
+
+def shown_of(cell: Cell | None) -> str:
+    """A cell in words, for a line on it."""
+    if cell is None:
+        return "(empty)"
+    if not cell.shown and cell.kind == "time":
+        return "a true time " + clock_text(decimal.Decimal(cell.text))
+    text = cell.shown or ("a true date" if cell.kind == "date" else cell.text)
+    return plain(text if len(text) <= 200 else f"{text[:197]}..")
+
+
+def cleaned(text: str) -> tuple[str, str]:
+    """A text without what no eye sees, in composed letters, and what was done."""
+    done = []
+    for what, clean in OTHER_LETTERS.items() if not text.isascii() else ():
+        before, text = text, clean(text)
+        done += [what] * (text != before)
+    bare = text.strip()
+    return bare, reason(*done, "spaces at the ends taken away" * (bare != text))
+
+
+@functools.lru_cache(1 << 16)
+def bare(text: str) -> str:
+    return cleaned(text)[0]
+
+
+def reason(*parts: str) -> str:
+    return ", ".join(filter(None, parts))
+
+
+def first_match(forms: list[re.Pattern[str]], text: str) -> re.Match[str] | None:
+    return next(filter(None, (form.fullmatch(text) for form in forms)), None)
+
+
+def is_mark(cell: Cell | None) -> bool | None:
+    """Whether a cell of a table of crosses holds a cross; none where that cannot be said."""
+    if cell is None:
+        return False
+    if cell.kind not in ("text", "number", "bool") or cell.struck or cell.unseen or len(cell.text) > 20:
+        return None
+    if cell.kind == "bool":
+        return cell.text == "true"
+    word = bare(cell.shown).translate(DASHES).lower()
+    return True if word in YES else False if word in NO and (word or cell.kind == "text") else None
+
+
+# -- numbers of candidates, codes and names
 
 def read_number(column: str, cell: Cell, text: str, way: Way) -> Value:
     if "." not in text:
@@ -110,6 +229,8 @@ def read_name(column: str, cell: Cell, text: str, way: Way) -> Value:
     return Value(text, "", note)
 
 
+# -- words
+
 def read_yes(column: str, cell: Cell, text: str, way: Way) -> Value:
     if cell.kind == "bool":
         return Value("yes" if text == "true" else "no", "yes or no")
@@ -128,33 +249,131 @@ def read_features(column: str, cell: Cell, text: str, way: Way) -> Value:
     if word in NONE:
         return Value("-", "empty is none" if not word else "none" if text != "-" else "")
     taught = {key.lower(): value for key, value in way.words.get(column, {}).items()}
-    parts = re.split(r"\s*(?:[+,;/&|\n\r]|\band\b|\bund\b)\s*", word)
-    found = set().union(*(features_of(part, taught) for part in parts if part))
+    found: set[str] = set()
+    for part in filter(None, re.split(r"\s*(?:[+,;/&|\n\r]|\band\b|\bund\b)\s*", word)):
+        short = re.sub("[ _-]", "", part)
+        meant = taught.get(part) or SHORT_FEATURES.get(short)
+        if meant is None:
+            near = f"; {NEAR[short]}?" if short in NEAR else ""
+            raise Wrong(f"{part} is none of the features{near} ({mistakes.FEATURES_CURE})")
+        found.update(meant.split("+"))
     value = "+".join(name for name in FEATURES if name in found) or "-"
     return Value(value, "in the office's words and order" if value != text else "")
 
 
-def features_of(part: str, taught: Mapping[str, str]) -> set[str]:
-    if part in taught:
-        return set(taught[part].split("+"))
-    short = re.sub("[ _-]", "", part)
-    found = {name for name in FEATURES if name.replace("-", "") == short}
-    near = f"; {NEAR[short]}?" if short in NEAR else ""
-    if not found:
-        raise Wrong(f"{part} is none of the features{near} ({mistakes.FEATURES_CURE})")
-    return found
+# -- dates
+
+def read_date(column: str, cell: Cell, text: str, way: Way) -> Value:
+    if cell.kind == "number" and re.fullmatch("[0-9]{5}", text):  # nobody sees which day a count of days is
+        day = datetime.date(1899, 12, 30) + datetime.timedelta(days=int(text))
+        raise Wrong(f"a number without the format of a date: if {day} is meant, give the column the format date")
+    if "." not in text:
+        refuse_other_digits(cell)
+    match = first_match(DATES, text)
+    if not match or cell.shown == text and LIKE_A_DATE.fullmatch(text):
+        return Value(text)
+    said = match.groupdict("")
+    if "short" in said:
+        raise Wrong("the year has two digits: write a date as 2027-06-07")
+    if "first" in said:
+        return slashed(int(said["first"]), int(said["second"]), said["year"], way)
+    if said.get("time", "").strip("0:."):
+        raise Wrong(f"has a time too, {said['time'][:5]}: leave the date alone in its cell")
+    if "name" in said and said["name"].lower() not in MONTHS:
+        raise Wrong(mistakes.CURES["date"])
+    month = said["month"] if "month" in said else MONTHS[said["name"].lower()]
+    value = day_value(f"{said['year']}-{month:0>2}-{said['day']:0>2}",
+                      ", the day first as always with points" * ("point" in said))
+    if weekday := said.get("weekday", "").lower():
+        day = datetime.date.fromisoformat(value.text)
+        if len(weekday) < 2 or not any(name.startswith(weekday) for name in WEEKDAYS[day.weekday()].split()):
+            raise Wrong(f"{day} is a {day:%A}, and the cell says {said['weekday']}: write the date alone")
+    return value
 
 
-def is_mark(cell: Cell | None) -> bool | None:
-    """Whether a cell of a table of crosses holds a cross; none where that cannot be said."""
-    if cell is None:
-        return False
-    if cell.kind not in ("text", "number", "bool") or cell.struck or cell.unseen or len(cell.text) > 20:
-        return None
-    if cell.kind == "bool":
-        return cell.text == "true"
-    word = bare(cell.shown).translate(DASHES).lower()
-    return True if word in YES else False if word in NO and (word or cell.kind == "text") else None
+def day_value(text: str, more: str = "") -> Value:
+    """A date that is not written as the files have it, told with its weekday."""
+    try:
+        day = datetime.date.fromisoformat(text)
+    except ValueError:
+        raise Wrong(f"there is no day {text}") from None
+    return Value(text, f"{day:%A}, {day.day} {day:%B} {day.year}{more}")
+
+
+def slashed(first: int, second: int, year: str, way: Way) -> Value:
+    """A date such as 01/06/2027, whose day and month only the officer knows apart."""
+    dates = {"day-first": f"{year}-{second:02}-{first:02}", "month-first": f"{year}-{first:02}-{second:02}"}
+    possible = [order for order, month in (("day-first", second), ("month-first", first)) if month <= 12]
+    if first == second:
+        return day_value(dates["month-first"])
+    if len(possible) == 1 and way.dates in ("", *possible):
+        return day_value(dates[possible[0]], ", there is no such month")
+    if len(possible) < 2:
+        raise Wrong(f"is no date with the {way.dates.replace('-', ' ')}" if way.dates else mistakes.CURES["date"])
+    if way.dates:
+        return day_value(dates[way.dates], f", {way.dates}")
+    raise Wrong(f"{' or '.join(dates.values())}? Write it so{SAY_DATES}")
+
+
+# -- times of day, minutes, desks and percent
+
+def read_time(column: str, cell: Cell, text: str, way: Way) -> Value:
+    """The time of a cell, with the day that stands there too. A number is none, whatever part of a day it is."""
+    if cell.kind == "number":
+        minutes = decimal.Decimal(text) * 1440
+        if 0 < minutes < 1440 and abs(minutes - round(minutes)) < decimal.Decimal("1e-6"):
+            clock = clock_text(round(minutes) * decimal.Decimal(60))[:5]
+            raise Wrong(f"a number without the format of a time: if {clock} is meant, give the column the format time")
+        raise Wrong(mistakes.TIME_CURE)
+    if cell.kind == "time":
+        text = clock_text(decimal.Decimal(text))
+    match = first_match(TIMES, text)
+    if not match:
+        if SECONDS.search(text):
+            raise Wrong("has seconds: write a time as 09:00")
+        return Value(text)
+    said = match.groupdict("")
+    if not said["hour"]:
+        raise Wrong("is a date, not a time")
+    hour = int(said["hour"]) % 12 + 12 * (said["half"].lower() == "p") if "half" in said else int(said["hour"])
+    time = f"{hour:02}:{said['minute'] or '00'}"
+    if "doubt" in said:
+        raise Wrong(f"write {time} if that is meant")
+    if column == "until" and (hour == 0 if "half" in said else time == "00:00" and cell.kind != "text"):
+        raise Wrong("midnight? Write 24:00 as text if the hall is open until then")
+    if "day" in said:
+        return Value(time, "the time of the cell", "", said["day"])
+    is_never = column == "until" and time == "00:00" and ":" in text
+    return Value(time, "", "a hall that is open until 00:00 suits nobody; midnight is 24:00" * is_never)
+
+
+def read_whole(column: str, cell: Cell, text: str, way: Way) -> Value:
+    """Minutes, desks, or percent of extra time."""
+    if "." not in text:
+        refuse_other_digits(cell)
+    if cell.kind == "percent":
+        text = f"{text}%"
+    elif cell.kind == "time":
+        text = clock_text(decimal.Decimal(text)).removeprefix("0")
+    if column == "extra" and text.lower() in NONE:
+        return Value("0", "none" if text else "empty is none")
+    number = re.sub(r"^0+(?=[0-9])", "", text)
+    done = "zeros in front taken away" if number != text else ""
+    number = re.sub(r"^([0-9]+)\.0+$", r"\1", number)
+    note = "is 1 percent; 100 percent is 100" if (column, number) == ("extra", "1") else ""
+    if column == "extra" and (match := PERCENT.fullmatch(number)):
+        number, done = match[1], reason(done, "percent")
+    elif column == "extra" and re.fullmatch(r"0?[.,][0-9]+", number):
+        percent = (decimal.Decimal(number.replace(",", ".")) * 100).normalize()
+        raise Wrong(f"{percent:f} percent? Write the percent as a whole number")
+    elif column == "minutes" and (match := MINUTES.fullmatch(number)):
+        number, done = match[1].lstrip("0"), reason(done, "minutes")
+    elif column == "minutes" and (match := HOURS.fullmatch(number)):
+        hours, minutes = int(match[1]), int(match[2] or match[3] or 0)
+        number, done = str(60 * hours + minutes), reason(done, f"{hours} h {minutes} min")
+    elif column == "minutes" and SECONDS.search(number):
+        raise Wrong("has seconds: write the minutes as a number")
+    return Value(number, done, note)
 
 
 Reader = Callable[[str, Cell, str, Way], Value]  # of a column, a cell, its letters and what the officer said

@@ -10,26 +10,20 @@ from collections.abc import Callable, Iterator
 from typing import Any
 from xml.etree.ElementTree import Element, iterparse
 
-import openpyxl.styles.numbers
 from openpyxl.cell import Cell as StyledCell
-from openpyxl.packaging import relationship
+from openpyxl.packaging.relationship import get_dependents, get_rels_path
 from openpyxl.reader.excel import ExcelReader
-from openpyxl.styles import stylesheet
+from openpyxl.styles.numbers import BUILTIN_FORMATS
+from openpyxl.styles.stylesheet import apply_stylesheet
 from openpyxl.worksheet import _reader
-from openpyxl.xml.constants import SHEET_MAIN_NS
+from openpyxl.xml.constants import COMMENTS_NS, SHEET_MAIN_NS
 
 from exam_desk.trouble import Trouble
-from exam_desk.workbook.cells import (MOST_COLUMN, MOST_ROW, MOST_SHEETS, Book, Budget, Cell, Sheet,
-                                      area_of, place_name, place_of)
-from exam_desk.workbook.looking import OPEN_AND_SAVE, Parts, local
+from exam_desk.workbook.cells import (MOST_COLUMN, MOST_ROW, MOST_SHEETS, OPEN_AND_SAVE, Book, Budget, Cell, Parts,
+                                      Sheet, local, place_name, place_of)
 from exam_desk.workbook.numberformats import BUILT_IN, MACINTOSH, WINDOWS, number_cell, shown_text
 
-COMMENTS = "http://schemas.openxmlformats.org/officeDocument/2006/relationships/comments"
 STYLES = "xl/styles.xml"  # the only place where openpyxl looks for them
-openpyxl.styles.numbers.BUILTIN_FORMATS.update(BUILT_IN)
-apply_styles: Callable[[zipfile.ZipFile, Any], object] = stylesheet.apply_stylesheet
-links_beside: Callable[[str], str] = relationship.get_rels_path
-links_of: Callable[[zipfile.ZipFile, str], Any] = relationship.get_dependents
 sheets_reader: Any = _reader
 Style = tuple[str, bool]  # a number format, and whether the font is struck out
 
@@ -37,6 +31,7 @@ Style = tuple[str, bool]  # a number format, and whether the font is struck out
 def read_xlsx(archive: zipfile.ZipFile) -> Book:
     """The workbook of a zip; raises `Trouble` where it cannot be read whole."""
     warnings.simplefilter("ignore")  # on what is lost when openpyxl saves
+    BUILTIN_FORMATS.update(BUILT_IN)
     sheets_reader._cast_number = str  # numbers as they are stored
     sheets_reader.iterparse = iterparse  # the parser in C: each part has been looked at for entities
     parts = Parts(archive)
@@ -55,13 +50,11 @@ class SharedText(str):
     struck = False
 
 
-class SharedTexts(list[SharedText]):
-    """The texts to which cells refer by number. No number below 0 is one, nor is one past the last."""
+class SharedTexts(dict[int, SharedText]):
+    """The texts to which cells refer by number."""
 
-    def __getitem__(self, place: int) -> SharedText:  # type: ignore[override]
-        if not 0 <= place < len(self):
-            raise Trouble("refers to a text that is not there")
-        return super().__getitem__(place)
+    def __missing__(self, number: int) -> SharedText:
+        raise Trouble("refers to a text that is not there")
 
 
 def unescaped(text: str) -> str:
@@ -88,14 +81,14 @@ class Reader:
         self.reader = ExcelReader(self.archive.fp, keep_links=False)
         self.reader.read_manifest()
         self.reader.read_workbook()
-        apply_styles(self.archive, self.reader.wb)
+        apply_stylesheet(self.archive, self.reader.wb)
         self.epoch = MACINTOSH if self.reader.wb.epoch.year == 1904 else WINDOWS
         self.texts = SharedTexts()
         if len(tables := self.of_root("sst")) > 1:
             raise Trouble(f"it has two tables of texts, as no spreadsheet writes it: {OPEN_AND_SAVE}")
-        for element in self.elements(tables, "si"):
-            self.texts.append(text := letters_of(element))
-            self.budget.keep(text)
+        for number, element in enumerate(self.elements(tables, "si")):
+            self.texts[number] = letters_of(element)
+            self.budget.keep(self.texts[number])
         self.styles: dict[int, Style] = {}
 
     def of_root(self, root: str) -> list[str]:
@@ -137,7 +130,8 @@ class Reader:
             for _ in parser.parse():
                 pass
         if parser.merged_cells is not None:
-            sheet.merge(area_of(merged.ref) for merged in parser.merged_cells.mergeCell)
+            sheet.merge((area.min_row, area.min_col, area.max_row, area.max_col)
+                        for area in parser.merged_cells.mergeCell)
         sheet.hidden_rows = [(int(row), int(row)) for row, look in parser.row_dimensions.items()
                              if is_hidden(look, "ht")]
         sheet.hidden_columns = [(int(look["min"]), int(look["max"])) for look in parser.column_dimensions.values()
@@ -179,8 +173,16 @@ class Reader:
             text = value if isinstance(value, SharedText) else unescaped(value)
             shown = shown_text(form, text)
             made = Cell("text", str(text), shown or "", unseen=shown is None)
+        elif kind == "e":
+            made = Cell("error", value, value)
+        elif isinstance(value, bool):
+            made = Cell("bool", str(value).lower(), str(value).upper())
+        elif isinstance(value, datetime.date):
+            made = Cell("date", value.isoformat().removesuffix("T00:00:00"), "")
+        elif isinstance(value, datetime.time):
+            made = Cell("time", str(value.hour * 3600 + value.minute * 60 + value.second), "")
         else:
-            made = other_cell(value, kind)
+            raise Trouble(f"openpyxl reads a {type(value).__name__} in it, which is not known here: {OPEN_AND_SAVE}")
         return made and made._replace(formula=formula, struck=struck or getattr(value, "struck", False))
 
     def style(self, number: int) -> Style:
@@ -191,24 +193,11 @@ class Reader:
         return self.styles[number]
 
     def comments(self, part: str) -> Iterator[str]:
-        beside = links_beside(part)
-        links = links_of(self.archive, beside).find(COMMENTS) if beside in self.roots else []
+        beside = get_rels_path(part)
+        links = get_dependents(self.archive, beside).find(COMMENTS_NS) if beside in self.roots else []
         for element in self.elements([link.target for link in links if link.target in self.roots], "comment"):
             self.budget.keep("")
             yield element.attrib["ref"]
-
-
-def other_cell(value: Any, kind: str) -> Cell:
-    """The cell of an error, a truth value, or a day or a time that is stored as text."""
-    if kind == "e":
-        return Cell("error", value, value)
-    if isinstance(value, bool):
-        return Cell("bool", str(value).lower(), str(value).upper())
-    if isinstance(value, datetime.datetime | datetime.date):
-        return Cell("date", value.isoformat().removesuffix("T00:00:00"), "")
-    if isinstance(value, datetime.time):
-        return Cell("time", str(value.hour * 3600 + value.minute * 60 + value.second), "")
-    raise Trouble(f"openpyxl reads a {type(value).__name__} in it, which is not known here: {OPEN_AND_SAVE}")
 
 
 def is_hidden(look_of: dict[str, str], size: str) -> bool:
