@@ -63,7 +63,7 @@ text has at most 200 bytes. Where one row is wrong no row is taken. Notes lie be
 in its copies; `office back` leaves them as they are.
 """)
 def notes(parser: ArgumentParser) -> None:
-    from exam_desk import facts, notebook, numbered
+    from exam_desk import facts, files, notebook
     from exam_desk.sheets import notes
     given = command.given(parser, "file?")
     office = command.office()
@@ -72,7 +72,7 @@ def notes(parser: ArgumentParser) -> None:
             command.say(notes.text(office, rows))
             return
         known = set(facts.candidate_names(rows))
-    noted = notebook.take_notes(office, numbered.texts_in(given.file, "text", notebook.MOST_NOTE_BYTES, known))
+    noted = notebook.take_notes(office, files.texts_by_number(given.file, "text", notebook.MOST_NOTE_BYTES, known))
     command.say(f"added {noted.added} changed {noted.changed} removed {noted.removed} same {noted.same}\n")
 
 

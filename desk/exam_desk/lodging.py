@@ -7,16 +7,14 @@ import json
 from collections.abc import Callable, Iterator, Sequence
 from typing import NamedTuple, NoReturn
 
-from exam_desk import asking, beside, files, logbook, refusals, snapshot, turns
+from exam_desk import asking, beside, files, logbook, mistakes, refusals, snapshot, turns
 from exam_desk.office import Office
 from exam_desk.serving import Serve
 from exam_desk.trouble import Trouble
 
 TRIES, SECONDS = 3, 60
 KINDS = {"hall": ["hall"], "clash": ["paper"], "arrangement": ["needs", "extra"]}  # the values of each
-FORMS: dict[str, files.Form] = {
-    "number": files.is_number, "session": files.is_code, "hall": files.is_hall, "paper": files.is_code,
-    "needs": files.is_features, "extra": files.whole(0, 100), "reason": lambda text: files.is_short(text, 200)}
+FORMS: dict[str, files.Form] = {**mistakes.RIGHT, "reason": lambda text: files.is_short(text, 200)}
 
 
 class Lodging(NamedTuple):

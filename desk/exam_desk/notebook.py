@@ -25,8 +25,9 @@ if TYPE_CHECKING:
     from exam_desk.reading import Member, Reading
 
 PLACE = "notebook"
-WORDS = {"school": "the name of the school", "notes": "notes", "rows": "rows of desks", "printed": "printed desks of {}",
-         "absent": "absences of {}"}  # what a file holds, by the beginning of its name; {} is a session
+WORDS = {  # what a file holds, by the beginning of its name; {} is a session
+    "school": "the name of the school", "notes": "notes", "rows": "rows of desks", "printed": "printed desks of {}",
+    "absent": "absences of {}"}
 NAME = re.compile(r"([a-z]+)(?:\.(.*))?\.json")
 NEW = ".new"  # the end of the name of a file that is being written
 RUNNING = ["across", "across-and-back", "down", "down-and-up"]  # how the numbers of desks run

@@ -12,7 +12,7 @@ import unittest
 import sample
 
 sys.path.insert(0, str(pathlib.Path(__file__).resolve().parents[1]))
-from exam_desk import beside, copies, notebook, numbered  # noqa: E402
+from exam_desk import beside, copies, files, notebook  # noqa: E402
 from exam_desk.notebook import Desk, Rows  # noqa: E402
 from exam_desk.office import Office  # noqa: E402
 from exam_desk.trouble import Trouble  # noqa: E402
@@ -57,7 +57,7 @@ class Notebook(unittest.TestCase):
         return str(path)
 
     def texts(self, text):
-        return numbered.texts_in(self.file(text), "text", notebook.MOST_NOTE_BYTES, KNOWN)
+        return files.texts_by_number(self.file(text), "text", notebook.MOST_NOTE_BYTES, KNOWN)
 
     def test_nothing_is_there_at_first(self):
         self.assertEqual((notebook.school_name(self.office), notebook.notes(self.office)), ("", {}))

@@ -2,7 +2,7 @@
 import re
 from collections.abc import Callable, Mapping
 
-from exam_desk import files, mistakes, noting
+from exam_desk import files, mistakes
 from exam_desk.workbook.amounts import NONE, read_time, read_whole
 from exam_desk.workbook.cells import Cell
 from exam_desk.workbook.days import MONTHS, read_date
@@ -105,7 +105,7 @@ def read_name(column: str, cell: Cell, text: str, way: Way) -> Value:
     if note and cell.shown != text:
         refuse_other_digits(cell)
         text = cell.shown
-    if re.search("[\u200c\u200d]", text) and not noting.has_wrong_letters(text):
+    if re.search("[\u200c\u200d]", text) and not mistakes.has_wrong_letters(text):
         note = "holds a joiner that no eye sees; it is kept"
     return Value(text, "", note)
 
