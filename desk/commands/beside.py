@@ -91,9 +91,9 @@ def printed(parser: ArgumentParser) -> None:
         if given.look:
             command.say_lines(compared(reading, given.session))
         else:
-            noted = notebook.note_printed(reading, given.session)
-            others = f", {noted.others} other than before" if noted.others else ""
-            command.say(f"{lists.count(noted.desks, 'desk')} noted{others}\n")
+            desks, others = notebook.note_printed(reading, given.session)
+            more = f", {others} other than before" if others else ""
+            command.say(f"{lists.count(desks, 'desk')} noted{more}\n")
 
 
 def compared(reading: Reading, session: str) -> list[str]:

@@ -87,12 +87,13 @@ def check_files(parser: ArgumentParser) -> bool:
     from exam_desk import checking
     gc.disable()  # a file can have a million rows, and no row refers to itself
     parser.add_argument("folder")
-    checked = checking.check_folder(command.office(), parser.parse_args().folder, command.progress, command.show_asked)
-    command.say_lines(checked.lines)
-    if not checked.counts["files"]:
+    folder = parser.parse_args().folder
+    lines, counts = checking.check_folder(command.office(), folder, command.progress, command.show_asked)
+    command.say_lines(lines)
+    if not counts["files"]:
         raise Trouble("none of the seven files is there")
-    print("{files} files, {mistakes} mistakes, {notes} notes".format_map(checked.counts))
-    return bool(checked.counts["mistakes"] or checked.counts["codes"])
+    print("{files} files, {mistakes} mistakes, {notes} notes".format_map(counts))
+    return bool(counts["mistakes"] or counts["codes"])
 
 
 @command.named("""\

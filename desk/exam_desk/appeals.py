@@ -54,15 +54,13 @@ def subject(row: sqlite3.Row) -> str:
 
 def open_lines(rows: Rows, today: str, sessions: Collection[str] = ()) -> list[str]:
     """Two lines on each open appeal of these sessions, or of all, the most urgent first."""
-    asked = {head["code"] for head in facts.sessions(rows, sessions)}
-    return [line for row in rows.execute(OPEN).fetchall() if row["session"] in asked for line in said(row, today)]
-
-
-def said(row: sqlite3.Row, today: str) -> list[str]:
-    last = to_decide(row["day"])
-    urgency = f"too late since {row['day']}" if today > last else f"decide by {last}"
-    return [f"{urgency}: {row['session']} {row['number']:07} {row['name']}: {row['ref']} of {row['lodged']}: "
-            f"{KINDS[row['kind']]} {subject(row)}", f"    {row['reason'] or 'no reason given'}"]
+    asked, lines = {head["code"] for head in facts.sessions(rows, sessions)}, []
+    for row in (row for row in rows.execute(OPEN) if row["session"] in asked):
+        last = to_decide(row["day"])
+        urgency = f"too late since {row['day']}" if today > last else f"decide by {last}"
+        lines += [f"{urgency}: {row['session']} {row['number']:07} {row['name']}: {row['ref']} of {row['lodged']}: "
+                  f"{KINDS[row['kind']]} {subject(row)}", f"    {row['reason'] or 'no reason given'}"]
+    return lines
 
 
 def read(office: Office, path: str) -> dict[tuple[str, str], Lodged] | None:

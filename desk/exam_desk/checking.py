@@ -8,7 +8,6 @@ import sqlite3
 from collections import Counter
 from collections.abc import Iterator, Mapping
 from dataclasses import replace
-from typing import NamedTuple
 
 from exam_desk import changing, coding, consequences, files, mistakes, overlaps, private, running, snapshot
 from exam_desk.changing import Step, Tell
@@ -20,12 +19,6 @@ from exam_desk.words import plain
 
 MOST_SHOWN = 5  # mistakes or notes on one column of a file
 WORKBOOKS = (".xlsx", ".xlsm", ".ods")
-
-
-class Checked(NamedTuple):
-    """What is said of a folder, and how many files, mistakes, empty codes and notes there are."""
-    lines: list[str]
-    counts: Counter[str]
 
 
 def lines_on(name: str, found: mistakes.Found, word: str) -> Iterator[str]:
@@ -59,10 +52,10 @@ def texts_in(folder: str) -> dict[str, bytes]:
     return {kind: files.read(path) for kind, path in paths.items()}
 
 
-def check_folder(office: Office, folder: str, tell: Tell, progress: Progress) -> Checked:
+def check_folder(office: Office, folder: str, tell: Tell, progress: Progress) -> tuple[list[str], Counter[str]]:
     """Looks through the import files of a folder one after the other: each knows what the office has, and what those
-    before it bring. Files without a mistake are tried, with codes where these are empty. Raises `Trouble` as
-    `texts_in`."""
+    before it bring. Files without a mistake are tried, with codes where these are empty. Gives the lines, and the counts
+    of files, mistakes, empty codes and notes. Raises `Trouble` as `texts_in`."""
     texts, known = texts_in(folder), office_knows(office)
     found = {f"{kind}.csv": mistakes.looked_through(kind, text, known, MOST_SHOWN) for kind, text in texts.items()}
     codes = sum(wrong.counts[mistakes.NO_CODE] for wrong, _ in found.values())
@@ -77,7 +70,7 @@ def check_folder(office: Office, folder: str, tell: Tell, progress: Progress) ->
     lines = [line for name, (wrong, notes) in found.items()
              for line in (*lines_on(name, wrong, ""), *lines_on(name, notes, "NOTE: "))]
     others = (other(name) for name in sorted(os.listdir(folder)))
-    return Checked([*lines, *(f"NOTE: {line}" for line in (*tried, *others) if line)], counts)
+    return [*lines, *(f"NOTE: {line}" for line in (*tried, *others) if line)], counts
 
 
 def would_do(office: Office, texts: Mapping[str, bytes], tell: Tell, progress: Progress) -> list[str]:

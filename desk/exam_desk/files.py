@@ -88,7 +88,10 @@ def records(text: bytes, comma: bytes = b",") -> Iterator[Record]:
             closed = operator.length_hint(behind) > 0
             if not closed:
                 fields[-1] = fields[-1][:-1]
-            yield Record(line, as_bytes(fields), closed)
+            row: list[str | bytes] = fields  # type: ignore[assignment]
+            for place, field in enumerate(fields):  # a row can have a million texts: each goes as its bytes come
+                row[place] = field.encode("latin-1")
+            yield Record(line, tuple(row), closed)  # type: ignore[arg-type]
         line = reader.line_num + 1
 
 
@@ -101,14 +104,6 @@ def below_header(text: bytes, path: str, header: Iterable[str]) -> Iterator[Reco
     if first is None or first.fields != tuple(map(str.encode, header)):
         raise Trouble(f"line 1 must be: {','.join(header)}", path)
     return rows
-
-
-def as_bytes(fields: list[str]) -> tuple[bytes, ...]:
-    """The fields of a row. Each text goes as its bytes come, since a row can have a million of them."""
-    row: list[str | bytes] = fields  # type: ignore[assignment]
-    for place, field in enumerate(fields):
-        row[place] = field.encode("latin-1")
-    return tuple(row)  # type: ignore[arg-type]
 
 
 def texts_by_number(path: str, column: str, most: int, known: Collection[str] | None = None) -> dict[str, str]:
@@ -190,11 +185,7 @@ def is_short(text: bytes, most: int) -> bool:
 
 
 def is_utf_8(text: bytes) -> bool:
-    try:
-        text.decode()
-    except UnicodeDecodeError:
-        return False
-    return True
+    return text.decode("utf-8", "replace").encode() == text
 
 
 def is_features(text: bytes) -> bool:
@@ -203,15 +194,13 @@ def is_features(text: bytes) -> bool:
 
 
 is_code, is_hall = form(rb"[A-Z0-9-]{1,12}"), form(rb"[A-Z0-9]{1,8}")
-FORMS: dict[str, list[Form]] = {  # of each kind by column
-    "sessions": [is_code, is_date, form(rb"([01][0-9]|2[0-3]):[0-5][0-9]")],
-    "papers": [is_code, is_name, is_code, whole(1, 600), is_features],
-    "halls": [is_hall, is_name, is_features],
-    "openings": [is_code, is_hall, whole(1, 2000), form(rb"([01][0-9]|2[0-3]):[0-5][0-9]|24:00"), form(rb"yes|no")],
-    "candidates": [is_number, is_name, form(rb"[A-Z0-9]{8,16}")],
-    "arrangements": [is_number, is_features, whole(0, 100)],
-    "entries": [is_number, is_code],
-}
+CLOCK = rb"([01][0-9]|2[0-3]):[0-5][0-9]"
+RIGHT: dict[str, Form] = {  # the form of a column, in whatever kind it stands
+    "number": is_number, "name": is_name, "code": form(rb"[A-Z0-9]{8,16}"), "session": is_code, "date": is_date,
+    "start": form(CLOCK), "paper": is_code, "title": is_name, "minutes": whole(1, 600), "requires": is_features,
+    "hall": is_hall, "features": is_features, "desks": whole(1, 2000), "until": form(CLOCK + rb"|24:00"),
+    "reserved": form(rb"yes|no"), "needs": is_features, "extra": whole(0, 100)}
+FORMS = {kind: [RIGHT[name] for name in header] for kind, header in HEADERS.items()}
 
 
 def is_header(kind: str, record: Record | None) -> bool:

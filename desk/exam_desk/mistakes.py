@@ -35,9 +35,9 @@ COMMAS = [(b",", ""), (b";", "semicolons part the columns: save it with commas")
           (b"\t", "tabs part the columns: save it with commas")]
 NO_CODE = "code ''"  # the mistakes on empty codes, which are counted apart
 EMPTY_ROW = "an empty row of the spreadsheet: delete it"
-RIGHT = {column: right for kind, header in files.HEADERS.items() for column, right in zip(header, files.FORMS[kind])}
+RIGHT = files.RIGHT
 LOST_ZEROS = re.compile(rb"([0-9]{1,7})(\.0+)?").fullmatch
-WRONG_LETTERS = re.compile("Ã.|Â.|â€|Å[\x80-\xbf¡-ÿ€-™]|\ufffd")
+WRONG_LETTERS = re.compile("Ã.|Â.|â€|Å[\x80-\xbf¡-ÿ€-™]|\ufffd").search  # of a text that was read in a wrong encoding
 LIKE_A_NUMBER = re.compile(rb"[0-9]+E[0-9]+|[1-9][0-9]?0{4,}").fullmatch
 
 
@@ -171,11 +171,6 @@ def needed(column: str, field: bytes) -> str:
     return f"1 to 80 bytes; it has {len(field)}"
 
 
-def has_wrong_letters(text: str) -> bool:
-    """Whether a text looks as if it was read in a wrong encoding."""
-    return bool(WRONG_LETTERS.search(text))
-
-
 def notes_on(column: str, field: bytes) -> Iterator[str]:
     """What only a human eye can judge in a value of a right form."""
     text = field.decode("utf-8", "replace") if column in NAMES else ""
@@ -183,7 +178,7 @@ def notes_on(column: str, field: bytes) -> Iterator[str]:
         yield "may be what a spreadsheet made of a code such as 1E5, or will make of it"
     if text.isascii() and text.isprintable() and text == text.strip():
         return
-    if has_wrong_letters(text):
+    if WRONG_LETTERS(text):
         yield "looks like letters that were read in a wrong encoding"
     if text != text.strip() or "\u00a0" in text:
         yield "has a space at an end, or a hard space"

@@ -58,12 +58,6 @@ class Noted(NamedTuple):
     same: int
 
 
-class Printed(NamedTuple):
-    """How many desks are noted as printed, and how many of them are other ones than those that were noted before."""
-    desks: int
-    others: int
-
-
 class Move(NamedTuple):
     """Somebody who has another desk than on paper, or none."""
     number: str
@@ -136,12 +130,13 @@ def keep_printed(office: Office, session: str, desks: Mapping[str, Desk]) -> Non
         write(office, folder, f"printed.{session}", desks)
 
 
-def note_printed(reading: Reading, session: str) -> Printed:
-    """Notes that the desks of a session are printed as they are. Raises `Trouble` where there is no such session."""
+def note_printed(reading: Reading, session: str) -> tuple[int, int]:
+    """Notes that the desks of a session are printed as they are; how many, and how many are other ones than those that
+    were noted before. Raises `Trouble` where there is no such session."""
     desks = desks_of(reading.members(session))
     before = printed(reading.office, session)
     keep_printed(reading.office, session, desks)
-    return Printed(len(desks), len(moved(before, desks)) if before else 0)
+    return len(desks), len(moved(before, desks)) if before else 0
 
 
 def compared(reading: Reading, session: str) -> Compared | None:

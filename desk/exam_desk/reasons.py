@@ -162,10 +162,9 @@ class Reasons:
     def faults(self, sheet: Shortage) -> Iterator[str]:
         """A line for each thing that a printed shortage says otherwise than these reasons, or than its own sums."""
         members = {member.number: member for member in self.members}
-        candidates = set(sheet.candidates)
-        listed = [members[number] for number in candidates if number in members]
+        candidates, halls = set(sheet.candidates), set(sheet.halls)
         suiting = {(opening.hall, opening.desks) for opening in self.openings
-                   if any(not self.obstacles(member, opening) for member in listed)}
+                   if any(not self.obstacles(members[number], opening) for number in candidates & members.keys())}
         yield from (f"{number} is listed {times} times"
                     for number, times in Counter(sheet.candidates).items() if times > 1)
         yield from (f"{number} is not a member of the session" for number in sheet.candidates if number not in members)
@@ -174,11 +173,11 @@ class Reasons:
         yield from (f"hall {hall} is listed twice" for hall, times in
                     Counter(hall for hall, _ in sheet.halls).items() if times > 1)
         yield from (f"hall {hall} with {desks} desks suits one of the candidates, but is not listed with as many desks"
-                    for hall, desks in sorted(suiting - set(sheet.halls)))
+                    for hall, desks in sorted(suiting - halls))
         yield from (f"hall {hall} with {desks} desks is listed, but suits none of the candidates, or has not as many "
-                    "desks" for hall, desks in sorted(set(sheet.halls) - suiting))
+                    "desks" for hall, desks in sorted(halls - suiting))
         yield from (f"hall {hall} is listed, and {desks - len(self.taken[hall])} of its desks are free"
-                    for hall, desks in sorted(suiting & set(sheet.halls)) if len(self.taken[hall]) < desks)
+                    for hall, desks in sorted(suiting & halls) if len(self.taken[hall]) < desks)
         sums = [("halls", sheet.hall_count, len(sheet.halls)),
                 ("desks", sheet.desks, sum(desks for _, desks in sheet.halls)),
                 ("candidates", sheet.candidate_count, len(sheet.candidates)),

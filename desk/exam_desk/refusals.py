@@ -95,8 +95,8 @@ def mistakes_of(office: Office, words: Sequence[str], data: bytes | None) -> lis
             kind, path = found
             text = files.read(path) if data is None else data
             wrong, _ = mistakes.looked_through(kind, text, checking.office_knows(office), MOST_LINES)
-            codes = any(each.what == "code ''" for each in wrong)
-            return [*checking.lines_on(os.path.basename(path), wrong, ""), *([NO_CODE] if codes else [])]
+            lines = [*checking.lines_on(os.path.basename(path), wrong, "")]
+            return [*lines, NO_CODE] if mistakes.NO_CODE in wrong.counts else lines
     return []
 
 

@@ -12,7 +12,6 @@ from typing import NamedTuple
 
 from exam_desk import files, lists, overlaps
 from exam_desk.changing import Step
-from exam_desk.mistakes import RIGHT
 from exam_desk.reading import Member, Reading
 from exam_desk.reasons import Reasons
 from exam_desk.snapshot import Rows
@@ -53,7 +52,7 @@ def plan(reading: Reading, asked: Asked) -> Plan:
     """The steps to a second sitting. Raises `Trouble` where a value has a wrong form or is not known, or where the
     candidate has no two papers in the session of the paper."""
     for name, value in asked._asdict().items():
-        if not RIGHT[name](value.encode("utf-8", "surrogateescape")):
+        if not files.RIGHT[name](value.encode("utf-8", "surrogateescape")):
             raise Trouble(f"{name} is {value}: that has the wrong form; nothing is changed")
     rows, first = reading.rows, paper_row(reading.rows, asked.paper)
     refuse_without_clash(reading, asked, first["session"])

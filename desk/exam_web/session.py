@@ -189,7 +189,7 @@ def note_printed(code: str) -> Response:
     if request.form.get("state") != view().name:
         told = text("Nothing is noted: the office is another than the page showed. Print the sheets again.")
         return lead("session.page", told, "bad", code=code, _anchor="print")
-    noted = notebook.note_printed(view().reading, code)
-    told = many(noted.desks, "{count} desk of {session} is noted as printed.",
+    desks, _ = notebook.note_printed(view().reading, code)
+    told = many(desks, "{count} desk of {session} is noted as printed.",
                 "{count} desks of {session} are noted as printed.", session=code)
     return lead("session.page", told, code=code, _anchor="print")

@@ -105,7 +105,7 @@ def read_name(column: str, cell: Cell, text: str, way: Way) -> Value:
     if note and cell.shown != text:
         refuse_other_digits(cell)
         text = cell.shown
-    if re.search("[\u200c\u200d]", text) and not mistakes.has_wrong_letters(text):
+    if re.search("[\u200c\u200d]", text) and not mistakes.WRONG_LETTERS(text):
         note = "holds a joiner that no eye sees; it is kept"
     return Value(text, "", note)
 
