@@ -54,8 +54,8 @@ def texts_in(folder: str) -> dict[str, bytes]:
 
 def check_folder(office: Office, folder: str, tell: Tell, progress: Progress) -> tuple[list[str], Counter[str]]:
     """Looks through the import files of a folder one after the other: each knows what the office has, and what those
-    before it bring. Files without a mistake are tried, with codes where these are empty. Gives the lines, and the counts
-    of files, mistakes, empty codes and notes. Raises `Trouble` as `texts_in`."""
+    before it bring. Files without a mistake are tried, with codes where these are empty. Gives the lines, and how many
+    files, mistakes, empty codes and notes there are. Raises `Trouble` as `texts_in`."""
     texts, known = texts_in(folder), office_knows(office)
     found = {f"{kind}.csv": mistakes.looked_through(kind, text, known, MOST_SHOWN) for kind, text in texts.items()}
     codes = sum(wrong.counts[mistakes.NO_CODE] for wrong, _ in found.values())

@@ -37,7 +37,7 @@ NO_CODE = "code ''"  # the mistakes on empty codes, which are counted apart
 EMPTY_ROW = "an empty row of the spreadsheet: delete it"
 RIGHT = files.RIGHT
 LOST_ZEROS = re.compile(rb"([0-9]{1,7})(\.0+)?").fullmatch
-WRONG_LETTERS = re.compile("Ã.|Â.|â€|Å[\x80-\xbf¡-ÿ€-™]|\ufffd").search  # of a text that was read in a wrong encoding
+WRONG_LETTERS = re.compile("Ã.|Â.|â€|Å[\x80-\xbf¡-ÿ€-™]|\ufffd").search  # of another encoding
 LIKE_A_NUMBER = re.compile(rb"[0-9]+E[0-9]+|[1-9][0-9]?0{4,}").fullmatch
 
 

@@ -131,7 +131,9 @@ class Reasons:
         for member in asked:
             groups["+".join(self.needs(member)) or "-"].append(member.number)
             for opening in self.openings:
-                for reason in self.kinds(member, opening):
+                full = "all desks are taken" if len(self.taken[opening.hall]) >= opening.desks else "desks are free"
+                for found in self.obstacles(member, opening) or [f"suits, but {full}"]:
+                    reason = TOO_EARLY if found.startswith(CLOSES) else found
                     who[reason].add(member.number)
                     where[reason].add(opening.hall)
         yield f"{count(len(asked), 'candidate')} without a desk, by what they and their papers need:"
@@ -146,12 +148,6 @@ class Reasons:
             yield (f"  {reason}: {count(len(who[reason]), 'candidate')}, {count(len(named), 'hall')}: "
                    f"{', '.join(named[:MOST_HALLS])}{more}")
         yield f"`office why {self.session} NUMBER` goes hall by hall for one of them"
-
-    def kinds(self, member: Member, opening: Opening) -> list[str]:
-        """The reasons of `obstacles` that others may share; whether a hall that suits is full."""
-        found = self.obstacles(member, opening)
-        taken = "all desks are taken" if len(self.taken[opening.hall]) >= opening.desks else "desks are free"
-        return [TOO_EARLY if each.startswith(CLOSES) else each for each in found] or [f"suits, but {taken}"]
 
     def lines(self, member: Member) -> str:
         sitting, halls = member.sitting, self.of(member)

@@ -11,6 +11,7 @@ import sqlite3
 from typing import NamedTuple
 
 from exam_desk import files, lists, overlaps
+from exam_desk.answers import Sitting
 from exam_desk.changing import Step
 from exam_desk.reading import Member, Reading
 from exam_desk.reasons import Reasons
@@ -158,23 +159,23 @@ def plan_back(reading: Reading, number: str, paper: str) -> Plan:
 
 def lines(planned: Plan, before: Reading, after: Reading) -> list[str]:
     """What a rehearsed plan does for the candidate. Raises `Trouble` where they would not sit as was asked."""
-    first = member(after, planned.first, planned.number)
+    number, name, first = member(after, planned.first, planned.number)
+    said = f"{number} {plain(name)} sits {first.paper}"
     if not planned.hall:
         missed = after.clashes(planned.first, [planned.number]).get(planned.number, [])
         others = len(after.members(planned.session))
-        return [f"{first.number} {plain(first.name)} sits {first.sitting.paper} again"
-                + (f", and misses {', '.join(missed)}" if missed else ""),
+        return [f"{said} again" + (f", and misses {', '.join(missed)}" if missed else ""),
                 f"session {planned.session} and paper {planned.paper} stay, "
                 + (f"with {lists.count(others, 'candidate')}" if others else "empty")]
     second = member(after, planned.session, planned.number)
     refuse_otherwise(planned, after, first, second)
-    found = [planned.made, f"{second.number} {plain(second.name)} sits {first.sitting.paper} until "
-             f"{first.sitting.finish}, and {second.sitting.paper} from {second.sitting.start} to "
-             f"{second.sitting.finish} in {second.sitting.hall}, desk {second.sitting.desk}"]
-    was = lists.allowance(member(before, planned.first, planned.number).sitting)
-    if was != lists.allowance(second.sitting):
-        found.append(f"NOTE: the arrangement is {was or 'none'} in {planned.first}, and "
-                     f"{lists.allowance(second.sitting) or 'none'} in {planned.session}")
+    then = second.sitting
+    found = [planned.made, f"{said} until {first.finish}, and {then.paper} from {then.start} to {then.finish} "
+                           f"in {then.hall}, desk {then.desk}"]
+    was, now = lists.allowance(member(before, planned.first, planned.number).sitting), lists.allowance(then)
+    if was != now:
+        found.append(f"NOTE: the arrangement is {was or 'none'} in {planned.first}, and {now or 'none'} in "
+                     f"{planned.session}")
     return found
 
 
@@ -186,20 +187,19 @@ def member(reading: Reading, session: str, number: str) -> Member:
     return found
 
 
-def refuse_otherwise(planned: Plan, after: Reading, first: Member, second: Member) -> None:
+def refuse_otherwise(planned: Plan, after: Reading, first: Sitting, second: Member) -> None:
     """Raises `Trouble` where the candidate would sit too early, another paper, in another hall, or at two places."""
-    if second.sitting.start < first.sitting.finish:
-        raise Trouble(f"{first.number} sits {first.sitting.paper} until {first.sitting.finish}: begin then, or later; "
-                      "nothing is changed")
-    if second.sitting.paper != planned.paper:
-        raise Trouble(f"{second.number} sits {second.sitting.paper} in {planned.session}: take another start or hall; "
-                      "nothing is changed")
-    if second.sitting.hall != planned.hall:
+    number, then = planned.number, second.sitting
+    if then.start < first.finish:
+        raise Trouble(f"{number} sits {first.paper} until {first.finish}: begin then, or later; nothing is changed")
+    if then.paper != planned.paper:
+        raise Trouble(f"{number} sits {then.paper} in {planned.session}: take another start or hall; nothing is "
+                      "changed")
+    if then.hall != planned.hall:
         reason = dict(Reasons(after, planned.session).of(second)).get(planned.hall)
-        raise Trouble(f"{second.number} would have no desk in {planned.hall} ({reason}); nothing is changed")
-    for each in overlaps.of_candidate(after, planned.number):
+        raise Trouble(f"{number} would have no desk in {planned.hall} ({reason}); nothing is changed")
+    for each in overlaps.of_candidate(after, number):
         if each.candidates and planned.session in (each.early, each.late):
-            other = after.all_of(planned.number)[each.early if each.late == planned.session else each.late]
-            raise Trouble(f"{planned.number} sits {other.paper} in {other.session} from {other.start} to "
-                          f"{other.finish}, and would sit {planned.paper} from {second.sitting.start} to "
-                          f"{second.sitting.finish}; nothing is changed")
+            other = after.all_of(number)[each.early if each.late == planned.session else each.late]
+            raise Trouble(f"{number} sits {other.paper} in {other.session} from {other.start} to {other.finish}, and "
+                          f"would sit {then.paper} from {then.start} to {then.finish}; nothing is changed")

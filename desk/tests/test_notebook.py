@@ -128,6 +128,17 @@ class Notebook(unittest.TestCase):
             (self.place / "notes.json").write_bytes(text)
             with self.assertRaisesRegex(Trouble, "is damaged"):
                 notebook.notes(self.office)
+        for name, text, read in (
+                ("school", b"1", notebook.school_name), ("school", b"[]", notebook.school_name),
+                ("rows", b'{"GYM": [0, "down"]}', notebook.rows_of_halls),
+                ("rows", b'{"GYM": [1]}', notebook.rows_of_halls),
+                ("printed.S", b'{"0000001": [1, "GYM"]}', lambda office: notebook.printed(office, "S")),
+                ("printed.S", b'{"0000001": ["GYM", 1, 2]}', lambda office: notebook.printed(office, "S")),
+                ("absent.S", b"[1]", lambda office: notebook.absent(office, "S")),
+                ("absent.S", b'{"0000001": "a"}', lambda office: notebook.absent(office, "S"))):
+            (self.place / f"{name}.json").write_bytes(text)
+            with self.subTest(name, text=text), self.assertRaisesRegex(Trouble, "is damaged"):
+                read(self.office)
         for name in ("school.json", "school.json.new"):
             (self.place / name).unlink(missing_ok=True)
             os.symlink(victim, self.place / name)
