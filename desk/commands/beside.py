@@ -28,17 +28,17 @@ Who was missing is no fact of the office: no seat changes by it. Where one numbe
 is the one that the candidate was to sit.
 """)
 def absent(parser: ArgumentParser) -> None:
-    from exam_desk import absences, lists
+    from exam_desk import lists, notebook
     parser.add_argument("--there", metavar="NUMBER", nargs="+", default=[], help="who is not absent after all")
     given = command.given(parser, "session", "number*")
     missing, there = numbers(given.number), numbers(given.there)
     with command.reading() as reading:
         if given.number or given.there:
             members = reading.members(given.session)
-            missed = absences.note(reading, given.session, missing, there)
+            missed = notebook.note_absent(reading, given.session, missing, there)
             command.say(f"{lists.count(len(missed), 'candidate')} absent of {len(members):,}\n")
         else:
-            command.say(absences.listed(reading, given.session))
+            command.say(notebook.attendance(reading, given.session))
 
 
 def numbers(words: list[str]) -> list[str]:
@@ -63,7 +63,7 @@ text has at most 200 bytes. Where one row is wrong no row is taken. Notes lie be
 in its copies; `office back` leaves them as they are.
 """)
 def notes(parser: ArgumentParser) -> None:
-    from exam_desk import facts, notebook, numbered
+    from exam_desk import facts, files, notebook
     from exam_desk.sheets import notes
     given = command.given(parser, "file?")
     office = command.office()
@@ -72,7 +72,7 @@ def notes(parser: ArgumentParser) -> None:
             command.say(notes.text(office, rows))
             return
         known = set(facts.candidate_names(rows))
-    noted = notebook.take_notes(office, numbered.texts_in(given.file, "text", notebook.MOST_NOTE_BYTES, known))
+    noted = notebook.take_notes(office, files.texts_by_number(given.file, "text", notebook.MOST_NOTE_BYTES, known))
     command.say(f"added {noted.added} changed {noted.changed} removed {noted.removed} same {noted.same}\n")
 
 
@@ -85,21 +85,21 @@ Nothing but this command notes it: to look at a page notes nothing. On the day w
 withdraw, since a withdrawal can give others another desk.
 """)
 def printed(parser: ArgumentParser) -> None:
-    from exam_desk import lists, printed
+    from exam_desk import lists, notebook
     given = command.given(parser, "session", "--look: notes nothing, and compares")
     with command.reading() as reading:
         if given.look:
             command.say_lines(compared(reading, given.session))
         else:
-            noted = printed.note(reading, given.session)
-            others = f", {noted.others} other than before" if noted.others else ""
-            command.say(f"{lists.count(noted.desks, 'desk')} noted{others}\n")
+            desks, others = notebook.note_printed(reading, given.session)
+            more = f", {others} other than before" if others else ""
+            command.say(f"{lists.count(desks, 'desk')} noted{more}\n")
 
 
 def compared(reading: Reading, session: str) -> list[str]:
     """Who has another desk than on paper, and the halls whose paper is out of date."""
-    from exam_desk import printed
-    found = printed.compared(reading, session)
+    from exam_desk import notebook
+    found = notebook.compared(reading, session)
     if found is None:
         raise Trouble(f"nobody noted which desks are printed for {session}; `office printed {session}` does")
     last = f"to print again: {', '.join(found.halls)}" if found.halls else "the papers are up to date"

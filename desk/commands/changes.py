@@ -110,11 +110,10 @@ def lodge(parser: ArgumentParser) -> int:
     if words in (["--help"], ["-h"]):
         print(parser.description)
         return 0
-    asked = lodging.asked(words)
-    if asked is None:
+    lodged = lodging.lodge(command.office(), words)
+    if lodged is None:
         print(parser.description, file=sys.stderr)
         return 2
-    lodged = lodging.lodge(command.office(), words, asked)
     lines = "\n".join(plain(line) for line in [lodged.line, *lodged.explained])
     print(lines, file=sys.stderr if lodged.status else sys.stdout)
     return lodged.status

@@ -86,12 +86,13 @@ def check_files(parser: ArgumentParser) -> bool:
     from exam_desk import checking
     gc.disable()  # a file can have a million rows, and no row refers to itself
     parser.add_argument("folder")
-    checked = checking.check_folder(command.office(), parser.parse_args().folder, command.progress, command.show_asked)
-    command.say_lines(checked.lines)
-    if not checked.counts["files"]:
+    folder = parser.parse_args().folder
+    lines, counts = checking.check_folder(command.office(), folder, command.progress, command.show_asked)
+    command.say_lines(lines)
+    if not counts["files"]:
         raise Trouble("none of the seven files is there")
-    print("{files} files, {mistakes} mistakes, {notes} notes".format_map(checked.counts))
-    return bool(checked.counts["mistakes"] or checked.counts["codes"])
+    print("{files} files, {mistakes} mistakes, {notes} notes".format_map(counts))
+    return bool(counts["mistakes"] or counts["codes"])
 
 
 @command.named("""\
@@ -214,7 +215,7 @@ would lose a desk, move, get one, join or leave. Then it imports in order, whole
 all of it back.
 """)
 def take(parser: ArgumentParser) -> None:
-    from exam_desk import changing, consequences, taking
+    from exam_desk import changing, coding, consequences
     add_reading(parser)
     parser.add_argument("source", metavar="WORKBOOK|FOLDER")
     parser.add_argument("--yes", action="store_true", help="do not ask")
@@ -223,9 +224,10 @@ def take(parser: ArgumentParser) -> None:
     given = parser.parse_args()
     office = command.existing_office()
     reading = read_source(office, given.source, given, os.path.isdir(given.source))
-    reading = taking.with_codes(office, reading) if given.codes else reading
+    if given.codes:
+        coding.add_codes(office, reading)
     print_lines(reading, given.all)
-    steps = taking.steps_of(reading)
+    steps = coding.steps_of(reading)
     with changing.rehearse(office, steps, command.progress) as rehearsal:
         command.progress("")
         for answered in rehearsal.answers:

@@ -98,10 +98,10 @@ These have fewer desks than there are candidates, so every plan leaves some of t
 many, and no more are without one now. `examples/check-office` in the repository trusts nothing that the program says.
 """)
 def check_shortage(parser: ArgumentParser) -> bool:
-    from exam_desk import lists, reasons, shortage
+    from exam_desk import lists, reasons
     path = command.given(parser, "sheet").sheet
     with open(0 if path == "-" else path, "rb", closefd=path != "-") as file:
-        sheet = shortage.read(file.read(MOST_BYTES).decode("utf-8", "replace"))
+        sheet = reasons.read_sheet(file.read(MOST_BYTES).decode("utf-8", "replace"))
     with command.reading() as reading:
         found = list(reasons.Reasons(reading, sheet.session).faults(sheet))
     right = (f"right: {lists.count(sheet.candidate_count, 'candidate')} = {lists.count(sheet.desks, 'desk')}"

@@ -137,7 +137,7 @@ numbers are there only with --desks: print them late. With --order each group be
 file has them, and who is in none comes last. The CSV has a row for each candidate and session, and no formula.
 """)
 def slips(parser: ArgumentParser) -> None:
-    from exam_desk import numbered
+    from exam_desk import files
     from exam_desk.reading import of_few
     from exam_desk.sheets import slips
     parser.add_argument("--only", action="append", default=[], metavar="NUMBER",
@@ -145,7 +145,7 @@ def slips(parser: ArgumentParser) -> None:
     parser.add_argument("--order", metavar="FILE.csv", help="number,group: by group, each on pages of its own")
     given = command.given(parser, "session*", "--codes: with the access code", "--desks: with desk numbers",
                           "--csv: for a spreadsheet or the merge of letters")
-    groups = numbered.texts_in(given.order, "group", slips.MOST_GROUP_BYTES) if given.order else {}
+    groups = files.texts_by_number(given.order, "group", slips.MOST_GROUP_BYTES) if given.order else {}
     choice = slips.Choice(given.session, given.only, given.codes, given.desks, groups)
     make = slips.csv_text if given.csv else slips.page
     if choice.only:

@@ -1,18 +1,22 @@
-"""The rows of appeals in words: their kinds and states, what they ask, which are open, and what `back` takes away."""
+"""The rows of appeals in words: their kinds and states, what they ask, which are open, what `back` takes away; and the
+last days to lodge and to decide one. The program refuses by itself what comes later: 13 and 17."""
 from __future__ import annotations
 
 import contextlib
+import datetime
 import sqlite3
 from collections.abc import Collection
 from typing import NamedTuple
 
-from exam_desk import facts, lastdays, private
+from exam_desk import facts, private
 from exam_desk.office import Office
 from exam_desk.snapshot import Rows
 from exam_desk.words import feature_text
 
 KINDS = {1: "hall", 2: "clash", 3: "arrangement"}
 STATES = {1: "open", 2: "granted", 3: "refused", 4: "retracted", 5: "superseded"}
+DAYS_TO_LODGE = {"hall": 2, "clash": 5, "arrangement": 10}  # before the day of the session, by kind
+DAYS_TO_DECIDE = 1
 OPEN = ("SELECT appeal.*, day, name FROM appeal JOIN session ON session.code = session "
         "JOIN candidate ON candidate.number = appeal.number WHERE state = 1 "
         "ORDER BY day, session.start, session, appeal.number, ref")
@@ -30,6 +34,18 @@ class Lodged(NamedTuple):
         return STATES.get(self.state, "?") + (", standing" if self.standing else "")
 
 
+def to_lodge(kind: str, session_day: str) -> str:
+    return before(session_day, DAYS_TO_LODGE[kind])
+
+
+def to_decide(session_day: str) -> str:
+    return before(session_day, DAYS_TO_DECIDE)
+
+
+def before(day: str, days: int) -> str:
+    return (datetime.date.fromisoformat(day) - datetime.timedelta(days=days)).isoformat()
+
+
 def subject(row: sqlite3.Row) -> str:
     """What an appeal is about, as the register has it: a hall, a paper, or needs and extra time."""
     kind, target = KINDS[row["kind"]], str(row["target"])
@@ -38,15 +54,13 @@ def subject(row: sqlite3.Row) -> str:
 
 def open_lines(rows: Rows, today: str, sessions: Collection[str] = ()) -> list[str]:
     """Two lines on each open appeal of these sessions, or of all, the most urgent first."""
-    asked = {head["code"] for head in facts.sessions(rows, sessions)}
-    return [line for row in rows.execute(OPEN).fetchall() if row["session"] in asked for line in said(row, today)]
-
-
-def said(row: sqlite3.Row, today: str) -> list[str]:
-    last = lastdays.to_decide(row["day"])
-    urgency = f"too late since {row['day']}" if today > last else f"decide by {last}"
-    return [f"{urgency}: {row['session']} {row['number']:07} {row['name']}: {row['ref']} of {row['lodged']}: "
-            f"{KINDS[row['kind']]} {subject(row)}", f"    {row['reason'] or 'no reason given'}"]
+    asked, lines = {head["code"] for head in facts.sessions(rows, sessions)}, []
+    for row in (row for row in rows.execute(OPEN) if row["session"] in asked):
+        last = to_decide(row["day"])
+        urgency = f"too late since {row['day']}" if today > last else f"decide by {last}"
+        lines += [f"{urgency}: {row['session']} {row['number']:07} {row['name']}: {row['ref']} of {row['lodged']}: "
+                  f"{KINDS[row['kind']]} {subject(row)}", f"    {row['reason'] or 'no reason given'}"]
+    return lines
 
 
 def read(office: Office, path: str) -> dict[tuple[str, str], Lodged] | None:

@@ -9,54 +9,35 @@ import sqlite3
 
 from exam_desk.trouble import BadRows
 
-MOST = 9_999_999  # no number of an office is greater
-
-
-def code(column: str) -> str:
-    """Whether a value has more than A-Z, 0-9 and -, as a condition: pages show codes and days as they are."""
-    return (f"typeof({column}) != 'text' OR length(CAST({column} AS BLOB)) != length({column}) "
-            f"OR {column} GLOB '*[^A-Z0-9-]*'")
-
-
-def day(column: str) -> str:
-    return f"{code(column)} OR date({column}, '+0 days') IS NOT {column} OR {column} < '1000'"
-
-
-def text(column: str) -> str:
-    return f"typeof({column}) != 'text'"
-
-
-def whole(column: str, least: int = 0, most: int = MOST) -> str:
-    return f"typeof({column}) != 'integer' OR {column} NOT BETWEEN {least} AND {most}"
-
-
-def missing(columns: str, table: str, key: str = "code") -> str:
-    """Whether a row refers to none, as a condition."""
-    return f"(({columns}) NOT IN (SELECT {key} FROM {table})) IS NOT FALSE"
-
-
-WRONG = {  # of each table the conditions of wrong rows
-    "session": [code("code"), day("day"), whole("start")],
-    "hall": [code("code"), text("title"), whole("features")],
-    "paper": [code("code"), text("title"), missing("session", "session"), whole("minutes"), whole("requires")],
-    "opening": [missing("session", "session"), missing("hall", "hall"), whole("desks", 1), whole("until"),
-                whole("reserved")],
-    "candidate": [whole("number"), text("name"), code("code")],
-    "arrangement": [missing("number", "candidate", "number"), whole("needs"), whole("extra")],
-    "appeal": [missing("number", "candidate", "number"), code("ref"), missing("session", "session"),
-               whole("kind", 1, 3), code("target"), whole("needs"), whole("extra"), text("reason"),
-               whole("state", 1, 5), text("coalesce(answer, '')"), day("lodged")],
-    "standing": [missing("number, ref", "appeal", "number, ref")],
+# Conditions of values that cannot be read. Pages show codes and days as they are: these have A-Z, 0-9 and - alone.
+CODE = "typeof({0}) != 'text' OR length(CAST({0} AS BLOB)) != length({0}) OR {0} GLOB '*[^A-Z0-9-]*'"
+DAY = CODE + " OR date({0}, '+0 days') IS NOT {0} OR {0} < '1000'"
+TEXT = "typeof({0}) != 'text'"
+WHOLE = "typeof({0}) != 'integer' OR {0} NOT BETWEEN 0 AND 9999999"  # no number of an office is greater
+MISSING = "(({{0}}) NOT IN (SELECT {} FROM {})) IS NOT FALSE"  # of values that refer to a column of a table
+NUMBER, SESSION = MISSING.format("number", "candidate"), MISSING.format("code", "session")
+HALL, PAPER = MISSING.format("code", "hall"), MISSING.format("code", "paper")
+WRONG = {  # of each table the condition of a wrong value, by column
+    "session": {"code": CODE, "day": DAY, "start": WHOLE},
+    "hall": {"code": CODE, "title": TEXT, "features": WHOLE},
+    "paper": {"code": CODE, "title": TEXT, "session": SESSION, "minutes": WHOLE, "requires": WHOLE},
+    "opening": {"session": SESSION, "hall": HALL, "desks": WHOLE + " OR {0} = 0", "until": WHOLE, "reserved": WHOLE},
+    "candidate": {"number": WHOLE, "name": TEXT, "code": CODE},
+    "arrangement": {"number": NUMBER, "needs": WHOLE, "extra": WHOLE},
+    "appeal": {"number": NUMBER, "ref": CODE, "session": SESSION, "kind": WHOLE + " OR {0} NOT BETWEEN 1 AND 3",
+               "target": CODE, "needs": WHOLE, "extra": WHOLE, "reason": TEXT,
+               "state": WHOLE + " OR {0} NOT BETWEEN 1 AND 5", "coalesce(answer, '')": TEXT, "lodged": DAY},
+    "standing": {"number, ref": MISSING.format("number, ref", "appeal")},
 }
 LARGE = {
-    "entry": [missing("number", "candidate", "number"), missing("paper", "paper"), whole("live", 0, 1)],
-    "seat": [missing("session, hall", "opening", "session, hall"), missing("number", "candidate", "number")],
+    "entry": {"number": NUMBER, "paper": PAPER, "live": WHOLE + " OR {0} > 1"},
+    "seat": {"session, hall": MISSING.format("session, hall", "opening"), "number": NUMBER},
 }
 
 
-def refuse(connection: sqlite3.Connection, path: str, wrong: dict[str, list[str]]) -> None:
+def refuse(connection: sqlite3.Connection, path: str, wrong: dict[str, dict[str, str]]) -> None:
     """Raises `BadRows` where a table has wrong rows."""
-    for table, conditions in wrong.items():
-        query = f"SELECT 1 FROM {table} WHERE {' OR '.join(conditions)} LIMIT 1"
-        if connection.execute(query).fetchone():
+    for table, columns in wrong.items():
+        conditions = " OR ".join(condition.format(column) for column, condition in columns.items())
+        if connection.execute(f"SELECT 1 FROM {table} WHERE {conditions} LIMIT 1").fetchone():
             raise BadRows(path, table)

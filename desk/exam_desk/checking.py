@@ -8,7 +8,6 @@ import sqlite3
 from collections import Counter
 from collections.abc import Iterator, Mapping
 from dataclasses import replace
-from typing import NamedTuple
 
 from exam_desk import changing, coding, consequences, files, mistakes, overlaps, private, running, snapshot
 from exam_desk.asking import Progress
@@ -20,12 +19,6 @@ from exam_desk.words import plain
 
 MOST_SHOWN = 5  # mistakes or notes on one column of a file
 WORKBOOKS = (".xlsx", ".xlsm", ".ods")
-
-
-class Checked(NamedTuple):
-    """What is said of a folder, and how many files, mistakes, empty codes and notes there are."""
-    lines: list[str]
-    counts: Counter[str]
 
 
 def lines_on(name: str, found: mistakes.Found, word: str) -> Iterator[str]:
@@ -51,66 +44,58 @@ def office_knows(office: Office) -> mistakes.Known:
 def texts_in(folder: str) -> dict[str, bytes]:
     """The import files of a folder by kind, in the order in which they are imported, as far as an import reads them.
     Raises `Trouble` where none is there, or where one is no file."""
-    found = {}
     names = os.listdir(folder)
-    for kind in files.HEADERS:
-        if f"{kind}.csv" in names:
-            path = os.path.join(folder, f"{kind}.csv")
-            if not os.path.isfile(path):
-                raise Trouble(f"{path} is no file")
-            found[kind] = files.read(path)
-    return found
+    paths = {kind: os.path.join(folder, f"{kind}.csv") for kind in files.HEADERS if f"{kind}.csv" in names}
+    for path in paths.values():
+        if not os.path.isfile(path):
+            raise Trouble(f"{path} is no file")
+    return {kind: files.read(path) for kind, path in paths.items()}
 
 
-def check_folder(office: Office, folder: str, tell: Tell, progress: Progress) -> Checked:
+def check_folder(office: Office, folder: str, tell: Tell, progress: Progress) -> tuple[list[str], Counter[str]]:
     """Looks through the import files of a folder one after the other: each knows what the office has, and what those
-    before it bring. Files without a mistake are tried, with codes where these are empty. Raises `Trouble` as
-    `texts_in`."""
+    before it bring. Files without a mistake are tried, with codes where these are empty. Gives the lines, and how many
+    files, mistakes, empty codes and notes there are. Raises `Trouble` as `texts_in`."""
     texts, known = texts_in(folder), office_knows(office)
     found = {f"{kind}.csv": mistakes.looked_through(kind, text, known, MOST_SHOWN) for kind, text in texts.items()}
     codes = sum(wrong.counts[mistakes.NO_CODE] for wrong, _ in found.values())
     counts = Counter(files=len(found), codes=codes, mistakes=sum(wrong.count for wrong, _ in found.values()) - codes)
     tried = []
     if texts and not counts["mistakes"]:
-        more = {"candidates": coding.with_codes(office, texts["candidates"])} if codes else {}
-        tried = would_do(office, texts | more, tell, progress)
+        if codes:
+            people = coding.read(texts["candidates"], "candidates.csv")
+            texts["candidates"] = coding.file_of(coding.filled(people, coding.in_office(office), set()).rows)
+        tried = would_do(office, texts, tell, progress)
     counts["notes"] = sum(notes.count for _, notes in found.values()) + len(tried)
     lines = [line for name, (wrong, notes) in found.items()
              for line in (*lines_on(name, wrong, ""), *lines_on(name, notes, "NOTE: "))]
     others = (other(name) for name in sorted(os.listdir(folder)))
-    return Checked([*lines, *(f"NOTE: {line}" for line in (*tried, *others) if line)], counts)
+    return [*lines, *(f"NOTE: {line}" for line in (*tried, *others) if line)], counts
 
 
 def would_do(office: Office, texts: Mapping[str, bytes], tell: Tell, progress: Progress) -> list[str]:
-    """What the files would do to candidates, in short, and which sessions would be at one time then. Where it cannot be
-    tried, a line says why."""
+    """What the files would do to candidates, in short, and which sessions would be at one time then; to an empty office
+    in a private folder where there is none. Where it cannot be tried, a line says why."""
     steps = [Step(("import", kind, f"{kind}.csv"), text) for kind, text in texts.items()]
     try:
-        with there_or_empty(office) as tried, changing.rehearse(tried, steps, tell) as rehearsal:
+        with contextlib.ExitStack() as stack:
+            if not os.path.exists(office.path):
+                folder = stack.enter_context(private.own_folder(office.path))
+                office = replace(office, path=os.path.join(folder, office.base_name()))
+                running.run_over(office, office.path, "init")
+            rehearsal = stack.enter_context(changing.rehearse(office, steps, tell))
             tell("")
             if refused := rehearsal.refused:
                 raise Trouble(f"the program says {refused.first_line()} to {refused.step.words[-1]}")
-            with (Reading(tried, rehearsal.before, progress) as before,
-                  Reading(tried, rehearsal.after, progress) as after):
+            with (Reading(office, rehearsal.before, progress) as before,
+                  Reading(office, rehearsal.after, progress) as after):
                 met = [each for each in consequences.groups(before, after)
                        if each.kind not in (consequences.TWICE, consequences.HALLS)]
                 found = [*consequences.short_at_first(before, after), *consequences.brief(met),
                          *consequences.other_codes(before, after), *overlaps.lines(after, overlaps.found(after))]
-            return [f"once imported: {line}" for line in found]
+        return [f"once imported: {line}" for line in found]
     except (Trouble, OSError, sqlite3.Error, MemoryError) as fault:
         return [f"nobody can say what the files would do: {plain(fault) or 'there is no memory'}"]
-
-
-@contextlib.contextmanager
-def there_or_empty(office: Office) -> Iterator[Office]:
-    """The office; where there is none, an empty one in a private folder."""
-    if os.path.exists(office.path):
-        yield office
-        return
-    with private.own_folder(office.path) as folder:
-        empty = replace(office, path=os.path.join(folder, office.base_name()))
-        running.run_over(empty, empty.path, "init")
-        yield empty
 
 
 def other(name: str) -> str:

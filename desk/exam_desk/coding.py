@@ -1,15 +1,19 @@
-"""Access codes at random for candidates who have none, or who are to have another; and other names for candidates."""
+"""Access codes at random for candidates who have none, or who are to have another; other names for candidates; and the
+imports of what was read from a workbook, or from a folder of import files."""
 from __future__ import annotations
 
 import contextlib
 import os
 import secrets
-from typing import NamedTuple
+from typing import TYPE_CHECKING, NamedTuple
 
-from exam_desk import files, snapshot
+from exam_desk import files, lists, mistakes, snapshot
 from exam_desk.changing import Step
 from exam_desk.office import Office
 from exam_desk.trouble import NoOffice, Trouble
+
+if TYPE_CHECKING:
+    from exam_desk.workbook.reading import Reading
 
 LETTERS, DIGITS, LENGTH = "BCDFGHJKMNPQRSTVWXYZ", "23456789", 10
 
@@ -26,29 +30,19 @@ def in_office(office: Office) -> dict[str, list[str]]:
     if not os.path.exists(office.path):
         return {}
     with contextlib.closing(snapshot.rows(office)) as connection:
-        rows = connection.execute("SELECT printf('%07d', number), name, code FROM candidate ORDER BY number")
-        return {row[0]: list(row) for row in rows}
+        return {row[0]: row for row in files.rows_of(connection, "candidates")}
 
 
 def read(text: bytes, path: str) -> list[list[str]]:
-    """The rows of a file after the header. Raises `Trouble` where the file is not one of candidates."""
+    """The rows of a file after the header. Raises `Trouble` where an import would not take them, were there a code in
+    each empty last column."""
     found = []
     for row in files.below_header(text, path, files.HEADERS["candidates"]):
-        if not is_right(row):
+        column = files.bad_column("candidates", row)
+        if not row.closed or column in (0, 1, 2) or (column == 3 and row.fields[2]):
             raise Trouble(f"line {row.line} is wrong; `office check-files` says how", path)
         found.append([value.decode() for value in row.fields])
     return found
-
-
-def with_codes(office: Office, text: bytes) -> bytes:
-    """A file of candidates with a code in each field that is empty. Raises `Trouble` as `read`."""
-    return file_of(filled(read(text, "candidates.csv"), in_office(office), set()).rows)
-
-
-def is_right(row: files.Record) -> bool:
-    """Whether an import would take the row, were there a code in an empty last column."""
-    column = files.bad_column("candidates", row)
-    return row.closed and (column is None or (column == 3 and not row.fields[2]))
 
 
 def new_code(taken: set[str]) -> str:
@@ -113,3 +107,30 @@ def renamed(office: Office, number: str, name: str) -> Step:
         raise Trouble("a name has 1 to 80 bytes and no control characters")
     rows = [files.HEADERS["candidates"], [number, name, known[number][2]]]
     return Step(("import", "candidates", f"name of {number}"), files.written(rows).encode())
+
+
+def add_codes(office: Office, reading: Reading) -> None:
+    """Gives each candidate who was read without a code one: that of the office for the number, else a new one."""
+    records, report = reading.records.get("candidates", []), reading.report
+    coded = filled([record.fields for record in records], in_office(office), set())
+    reading.records["candidates"] = [record._replace(fields=row) for record, row in zip(records, coded.rows)]
+    report.lines = [line for line in report.lines if line.what != mistakes.NO_CODE]
+    if coded.made:
+        report.change(f"{lists.count(coded.made, 'access code')} made")
+
+
+def steps_of(reading: Reading) -> list[Step]:
+    """The imports of what was read, in order. Raises `Trouble` where there is a mistake, a candidate without an access
+    code, or nothing."""
+    from exam_desk.workbook.reading import file_parts  # here, since `office codes` needs no workbook
+    if count := reading.report.count("mistake"):
+        raise Trouble(f"{lists.count(count, 'mistake')}: nothing is changed")
+    if empty := sum(not record.fields[2] for record in reading.records.get("candidates", [])):
+        raise Trouble(f"{lists.count(empty, 'candidate')} without an access code: nothing is changed; give --codes too "
+                      "to make them")
+    steps = [Step(("import", kind, f"{kind}.csv" if place == 1 else f"{kind}-{place}.csv"), text)
+             for kind in files.HEADERS if (rows := [record.fields for record in reading.records.get(kind, [])])
+             for place, (text, _) in enumerate(file_parts(kind, rows), 1)]  # several where they are too many for one
+    if not steps:
+        raise Trouble("there is no row to import")
+    return steps

@@ -4,37 +4,15 @@ from __future__ import annotations
 import contextlib
 import os
 import sqlite3
-from collections.abc import Callable, Iterator
 
 from exam_desk import files, snapshot
 from exam_desk.office import Office
-from exam_desk.words import clock, feature_text
 from exam_desk.workbook.reading import new_folder, put_workbook, write_kind
-
-QUERIES = {
-    "sessions": "SELECT code, day, start AS clock FROM session ORDER BY day, start, code",
-    "papers": "SELECT code, title, session, minutes, requires AS mask FROM paper ORDER BY session, code",
-    "halls": "SELECT code, title, features AS mask FROM hall ORDER BY code",
-    "openings": "SELECT session, hall, desks, until AS clock, iif(reserved, 'yes', 'no') FROM opening "
-                "ORDER BY session, hall",
-    "candidates": "SELECT printf('%07d', number), name, code FROM candidate ORDER BY number",
-    "arrangements": "SELECT printf('%07d', number), needs AS mask, extra FROM arrangement ORDER BY number",
-    "entries": "SELECT printf('%07d', number), paper FROM entry WHERE live = 1 ORDER BY number, paper",
-}
-TURNED: dict[str, Callable[[int], str]] = {"mask": feature_text, "clock": clock}  # numbers that the files have in words
-
-
-def rows_of(connection: sqlite3.Connection, kind: str) -> Iterator[list[str]]:
-    """The rows of a kind as the files have them."""
-    cursor = connection.execute(QUERIES[kind])
-    turned: list[Callable[[int], str]] = [TURNED.get(column[0], str) for column in cursor.description]
-    for row in cursor:
-        yield [turn(value) for turn, value in zip(turned, row)]
 
 
 def write_all(connection: sqlite3.Connection, folder: str) -> list[str]:
     """Writes the files and gives the lines that say what is there."""
-    said = [f"{kind}: {write_kind(folder, kind, rows_of(connection, kind))}" for kind in QUERIES]
+    said = [f"{kind}: {write_kind(folder, kind, files.rows_of(connection, kind))}" for kind in files.HEADERS]
     withdrawn = [f"{number:07} {paper}\n" for number, paper in connection.execute(
         "SELECT number, paper FROM entry WHERE live = 0 ORDER BY number, paper")]
     if withdrawn:
@@ -59,7 +37,7 @@ def write_folder(office: Office, folder: str) -> list[str]:
 def write_workbook(office: Office, path: str) -> list[str]:
     """Makes a workbook, and gives the lines that say what is there. Raises `Trouble` where it is there already."""
     with contextlib.closing(snapshot.rows(office)) as connection:
-        rows = {kind: list(rows_of(connection, kind)) for kind in QUERIES}
+        rows = {kind: list(files.rows_of(connection, kind)) for kind in files.HEADERS}
         notes = left_out(connection, *2 * ["not in the workbook"])
     put_workbook(path, rows)
-    return [*(f"{kind}: {len(rows[kind])}" for kind in QUERIES), *notes]
+    return [*(f"{kind}: {len(rows[kind])}" for kind in files.HEADERS), *notes]

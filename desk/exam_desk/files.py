@@ -1,7 +1,8 @@
-"""The seven kinds of import file: their headers, the form of each value, and the records of a file as the program reads
-them (the reader `csv` of Rust in its default setting, over RFC 4180)."""
+"""The seven kinds of import file: their headers, the form of each value, the rows of an office in these forms, and the
+records of a file as the program reads them (the reader `csv` of Rust in its default setting, over RFC 4180)."""
 from __future__ import annotations
 
+import contextlib
 import csv
 import datetime
 import io
@@ -9,11 +10,14 @@ import itertools
 import operator
 import os
 import re
-from collections.abc import Callable, Iterable, Iterator
-from typing import NamedTuple
+from collections.abc import Callable, Collection, Iterable, Iterator
+from typing import TYPE_CHECKING, NamedTuple
 
 from exam_desk import words
 from exam_desk.trouble import Trouble
+
+if TYPE_CHECKING:
+    import sqlite3
 
 MOST_BYTES = 4_194_304
 HEADERS = {  # in the order in which they are imported
@@ -25,15 +29,23 @@ HEADERS = {  # in the order in which they are imported
     "arrangements": ["number", "needs", "extra"],
     "entries": ["number", "paper"],
 }
-REFERENCES = {  # the columns whose values other files bring, from the left, and the kind of these
-    "papers": [(2, "sessions")],
-    "openings": [(0, "sessions"), (1, "halls")],
-    "arrangements": [(0, "candidates")],
-    "entries": [(0, "candidates"), (1, "papers")],
-}
+BRINGS = {"session": "sessions", "paper": "papers", "hall": "halls", "number": "candidates"}
+REFERENCES = {kind: [(place, BRINGS[name]) for place, name in enumerate(header) if BRINGS.get(name, kind) != kind]
+              for kind, header in HEADERS.items()}  # the columns whose values other files bring, and the kind of these
 KEYS = {"openings": 2, "entries": 2}  # how many columns make the key; elsewhere the first alone
 FIRST_DAY, LAST_DAY = datetime.date(2000, 1, 11), datetime.date(2199, 12, 31)
 BOM = b"\xef\xbb\xbf"
+QUERIES = {  # the rows of an office, where masks and clocks are numbers
+    "sessions": "SELECT code, day, start AS clock FROM session ORDER BY day, start, code",
+    "papers": "SELECT code, title, session, minutes, requires AS mask FROM paper ORDER BY session, code",
+    "halls": "SELECT code, title, features AS mask FROM hall ORDER BY code",
+    "openings": "SELECT session, hall, desks, until AS clock, iif(reserved, 'yes', 'no') FROM opening "
+                "ORDER BY session, hall",
+    "candidates": "SELECT printf('%07d', number), name, code FROM candidate ORDER BY number",
+    "arrangements": "SELECT printf('%07d', number), needs AS mask, extra FROM arrangement ORDER BY number",
+    "entries": "SELECT printf('%07d', number), paper FROM entry WHERE live = 1 ORDER BY number, paper",
+}
+IN_WORDS: dict[str, Callable[[int], str]] = {"mask": words.feature_text, "clock": words.clock}
 FORMULA = re.compile(r"(^|[;\t\r\n])(\s*[=+\-@＝＋－＠])")  # some spreadsheets take the wide signs too
 
 
@@ -76,7 +88,10 @@ def records(text: bytes, comma: bytes = b",") -> Iterator[Record]:
             closed = operator.length_hint(behind) > 0
             if not closed:
                 fields[-1] = fields[-1][:-1]
-            yield Record(line, as_bytes(fields), closed)
+            row: list[str | bytes] = fields  # type: ignore[assignment]
+            for place, field in enumerate(fields):  # a row can have a million texts: each goes as its bytes come
+                row[place] = field.encode("latin-1")
+            yield Record(line, tuple(row), closed)  # type: ignore[arg-type]
         line = reader.line_num + 1
 
 
@@ -86,17 +101,38 @@ def below_header(text: bytes, path: str, header: Iterable[str]) -> Iterator[Reco
         raise Trouble(f"is longer than {MOST_BYTES} bytes; split it", path)
     rows = records(text)
     first = next(rows, None)
-    if first is None or first.fields != tuple(name.encode() for name in header):
+    if first is None or first.fields != tuple(map(str.encode, header)):
         raise Trouble(f"line 1 must be: {','.join(header)}", path)
     return rows
 
 
-def as_bytes(fields: list[str]) -> tuple[bytes, ...]:
-    """The fields of a row. Each text goes as its bytes come, since a row can have a million of them."""
-    row: list[str | bytes] = fields  # type: ignore[assignment]
-    for place, field in enumerate(fields):
-        row[place] = field.encode("latin-1")
-    return tuple(row)  # type: ignore[arg-type]
+def texts_by_number(path: str, column: str, most: int, known: Collection[str] | None = None) -> dict[str, str]:
+    """The texts by number of a file that is no import, in the order of its rows; its header is `number` and the column.
+    Raises `Trouble` where it is no such file, a text has more bytes than the most, or a number is not a known one."""
+    found: dict[str, str] = {}
+    for row in below_header(read(path), path, ["number", column]):
+        wrong, fields = "", [field.decode("utf-8", "replace") for field in row.fields]
+        if not row.closed or len(fields) != 2:
+            wrong = f"a row has a number and a {column}; put quotes around a {column} with a comma"
+        elif not is_number(row.fields[0]):
+            wrong = f"{shown(row.fields[0])} is no number of seven digits"
+        elif known is not None and fields[0] not in known:
+            wrong = f"the office has no candidate {shown(row.fields[0])}"
+        elif not is_short(row.fields[1], most):
+            wrong = f"a {column} has at most {most} bytes of UTF-8 and no control characters"
+        elif found.setdefault(*fields) != fields[1]:
+            wrong = f"there is another {column} for {fields[0]} above"
+        if wrong:
+            raise Trouble(f"line {row.line}: {wrong}; nothing is done", path)
+    return found
+
+
+def rows_of(connection: sqlite3.Connection, kind: str) -> Iterator[list[str]]:
+    """The rows of an office of a kind, as the files have them."""
+    cursor = connection.execute(QUERIES[kind])
+    turned: list[Callable[[int], str]] = [IN_WORDS.get(column[0], str) for column in cursor.description]
+    for row in cursor:
+        yield [turn(value) for turn, value in zip(turned, row)]
 
 
 def guarded(text: str) -> str:
@@ -134,12 +170,9 @@ def is_number(text: bytes) -> bool:
 
 
 def is_date(text: bytes) -> bool:
-    if not LIKE_A_DATE(text):
-        return False
-    try:
-        return FIRST_DAY <= datetime.date.fromisoformat(text.decode("ascii")) <= LAST_DAY
-    except ValueError:
-        return False
+    with contextlib.suppress(ValueError):
+        return bool(LIKE_A_DATE(text)) and FIRST_DAY <= datetime.date.fromisoformat(text.decode()) <= LAST_DAY
+    return False
 
 
 def is_name(text: bytes) -> bool:
@@ -152,11 +185,7 @@ def is_short(text: bytes, most: int) -> bool:
 
 
 def is_utf_8(text: bytes) -> bool:
-    try:
-        text.decode()
-    except UnicodeDecodeError:
-        return False
-    return True
+    return text.decode("utf-8", "replace").encode() == text
 
 
 def is_features(text: bytes) -> bool:
@@ -165,19 +194,17 @@ def is_features(text: bytes) -> bool:
 
 
 is_code, is_hall = form(rb"[A-Z0-9-]{1,12}"), form(rb"[A-Z0-9]{1,8}")
-FORMS: dict[str, list[Form]] = {  # of each kind by column
-    "sessions": [is_code, is_date, form(rb"([01][0-9]|2[0-3]):[0-5][0-9]")],
-    "papers": [is_code, is_name, is_code, whole(1, 600), is_features],
-    "halls": [is_hall, is_name, is_features],
-    "openings": [is_code, is_hall, whole(1, 2000), form(rb"([01][0-9]|2[0-3]):[0-5][0-9]|24:00"), form(rb"yes|no")],
-    "candidates": [is_number, is_name, form(rb"[A-Z0-9]{8,16}")],
-    "arrangements": [is_number, is_features, whole(0, 100)],
-    "entries": [is_number, is_code],
-}
+CLOCK = rb"([01][0-9]|2[0-3]):[0-5][0-9]"
+RIGHT: dict[str, Form] = {  # the form of a column, in whatever kind it stands
+    "number": is_number, "name": is_name, "code": form(rb"[A-Z0-9]{8,16}"), "session": is_code, "date": is_date,
+    "start": form(CLOCK), "paper": is_code, "title": is_name, "minutes": whole(1, 600), "requires": is_features,
+    "hall": is_hall, "features": is_features, "desks": whole(1, 2000), "until": form(CLOCK + rb"|24:00"),
+    "reserved": form(rb"yes|no"), "needs": is_features, "extra": whole(0, 100)}
+FORMS = {kind: [RIGHT[name] for name in header] for kind, header in HEADERS.items()}
 
 
 def is_header(kind: str, record: Record | None) -> bool:
-    return record is not None and record.fields == tuple(name.encode() for name in HEADERS[kind])
+    return record is not None and record.fields == tuple(map(str.encode, HEADERS[kind]))
 
 
 def bad_column(kind: str, record: Record) -> int | None:
@@ -193,7 +220,7 @@ def bad_column(kind: str, record: Record) -> int | None:
 def needed_columns(kind: str) -> set[str]:
     """The columns without which no row of a kind can be read: its key, and what refers to other kinds."""
     header = HEADERS[kind]
-    return {*header[:KEYS.get(kind, 1)], *(header[column] for column, _ in REFERENCES.get(kind, []))}
+    return {*header[:KEYS.get(kind, 1)], *(header[column] for column, _ in REFERENCES[kind])}
 
 
 def key_of(kind: str, fields: tuple[bytes, ...]) -> tuple[bytes, ...]:

@@ -3,7 +3,7 @@ from __future__ import annotations
 
 import os
 import time
-from collections.abc import Callable, Iterator
+from collections.abc import Callable
 from typing import NamedTuple
 
 from exam_desk import changing, checking, copies, files, logbook, mistakes, refusals
@@ -37,9 +37,8 @@ def rows_of(office: Office, command: str, path: str) -> tuple[list[Row], list[st
     wrong, _ = mistakes.looked_through("entries", text, checking.office_knows(office))
     if wrong:
         return [], list(checking.lines_on(os.path.basename(path), wrong, ""))
-    found = files.records(text)
-    next(found)  # the header
-    rows = [Row(record.line, Step((command, *(field.decode() for field in record.fields)))) for record in found]
+    rows = [Row(record.line, Step((command, *(field.decode() for field in record.fields))))
+            for record in files.below_header(text, path, files.HEADERS["entries"])]
     if not rows:
         raise Trouble("there is no row; nothing is changed", path)
     return rows, []
@@ -56,9 +55,12 @@ def carry_out(office: Office, title: str, rows: list[Row], tell: Tell) -> changi
         while len(answers) < len(rows) and not is_hopeless(answers):
             with changing.turn(office, title) as taken:
                 copy = copy or changing.kept_copy(office, title)
-                for row, answered in in_one_turn(taken, left):
-                    answers.append(answered)
-                    tell(row.line, answered)
+                until = time.monotonic() + TURN
+                for row in left:
+                    answers.append(taken.carried(row.step, logbook.BEGINS))
+                    tell(row.line, answers[-1])
+                    if time.monotonic() >= until or is_hopeless(answers):
+                        break
             time.sleep(BETWEEN)
     except Trouble as fault:
         kept(office, answers, copy)
@@ -66,16 +68,6 @@ def carry_out(office: Office, title: str, rows: list[Row], tell: Tell) -> changi
             raise
         raise Trouble(f"the rows from line {rows[len(answers)].line} on are not carried out: {fault}") from fault
     return changing.Carried(answers, kept(office, answers, copy), None)
-
-
-def in_one_turn(taken: changing.Turn, left: Iterator[Row]) -> Iterator[tuple[Row, Answered]]:
-    """The next rows with what is said of them, until the time of the turn is over or the office cannot be used."""
-    until = time.monotonic() + TURN
-    for row in left:
-        answered = taken.carried(row.step, logbook.BEGINS)
-        yield row, answered
-        if time.monotonic() >= until or is_hopeless([answered]):
-            return
 
 
 def is_hopeless(answers: list[Answered]) -> bool:

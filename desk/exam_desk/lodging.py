@@ -2,9 +2,10 @@
 from __future__ import annotations
 
 import contextlib
+import functools
 import itertools
 import json
-from collections.abc import Callable, Iterator, Sequence
+from collections.abc import Iterator, Sequence
 from typing import NamedTuple, NoReturn
 
 from exam_desk import asking, beside, files, logbook, refusals, snapshot, turns
@@ -14,15 +15,7 @@ from exam_desk.trouble import Trouble
 
 TRIES, SECONDS = 3, 60
 KINDS = {"hall": ["hall"], "clash": ["paper"], "arrangement": ["needs", "extra"]}  # the values of each
-FORMS: dict[str, files.Form] = {
-    "number": files.is_number, "session": files.is_code, "hall": files.is_hall, "paper": files.is_code,
-    "needs": files.is_features, "extra": files.whole(0, 100), "reason": lambda text: files.is_short(text, 200)}
-
-
-class Lodging(NamedTuple):
-    """What is asked for a candidate: the number, and the body of the request without the reference."""
-    number: str
-    values: dict[str, str | int]
+FORMS: dict[str, files.Form] = {**files.RIGHT, "reason": lambda text: files.is_short(text, 200)}
 
 
 class Lodged(NamedTuple):
@@ -32,19 +25,16 @@ class Lodged(NamedTuple):
     explained: list[str]
 
 
-def asked(words: Sequence[str]) -> Lodging | None:
-    """What the words ask: NUMBER SESSION KIND VALUE .. REASON; None where their count does not fit. Raises `Trouble`
-    where one has a wrong form."""
+def asked(words: Sequence[str]) -> dict[str, str | int] | None:
+    """The body of the request that the words NUMBER SESSION KIND VALUE .. REASON ask for, without the reference; None
+    where their count does not fit. Raises `Trouble` where one has a wrong form."""
     if len(words) < 3 or words[2] not in KINDS or len(words) != 4 + len(KINDS[words[2]]):
         return None
-    names = ["number", "session", "kind", *KINDS[words[2]], "reason"]
-    values: dict[str, str | int] = dict(zip(names, words))
-    for name, word in zip(names, words):
+    named = dict(zip(["number", "session", "kind", *KINDS[words[2]], "reason"], words))
+    for name, word in named.items():
         if name in FORMS and not FORMS[name](word.encode("utf-8", "surrogateescape")):
             raise Trouble(f"{name} is {word}: that has the wrong form; nothing is changed")
-    if "extra" in values:
-        values["extra"] = int(values["extra"])
-    return Lodging(str(values.pop("number")), values)
+    return {name: int(word) if name == "extra" else word for name, word in named.items() if name != "number"}
 
 
 def candidate(office: Office, number: str) -> tuple[str, str]:
@@ -64,15 +54,14 @@ def served(office: Office) -> Iterator[asking.Server]:
     if state and "place" in state:
         yield asking.Server(state["pid"], state["place"])
         return
-    with turns.alone(office, ["lodge"]), contextlib.closing(Serve(office, office.path, refuse(office))) as serve:
+    serve = Serve(office, office.path, functools.partial(refuse, office))
+    with turns.alone(office, ["lodge"]), contextlib.closing(serve):
         yield serve.started()
 
 
-def refuse(office: Office) -> Callable[[str], NoReturn]:
+def refuse(office: Office, complaint: str) -> NoReturn:
     """Raises `Trouble`, which says what a refusal of `serve` means."""
-    def explain(complaint: str) -> NoReturn:
-        raise Trouble("; ".join([complaint, *map(str.strip, refusals.explained(office, ["serve"], complaint))]))
-    return explain
+    raise Trouble("; ".join([complaint, *map(str.strip, refusals.explained(office, ["serve"], complaint))]))
 
 
 def post(server: asking.Server, number: str, code: str, body: bytes) -> dict[str, object]:
@@ -88,15 +77,18 @@ def post(server: asking.Server, number: str, code: str, body: bytes) -> dict[str
     raise Trouble("no answer: look with `office appeals SESSION` whether it is lodged, or try again")
 
 
-def lodge(office: Office, words: Sequence[str], lodging: Lodging) -> Lodged:
-    """Lodges what the words ask, with a line in the log before and after it. Raises `Trouble` where nothing was
-    answered."""
+def lodge(office: Office, words: Sequence[str]) -> Lodged | None:
+    """Lodges what the words ask, with a line in the log before and after it. None and `Trouble` as of `asked`; raises
+    `Trouble` also where nothing was answered."""
+    values = asked(words)
+    if values is None:
+        return None
     beside.refuse_stranger(office.path)
-    code, ref = candidate(office, lodging.number)
-    body = json.dumps({**lodging.values, "ref": ref}, ensure_ascii=False).encode()
+    code, ref = candidate(office, words[0])
+    body = json.dumps({**values, "ref": ref}, ensure_ascii=False).encode()
     with logbook.logged(office, ["lodge", *words]) as outcome:
         with served(office) as server:
-            answer = post(server, lodging.number, code, body)
+            answer = post(server, words[0], code, body)
         if "error" in answer:
             last = f" last day {answer['day']}" if "day" in answer else ""
             outcome.status, outcome.answer = 1, f"refused {answer['error']}{last}"
@@ -104,4 +96,4 @@ def lodge(office: Office, words: Sequence[str], lodging: Lodging) -> Lodged:
             outcome.status, outcome.answer = 0, f"{ref} {answer['state']}"
     if outcome.status:
         return Lodged(outcome.status, outcome.answer, refusals.explained(office, ["lodge"], outcome.answer))
-    return Lodged(0, f"{lodging.number} {outcome.answer}", [])
+    return Lodged(0, f"{words[0]} {outcome.answer}", [])

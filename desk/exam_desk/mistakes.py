@@ -9,17 +9,16 @@ from collections import Counter, defaultdict
 from collections.abc import Callable, Iterator, Sequence
 from typing import NamedTuple
 
-from exam_desk import files, noting, states, words
+from exam_desk import files, states, words
 
 MOST_COUNTED = 100_000  # mistakes of a file; what is behind the last of them is not looked at
 MOST_TO_MEND = 200  # bytes of a value for which a better one is sought
 LIMITS = {"sessions": 400, "papers": 2000, "halls": 500, "candidates": 20000}
 MOST_MEMBERS, MOST_OPENINGS = 4096, 256  # of a session
-NUMBER = "printf('%07d', number)"
-IN_OFFICE = {  # of each kind the columns that are looked at, where a file has them
-    "sessions": "code FROM session", "halls": "code FROM hall", "papers": "code, '', session FROM paper",
-    "openings": "session, hall FROM opening", "candidates": f"{NUMBER}, '', code FROM candidate",
-    "entries": f"{NUMBER}, paper FROM entry WHERE live = 1"}
+WITHDRAWN = "SELECT printf('%07d', number), paper FROM entry WHERE live = 0"
+STANDING = ("SELECT printf('%07d', number) FROM standing JOIN appeal USING (number, ref) "
+            f"WHERE state = {states.GRANTED}")
+NAMES, CODES = ["name", "title"], ["session", "paper", "hall", "code"]  # columns
 CODE = "1 to 12 of A-Z, 0-9 and -"
 TIME_CURE = "a time as 09:00; format the column as text"
 FEATURES_CURE = f"features are {', '.join(words.FEATURES)}, in this order, joined by +; - for none"
@@ -36,8 +35,10 @@ COMMAS = [(b",", ""), (b";", "semicolons part the columns: save it with commas")
           (b"\t", "tabs part the columns: save it with commas")]
 NO_CODE = "code ''"  # the mistakes on empty codes, which are counted apart
 EMPTY_ROW = "an empty row of the spreadsheet: delete it"
-RIGHT = {column: right for kind, header in files.HEADERS.items() for column, right in zip(header, files.FORMS[kind])}
+RIGHT = files.RIGHT
 LOST_ZEROS = re.compile(rb"([0-9]{1,7})(\.0+)?").fullmatch
+WRONG_LETTERS = re.compile("Ã.|Â.|â€|Å[\x80-\xbf¡-ÿ€-™]|\ufffd").search  # of another encoding
+LIKE_A_NUMBER = re.compile(rb"[0-9]+E[0-9]+|[1-9][0-9]?0{4,}").fullmatch
 
 
 class Cure(NamedTuple):
@@ -93,16 +94,10 @@ class Known:
         self.standing: set[bytes] = set()
         self.codes: defaultdict[bytes, set[bytes]] = defaultdict(set)  # the numbers with an access code
         if connection:
-            self.read(connection)
-
-    def read(self, connection: sqlite3.Connection) -> None:
-        def rows(query: str) -> list[tuple[bytes, ...]]:
-            return [tuple(str(value).encode() for value in row) for row in connection.execute(f"SELECT {query}")]
-        for kind, query in IN_OFFICE.items():
-            self.take(kind, rows(query))
-        self.withdrawn.update(rows(f"{NUMBER}, paper FROM entry WHERE live = 0"))
-        self.standing = {key for key, in rows(f"{NUMBER} FROM standing JOIN appeal USING (number, ref) "
-                                              f"WHERE state = {states.GRANTED}")}
+            for kind in files.HEADERS:
+                self.take(kind, [tuple(map(str.encode, row)) for row in files.rows_of(connection, kind)])
+            self.withdrawn.update((key.encode(), str(paper).encode()) for key, paper in connection.execute(WITHDRAWN))
+            self.standing.update(key.encode() for key, in connection.execute(STANDING))
 
     def take(self, kind: str, rows: Sequence[tuple[bytes, ...]]) -> None:
         """Adds the rows of a file."""
@@ -139,7 +134,7 @@ def cure(column: str, field: bytes) -> Cure:
     from exam_desk.workbook import cells, values  # here, since these ask this module what is right
     if column == "number" and RIGHT[column](number := with_zeros(field)):
         return Cure(f"leading zeros lost? {number.decode('ascii')} ({CURES[column]})", number.decode("ascii"))
-    if column in ("name", "title") or len(field) > MOST_TO_MEND:
+    if column in NAMES or len(field) > MOST_TO_MEND:
         return Cure(needed(column, field))
     text = field.decode("utf-8", "replace").strip(" '")
     try:
@@ -167,13 +162,28 @@ def with_zeros(field: bytes) -> bytes:
 
 def needed(column: str, field: bytes) -> str:
     """What a value must be."""
-    if column not in ("name", "title"):
+    if column not in NAMES:
         return CURES[column]
     if not files.is_utf_8(field):
         return "the letters are no UTF-8: save the file as CSV UTF-8"
     if files.CONTROL.search(field):
         return "it holds a line end or another control character"
     return f"1 to 80 bytes; it has {len(field)}"
+
+
+def notes_on(column: str, field: bytes) -> Iterator[str]:
+    """What only a human eye can judge in a value of a right form."""
+    text = field.decode("utf-8", "replace") if column in NAMES else ""
+    if column in CODES and LIKE_A_NUMBER(field):
+        yield "may be what a spreadsheet made of a code such as 1E5, or will make of it"
+    if text.isascii() and text.isprintable() and text == text.strip():
+        return
+    if WRONG_LETTERS(text):
+        yield "looks like letters that were read in a wrong encoding"
+    if text != text.strip() or "\u00a0" in text:
+        yield "has a space at an end, or a hard space"
+    if words.plain(text) != text:
+        yield "holds marks that no screen shows"
 
 
 def looked_through(kind: str, text: bytes, known: Known, most: int = MOST_COUNTED) -> tuple[Found, Found]:
@@ -189,16 +199,18 @@ class File:
         self.kind, self.known, self.header = kind, known, files.HEADERS[kind]
         self.wrong, self.notes = Found(most), Found(most)
         self.missing: list[str] = []  # the columns that the header lacks; their fields are empty
-        references = dict(files.REFERENCES.get(kind, []))
-        self.columns = [(column, right, references.get(place), noting.NOTES.get(column, lambda _: ()))
-                        for place, (column, right) in enumerate(zip(self.header, files.FORMS[kind]))]
+        references = dict(files.REFERENCES[kind])
+        self.columns = [(name, RIGHT[name], references.get(place)) for place, name in enumerate(self.header)]
         self.first: dict[tuple[bytes, ...], files.Record] = {}  # the first record of each key
 
     def looked_through(self, rows: Iterator[files.Record] | None) -> tuple[Found, Found]:
         """The mistakes of its rows and the notes on them; what they bring is known afterwards."""
         if rows is not None and self.look_at(rows):
             self.note_references()
-            self.take()
+            self.known.take(self.kind, [record.fields for record in self.first.values()])
+            if passed := self.known.passed_limit():
+                self.wrong.add(1, "file", passed)
+            self.note_together()
         elif self.kind in self.known.keys:
             self.known.keys[self.kind] = None
         return self.wrong, self.notes
@@ -249,25 +261,17 @@ class File:
     def look_at(self, rows: Iterator[files.Record]) -> bool:
         """Looks at all rows; false where it gives up, since too many are wrong."""
         for record in rows:
-            if self.is_whole(record) and (self.is_new(mended := self.mended(record)) or mended != record):
+            if fault := fault_of(record, len(self.header)):
+                self.wrong.add(record.line, "row", fault)
+            elif self.is_new(mended := self.mended(record)) or mended != record:
                 self.look_at_values(record)
             if self.wrong.count >= MOST_COUNTED:
                 self.wrong.add(record.line, "file", f"{MOST_COUNTED:,} mistakes; what is behind them is not looked at")
                 return False
         return True
 
-    def is_whole(self, record: files.Record) -> bool:
-        count, wanted = len(record.fields), len(self.header)
-        if count != wanted:
-            self.wrong.add(record.line, "row", f"{count} fields in place of {wanted}; {count_cure(record, wanted)}")
-        elif not any(record.fields):
-            self.wrong.add(record.line, "row", EMPTY_ROW)
-        else:
-            return True
-        return False
-
     def look_at_values(self, record: files.Record) -> None:
-        for field, (column, right, table, notes) in zip(record.fields, self.columns):
+        for field, (column, right, table) in zip(record.fields, self.columns):
             if column in self.missing:
                 continue
             if not right(field):
@@ -275,7 +279,7 @@ class File:
                 continue
             if table and field not in (self.known.keys[table] or {field}):
                 self.wrong.add(record.line, column, f"is not among the {table}", field)
-            for note in notes(field):
+            for note in notes_on(column, field):
                 self.notes.add(record.line, column, note, field)
 
     def mended(self, record: files.Record) -> files.Record:
@@ -297,26 +301,14 @@ class File:
 
     def note_references(self) -> None:
         """Notes what the rows refer to and nobody knows."""
-        for column, _, table, _ in self.columns if self.first else ():
+        for column, _, table in self.columns if self.first else ():
             if table and not self.known.keys[table]:
                 cannot = self.known.keys[table] is None
                 why = f"{table}.csv could not be read whole" if cannot else f"no {table} are known"
                 self.notes.add(1, column, f"{why}, so these are not compared")
 
-    def take(self) -> None:
-        """Adds the rows to what is known, and notes what they say together."""
-        self.known.take(self.kind, [record.fields for record in self.first.values()])
-        if passed := self.known.passed_limit():
-            self.wrong.add(1, "file", passed)
-        if self.kind == "candidates":
-            self.note_shared_codes()
-        for record in self.first.values() if self.kind in ("entries", "arrangements") else ():
-            if record.fields in self.known.withdrawn:
-                self.notes.add(record.line, "row", "is withdrawn in the office and stays so; `office reinstate`")
-            elif self.kind == "arrangements" and record.fields[0] in self.known.standing:
-                self.notes.add(record.line, "row", "a standing grant is in force for this candidate in its place")
-
-    def note_shared_codes(self) -> None:
+    def note_together(self) -> None:
+        """Notes what rows say together, and beside what the office knows."""
         names = {record.fields[0]: record.fields[1] for record in self.first.values()}
 
         def sharers(_: str, number: bytes) -> Cure:
@@ -325,10 +317,14 @@ class File:
             return Cure(", ".join(files.shown(other)[1:-1] for other in others) + " has the same access code"
                         + (" and the same name: one candidate under two numbers?" if twins else ""))
         for record in self.first.values():
-            number, _, code = record.fields
+            code = record.fields[2] if self.kind == "candidates" else b""
             sharing = self.known.codes[code] if code else ()
             if len(sharing) > 1:
-                self.notes.add(record.line, "number", sharers, number)
+                self.notes.add(record.line, "number", sharers, record.fields[0])
+            elif record.fields in self.known.withdrawn:
+                self.notes.add(record.line, "row", "is withdrawn in the office and stays so; `office reinstate`")
+            elif self.kind == "arrangements" and record.fields[0] in self.known.standing:
+                self.notes.add(record.line, "row", "a standing grant is in force for this candidate in its place")
 
 
 def beginning_of(text: bytes) -> str:
@@ -359,9 +355,12 @@ def trimmed(fields: tuple[bytes, ...], wanted: int) -> tuple[bytes, ...]:
     return fields[:wanted] if not any(fields[wanted:]) else fields
 
 
-def count_cure(record: files.Record, wanted: int) -> str:
-    if not record.closed:
-        return "a quote is not closed"
+def fault_of(record: files.Record, wanted: int) -> str:
+    """What is wrong with a row that has not as many fields as are wanted, or nothing in them; else nothing."""
+    count = len(record.fields)
+    cure = "put a value with a comma in double quotes" if count > wanted else "values are missing"
     if not any(record.fields):
-        return EMPTY_ROW
-    return "put a value with a comma in double quotes" if len(record.fields) > wanted else "values are missing"
+        cure = EMPTY_ROW
+    if count != wanted:
+        return f"{count} fields in place of {wanted}; {cure if record.closed else 'a quote is not closed'}"
+    return "" if any(record.fields) else EMPTY_ROW

@@ -11,23 +11,31 @@ import contextlib
 import fcntl
 import json
 import os
-from collections.abc import Callable, Iterable, Iterator, Mapping
-from typing import NamedTuple, TypeVar
+import re
+from collections import Counter
+from collections.abc import Callable, Collection, Iterable, Iterator, Mapping
+from typing import TYPE_CHECKING, NamedTuple, TypeVar
 
 from exam_desk import beside, files
 from exam_desk.office import Office
+from exam_desk.snapshot import session_row
 from exam_desk.trouble import NoOffice, Trouble
 
+if TYPE_CHECKING:
+    from exam_desk.reading import Member, Reading
+
 PLACE = "notebook"
-SCHOOL, NOTES, ROWS = "school.json", "notes.json", "rows.json"
-RUNNING = ["across", "across-and-back", "down", "down-and-up"]  # how the numbers of desks run
-PRINTED, ABSENT = "printed.{}.json", "absent.{}.json"  # of a session
-WORDS = {SCHOOL: "the name of the school", NOTES: "notes", ROWS: "rows of desks", PRINTED: "printed desks of {}",
-         ABSENT: "absences of {}"}
+WORDS = {  # what a file holds, by the beginning of its name; {} is a session
+    "school": "the name of the school", "notes": "notes", "rows": "rows of desks", "printed": "printed desks of {}",
+    "absent": "absences of {}"}
+NAME = re.compile(r"([a-z]+)(?:\.(.*))?\.json")
 NEW = ".new"  # the end of the name of a file that is being written
+RUNNING = ["across", "across-and-back", "down", "down-and-up"]  # how the numbers of desks run
 MOST_NOTE_BYTES = 200
 MOST_ACROSS = 100  # desks in a row
-Value = TypeVar("Value")
+MOST_NAMED = 5  # numbers in a refusal
+ATTENDANCE = ["number", "paper", "attendance"]
+Held = TypeVar("Held", bound=Collection[object])
 
 
 class Desk(NamedTuple):
@@ -50,35 +58,44 @@ class Noted(NamedTuple):
     same: int
 
 
+class Move(NamedTuple):
+    """Somebody who has another desk than on paper, or none."""
+    number: str
+    name: str  # "" where they sit nothing in the session any more
+    now: Desk | None
+    printed: Desk | None
+
+
+class Compared(NamedTuple):
+    moves: list[Move]  # by number
+    halls: list[str]  # whose papers are out of date, by code
+
+
 def school_name(office: Office) -> str:
     """The name of the school; nothing where none was given."""
-    return read(office, SCHOOL, "", is_text)
+    return read(office, "school", "", is_text)
 
 
 def set_school_name(office: Office, name: str) -> None:
     """Raises `Trouble` where the name has another form than a title."""
     if name and not files.is_name(name.encode("utf-8", "surrogateescape")):
         raise Trouble("the name of a school has 1 to 80 bytes and no control characters; '' takes it away")
-    with alone(office):
-        write(office, SCHOOL, name)
+    with alone(office) as folder:
+        write(office, folder, "school", name)
 
 
 def notes(office: Office) -> dict[str, str]:
-    nothing: dict[str, str] = {}
-    return read(office, NOTES, nothing, lambda value: is_map(value, is_text))
+    return read(office, "notes", dict[str, str](), is_text)
 
 
 def take_notes(office: Office, new: Mapping[str, str]) -> Noted:
     """Keeps notes by number; an empty text takes a note away."""
-    with alone(office):
+    with alone(office) as folder:
         before = notes(office)
         after = {number: text for number, text in sorted({**before, **new}.items()) if text}
-        write(office, NOTES, after)
-    known = {number: before.get(number, "") for number in new}
-    return Noted(sum(not known[number] and text != "" for number, text in new.items()),
-                 sum(text not in ("", known[number]) and known[number] != "" for number, text in new.items()),
-                 sum(known[number] != "" and text == "" for number, text in new.items()),
-                 sum(text == known[number] for number, text in new.items()))
+        write(office, folder, "notes", after)
+    others = Counter((was != "", text != "") for number, text in new.items() if (was := before.get(number, "")) != text)
+    return Noted(others[False, True], others[True, True], others[True, False], len(new) - others.total())
 
 
 def is_note(text: bytes) -> bool:
@@ -87,29 +104,57 @@ def is_note(text: bytes) -> bool:
 
 def rows_of_halls(office: Office) -> dict[str, Rows]:
     """How the desks stand in each hall where somebody has said it."""
-    nothing: dict[str, tuple[int, str]] = {}
-    found = read(office, ROWS, nothing, lambda value: is_map(value, is_rows))
-    return {hall: Rows(*rows) for hall, rows in found.items()}
+    return {hall: Rows(*rows) for hall, rows in read(office, "rows", dict[str, tuple[int, str]](), is_rows).items()}
 
 
 def keep_rows(office: Office, hall: str, rows: Rows) -> None:
     """Raises `Trouble` where no desks stand so."""
     if not can_stand(rows):
         raise Trouble(f"a row has 1 to {MOST_ACROSS} desks, and their numbers run {', '.join(RUNNING)}")
-    with alone(office):
-        write(office, ROWS, {**rows_of_halls(office), hall: rows})
+    with alone(office) as folder:
+        write(office, folder, "rows", {**rows_of_halls(office), hall: rows})
+
+
+def can_stand(rows: Rows) -> bool:
+    return 1 <= rows.across <= MOST_ACROSS and rows.running in RUNNING
 
 
 def printed(office: Office, session: str) -> dict[str, Desk]:
     """The desks that were printed for a session, by number; none where nobody said that they were."""
-    nothing: dict[str, tuple[str, int]] = {}
-    found = read(office, PRINTED.format(session), nothing, lambda value: is_map(value, is_desk))
+    found = read(office, f"printed.{session}", dict[str, tuple[str, int]](), is_desk)
     return {number: Desk(*desk) for number, desk in found.items()}
 
 
 def keep_printed(office: Office, session: str, desks: Mapping[str, Desk]) -> None:
-    with alone(office):
-        write(office, PRINTED.format(session), desks)
+    with alone(office) as folder:
+        write(office, folder, f"printed.{session}", desks)
+
+
+def note_printed(reading: Reading, session: str) -> tuple[int, int]:
+    """Notes that the desks of a session are printed as they are; how many, and how many are other ones than those that
+    were noted before. Raises `Trouble` where there is no such session."""
+    desks = desks_of(reading.members(session))
+    before = printed(reading.office, session)
+    keep_printed(reading.office, session, desks)
+    return len(desks), len(moved(before, desks)) if before else 0
+
+
+def compared(reading: Reading, session: str) -> Compared | None:
+    """The desks that were noted beside those of now; None where none were. Raises `Trouble` where there is no such
+    session."""
+    session_row(reading.rows, session)
+    before = printed(reading.office, session)
+    if not before:
+        return None
+    members = reading.members(session)
+    now, names = desks_of(members), {member.number: member.name for member in members}
+    moves = [Move(number, names.get(number, ""), now.get(number), before.get(number)) for number in moved(before, now)]
+    return Compared(moves, out_of_date(before, now))
+
+
+def desks_of(members: Iterable[Member]) -> dict[str, Desk]:
+    return {member.number: Desk(member.sitting.hall, member.sitting.desk) for member in members
+            if member.sitting.hall is not None and member.sitting.desk is not None}
 
 
 def moved(before: Mapping[str, Desk], now: Mapping[str, Desk]) -> list[str]:
@@ -125,95 +170,98 @@ def out_of_date(before: Mapping[str, Desk], now: Mapping[str, Desk]) -> list[str
 
 def absent(office: Office, session: str) -> set[str]:
     """The numbers of who was missing in a session."""
-    nobody: list[str] = []
-    return set(read(office, ABSENT.format(session), nobody, is_list_of_texts))
+    return {*read(office, f"absent.{session}", list[str](), is_text)}
 
 
 def keep_absent(office: Office, session: str, missing: Iterable[str], there: Iterable[str]) -> set[str]:
     """Adds some to the absent of a session and takes others away; who was missing then."""
-    with alone(office):
-        found = (absent(office, session) | set(missing)) - set(there)
-        write(office, ABSENT.format(session), sorted(found))
+    with alone(office) as folder:
+        found = absent(office, session).union(missing).difference(there)
+        write(office, folder, f"absent.{session}", sorted(found))
     return found
 
 
-def is_text(value: object) -> bool:
-    return isinstance(value, str)
+def note_absent(reading: Reading, session: str, missing: Collection[str], there: Collection[str]) -> set[str]:
+    """Notes some as absent and others as there; who is absent then. Raises `Trouble`, and notes nothing, where a number
+    is not that of a member of the session."""
+    asked = [*missing, *there]
+    reading.ask(reading.person(int(number)) for number in asked if reading.knows(number))
+    if wrong := [number for number in asked if not (reading.knows(number) and reading.member(session, number))]:
+        more = f" and {len(wrong) - MOST_NAMED} more" if len(wrong) > MOST_NAMED else ""
+        raise Trouble(f"nothing is noted: {', '.join(wrong[:MOST_NAMED])}{more}: no candidate of {session}; a number "
+                      "has seven digits")
+    return keep_absent(reading.office, session, missing, there)
 
 
-def is_list_of_texts(value: object) -> bool:
-    return isinstance(value, list) and all(map(is_text, value))
+def attendance(reading: Reading, session: str) -> str:
+    """A line for each member, by paper, as CSV. The paper is the one that the candidate was to sit."""
+    missing = absent(reading.office, session)
+    members = sorted(reading.members(session), key=lambda member: (member.sitting.paper, member.number))
+    return files.written([ATTENDANCE, *([member.number, member.sitting.paper, "absent" if member.number in missing
+                                         else "present"] for member in members)])
 
 
-def is_map(value: object, right: Callable[[object], bool]) -> bool:
-    return isinstance(value, dict) and all(map(right, value.values()))
+def is_text(part: object) -> bool:
+    return isinstance(part, str)
 
 
-def is_desk(value: object) -> bool:
-    return isinstance(value, list) and len(value) == 2 and is_text(value[0]) and isinstance(value[1], int)
+def is_desk(part: object) -> bool:
+    return isinstance(part, list) and [*map(type, part)] == [str, int]
 
 
-def is_rows(value: object) -> bool:
-    return isinstance(value, list) and len(value) == 2 and isinstance(value[0], int) and can_stand(Rows(*value))
-
-
-def can_stand(rows: Rows) -> bool:
-    return 1 <= rows.across <= MOST_ACROSS and rows.running in RUNNING
+def is_rows(part: object) -> bool:
+    return isinstance(part, list) and [*map(type, part)] == [int, str] and can_stand(Rows(*part))
 
 
 @contextlib.contextmanager
-def alone(office: Office) -> Iterator[None]:
-    """The notebook for this process alone: what is read in it and written is not another's in between."""
+def alone(office: Office) -> Iterator[int]:
+    """The open folder for this process alone: what is read in it and written is not another's in between."""
     if not os.path.isfile(office.path):
         raise NoOffice(office.path)
     beside.make_folder(office.path, PLACE)
-    with locked(office, fcntl.LOCK_EX):
-        yield
+    with locked(office, fcntl.LOCK_EX) as folder:
+        yield folder
 
 
 @contextlib.contextmanager
-def locked(office: Office, how: int) -> Iterator[None]:
-    """Holds the lock of the notebook. Raises FileNotFoundError where there is none."""
+def locked(office: Office, how: int) -> Iterator[int]:
+    """The open folder, with its lock. Raises FileNotFoundError where there is none."""
     folder = beside.open_folder(office.path, PLACE)
     try:
         fcntl.flock(folder, how)
-        yield
+        yield folder
     finally:
         os.close(folder)
 
 
-def read(office: Office, name: str, empty: Value, right: Callable[[object], bool]) -> Value:
-    """What a file holds. Raises `Trouble` where it holds another thing."""
+def read(office: Office, name: str, empty: Held, right: Callable[[object], bool]) -> Held:
+    """What a file holds, else what is empty. Raises `Trouble` where it is of another type, or one of its parts is not
+    right."""
     try:
-        file = beside.open_file(office.path, PLACE, name, flags=os.O_RDONLY)
+        file = beside.open_file(office.path, PLACE, f"{name}.json", flags=os.O_RDONLY)
     except FileNotFoundError:
         return empty
-    place = os.path.join(beside.folder(office.path), PLACE, name)
-    with open(file, "rb") as opened:
-        try:
-            value: Value | None = json.loads(opened.read())
-        except ValueError:
-            value = None
-    if value is None or not right(value):
-        raise Trouble("is damaged: look, and move it away, or take the file of a copy", place)
-    return value
+    with open(file, "rb") as opened, contextlib.suppress(ValueError):
+        held = json.loads(opened.read())
+        parts = held.values() if isinstance(held, dict) else held
+        if isinstance(held, type(empty)) and all(map(right, parts)):
+            return held
+    raise Trouble("is damaged: look, and move it away, or take the file of a copy",
+                  os.path.join(beside.folder(office.path), PLACE, f"{name}.json"))
 
 
-def write(office: Office, name: str, value: object) -> None:
+def write(office: Office, folder: int, name: str, value: object) -> None:
     """Writes a file whole and onto the disk, or not at all."""
-    folder = beside.open_folder(office.path, PLACE)
-    try:
-        with contextlib.suppress(FileNotFoundError):  # of a command that was killed
-            os.unlink(name + NEW, dir_fd=folder)
-        file = beside.open_file(office.path, PLACE, name + NEW, flags=os.O_WRONLY | os.O_CREAT | os.O_EXCL)
-        with open(file, "wb") as opened:
-            opened.write(json.dumps(value, indent=0).encode("ascii"))
-            opened.flush()
-            os.fsync(opened.fileno())
-        os.rename(name + NEW, name, src_dir_fd=folder, dst_dir_fd=folder)
-        os.fsync(folder)
-    finally:
-        os.close(folder)
+    final, new = f"{name}.json", f"{name}.json{NEW}"
+    with contextlib.suppress(FileNotFoundError):  # of a command that was killed
+        os.unlink(new, dir_fd=folder)
+    file = beside.open_file(office.path, PLACE, new, flags=os.O_WRONLY | os.O_CREAT | os.O_EXCL)
+    with open(file, "wb") as opened:
+        opened.write(json.dumps(value, indent=0).encode("ascii"))
+        opened.flush()
+        os.fsync(opened.fileno())
+    os.rename(new, final, src_dir_fd=folder, dst_dir_fd=folder)
+    os.fsync(folder)
 
 
 def copy_into(office: Office, target: str) -> None:
@@ -235,11 +283,8 @@ def others_than_in(office: Office, copy: str) -> list[str]:
 
 
 def words_of(name: str) -> str:
-    for form, words in WORDS.items():
-        before, _, behind = form.partition("{}")
-        if name.startswith(before) and name.endswith(behind):
-            return words.format(name[len(before):len(name) - len(behind)])
-    return name
+    found = NAME.fullmatch(name)
+    return WORDS[found[1]].format(found[2]) if found and found[1] in WORDS else name
 
 
 def contents(office: Office, *place: str) -> dict[str, bytes]:

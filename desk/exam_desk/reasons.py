@@ -5,15 +5,16 @@ compared with the printed shortage: `Reasons.faults`.
 """
 from __future__ import annotations
 
-import collections
+import re
 import textwrap
+from collections import Counter, defaultdict
 from collections.abc import Iterator
+from typing import NamedTuple
 
-from exam_desk import facts, shortage
+from exam_desk import facts
 from exam_desk.facts import Opening
 from exam_desk.lists import count
 from exam_desk.reading import Member, Reading
-from exam_desk.shortage import Shortage
 from exam_desk.snapshot import session_row
 from exam_desk.trouble import Trouble
 from exam_desk.words import FEATURES, clock, features, plain
@@ -23,6 +24,31 @@ MOST_LINES = 60  # that go hall by hall; in place of more, equal reasons are put
 MOST_GROUPS, COLUMNS = 24, 118  # of candidates, each on a line of its own; letters of a line
 CLOSES, TOO_EARLY = "closes ", "closes too early"
 GRANTED_HALLS = "SELECT number, target FROM appeal WHERE session = ? AND kind = 1 AND state = 2"
+SHEET = re.compile(  # as much of a text as is a shortage sheet
+    r"(?:SHORTAGE session ([A-Z0-9-]+)\n(?:unseated ([0-9]{1,9})\n(?:halls ([0-9]{1,9}) desks ([0-9]{1,9})\n"
+    r"((?:hall [A-Z0-9]+ desks [0-9]{1,9}\n)*)(?:candidates ([0-9]{1,9})\n((?:[0-9]{7}\n)*))?)?)?)?")
+
+
+class Shortage(NamedTuple):
+    """What a shortage sheet says: its own sums, and what it lists."""
+    session: str
+    unseated: int
+    hall_count: int
+    desks: int
+    halls: list[tuple[str, int]]  # each with its desks
+    candidate_count: int
+    candidates: list[str]
+
+
+def read_sheet(text: str) -> Shortage:
+    """Raises `Trouble` where a text is no shortage sheet."""
+    found = SHEET.match(text)
+    assert found is not None  # every text begins with nothing
+    session, unseated, hall_count, desks, halls, candidates, numbers = found.groups()
+    if found.end() != len(text) or candidates is None:
+        raise Trouble(f"line {text.count(chr(10), 0, found.end()) + 1} does not belong in a shortage sheet")
+    listed = [(hall, int(seats)) for _, hall, _, seats in map(str.split, halls.splitlines())]
+    return Shortage(session, int(unseated), int(hall_count), int(desks), listed, int(candidates), numbers.split())
 
 
 def compared(reading: Reading, session: str) -> tuple[Reasons, Shortage]:
@@ -30,7 +56,7 @@ def compared(reading: Reading, session: str) -> tuple[Reasons, Shortage]:
     session, or the program refuses the sheet."""
     session_row(reading.rows, session)
     reading.prepare()
-    printed = shortage.read(reading.sheet("shortage", session))
+    printed = read_sheet(reading.sheet("shortage", session))
     return Reasons(reading, session), printed
 
 
@@ -45,7 +71,7 @@ class Reasons:
         self.required = {code: features(mask) for code, mask in reading.rows.execute(
             "SELECT code, requires FROM paper WHERE session = ?", [session])}
         self.barred = {(f"{number:07}", hall) for number, hall in reading.rows.execute(GRANTED_HALLS, [session])}
-        self.taken: dict[str, list[str]] = collections.defaultdict(list)  # the numbers in each hall, by desk
+        self.taken: dict[str, list[str]] = defaultdict(list)  # the numbers in each hall, by desk
         for member in sorted(self.members, key=lambda member: member.sitting.desk or 0):
             if member.sitting.hall:
                 self.taken[member.sitting.hall].append(member.number)
@@ -99,13 +125,15 @@ class Reasons:
 
     def in_short(self, asked: list[Member]) -> Iterator[str]:
         """All numbers, by needs, and each reason with its candidates and halls: at most MOST_LINES of 256."""
-        groups: dict[str, list[str]] = collections.defaultdict(list)
-        who: dict[str, set[str]] = collections.defaultdict(set)
-        where: dict[str, set[str]] = collections.defaultdict(set)
+        groups: dict[str, list[str]] = defaultdict(list)
+        who: dict[str, set[str]] = defaultdict(set)
+        where: dict[str, set[str]] = defaultdict(set)
         for member in asked:
             groups["+".join(self.needs(member)) or "-"].append(member.number)
             for opening in self.openings:
-                for reason in self.kinds(member, opening):
+                full = "all desks are taken" if len(self.taken[opening.hall]) >= opening.desks else "desks are free"
+                for found in self.obstacles(member, opening) or [f"suits, but {full}"]:
+                    reason = TOO_EARLY if found.startswith(CLOSES) else found
                     who[reason].add(member.number)
                     where[reason].add(opening.hall)
         yield f"{count(len(asked), 'candidate')} without a desk, by what they and their papers need:"
@@ -121,12 +149,6 @@ class Reasons:
                    f"{', '.join(named[:MOST_HALLS])}{more}")
         yield f"`office why {self.session} NUMBER` goes hall by hall for one of them"
 
-    def kinds(self, member: Member, opening: Opening) -> list[str]:
-        """The reasons of `obstacles` that others may share; whether a hall that suits is full."""
-        found = self.obstacles(member, opening)
-        taken = "all desks are taken" if len(self.taken[opening.hall]) >= opening.desks else "desks are free"
-        return [TOO_EARLY if each.startswith(CLOSES) else each for each in found] or [f"suits, but {taken}"]
-
     def lines(self, member: Member) -> str:
         sitting, halls = member.sitting, self.of(member)
         return (f"{member.number} {plain(member.name)} sits {sitting.paper} until {sitting.finish}, "
@@ -136,23 +158,22 @@ class Reasons:
     def faults(self, sheet: Shortage) -> Iterator[str]:
         """A line for each thing that a printed shortage says otherwise than these reasons, or than its own sums."""
         members = {member.number: member for member in self.members}
-        candidates = set(sheet.candidates)
-        listed = [members[number] for number in candidates if number in members]
+        candidates, halls = set(sheet.candidates), set(sheet.halls)
         suiting = {(opening.hall, opening.desks) for opening in self.openings
-                   if any(not self.obstacles(member, opening) for member in listed)}
+                   if any(not self.obstacles(members[number], opening) for number in candidates & members.keys())}
         yield from (f"{number} is listed {times} times"
-                    for number, times in collections.Counter(sheet.candidates).items() if times > 1)
+                    for number, times in Counter(sheet.candidates).items() if times > 1)
         yield from (f"{number} is not a member of the session" for number in sheet.candidates if number not in members)
         yield from (f"{member.number} has no desk and is not listed"
                     for member in self.unseated() if member.number not in candidates)
         yield from (f"hall {hall} is listed twice" for hall, times in
-                    collections.Counter(hall for hall, _ in sheet.halls).items() if times > 1)
+                    Counter(hall for hall, _ in sheet.halls).items() if times > 1)
         yield from (f"hall {hall} with {desks} desks suits one of the candidates, but is not listed with as many desks"
-                    for hall, desks in sorted(suiting - set(sheet.halls)))
+                    for hall, desks in sorted(suiting - halls))
         yield from (f"hall {hall} with {desks} desks is listed, but suits none of the candidates, or has not as many "
-                    "desks" for hall, desks in sorted(set(sheet.halls) - suiting))
+                    "desks" for hall, desks in sorted(halls - suiting))
         yield from (f"hall {hall} is listed, and {desks - len(self.taken[hall])} of its desks are free"
-                    for hall, desks in sorted(suiting & set(sheet.halls)) if len(self.taken[hall]) < desks)
+                    for hall, desks in sorted(suiting & halls) if len(self.taken[hall]) < desks)
         sums = [("halls", sheet.hall_count, len(sheet.halls)),
                 ("desks", sheet.desks, sum(desks for _, desks in sheet.halls)),
                 ("candidates", sheet.candidate_count, len(sheet.candidates)),

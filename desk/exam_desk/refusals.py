@@ -3,6 +3,7 @@ from __future__ import annotations
 
 import contextlib
 import errno
+import glob
 import os
 import re
 import stat
@@ -94,8 +95,8 @@ def mistakes_of(office: Office, words: Sequence[str], data: bytes | None) -> lis
             kind, path = found
             text = files.read(path) if data is None else data
             wrong, _ = mistakes.looked_through(kind, text, checking.office_knows(office), MOST_LINES)
-            codes = any(each.what == "code ''" for each in wrong)
-            return [*checking.lines_on(os.path.basename(path), wrong, ""), *([NO_CODE] if codes else [])]
+            lines = [*checking.lines_on(os.path.basename(path), wrong, "")]
+            return [*lines, NO_CODE] if mistakes.NO_CODE in wrong.counts else lines
     return []
 
 
@@ -105,7 +106,6 @@ def lasting_cause(office: Office) -> str | None:
     place = os.path.dirname(os.path.realpath(path))
     try:
         found = os.stat(path)
-        beside = [name for name in (path + "-journal",) if os.path.lexists(name)]
     except OSError as fault:
         return f"{path}: {fault.strerror}"
     if stat.S_ISDIR(found.st_mode):
@@ -114,8 +114,8 @@ def lasting_cause(office: Office) -> str | None:
         return f"{path} is no file, but a device or a pipe"
     if found.st_nlink > 1:
         return f"{path} has a second name (a hard link, as some backups make): copy the file and take the copy"
-    if beside:
-        return f"{beside[0]} lies beside the file: sqlite3 was stopped in a change; open the file there, or move it"
+    if os.path.lexists(f"{path}-journal"):
+        return f"{path}-journal lies beside the file: sqlite3 was stopped in a change; open the file there, or move it"
     for name in (path, path + "-wal"):
         if os.path.exists(name) and not os.access(name, os.R_OK | os.W_OK):
             return f"no permission to change {name}; it belongs to user {os.stat(name).st_uid}"
@@ -151,24 +151,13 @@ def damage(path: str) -> str | None:
 
 def holder(office: Office) -> tuple[int, list[str]] | None:
     """A process that has the file open, as a pair of its number and its words; None where none is to be seen."""
-    with contextlib.suppress(OSError):
-        wanted = os.stat(office.path)
-        for process in filter(str.isdigit, os.listdir("/proc")):
-            if int(process) != os.getpid() and has_open(process, wanted):
-                with contextlib.suppress(OSError), open(f"/proc/{process}/cmdline", "rb") as line:
-                    return int(process), line.read().decode("utf-8", "replace").rstrip("\0").split("\0")
+    for path in glob.iglob("/proc/[0-9]*/fd/*"):  # of another user's process there is none
+        process = int(path.split("/")[2])
+        with contextlib.suppress(OSError):
+            if process != os.getpid() and os.path.samefile(path, office.path):
+                with open(f"/proc/{process}/cmdline", "rb") as line:
+                    return process, line.read().decode("utf-8", "replace").rstrip("\0").split("\0")
     return None
-
-
-def has_open(process: str, wanted: os.stat_result) -> bool:
-    """Whether a process has a file open; of another user's process that cannot be seen."""
-    folder = f"/proc/{process}/fd"
-    with contextlib.suppress(OSError):
-        for name in os.listdir(folder):
-            with contextlib.suppress(OSError):
-                if os.path.samestat(os.stat(f"{folder}/{name}"), wanted):
-                    return True
-    return False
 
 
 def may_pass(office: Office) -> bool:

@@ -11,18 +11,22 @@ import sqlite3
 from typing import NamedTuple
 
 from exam_desk import files, lists, overlaps
+from exam_desk.answers import Sitting
 from exam_desk.changing import Step
-from exam_desk.mistakes import RIGHT
 from exam_desk.reading import Member, Reading
 from exam_desk.reasons import Reasons
-from exam_desk.snapshot import Rows, session_row
+from exam_desk.snapshot import Rows
 from exam_desk.trouble import Trouble
 from exam_desk.words import clock, feature_text, plain
 
 MOST_LETTERS = 12  # of the code of a session or a paper
-END_OF_DAY = "24:00"
+PAPER = ("SELECT paper.code AS code, title, session, minutes, requires, day FROM paper "
+         "JOIN session ON session.code = session WHERE paper.code = ?")
 SESSIONS_THEN = ("SELECT session.code FROM session JOIN opening ON session = code "
                  "WHERE day = ? AND start = ? AND hall = ? ORDER BY code")
+OPENED = ("SELECT desks, until, reserved, (SELECT count(*) FROM seat WHERE (session, hall) = (opening.session, "
+          "opening.hall)) FROM opening WHERE session = ? AND hall = ?")
+CLOSED = (0, 24 * 60, False, 0)  # as OPENED says it of a hall that is to be open until the end of the day
 
 
 class Asked(NamedTuple):
@@ -49,27 +53,32 @@ def plan(reading: Reading, asked: Asked) -> Plan:
     """The steps to a second sitting. Raises `Trouble` where a value has a wrong form or is not known, or where the
     candidate has no two papers in the session of the paper."""
     for name, value in asked._asdict().items():
-        if not RIGHT[name](value.encode("utf-8", "surrogateescape")):
+        if not files.RIGHT[name](value.encode("utf-8", "surrogateescape")):
             raise Trouble(f"{name} is {value}: that has the wrong form; nothing is changed")
-    rows = reading.rows
-    first = paper_row(rows, asked.paper)
+    rows, first = reading.rows, paper_row(reading.rows, asked.paper)
     refuse_without_clash(reading, asked, first["session"])
     if rows.execute("SELECT 1 FROM hall WHERE code = ?", [asked.hall]).fetchone() is None:
         raise Trouble(f"the office has no hall {asked.hall}; nothing is changed")
-    day = session_row(rows, first["session"])["day"]
-    then = rows.execute(SESSIONS_THEN, [day, overlaps.of_day(asked.start), asked.hall])
+    then = rows.execute(SESSIONS_THEN, [first["day"], overlaps.of_day(asked.start), asked.hall])
     there = next((code for code, in then if is_numbered(code, first["session"])), None)
     session = there or free_code(rows, "session", first["session"])
     wanted = (session, first["minutes"], first["requires"])
     paper = next((row["code"] for row in second_papers(rows, first)
                   if (row["session"], row["minutes"], row["requires"]) == wanted), None)
     code = paper or free_code(rows, "paper", asked.paper)
-    steps = [] if there else [imported("sessions", session, day, asked.start)]
+    steps = [] if there else [imported("sessions", session, first["day"], asked.start)]
     if not paper:
         steps.append(imported("papers", code, first["title"], session, first["minutes"],
                               feature_text(first["requires"])))
-    desks, opening = desk_steps(rows, session, asked.hall)
-    steps += [*opening, *entry_steps(rows, asked.number, code), Step(("withdraw", asked.number, asked.paper))]
+    desks, until, reserved, taken = rows.execute(OPENED, [session, asked.hall]).fetchone() or CLOSED
+    if taken >= desks:
+        desks += 1
+        steps.append(imported("openings", session, asked.hall, desks, clock(until), "yes" if reserved else "no"))
+    if (live := is_live(rows, asked.number, code)) is None:
+        steps.append(imported("entries", asked.number, code))
+    elif not live:
+        steps.append(Step(("reinstate", asked.number, code)))
+    steps.append(Step(("withdraw", asked.number, asked.paper)))
     made = (f"session {session}{'' if there else ' (new)'} at {asked.start}, paper {code}{'' if paper else ' (new)'}, "
             f"hall {asked.hall} with {lists.count(desks, 'desk')}")
     return Plan(" ".join(["second-sitting", *asked]), steps, asked.number, first["session"], session, code, asked.hall,
@@ -77,8 +86,7 @@ def plan(reading: Reading, asked: Asked) -> Plan:
 
 
 def paper_row(rows: Rows, code: str) -> sqlite3.Row:
-    found: sqlite3.Row | None = rows.execute("SELECT code, title, session, minutes, requires FROM paper WHERE code = ?",
-                                             [code]).fetchone()
+    found: sqlite3.Row | None = rows.execute(PAPER, [code]).fetchone()
     if found is None:
         raise Trouble(f"the office has no paper {code}; nothing is changed")
     return found
@@ -127,32 +135,10 @@ def imported(kind: str, *values: object) -> Step:
     return Step(("import", kind, f"{kind}.csv"), files.written([files.HEADERS[kind], values]).encode())
 
 
-def desk_steps(rows: Rows, session: str, hall: str) -> tuple[int, list[Step]]:
-    """How many desks the hall has in the second session then, and the import where there must be one more."""
-    opening = rows.execute("SELECT desks, until, reserved FROM opening WHERE session = ? AND hall = ?",
-                           [session, hall]).fetchone()
-    if opening is None:
-        return 1, [imported("openings", session, hall, 1, END_OF_DAY, "no")]
-    [taken] = rows.execute("SELECT count(*) FROM seat WHERE session = ? AND hall = ?", [session, hall]).fetchone()
-    if taken < opening["desks"]:
-        return opening["desks"], []
-    desks = opening["desks"] + 1
-    return desks, [imported("openings", session, hall, desks, clock(opening["until"]),
-                            "yes" if opening["reserved"] else "no")]
-
-
 def is_live(rows: Rows, number: str, paper: str) -> bool | None:
     """Whether an entry counts; None where there is none."""
     found = rows.execute("SELECT live = 1 FROM entry WHERE number = ? AND paper = ?", [int(number), paper]).fetchone()
     return None if found is None else bool(found[0])
-
-
-def entry_steps(rows: Rows, number: str, paper: str) -> list[Step]:
-    """What makes the candidate entered: nothing, the import, or the way back of a withdrawal."""
-    live = is_live(rows, number, paper)
-    if live is None:
-        return [imported("entries", number, paper)]
-    return [] if live else [Step(("reinstate", number, paper))]
 
 
 def plan_back(reading: Reading, number: str, paper: str) -> Plan:
@@ -173,17 +159,23 @@ def plan_back(reading: Reading, number: str, paper: str) -> Plan:
 
 def lines(planned: Plan, before: Reading, after: Reading) -> list[str]:
     """What a rehearsed plan does for the candidate. Raises `Trouble` where they would not sit as was asked."""
+    number, name, first = member(after, planned.first, planned.number)
+    said = f"{number} {plain(name)} sits {first.paper}"
     if not planned.hall:
-        return lines_back(planned, after)
-    first, second = member(after, planned.first, planned.number), member(after, planned.session, planned.number)
+        missed = after.clashes(planned.first, [planned.number]).get(planned.number, [])
+        others = len(after.members(planned.session))
+        return [f"{said} again" + (f", and misses {', '.join(missed)}" if missed else ""),
+                f"session {planned.session} and paper {planned.paper} stay, "
+                + (f"with {lists.count(others, 'candidate')}" if others else "empty")]
+    second = member(after, planned.session, planned.number)
     refuse_otherwise(planned, after, first, second)
-    found = [planned.made, f"{second.number} {plain(second.name)} sits {first.sitting.paper} until "
-             f"{first.sitting.finish}, and {second.sitting.paper} from {second.sitting.start} to "
-             f"{second.sitting.finish} in {second.sitting.hall}, desk {second.sitting.desk}"]
-    was = lists.allowance(member(before, planned.first, planned.number).sitting)
-    if was != lists.allowance(second.sitting):
-        found.append(f"NOTE: the arrangement is {was or 'none'} in {planned.first}, and "
-                     f"{lists.allowance(second.sitting) or 'none'} in {planned.session}")
+    then = second.sitting
+    found = [planned.made, f"{said} until {first.finish}, and {then.paper} from {then.start} to {then.finish} "
+                           f"in {then.hall}, desk {then.desk}"]
+    was, now = lists.allowance(member(before, planned.first, planned.number).sitting), lists.allowance(then)
+    if was != now:
+        found.append(f"NOTE: the arrangement is {was or 'none'} in {planned.first}, and {now or 'none'} in "
+                     f"{planned.session}")
     return found
 
 
@@ -195,30 +187,19 @@ def member(reading: Reading, session: str, number: str) -> Member:
     return found
 
 
-def refuse_otherwise(planned: Plan, after: Reading, first: Member, second: Member) -> None:
+def refuse_otherwise(planned: Plan, after: Reading, first: Sitting, second: Member) -> None:
     """Raises `Trouble` where the candidate would sit too early, another paper, in another hall, or at two places."""
-    if second.sitting.start < first.sitting.finish:
-        raise Trouble(f"{first.number} sits {first.sitting.paper} until {first.sitting.finish}: begin then, or later; "
-                      "nothing is changed")
-    if second.sitting.paper != planned.paper:
-        raise Trouble(f"{second.number} sits {second.sitting.paper} in {planned.session}: take another start or hall; "
-                      "nothing is changed")
-    if second.sitting.hall != planned.hall:
+    number, then = planned.number, second.sitting
+    if then.start < first.finish:
+        raise Trouble(f"{number} sits {first.paper} until {first.finish}: begin then, or later; nothing is changed")
+    if then.paper != planned.paper:
+        raise Trouble(f"{number} sits {then.paper} in {planned.session}: take another start or hall; nothing is "
+                      "changed")
+    if then.hall != planned.hall:
         reason = dict(Reasons(after, planned.session).of(second)).get(planned.hall)
-        raise Trouble(f"{second.number} would have no desk in {planned.hall} ({reason}); nothing is changed")
-    for each in overlaps.of_candidate(after, planned.number):
+        raise Trouble(f"{number} would have no desk in {planned.hall} ({reason}); nothing is changed")
+    for each in overlaps.of_candidate(after, number):
         if each.candidates and planned.session in (each.early, each.late):
-            other = after.all_of(planned.number)[each.early if each.late == planned.session else each.late]
-            raise Trouble(f"{planned.number} sits {other.paper} in {other.session} from {other.start} to "
-                          f"{other.finish}, and would sit {planned.paper} from {second.sitting.start} to "
-                          f"{second.sitting.finish}; nothing is changed")
-
-
-def lines_back(planned: Plan, after: Reading) -> list[str]:
-    first = member(after, planned.first, planned.number)
-    missed = after.clashes(planned.first, [planned.number]).get(planned.number, [])
-    others = len(after.members(planned.session))
-    stay = f"with {lists.count(others, 'candidate')}" if others else "empty"
-    return [f"{first.number} {plain(first.name)} sits {first.sitting.paper} again"
-            + (f", and misses {', '.join(missed)}" if missed else ""),
-            f"session {planned.session} and paper {planned.paper} stay, {stay}"]
+            other = after.all_of(number)[each.early if each.late == planned.session else each.late]
+            raise Trouble(f"{number} sits {other.paper} in {other.session} from {other.start} to {other.finish}, and "
+                          f"would sit {then.paper} from {then.start} to {then.finish}; nothing is changed")

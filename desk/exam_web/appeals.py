@@ -4,7 +4,7 @@ import sqlite3
 from flask import Blueprint, abort, render_template, request
 from werkzeug.datastructures import MultiDict
 
-from exam_desk import facts, lastdays
+from exam_desk import appeals, facts
 from exam_web import plans, proposals
 from exam_web.desk import desk, view
 from exam_web.forms import Asked
@@ -22,7 +22,7 @@ def page() -> str:
     waiting = view().rows(ALL + "WHERE state = 1 " + ORDER)
     rest = view().rows(ALL + "WHERE state <> 1 " + ORDER + " LIMIT ?", [MOST_SHOWN])
     decided = view().count("SELECT count(*) FROM appeal WHERE state <> 1")
-    return render_template("appeals.html", waiting=waiting, rest=rest, decided=decided, last_day=lastdays.to_decide)
+    return render_template("appeals.html", waiting=waiting, rest=rest, decided=decided, last_day=appeals.to_decide)
 
 
 def appeal_row(number: int, ref: str) -> sqlite3.Row:
@@ -32,7 +32,7 @@ def appeal_row(number: int, ref: str) -> sqlite3.Row:
 @pages.get("/appeals/<int:number>/<ref>")
 def one(number: int, ref: str) -> str:
     row = appeal_row(number, ref)
-    last = lastdays.to_decide(row["day"])
+    last = appeals.to_decide(row["day"])
     others = view().count("SELECT count(*) FROM appeal WHERE number = ?", [number]) - 1
     return render_template("appeal.html", row=row, member=view().reading.member(row["session"], f"{number:07}"),
                            others=others, last=last, late=days_until(last) < 0,

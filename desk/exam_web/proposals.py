@@ -111,9 +111,8 @@ class Proposal:
 
     def lodge(self, who: Office) -> None:
         """Lodges the appeal of the plan, and keeps its reference."""
-        asked = lodging.asked(self.plan.lodge)
-        assert asked, "the form has all values"
-        lodged = lodging.lodge(who, self.plan.lodge, asked)
+        lodged = lodging.lodge(who, self.plan.lodge)
+        assert lodged, "the form has all values"
         self.refusal, self.explained = (lodged.line, lodged.explained) if lodged.status else ("", [])
         self.lodged = "" if lodged.status else lodged.line.split()[1]
 

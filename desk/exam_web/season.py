@@ -7,7 +7,7 @@ from typing import Any, NamedTuple
 from flask import Blueprint, render_template, request, url_for
 from werkzeug.wrappers import Response
 
-from exam_desk import appeals, facts, lastdays, logbook, notebook, printed, running, turns
+from exam_desk import appeals, facts, logbook, notebook, running, turns
 from exam_desk.trouble import Trouble
 from exam_web import clashes as clashing
 from exam_web import counting, office
@@ -94,7 +94,7 @@ def open_appeals() -> list[Attention]:
     kinds: dict[tuple[str, str], Counter[str]] = {}
     for kind, code, day in view().rows("SELECT kind, session, day FROM appeal JOIN session ON session.code = session "
                                        "WHERE state = 1"):
-        kinds.setdefault((lastdays.to_decide(day), code), Counter())[appeals.KINDS[kind]] += 1
+        kinds.setdefault((appeals.to_decide(day), code), Counter())[appeals.KINDS[kind]] += 1
     return [Attention("late" if days_until(last) < 0 else "now" if days_until(last) <= URGENT else "soon", last,
                       "appeals", url_for("appeals.page", _anchor=code),
                       {"count": counts.total(), "session": code, "kinds": counts})
@@ -113,7 +113,7 @@ def unheard_clashes(found: View) -> dict[str, int]:
 def clashes(coming: list[counting.Sums]) -> Iterator[Attention]:
     unheard = unheard_clashes(view())
     if late := [each for each in coming if each.code in unheard and days_until(each.day) > 0]:
-        yield Attention("note", lastdays.to_lodge("clash", late[0].day), "clashes", url_for("clashes.page"),
+        yield Attention("note", appeals.to_lodge("clash", late[0].day), "clashes", url_for("clashes.page"),
                         {"count": sum(unheard[each.code] for each in late), "sessions": len(late)})
 
 
@@ -122,7 +122,7 @@ def out_of_date(coming: list[counting.Sums]) -> Iterator[Attention]:
     for each in coming:
         if notebook.printed(desk().office, each.code):
             view().ask(facts.entered(view().reading.rows, each.code))
-            if (found := printed.compared(view().reading, each.code)) and found.moves:
+            if (found := notebook.compared(view().reading, each.code)) and found.moves:
                 yield Attention(level_of(each), each.day, "printed",
                                 url_for("session.page", code=each.code, _anchor="print"),
                                 {"count": len(found.moves), "session": each.code, "halls": found.halls})
@@ -149,7 +149,7 @@ def deadlines(found: list[counting.Sums], days: int = 14) -> list[tuple[str, dic
     coming: dict[str, dict[str, list[str]]] = {}
     for session in found:
         for word in appeals.KINDS.values():
-            last = lastdays.to_lodge(word, session.day)
+            last = appeals.to_lodge(word, session.day)
             if 0 <= days_until(last) <= days:
                 coming.setdefault(last, {}).setdefault(word, []).append(session.code)
     return sorted(coming.items())

@@ -7,7 +7,7 @@ from collections.abc import Sequence
 from flask import Blueprint, abort, render_template, request
 from werkzeug.wrappers import Response
 
-from exam_desk import absences, facts, lastdays, lists, notebook, printed
+from exam_desk import appeals, facts, lists, notebook
 from exam_desk.facts import Opening
 from exam_desk.notebook import Rows
 from exam_desk.reading import Member
@@ -53,7 +53,7 @@ def page(code: str) -> str:
         "session.html", s=sums, halls=openings(view(), code), taken=taken(code), papers=papers(code), lodged=lodged,
         previous=before, next=after, choices=hall_choices(code), clashes=clashes(code), most=MOST_PEOPLE,
         absent=members_of(code, known), shortage=shortages.of(view(), code) if sums.short else None,
-        sheets=output.SHEETS, last=lastdays.to_decide(sums.day))
+        sheets=output.SHEETS, last=appeals.to_decide(sums.day))
 
 
 def taken(code: str) -> dict[str, int]:
@@ -138,7 +138,7 @@ def note_absent(code: str) -> Response:
     typed = request.form.get("numbers", "").replace(",", " ").split()
     there = set(request.form.getlist("listed")).difference(ticked)
     try:
-        found = absences.note(view().reading, code, [*ticked, *typed], there)
+        found = notebook.note_absent(view().reading, code, [*ticked, *typed], there)
     except Trouble as trouble:
         raise Wrong(("session.page", {"code": code}), "absent", numbers=said(trouble.sentence)) from None
     told = many(len(found), "{count} candidate is noted as absent in {session}.",
@@ -149,7 +149,7 @@ def note_absent(code: str) -> Response:
 @pages.get("/sessions/<code>/attendance.csv")
 def attendance_csv(code: str) -> Response:
     sums_of(code)
-    return output.attached(absences.listed(view().reading, code).encode(), f"{code}-attendance.csv")
+    return output.attached(notebook.attendance(view().reading, code).encode(), f"{code}-attendance.csv")
 
 
 @pages.get("/sessions/<code>/seats.csv")
@@ -178,7 +178,7 @@ def sheet(code: str, sheet: str, hall: Sequence[str] = ()) -> str:
 @pages.get("/sessions/<code>/printed")
 def compare_printed(code: str) -> str:
     """Who has another desk than on paper: a piece of the session's page, or a page of its own where no script runs."""
-    return render_template("printed.html", s=sums_of(code), found=printed.compared(view().reading, code),
+    return render_template("printed.html", s=sums_of(code), found=notebook.compared(view().reading, code),
                            most=MOST_PEOPLE, taken=taken(code), sheets=output.SHEETS)
 
 
@@ -189,7 +189,7 @@ def note_printed(code: str) -> Response:
     if request.form.get("state") != view().name:
         told = text("Nothing is noted: the office is another than the page showed. Print the sheets again.")
         return lead("session.page", told, "bad", code=code, _anchor="print")
-    noted = printed.note(view().reading, code)
-    told = many(noted.desks, "{count} desk of {session} is noted as printed.",
+    desks, _ = notebook.note_printed(view().reading, code)
+    told = many(desks, "{count} desk of {session} is noted as printed.",
                 "{count} desks of {session} are noted as printed.", session=code)
     return lead("session.page", told, code=code, _anchor="print")

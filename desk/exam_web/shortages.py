@@ -7,7 +7,7 @@ from collections.abc import Iterator
 from concurrent.futures import ThreadPoolExecutor
 from typing import NamedTuple
 
-from exam_desk import reasons, shortage
+from exam_desk import reasons
 from exam_desk.facts import Opening
 from exam_desk.overlaps import of_day
 from exam_desk.reading import Member
@@ -26,7 +26,7 @@ class Remedy(NamedTuple):
 
 
 class Shortage(NamedTuple):
-    sheet: shortage.Shortage
+    sheet: reasons.Shortage
     reasons: list[tuple[Member, dict[str, list[str]]]]  # for each without a desk the halls by reason
     remedies: list[Remedy]
 
@@ -37,7 +37,7 @@ def of(view: View, code: str) -> Shortage:
     with ThreadPoolExecutor(1) as aside:  # the program prints the sheet while it is asked
         sheet = aside.submit(view.reading.sheet, "shortage", code)
         why = reasons.Reasons(view.reading, code)
-    return Shortage(shortage.read(sheet.result()),
+    return Shortage(reasons.read_sheet(sheet.result()),
                     [(member, by_reason(why.of(member))) for member in why.unseated()[:MOST_EXPLAINED]],
                     sorted(remedies(view, why), key=lambda each: -each.suits)[:MOST_REMEDIES])
 

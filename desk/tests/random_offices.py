@@ -21,7 +21,7 @@ import sample
 from cells import Cells
 from moments import at_one_time, of_candidate
 
-from exam_desk import overlaps, reasons, shortage, telling  # beside the tests' folder
+from exam_desk import overlaps, reasons, telling  # beside the tests' folder
 from exam_desk.names import fold, name_order
 from exam_desk.office import Office
 from exam_desk.reading import Reading
@@ -286,7 +286,7 @@ class RandomOffice:
         register = [line.split(None, 5) for line in self.sheet(self.path, "appeals", session)[2:]]
         equal([[number, ref, kind, state, lodged, subject] for number, _, ref, kind, subject, lodged, state in rows],
               register, "appeals", page)
-        sheet = shortage.read("\n".join([*self.sheet(self.path, "shortage", session), ""]))
+        sheet = reasons.read_sheet("\n".join([*self.sheet(self.path, "shortage", session), ""]))
         unseated = sum(seat.hall == "-" for seat in seats.values())
         assert (f"{len(seats):,} candidate" in page and sheet.unseated == unseated
                 and (f"+ {sheet.unseated} unseated</p>" in page) == (sheet.unseated > 0)), "shortage"
@@ -303,7 +303,7 @@ class RandomOffice:
 
     def reasons(self, reading, session):
         """Nobody who has no desk suits a hall with a free one; the program's sheet adds up."""
-        found, sheet = reasons.Reasons(reading, session), shortage.read(reading.sheet("shortage", session))
+        found, sheet = reasons.Reasons(reading, session), reasons.read_sheet(reading.sheet("shortage", session))
         text = found.text()
         equal(sorted({*re.findall(r"\b[0-9]{7}\b", text)}) if "by what they" in text else
               [line[:7] for line in text.split("\n") if line[:1].isdigit()],

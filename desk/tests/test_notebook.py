@@ -12,7 +12,7 @@ import unittest
 import sample
 
 sys.path.insert(0, str(pathlib.Path(__file__).resolve().parents[1]))
-from exam_desk import beside, copies, notebook, numbered  # noqa: E402
+from exam_desk import beside, copies, files, notebook  # noqa: E402
 from exam_desk.notebook import Desk, Rows  # noqa: E402
 from exam_desk.office import Office  # noqa: E402
 from exam_desk.trouble import Trouble  # noqa: E402
@@ -57,7 +57,7 @@ class Notebook(unittest.TestCase):
         return str(path)
 
     def texts(self, text):
-        return numbered.texts_in(self.file(text), "text", notebook.MOST_NOTE_BYTES, KNOWN)
+        return files.texts_by_number(self.file(text), "text", notebook.MOST_NOTE_BYTES, KNOWN)
 
     def test_nothing_is_there_at_first(self):
         self.assertEqual((notebook.school_name(self.office), notebook.notes(self.office)), ("", {}))
@@ -128,6 +128,17 @@ class Notebook(unittest.TestCase):
             (self.place / "notes.json").write_bytes(text)
             with self.assertRaisesRegex(Trouble, "is damaged"):
                 notebook.notes(self.office)
+        for name, text, read in (
+                ("school", b"1", notebook.school_name), ("school", b"[]", notebook.school_name),
+                ("rows", b'{"GYM": [0, "down"]}', notebook.rows_of_halls),
+                ("rows", b'{"GYM": [1]}', notebook.rows_of_halls),
+                ("printed.S", b'{"0000001": [1, "GYM"]}', lambda office: notebook.printed(office, "S")),
+                ("printed.S", b'{"0000001": ["GYM", 1, 2]}', lambda office: notebook.printed(office, "S")),
+                ("absent.S", b"[1]", lambda office: notebook.absent(office, "S")),
+                ("absent.S", b'{"0000001": "a"}', lambda office: notebook.absent(office, "S"))):
+            (self.place / f"{name}.json").write_bytes(text)
+            with self.subTest(name, text=text), self.assertRaisesRegex(Trouble, "is damaged"):
+                read(self.office)
         for name in ("school.json", "school.json.new"):
             (self.place / name).unlink(missing_ok=True)
             os.symlink(victim, self.place / name)

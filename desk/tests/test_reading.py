@@ -11,7 +11,7 @@ from unittest import mock
 
 import sample
 
-from exam_desk import asking, lastdays  # beside the tests' folder
+from exam_desk import appeals, asking  # beside the tests' folder
 from exam_desk.reading import Reading, of_few
 from exam_desk.trouble import Trouble
 
@@ -146,16 +146,16 @@ class LastDays(sample.SampleSchool):
                 server.kill()
 
     def next_day(self, day):
-        return lastdays.before(day, -1)
+        return appeals.before(day, -1)
 
     def test_lodging(self):
         for kind in self.BODIES:
-            last = lastdays.to_lodge(kind, self.SESSION_DAY)
+            last = appeals.to_lodge(kind, self.SESSION_DAY)
             self.assertEqual(self.lodged(kind, self.next_day(last)), (409, {"day": last, "error": 13}))
             self.assertEqual(self.lodged(kind, last), (200, {"state": "open"}))
 
     def test_deciding(self):
-        last = lastdays.to_decide(self.SESSION_DAY)
+        last = appeals.to_decide(self.SESSION_DAY)
         self.lodged("hall", "2027-05-01")
         words = ["decide", "0001051", "A01", "refused", "no"]
         self.assertIn("refused 17", self.refused(*words, TODAY=self.next_day(last)))
@@ -163,7 +163,7 @@ class LastDays(sample.SampleSchool):
 
     def test_the_page_of_candidates(self):
         text = (sample.TOP / "web/lodging.js").read_text("utf-8")
-        for kind, days in lastdays.DAYS_TO_LODGE.items():
+        for kind, days in appeals.DAYS_TO_LODGE.items():
             self.assertIn(f"{kind}: {{ days: {days},", text)
 
 

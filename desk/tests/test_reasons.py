@@ -8,8 +8,7 @@ import sample
 from exam_desk.answers import Sitting
 from exam_desk.facts import Opening
 from exam_desk.reading import Member
-from exam_desk.reasons import Reasons
-from exam_desk.shortage import Shortage
+from exam_desk.reasons import Reasons, Shortage
 from exam_desk.words import FEATURES
 
 HALLS = [f"H{place:03}" for place in range(256)]

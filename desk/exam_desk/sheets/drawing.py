@@ -8,9 +8,8 @@ from markupsafe import Markup
 from exam_desk import lists
 from exam_desk.facts import Opening
 from exam_desk.reading import Member
-from exam_desk.reasons import Reasons
+from exam_desk.reasons import Reasons, Shortage
 from exam_desk.sheets import pages
-from exam_desk.shortage import Shortage
 
 MOST_DRAWN = 100  # a shortage of more candidates is listed, not drawn
 MOST_EXPLAINED = 30  # of those without a desk

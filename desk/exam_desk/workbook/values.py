@@ -8,7 +8,7 @@ from collections.abc import Callable, Mapping
 from types import MappingProxyType
 from typing import NamedTuple
 
-from exam_desk import files, mistakes, noting
+from exam_desk import files, mistakes
 from exam_desk.workbook.cells import Cell
 from exam_desk.workbook.numberformats import clock_text
 from exam_desk.words import FEATURES, plain
@@ -224,7 +224,7 @@ def read_name(column: str, cell: Cell, text: str, way: Way) -> Value:
     if note and cell.shown != text:
         refuse_other_digits(cell)
         text = cell.shown
-    if re.search("[\u200c\u200d]", text) and not noting.has_wrong_letters(text):
+    if re.search("[\u200c\u200d]", text) and not mistakes.WRONG_LETTERS(text):
         note = "holds a joiner that no eye sees; it is kept"
     return Value(text, "", note)
 
