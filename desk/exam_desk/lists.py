@@ -2,16 +2,19 @@
 from __future__ import annotations
 
 from collections.abc import Collection, Iterable
+from typing import TypeVar
 
 from exam_desk import facts
 from exam_desk.answers import Sitting
 from exam_desk.names import name_order
-from exam_desk.reading import Member, Reading
+from exam_desk.reading import Member, Person, Reading
 from exam_desk.trouble import Trouble
 
+Named = TypeVar("Named", Member, Person)
 
-def by_name(members: Iterable[Member]) -> list[Member]:
-    return sorted(members, key=lambda member: name_order(member.name, member.number))
+
+def by_name(people: Iterable[Named]) -> list[Named]:
+    return sorted(people, key=lambda each: name_order(each.name, each.number))
 
 
 def by_desk(members: Iterable[Member], hall: str) -> list[Member]:

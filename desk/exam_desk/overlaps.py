@@ -12,7 +12,6 @@ from typing import NamedTuple
 
 from exam_desk.lists import count
 from exam_desk.reading import Reading
-from exam_desk.words import plain
 
 LONGEST = 1200  # minutes that somebody without a desk may sit: those of the longest paper, and as many more
 MOST_NAMED = 3  # candidates, or halls, in a line
@@ -131,11 +130,10 @@ def of_day(clock: str) -> int:
 
 
 def line(reading: Reading, each: Overlap) -> str:
-    parts = [f"{count(len(each.candidates), 'candidate')} in both: "
-             + few([f"{number} {plain(reading.person(int(number)).name)}" for number in each.candidates])
-             ] if each.candidates else []
-    parts += [f"candidates of both in {few(each.halls)}"] if each.halls else []
-    return f"{each.early} and {each.late} overlap: {'; '.join(parts)}"
+    people = [reading.person(int(number)).shown() for number in each.candidates]
+    both = f"{count(len(people), 'candidate')} in both: {few(people)}" if people else ""
+    halls = f"candidates of both in {few(each.halls)}" if each.halls else ""
+    return f"{each.early} and {each.late} overlap: {'; '.join(filter(None, (both, halls)))}"
 
 
 def lines(reading: Reading, found: Collection[Overlap]) -> list[str]:

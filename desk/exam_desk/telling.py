@@ -24,6 +24,7 @@ KINDS = {  # the gravest first; what one does and what several do
     "joins": ("joins a session", "join a session"),
     "desk": ("has another desk in the same hall", "have other desks in the same hall"),
 }
+TO_TELL, DESK_ALONE = ("to tell",) * 2, ("with another desk only",) * 2
 
 
 class Change(NamedTuple):
@@ -52,18 +53,16 @@ class Change(NamedTuple):
             return "moves" if old.hall else "gets"
         return "time" if time(old) != time(new) else "name" if self.name != self.old_name else "desk"
 
+    def person(self) -> str:
+        return f"{self.number} {plain(self.name)}"
+
     def what(self) -> str:
-        if self.old is None or self.new is None:
-            word, sitting = ("joined", self.new) if self.old is None else ("left", self.old)
-            return f"{word}: {sitting.paper}, {time(sitting)}, {place(sitting)}" if sitting else ""
-        pairs = [(part(self.old), part(self.new)) for part in (place, paper, time)]
-        pairs.append((plain(self.old_name), plain(self.name)))
-        return ", ".join(f"{old} -> {new}" for old, new in pairs if old != new)
-
-
-def shown(sitting: Sitting) -> list[str]:
-    """The columns of the CSV."""
-    return [sitting.date, sitting.start, sitting.finish, sitting.paper, sitting.hall or "", str(sitting.desk or "")]
+        if self.old and self.new:
+            old, new = ([place(each), each.paper, time(each)] for each in (self.old, self.new))
+            pairs = zip([*old, plain(self.old_name)], [*new, plain(self.name)])
+            return ", ".join(f"{was} -> {now}" for was, now in pairs if was != now)
+        word, sitting = ("joined", self.new) if self.old is None else ("left", self.old)
+        return f"{word}: {sitting.paper}, {time(sitting)}, {place(sitting)}" if sitting else ""
 
 
 def time(sitting: Sitting) -> str:
@@ -74,8 +73,11 @@ def place(sitting: Sitting) -> str:
     return f"{sitting.hall} desk {sitting.desk}" if sitting.hall else "no desk"
 
 
-def paper(sitting: Sitting) -> str:
-    return sitting.paper
+def columns(sitting: Sitting | None) -> list[str]:
+    """Those of the CSV."""
+    if sitting is None:
+        return [""] * 6
+    return [sitting.date, sitting.start, sitting.finish, sitting.paper, sitting.hall or "", str(sitting.desk or "")]
 
 
 def differences(before: Reading, after: Reading, asked: Collection[str] = ()) -> list[Change]:
@@ -90,36 +92,36 @@ def differences(before: Reading, after: Reading, asked: Collection[str] = ()) ->
 
 
 def of_touched(before: Reading, after: Reading, sessions: Touched) -> list[Change]:
-    """The changes of those who are touched; the program is asked of all of them at once."""
+    """The changes of those who are touched."""
     for reading in (before, after):  # both open their copies at once
         if sessions:
             reading.prepare()
-    for reading in (before, after):
-        numbers = {number for code, people in sessions.items() for number in members(reading, code, people)}
-        reading.ask(map(reading.person, sorted(numbers)))
-    return [change for code, people in sessions.items() for change in of_session(before, after, code, people)]
+    old, new = (sat(reading, sessions) for reading in (before, after))
+    nobody: tuple[str, None] = ("", None)
+    found = []
+    for session, number in {**old, **new}:
+        (old_name, then), (name, now) = old.get((session, number), nobody), new.get((session, number), nobody)
+        if columns(then) != columns(now) or old_name != name:
+            found.append(Change(session, number, name or old_name, then, now, old_name or name))
+    places = {session: place for place, session in enumerate(sessions)}
+    return sorted(found, key=lambda change: (places[change.session], name_order(change.name, change.number)))
 
 
-def members(reading: Reading, session: str, people: Collection[int] | None) -> list[int]:
-    """The numbers of those of these people, or of all, who have an entry in a session."""
-    return [number for number in facts.entered(reading.rows, session) if people is None or number in people]
+def sat(reading: Reading, sessions: Touched) -> dict[tuple[str, str], tuple[str, Sitting]]:
+    """The names of those who are touched, and what they sit, by session and number; all are asked of at once."""
+    numbers = {session: [number for number in facts.entered(reading.rows, session) if people is None or number in people]
+               for session, people in sessions.items()}
+    reading.ask(map(reading.person, sorted(set().union(*numbers.values()))))
+    return {(session, number): (name, sitting) for session, asked in numbers.items()
+            for number, name, sitting in reading.members(session, asked)}
 
 
-def of_session(before: Reading, after: Reading, session: str, people: Collection[int] | None) -> list[Change]:
-    old, new = (sittings(reading, session, people) for reading in (before, after))
-    none: tuple[str, None] = ("", None)
-    pairs = {number: (old.get(number, none), new.get(number, none)) for number in {**old, **new}}
-    found = [Change(session, number, after[0] or before[0], before[1], after[1], before[0] or after[0])
-             for number, (before, after) in pairs.items()]
-    return sorted((change for change in found if change.old is None or change.new is None
-                   or shown(change.old) != shown(change.new) or change.old_name != change.name),
-                  key=lambda change: name_order(change.name, change.number))
-
-
-def sittings(reading: Reading, session: str, people: Collection[int] | None) -> dict[str, tuple[str, Sitting]]:
-    """By number the name and what they sit; nothing where there is no such session."""
-    found = (reading.member(session, f"{number:07}") for number in members(reading, session, people))
-    return {member.number: (member.name, member.sitting) for member in found if member}
+def by_kind(changes: Iterable[Change]) -> dict[str, list[Change]]:
+    """The changes of each kind, the gravest kind first."""
+    found: dict[str, list[Change]] = {kind: [] for kind in KINDS}
+    for change in changes:
+        found[change.kind()].append(change)
+    return {kind: part for kind, part in found.items() if part}
 
 
 def text(changes: Collection[Change], tells_alone: bool = False) -> str:
@@ -128,30 +130,25 @@ def text(changes: Collection[Change], tells_alone: bool = False) -> str:
     telling = [change.number for change in changes if change.is_to_tell()]
     told = set(telling)
     others = [change.number for change in changes if change.number not in told]
-    last = f"{people(telling, 'to tell')}, {people(others, 'with another desk only')}" if changes else "nothing changed"
-    shown = ""
-    for kind, words in KINDS.items():
-        found = [change for change in changes if change.kind() == kind]
-        if found and not (tells_alone and kind == "desk"):
-            shown += "".join([f"{counted(words, [change.number for change in found])}:\n", *map(line, found)])
-    return f"{shown}{last}\n"
+    lines, last = [], f"{counted(TO_TELL, telling)}, {counted(DESK_ALONE, others)}" if changes else "nothing changed"
+    for kind, part in by_kind(changes).items():
+        if part[0].is_to_tell() or not tells_alone:
+            mark = "!" if part[0].is_to_tell() else " "
+            lines += [f"{counted(KINDS[kind], [change.number for change in part])}:",
+                      *(f"{mark} {change.session} {change.person()}: {change.what()}" for change in part)]
+    return "".join(f"{line}\n" for line in [*lines, last])
 
 
 def counted(words: tuple[str, str], who: Collection[object]) -> str:
-    """How many people there are, and what one does or several do, from who it is in each sitting."""
-    return people(who, words[len(set(who)) > 1])
+    """How many people there are, what one does or several do, and in how many sittings where these are more."""
+    people, sittings = people_and_sittings(who)
+    more = f" ({sittings:,} {'sessions' if people == 1 else 'sittings'})" if sittings > people else ""
+    return f"{people:,} {words[people > 1]}{more}"
 
 
-def people(who: Collection[object], what: str) -> str:
-    """How many people there are, what they do, and in how many sittings where these are more."""
-    several = len(set(who))
-    sittings = f" ({len(who):,} {'sessions' if several == 1 else 'sittings'})" if len(who) > several else ""
-    return f"{several:,} {what}{sittings}"
-
-
-def line(change: Change) -> str:
-    mark = "!" if change.is_to_tell() else " "
-    return f"{mark} {change.session} {change.number} {plain(change.name)}: {change.what()}\n"
+def people_and_sittings(who: Collection[object]) -> tuple[int, int]:
+    """How many people there are, and in how many sittings, from who it is in each sitting."""
+    return len(set(who)), len(who)
 
 
 def csv_text(changes: Iterable[Change], titles: dict[str, str]) -> str:
@@ -160,11 +157,11 @@ def csv_text(changes: Iterable[Change], titles: dict[str, str]) -> str:
 
 
 def csv_row(change: Change, titles: dict[str, str]) -> list[str]:
-    old, new = (shown(each) if each else [""] * 6 for each in (change.old, change.new))
     last = change.new or change.old
     codes = [last.paper, last.hall or ""] if last else ["", ""]
     return ["yes" if change.is_to_tell() else "no", change.session, change.number, files.guarded(change.name),
-            *old, *new, *(files.guarded(titles.get(code, "")) for code in codes), files.guarded(change.old_name)]
+            *columns(change.old), *columns(change.new), *(files.guarded(titles.get(code, "")) for code in codes),
+            files.guarded(change.old_name)]
 
 
 def titles_of(*readings: Reading) -> dict[str, str]:

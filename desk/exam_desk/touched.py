@@ -27,24 +27,29 @@ SESSIONS = {  # by table: which sessions a row that is another can change, as a 
 }
 OF_ALL = ["session", "paper"]  # a row of such a table can meet all members of its sessions
 OF_ONE = ["seat", "entry", "candidate", "arrangement", "appeal", "standing"]  # a row belongs to one candidate
-NEIGHBOURS = ("SELECT seat.session, seat.number FROM {moment}.seat AS seat JOIN halls USING (session, hall)")
+NEIGHBOURS = (  # whoever sits in a hall with one of the numbers, before or after
+    "WITH halls AS (SELECT session, hall FROM before.seat WHERE number IN numbers "
+    "UNION SELECT session, hall FROM after.seat WHERE number IN numbers) "
+    "SELECT session, number FROM before.seat JOIN halls USING (session, hall) "
+    "UNION SELECT session, number FROM after.seat JOIN halls USING (session, hall)")
 MOMENTS = ("before", "after")
 Touched = dict[str, set[int] | None]  # by session the numbers; None for all of its members
 
 
 def of_readings(before: Reading, after: Reading) -> Touched:
     """The sessions in order, each with those whom the change can meet there."""
+    people: dict[str, set[int]] = defaultdict(set)
     with contextlib.closing(sqlite3.connect(":memory:")) as both:
         both.execute("PRAGMA temp_store = MEMORY")  # reasons of appeals are in no file of others
         for moment, reading in zip(MOMENTS, (before, after)):
             both.execute(f"ATTACH ? AS {moment}", [reading.copy])
-        both.executescript("CREATE TEMP TABLE numbers (number PRIMARY KEY); CREATE TEMP TABLE halls (session, hall, "
-                           "PRIMARY KEY (session, hall))")
+        both.execute("CREATE TEMP TABLE numbers (number PRIMARY KEY)")
         found = {table: sessions_of(both, table) for table in SESSIONS}
-        people = people_of(both)
+        numbers = {number for number, in both.execute("SELECT number FROM numbers")}
+        for session, number in both.execute(NEIGHBOURS):
+            people[session].add(number)
     sessions, whole = set().union(*found.values()), set().union(*(found[table] for table in OF_ALL))
-    numbers = people.pop("", set())
-    return {code: None if code in whole else numbers | people.get(code, set())
+    return {code: None if code in whole else numbers | people[code]
             for code in all_sessions(before, after) if code in sessions}
 
 
@@ -63,17 +68,4 @@ def sessions_of(both: sqlite3.Connection, table: str) -> set[str]:
         found.update(code for code, in both.execute(SESSIONS[table].format(moment=moment)))
         if table in OF_ONE:
             both.execute("INSERT OR IGNORE INTO numbers SELECT number FROM different")
-    return found
-
-
-def people_of(both: sqlite3.Connection) -> dict[str, set[int]]:
-    """By session whoever sits in a hall with one of the numbers, before or after; under "" the numbers themselves."""
-    found: dict[str, set[int]] = defaultdict(set)
-    found[""] = {number for number, in both.execute("SELECT number FROM numbers")}
-    for moment in MOMENTS:
-        both.execute(f"INSERT OR IGNORE INTO halls SELECT session, hall FROM {moment}.seat "
-                     "WHERE number IN (SELECT number FROM numbers)")
-    for moment in MOMENTS:
-        for session, number in both.execute(NEIGHBOURS.format(moment=moment)):
-            found[session].add(number)
     return found
