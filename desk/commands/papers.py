@@ -12,10 +12,8 @@ from exam_desk.trouble import Trouble
 
 if TYPE_CHECKING:
     from argparse import ArgumentParser
-    from collections.abc import Mapping
 
     from exam_desk.office import Office
-    from exam_desk.reading import Reading
 
 MOST_BYTES = 1 << 20  # no printed shortage is as long
 PAGES = {  # the words that each takes, as in `command.given`, and what `--help` prints
@@ -150,7 +148,7 @@ numbers are there only with --desks: print them late. With --order each group be
 file has them, and who is in none comes last. The CSV has a row for each candidate and session, and no formula.
 """)
 def slips(parser: ArgumentParser) -> None:
-    from exam_desk import numbered
+    from exam_desk import facts, lists, numbered
     from exam_desk.reading import of_few
     from exam_desk.sheets import slips
     parser.add_argument("--only", action="append", default=[], metavar="NUMBER",
@@ -165,20 +163,12 @@ def slips(parser: ArgumentParser) -> None:
         command.say(of_few(command.office(), lambda reading: make(reading, choice)))
         return
     with command.reading() as reading:
-        text = make(reading, choice)
-        if groups:
-            tell_groups(reading, groups)
-    command.say(text)
-
-
-def tell_groups(reading: Reading, groups: Mapping[str, str]) -> None:
-    """Says which numbers and candidates the file and the office do not share."""
-    from exam_desk import lists
-    known = {number for number, in reading.rows.execute("SELECT printf('%07d', number) FROM candidate")}
+        text, known = make(reading, choice), facts.candidate_names(reading.rows).keys()
     if strangers := len(groups.keys() - known):
         command.warn(f"{lists.count(strangers, 'number')} of the file are no candidates of the office")
-    if alone := len(known - {number for number, group in groups.items() if group}):
+    if groups and (alone := len(known - {number for number, group in groups.items() if group})):
         command.warn(f"{lists.count(alone, 'candidate')} in no group: their slips come last")
+    command.say(text)
 
 
 @command.named("""\

@@ -6,7 +6,7 @@ from collections import Counter
 from collections.abc import Collection, Iterable
 from typing import NamedTuple
 
-from exam_desk import copies, facts, lists, overlaps, telling, touched
+from exam_desk import copies, facts, lists, overlaps, telling
 from exam_desk.changing import Rehearsal
 from exam_desk.office import Office
 from exam_desk.reading import Person, Reading
@@ -64,10 +64,14 @@ def of(rehearsal: Rehearsal, at_most: int | None, progress: Progress) -> list[st
 
 
 def between(before: Reading, after: Reading, at_most: int | None) -> list[str]:
-    """As `of`, from two readings."""
-    met = groups(before, after)
+    """As `of`, from two readings; then a line for each session whose candidates or seats are other ones: how many they
+    are, counted by their rows."""
+    met, was = groups(before, after), figures(before)
     shown = lines(met, at_most) if met or has_seats(before) else []
-    return shown + other_codes(before, after) + session_lines(before, after)
+    sessions = [f"session {code}: {lists.count(people, 'candidate')}, {people - seats:,} without a desk"
+                + (f" (before: {was[code][0]:,} and {was[code][0] - was[code][1]:,})" if code in was else "")
+                for code, (people, seats) in figures(after).items() if was.get(code) != (people, seats)]
+    return shown + other_codes(before, after) + sessions
 
 
 def done(office: Office, copy: str, progress: Progress) -> list[str]:
@@ -92,7 +96,7 @@ def done(office: Office, copy: str, progress: Progress) -> list[str]:
 def groups(before: Reading, after: Reading) -> list[Group]:
     """Those whom a change meets in each way, the gravest first. Where nobody has a seat yet, nobody can lose
     or change one."""
-    sessions = touched.of_readings(before, after)
+    sessions = telling.touched(before, after)
     different = telling.of_touched(before, after, sessions) if has_seats(before) else []
     twice = list(overlaps.new(before, after, list(sessions)))
     return grouped(different, {
@@ -188,14 +192,6 @@ def most(counts: Counter[str]) -> str:
     """The sessions with the most, and how many in each."""
     where = [f"{count:,} in {session}" for session, count in counts.most_common() if count]
     return ", ".join([*where[:MOST_NAMED], *([".."] if len(where) > MOST_NAMED else [])])
-
-
-def session_lines(before: Reading, after: Reading) -> list[str]:
-    """A line for each session whose candidates or seats are other ones: how many they are, counted by their rows."""
-    was = figures(before)
-    return [f"session {code}: {lists.count(people, 'candidate')}, {people - seats:,} without a desk"
-            + (f" (before: {was[code][0]:,} and {was[code][0] - was[code][1]:,})" if code in was else "")
-            for code, (people, seats) in figures(after).items() if was.get(code) != (people, seats)]
 
 
 def figures(reading: Reading) -> dict[str, tuple[int, int]]:

@@ -361,7 +361,7 @@ class RandomOffice:
     def persons(self, reading):
         both = at_one_time(reading.rows, self.now)
         for number in self.chance.sample(sorted(self.codes), 3):
-            text = "\n".join(texts.on_people(reading, texts.find(reading.rows, number), True))
+            text = "\n".join(texts.asked_lines(reading, number, True))
             notes = [line[len("  NOTE: "):] for line in text.split("\n") if line.startswith("  NOTE: ")]
             wanted = [overlaps.line(reading, overlaps.Overlap(*pair, *found))
                       for pair, *found in of_candidate(both, self.now, number)]

@@ -37,7 +37,7 @@ class Pages:
         self.summary = texts.summary(reading, [SESSION])
         self.reasons = reasons.Reasons(reading, SESSION)
         self.sheets = printing.written(reading, session_row(reading.rows, SESSION))
-        self.look = "\n".join(texts.on_people(reading, texts.find(reading.rows, NUMBER), False))
+        self.look = "\n".join(texts.asked_lines(reading, NUMBER, False))
         changes = telling.differences(before, reading)
         self.changes = telling.text(changes)
         text = telling.csv_text(changes, telling.titles_of(reading)).removeprefix("\ufeff")

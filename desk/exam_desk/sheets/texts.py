@@ -40,16 +40,10 @@ def find(rows: Rows, asked: str) -> list[Person]:
 
 
 def asked_lines(reading: Reading, asked: str, codes: bool) -> list[str]:
-    """Lines on whoever is meant. Raises `Trouble` where nobody is."""
-    found = find(reading.rows, asked)
+    """Lines on whoever is meant; of more than MOST_SHOWN a line each. Raises `Trouble` where nobody is."""
+    found, said = find(reading.rows, asked), []
     if not found:
         raise Trouble(f"no candidate has {asked} as number or in the name")
-    return on_people(reading, found, codes)
-
-
-def on_people(reading: Reading, found: list[Person], codes: bool) -> list[str]:
-    """Lines on each of these candidates; of more than MOST_SHOWN a line each."""
-    said = []
     for person in found:
         said.append(f"{person.number} {person.name}" + (f", access code {person.code}" if codes else ""))
         if len(found) <= MOST_SHOWN:
@@ -117,18 +111,15 @@ def summary(reading: Reading, asked: Collection[str] = ()) -> str:
     entered = dict.fromkeys(number for head in heads for number in facts.entered(reading.rows, head["code"]))
     reading.ask(map(reading.person, entered))  # of all at once, so that the progress is that of the whole
     found = overlaps.found(reading, asked)
-    counts = Counter(code for each in found for code in (each.early, each.late))
-    lines = [SUMMARY.format(*HEADS), *(in_short(reading, head, counts[head["code"]]) for head in heads)]
+    twice = Counter(code for each in found for code in (each.early, each.late))
+    lines = [SUMMARY.format(*HEADS)]
+    for code, day, start in heads:
+        members, openings = reading.members(code), facts.openings(reading.rows, code)
+        seated, desks = sum(bool(member.sitting.hall) for member in members), sum(each.desks for each in openings)
+        [[waiting]] = reading.rows.execute("SELECT count(*) FROM appeal WHERE session = ? AND state = 1", [code])
+        lines.append(SUMMARY.format(code, day, clock(start), len(members), seated, len(members) - seated, desks,
+                                    desks - seated, len(reading.clashes(code)), twice[code], waiting))
     return "".join([*lines, *(f"NOTE: {each}\n" for each in overlaps.lines(reading, found))])
-
-
-def in_short(reading: Reading, head: sqlite3.Row, overlapping: int) -> str:
-    members = reading.members(head["code"])
-    seated = sum(member.sitting.hall is not None for member in members)
-    desks = sum(opening.desks for opening in facts.openings(reading.rows, head["code"]))
-    [[waiting]] = reading.rows.execute("SELECT count(*) FROM appeal WHERE session = ? AND state = 1", [head["code"]])
-    return SUMMARY.format(head["code"], head["day"], clock(head["start"]), len(members), seated, len(members) - seated,
-                          desks, desks - seated, len(reading.clashes(head["code"])), overlapping, waiting)
 
 
 def notes(office: Office, rows: Rows) -> str:
