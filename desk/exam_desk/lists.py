@@ -26,13 +26,11 @@ def halls(reading: Reading, session: str, asked: Collection[str] = ()) -> list[t
     """The halls that are asked for, or all in which somebody sits, each with who sits there, by desk. Raises `Trouble`
     where nobody sits in one that is asked for."""
     members = reading.members(session)
-    found = [(opening, there) for opening in facts.openings(reading.rows, session)
-             if (there := by_desk(members, opening.hall)) and (not asked or opening.hall in asked)]
-    missing = [code for code in asked if code not in {opening.hall for opening, _ in found}]
-    if missing:
-        used = ", ".join(sorted({member.sitting.hall for member in members if member.sitting.hall}))
-        raise Trouble(f"nobody sits in {missing[0]} in {session}; somebody sits in {used or 'no hall'}")
-    return found
+    found = {opening.hall: (opening, there) for opening in facts.openings(reading.rows, session)
+             if (there := by_desk(members, opening.hall))}
+    if missing := [code for code in asked if code not in found]:
+        raise Trouble(f"nobody sits in {missing[0]} in {session}; somebody sits in {', '.join(found) or 'no hall'}")
+    return [found[code] for code in found if not asked or code in asked]
 
 
 def count(number: int, thing: str) -> str:

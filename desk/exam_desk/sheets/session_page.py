@@ -50,9 +50,11 @@ class Page:
         self.faults = list(self.reasons.faults(self.shortage))
 
     def document(self) -> str:
-        parts = [self.halls_part(), self.shortage_part(),
-                 html("<div class=columns>{}</div>", joined(map(self.hall_part, self.openings))),
-                 self.clashes_part(), self.appeals_part()]
+        widest = max((opening.desks for opening in self.openings), default=1)
+        halls = table(["Hall", "Desks (dark: taken)", "n:Taken", "n:Free"],
+                      [self.hall_row(opening, widest) for opening in self.openings], "halls")
+        seats = html("<div class=columns>{}</div>", joined(map(self.hall_part, self.openings)))
+        parts = [halls, self.shortage_part(), seats, self.clashes_part(), self.appeals_part()]
         sections = joined((html("<section id={}><h2>{}</h2>\n{}\n</section>", *each, part)
                            for each, part in zip(SECTIONS.items(), parts)), "\n")
         code, day, start = self.head["code"], self.head["day"], clock(self.head["start"])
@@ -63,11 +65,6 @@ class Page:
                       f"{len(self.unseated):,}", lists.count(len(self.openings), "hall"), lists.count(desks, "desk"),
                       f"{desks - taken:,}", links)
         return str(html(DOCUMENT, f"Session {code}, {day} {start}", pages.style("page", "session"), header, sections))
-
-    def halls_part(self) -> Markup:
-        widest = max((opening.desks for opening in self.openings), default=1)
-        return table(["Hall", "Desks (dark: taken)", "n:Taken", "n:Free"],
-                     [self.hall_row(opening, widest) for opening in self.openings], "halls")
 
     def hall_row(self, opening: Opening, widest: int) -> list[object]:
         """The hall's code and title, in a second line whom it suits, and how many of its desks are taken."""
