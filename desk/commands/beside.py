@@ -64,12 +64,12 @@ in its copies; `office back` leaves them as they are.
 """)
 def notes(parser: ArgumentParser) -> None:
     from exam_desk import facts, files, notebook
-    from exam_desk.sheets import notes
+    from exam_desk.sheets import texts
     given = command.given(parser, "file?")
     office = command.office()
     with command.rows() as rows:
         if not given.file:
-            command.say(notes.text(office, rows))
+            command.say(texts.notes(office, rows))
             return
         known = set(facts.candidate_names(rows))
     noted = notebook.take_notes(office, files.texts_by_number(given.file, "text", notebook.MOST_NOTE_BYTES, known))

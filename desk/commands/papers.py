@@ -1,9 +1,10 @@
-"""Commands that print what goes on paper: pages for a browser, and the sheets of a session as text."""
+"""Commands that read the office and print: pages for a browser, sheets and lists as text, files for another program."""
 from __future__ import annotations
 
+import contextlib
 import functools
-import importlib
-from collections.abc import Mapping
+import os
+import re
 from typing import TYPE_CHECKING
 
 import command
@@ -12,31 +13,32 @@ from exam_desk.trouble import Trouble
 if TYPE_CHECKING:
     from argparse import ArgumentParser
 
-    from exam_desk.reading import Reading
+    from exam_desk.office import Office
 
-PAGES = {  # of a session, or where it is by hall of some halls in it: whether it is, and what `--help` prints
-    "board": (False, """Prints a notice board of a session, by name: board SESSION >board.html
+MOST_BYTES = 1 << 20  # no printed shortage is as long
+PAGES = {  # the words that each takes, as in `command.given`, and what `--help` prints
+    "board": ("session", """Prints a notice board of a session, by name: board SESSION >board.html
 
     office board MON-AM >board.html
 
 A page for a browser, two columns on A4, with the hall and the desk of each candidate. Only namesakes have their numbers
 beside the name. Print it after the last change.
 """),
-    "cards": (True, """Prints cards for the desks of a session: cards SESSION [HALL ..] >cards.html
+    "cards": ("session hall*", """Prints cards for the desks of a session: cards SESSION [HALL ..] >cards.html
 
     office cards MON-AM >cards.html
     office cards MON-AM GYM >gym.html
 
 A page for a browser, ten cards on a sheet of A4, by hall and desk: desk, name, number, paper, start and hall.
 """),
-    "chart": (True, """Draws the seating charts of a session: chart SESSION [HALL ..] >chart.html
+    "chart": ("session hall*", """Draws the seating charts of a session: chart SESSION [HALL ..] >chart.html
 
     office rows GYM 8               once for each hall: how its desks stand
     office chart MON-AM >chart.html
 
 A page for a browser, on A4: each hall as rows of desks, with the name, number and paper of who sits there.
 """),
-    "counts": (False, """\
+    "counts": ("session", """\
 Prints how many copies of each paper each hall needs, and the last finish: counts SESSION >counts.html
 
     office counts MON-AM >counts.html
@@ -44,7 +46,7 @@ Prints how many copies of each paper each hall needs, and the last finish: count
 A page for a browser, on A4: a row for each hall and paper, then the sums by paper. Candidates without a desk have rows
 of their own at the end.
 """),
-    "doors": (True, """\
+    "doors": ("session hall*", """\
 Prints the invigilators' sheets of a session, each hall on a page of its own: doors SESSION [HALL ..] >doors.html
 
     office doors MON-AM >doors.html
@@ -54,26 +56,35 @@ A page for a browser, on A4: by desk the number, name, paper, finish, arrangemen
 to sign. The heading stands on each page again. A hall in which nobody sits has no sheet. It is for invigilators: who has
 which arrangement is private. For the door take `office poster`.
 """),
-    "poster": (False, """Prints the posters for the doors of a session: poster SESSION >poster.html
+    "poster": ("session", """Prints the posters for the doors of a session: poster SESSION >poster.html
 
     office poster MON-AM >poster.html
 
 A page for a browser, on A4: each hall from a page of its own on, with a heading that is read from afar, and by name the
 desk of each candidate in three columns. It shows no number, no paper and no arrangement.
 """),
+    "summary": ("session*", """\
+Prints a line for each session: members, seated, short, desks, free, clashes, open appeals: summary [SESSION ..]
+
+    office summary
+
+Clashes are the candidates who miss a paper there, since another one is at the same time: `office clashes SESSION`.
+Free desks beside candidates who are short are in halls that do not suit them: `office why SESSION` says why.
+"""),
 }
 
 
-def print_page(name: str, by_hall: bool, parser: ArgumentParser) -> None:
-    """Prints the page that a module of exam_desk.sheets makes, which has the name of the command."""
-    sheet = importlib.import_module(f"exam_desk.sheets.{name}")
-    asked = vars(command.given(parser, *(["session", "hall*"] if by_hall else ["session"]))).values()
+def print_page(name: str, words: str, parser: ArgumentParser) -> None:
+    """Prints the page that the function of this name makes."""
+    from exam_desk.sheets import papers, texts
+    pages = papers.PAGES | {"summary": texts.summary}
+    asked = vars(command.given(parser, *words.split())).values()
     with command.reading() as reading:
-        command.say(sheet.page(reading, *asked))
+        command.say(pages[name](reading, *asked))
 
 
-for page, (is_by_hall, text) in PAGES.items():
-    command.COMMANDS[page] = command.Command(text, functools.partial(print_page, page, is_by_hall))
+for page, (taken, text) in PAGES.items():
+    command.COMMANDS[page] = command.Command(text, functools.partial(print_page, page, taken))
 
 
 def warned(faults: list[str]) -> bool:
@@ -137,7 +148,7 @@ numbers are there only with --desks: print them late. With --order each group be
 file has them, and who is in none comes last. The CSV has a row for each candidate and session, and no formula.
 """)
 def slips(parser: ArgumentParser) -> None:
-    from exam_desk import files
+    from exam_desk import facts, files, lists
     from exam_desk.reading import of_few
     from exam_desk.sheets import slips
     parser.add_argument("--only", action="append", default=[], metavar="NUMBER",
@@ -152,17 +163,164 @@ def slips(parser: ArgumentParser) -> None:
         command.say(of_few(command.office(), lambda reading: make(reading, choice)))
         return
     with command.reading() as reading:
-        text = make(reading, choice)
-        if groups:
-            tell_groups(reading, groups)
+        text, known = make(reading, choice), facts.candidate_names(reading.rows).keys()
+    if strangers := len(groups.keys() - known):
+        command.warn(f"{lists.count(strangers, 'number')} of the file are no candidates of the office")
+    if groups and (alone := len(known - {number for number, group in groups.items() if group})):
+        command.warn(f"{lists.count(alone, 'candidate')} in no group: their slips come last")
     command.say(text)
 
 
-def tell_groups(reading: Reading, groups: Mapping[str, str]) -> None:
-    """Says which numbers and candidates the file and the office do not share."""
-    from exam_desk import lists
-    known = {number for number, in reading.rows.execute("SELECT printf('%07d', number) FROM candidate")}
-    if strangers := len(groups.keys() - known):
-        command.warn(f"{lists.count(strangers, 'number')} of the file are no candidates of the office")
-    if alone := len(known - {number for number, group in groups.items() if group}):
-        command.warn(f"{lists.count(alone, 'candidate')} in no group: their slips come last")
+@command.named("""\
+Lists the open appeals of all sessions, the most urgent first, with names, reasons and the last day to decide.
+
+    office appeals-open
+    office appeals-open MON-AM      one session
+""")
+def appeals_open(parser: ArgumentParser) -> None:
+    from exam_desk import appeals
+    given = command.given(parser, "session*")
+    with command.rows() as rows:
+        lines = appeals.open_lines(rows, command.today().isoformat(), given.session)
+    command.say_lines(lines or ["no appeal is open"])
+
+
+@command.named("""Says who must be told: all sessions compared with a copy of the office: changes BACKUP [SESSION ..]
+
+    office changes backup/2027-05-30           since the copy in this folder
+    office changes 1 TUE-AM                    one session, since copy 1 of `office back`
+    office changes 1 --tell                    without those whose desk alone is another
+    office changes backup/office.db --csv      for a spreadsheet or a mail merge, with titles
+    office changes 1 --tell --paper >told.html   a page for a browser, with a box to tick for each
+
+BACKUP is a folder with the two files, the file itself, or the number of a copy. Who lost the desk comes first, then who
+sits another paper, in another hall, or at another time, who has another name, and last whose desk alone is another. A
+line of these last ones begins with no !: they need not be told. In the CSV each value is in quotes, and a text that
+begins like a formula, or goes on like one behind a semicolon, has an apostrophe there, so that no spreadsheet
+calculates it.
+""")
+def changes(parser: ArgumentParser) -> None:
+    from exam_desk import telling
+    from exam_desk.sheets import papers
+    form = parser.add_mutually_exclusive_group()
+    form.add_argument("--csv", action="store_true")
+    form.add_argument("--paper", action="store_true", help="a page for a browser, on A4")
+    given = command.given(parser, "backup", "session*", "--tell: only who must be told")
+    path = backup_path(command.office(), given.backup)
+    with command.reading(path) as before, command.reading() as after:
+        found = telling.differences(before, after, given.session)
+        titles = telling.titles_of(before, after)
+    told = [change for change in found if change.is_to_tell() or not given.tell]
+    if given.csv:
+        command.say(telling.csv_text(told, titles))
+    elif given.paper:
+        command.say(papers.changes(command.office(), told, titles, since(path)))
+    else:
+        command.say(telling.text(found, given.tell))
+
+
+def backup_path(office: Office, given: str) -> str:
+    """The path of the file that BACKUP means."""
+    from exam_desk import copies
+    if os.path.isdir(given):
+        return copies.file_in(office, given)
+    if not re.fullmatch("[0-9]{1,9}", given) or os.path.exists(given):
+        return given
+    return copies.file_in(office, copies.chosen(office, int(given)))
+
+
+def since(path: str) -> str:
+    """What the office is compared with, in words."""
+    from exam_desk import copies
+    with contextlib.suppress(Trouble):
+        when, what = copies.when_and_what(os.path.dirname(path))
+        return f"Since {when}, before {what}"
+    return f"Since {path}"
+
+
+@command.named("""Adds up a printed shortage: check-shortage SHEET
+
+    office shortage MON-AM >sheet.txt
+    office check-shortage sheet.txt       # - reads what comes in
+
+It prints `right` with the sum, or a line for each fault, and then ends with status 1.
+
+The halls are read from the office's file; what each candidate needs, and until when, is what the program says to that
+candidate. Why the sheet proves that desks are short: its candidates can sit only in its halls.
+These have fewer desks than there are candidates, so every plan leaves some of them without one. The sheet counts how
+many, and no more are without one now. `examples/check-office` in the repository trusts nothing that the program says.
+""")
+def check_shortage(parser: ArgumentParser) -> bool:
+    from exam_desk import lists, reasons
+    path = command.given(parser, "sheet").sheet
+    with open(0 if path == "-" else path, "rb", closefd=path != "-") as file:
+        sheet = reasons.read_sheet(file.read(MOST_BYTES).decode("utf-8", "replace"))
+    with command.reading() as reading:
+        found = list(reasons.Reasons(reading, sheet.session).faults(sheet))
+    right = (f"right: {lists.count(sheet.candidate_count, 'candidate')} = {lists.count(sheet.desks, 'desk')}"
+             f" + {sheet.unseated} unseated")
+    command.say("\n".join([*(found or [right]), ""]))
+    return bool(found)
+
+
+@command.named("""Shows what the office knows of a candidate: look NAME|NUMBER, or look --clashes [SESSION ..]
+
+    office look 0001051
+    office look ferrari           everybody whose name holds this, without regard to capitals and accents
+    office look 0001051 --codes   with the access code
+    office look --clashes MON-AM  who has two papers at once there, or in any session, by pairs of papers
+
+Entries with seats, arrangements, and appeals with reasons and answers.
+""")
+def look(parser: ArgumentParser) -> None:
+    from exam_desk.reading import of_few
+    from exam_desk.sheets import texts
+    parser.add_argument("words", nargs="*", metavar="NAME|NUMBER|SESSION")
+    given = command.given(parser, "--codes: with the access code", "--clashes: who has two papers at once")
+    if given.clashes:
+        with command.reading() as reading:
+            lines = texts.papers_at_once(reading, given.words)
+    elif given.words:
+        asked = " ".join(given.words)
+        lines = of_few(command.office(), lambda reading: texts.asked_lines(reading, asked, given.codes))
+    else:
+        parser.error("name a candidate")
+    command.say_lines(lines)
+
+
+@command.named("""\
+Writes the titles of papers and halls and the days of sessions, for the candidates' page: titles [FILE].
+
+    office titles                                     prints them
+    office titles /var/www/examoffice/titles.json     puts them where the web server finds them, as one step
+
+Give it again after an import of sessions, papers or halls. Until then the page shows the codes of what is new. Whoever
+finds the page can read the file: it has nothing of any candidate.
+""")
+def titles(parser: ArgumentParser) -> None:
+    from exam_desk.sheets import texts
+    given = command.given(parser, "file?: a file to write; without it the titles are printed")
+    with command.rows() as rows:
+        text = texts.titles(rows)
+    if given.file is None:
+        command.say(text)
+    else:
+        texts.put_titles(given.file, text)
+
+
+@command.named("""Says why candidates have no desk, hall by hall: why SESSION [NUMBER].
+
+    office why MON-AM             everybody without a desk: what they need, until when, and of each open hall why not
+    office why MON-AM 0001272     one candidate, who may have a desk
+
+Where that would pass 60 lines for all, they stand by their needs, and each reason once, with its first halls. It only
+reads. Needs are those of the arrangement in force and what the paper requires.
+""")
+def why(parser: ArgumentParser) -> bool:
+    from exam_desk import reasons
+    given = command.given(parser, "session", "number?")
+    with command.reading() as reading:
+        found, printed = reasons.compared(reading, given.session)
+        faults = list(found.faults(printed))
+    command.say(found.text(given.number and given.number.zfill(7)))
+    return warned(faults)

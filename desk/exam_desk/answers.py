@@ -4,14 +4,25 @@ An answer that has another form raises `Trouble`: this desk belongs to another v
 """
 from __future__ import annotations
 
+import contextlib
 import json
 import re
-from collections.abc import Callable
 from typing import Any, NamedTuple
 
 from exam_desk.trouble import Trouble
 
-Form = Callable[[object], object]  # true where a value has the right form
+CODE, ANY, WHOLE = '"[A-Z0-9-]+"', r'"([^"\\]|\\.)*"', "[0-9]+"
+DATE, CLOCK = '"[0-9]{4}-[0-9]{2}-[0-9]{2}"', '"[0-9]{2}:[0-9]{2}"'
+FORMS = {  # of each answer the members of its rows in their order, each with the form of its value in JSON
+    "seats": {"date": DATE, "desk": f"{WHOLE}|null", "extra": WHOLE, "finish": CLOCK, "hall": f"{CODE}|null",
+              "needs": r'"(-|[a-z-]+(\+[a-z-]+)*)"', "paper": CODE, "session": CODE, "start": CLOCK},
+    "clashes": {"paper": CODE, "session": CODE, "sitting": CODE},
+    "appeals": {"answer": f"{ANY}|null", "kind": '"(hall|clash|arrangement)"', "lodged": DATE, "reason": ANY,
+                "ref": CODE, "session": CODE, "standing": "true|false",
+                "state": '"(open|granted|refused|retracted|superseded)"', "subject": ANY},
+}
+ROWS = {name: re.compile("{%s}" % ", ".join(f'"{member}": ({form})' for member, form in forms.items()))
+        for name, forms in FORMS.items()}
 
 
 class Sitting(NamedTuple):
@@ -27,13 +38,6 @@ class Sitting(NamedTuple):
     desk: int | None
 
 
-class Clash(NamedTuple):
-    """A paper that a candidate is entered for and does not sit, since another is at the same time."""
-    session: str
-    paper: str
-    sitting: str
-
-
 class Appeal(NamedTuple):
     """An appeal as its candidate sees it."""
     ref: str
@@ -47,57 +51,33 @@ class Appeal(NamedTuple):
     answer: str | None
 
 
-def text(pattern: str) -> Form:
-    right = re.compile(pattern, re.DOTALL)
-    return lambda value: isinstance(value, str) and right.fullmatch(value)
-
-
-def whole(value: object) -> bool:
-    return isinstance(value, int) and not isinstance(value, bool) and value >= 0
-
-
-def mark(value: object) -> bool:
-    return isinstance(value, bool)
-
-
-def or_null(right: Form) -> Form:
-    return lambda value: value is None or right(value)
-
-
-CODE, DATE, CLOCK, ANY = text("[A-Z0-9-]+"), text("[0-9]{4}-[0-9]{2}-[0-9]{2}"), text("[0-9]{2}:[0-9]{2}"), text(".*")
-SITTING = {"session": CODE, "date": DATE, "start": CLOCK, "paper": CODE, "finish": CLOCK,
-           "needs": text(r"-|[a-z-]+(\+[a-z-]+)*"), "extra": whole, "hall": or_null(CODE), "desk": or_null(whole)}
-CLASH = {"session": CODE, "paper": CODE, "sitting": CODE}
-APPEAL = {"ref": CODE, "session": CODE, "kind": text("hall|clash|arrangement"), "subject": ANY, "lodged": DATE,
-          "reason": ANY, "state": text("open|granted|refused|retracted|superseded"), "standing": mark,
-          "answer": or_null(ANY)}
-
-
 def sittings(body: bytes) -> dict[str, Sitting]:
     """The answer to `GET seats`, by session."""
-    return {row["session"]: Sitting(**row)._replace(needs=needs(row["needs"])) for row in rows(body, "seats", SITTING)}
+    found: dict[str, Sitting] = {}
+    for row in rows(body, "seats"):
+        needs = () if row["needs"] == "-" else tuple(row["needs"].split("+"))
+        found[row["session"]] = Sitting(**row)._replace(needs=needs)
+    return found
 
 
-def needs(words: str) -> tuple[str, ...]:
-    return () if words == "-" else tuple(words.split("+"))
-
-
-def clashes(body: bytes) -> list[Clash]:
-    """The answer to `GET clashes`, by session and paper."""
-    return [Clash(**row) for row in rows(body, "clashes", CLASH)]
+def clashes(body: bytes) -> dict[str, list[str]]:
+    """The answer to `GET clashes`: by session the papers that a candidate is entered for and does not sit, since
+    another is at the same time."""
+    found: dict[str, list[str]] = {}
+    for row in rows(body, "clashes"):
+        found.setdefault(row["session"], []).append(row["paper"])
+    return found
 
 
 def appeals(body: bytes) -> list[Appeal]:
     """The answer to `GET appeals`, by reference."""
-    return [Appeal(**row) for row in rows(body, "appeals", APPEAL)]
+    return [Appeal(**row) for row in rows(body, "appeals")]
 
 
-def rows(body: bytes, name: str, forms: dict[str, Form]) -> list[dict[str, Any]]:
+def rows(body: bytes, name: str) -> list[dict[str, Any]]:
     """The objects of an answer. Raises `Trouble` where one has other members, or a value of another form."""
-    try:
+    with contextlib.suppress(ValueError, KeyError, TypeError, RecursionError):
         found = json.loads(body)[name]
-        if all(row.keys() == forms.keys() and all(forms[key](row[key]) for key in forms) for row in found):
+        if all(ROWS[name].fullmatch(json.dumps(row)) for row in found):
             return list(found)
-    except (ValueError, KeyError, TypeError, AttributeError, RecursionError):
-        pass
     raise Trouble(f"the program answered something else than {name}: are desk and program of one version?")

@@ -6,10 +6,9 @@ from collections import Counter
 from collections.abc import Collection, Iterable
 from typing import NamedTuple
 
-from exam_desk import copies, facts, lists, overlaps, telling, touched
+from exam_desk import copies, facts, lists, overlaps, telling
 from exam_desk.asking import Progress
 from exam_desk.changing import Rehearsal
-from exam_desk.names import name_order
 from exam_desk.office import Office
 from exam_desk.reading import Person, Reading
 from exam_desk.telling import Change, counted
@@ -29,6 +28,11 @@ GRAVEST = 4  # groups that have a line of their own in a short answer
 MOST_NAMED = 3  # candidates in such a line, or sessions
 DESK_ALONE = "desk"  # candidates of this kind are counted, and never named
 COUNTED = ["gets", "leaves", "joins", DESK_ALONE]  # so are these where the others are listed with what becomes of them
+FIGURES = ("SELECT code, coalesce(entered, 0), coalesce(seated, 0) FROM session "
+           "LEFT JOIN (SELECT session AS code, count(DISTINCT number) AS entered FROM entry "
+           "JOIN paper ON paper.code = paper WHERE live = 1 GROUP BY session) USING (code) "
+           "LEFT JOIN (SELECT session AS code, count(*) AS seated FROM seat GROUP BY session) USING (code) "
+           "ORDER BY day, start, code")
 
 
 class Met(NamedTuple):
@@ -47,10 +51,6 @@ class Group(NamedTuple):
     kind: str  # of KINDS
     people: list[Met]  # by session and name
 
-    def is_one(self) -> bool:
-        """Whether all are one candidate in several sessions."""
-        return self.kind != HALLS and len(self.people) > 1 and len({each.person for each in self.people}) == 1
-
     def title(self) -> str:
         """How many people there are, and in how many sittings; of halls how many there are."""
         return counted(KINDS[self.kind], [each.who if self.kind == HALLS else each.person for each in self.people])
@@ -64,10 +64,14 @@ def of(rehearsal: Rehearsal, at_most: int | None, progress: Progress) -> list[st
 
 
 def between(before: Reading, after: Reading, at_most: int | None) -> list[str]:
-    """As `of`, from two readings."""
-    met = groups(before, after)
+    """As `of`, from two readings; then a line for each session whose candidates or seats are other ones: how many they
+    are, counted by their rows."""
+    met, was = groups(before, after), figures(before)
     shown = lines(met, at_most) if met or has_seats(before) else []
-    return shown + other_codes(before, after) + session_lines(before, after)
+    sessions = [f"session {code}: {lists.count(people, 'candidate')}, {people - seats:,} without a desk"
+                + (f" (before: {was[code][0]:,} and {was[code][0] - was[code][1]:,})" if code in was else "")
+                for code, (people, seats) in figures(after).items() if was.get(code) != (people, seats)]
+    return shown + other_codes(before, after) + sessions
 
 
 def done(office: Office, copy: str, progress: Progress) -> list[str]:
@@ -79,11 +83,11 @@ def done(office: Office, copy: str, progress: Progress) -> list[str]:
             if copies.listed(office)[:1] != [copy]:
                 raise Trouble("the office has changed again meanwhile")
             met = groups(before, after)
-            shown = brief(met)
-            hint = [f"`office {listing(met, copies.listed(office).index(copy) + 1)}` lists them"] if shown else []
-            short = short_at_first(before, after)
-            codes = other_codes(before, after)
-            return [f"{line}; `office summary` has all sessions" for line in short] + shown + hint + codes
+            shown = [f"{line}; `office summary` has all sessions" for line in short_at_first(before, after)]
+            shown += brief(met)
+            if met:
+                shown.append(f"`office {listing(met, copies.listed(office).index(copy) + 1)}` lists them")
+            return shown + other_codes(before, after)
     except (Trouble, OSError, sqlite3.Error, MemoryError) as fault:
         reason = plain(str(fault)) or "there is no memory"
         return [f"the change is done, but nobody can say what it did to candidates: {reason}"]
@@ -92,43 +96,30 @@ def done(office: Office, copy: str, progress: Progress) -> list[str]:
 def groups(before: Reading, after: Reading) -> list[Group]:
     """Those whom a change meets in each way, the gravest first. Where nobody has a seat yet, nobody can lose
     or change one."""
-    sessions = touched.of_readings(before, after)
+    sessions = telling.touched(before, after)
     different = telling.of_touched(before, after, sessions) if has_seats(before) else []
-    clashing = [met for code, people in sessions.items() for met in new_clashes(before, after, code, people)]
-    return grouped(different, {CLASHES: clashing, **new_overlaps(before, after, list(sessions))})
+    twice = list(overlaps.new(before, after, list(sessions)))
+    return grouped(different, {
+        CLASHES: [met for code, people in sessions.items() for met in new_clashes(before, after, code, people)],
+        TWICE: [Met(each.late, person.shown(), f"sits in {each.early} then")
+                for each in twice for person in by_name(after, each.candidates)],
+        HALLS: [Met(each.early, f"and {each.late} in {hall}", "both number their desks from 1")
+                for each in twice for hall in each.halls]})
 
 
 def new_clashes(before: Reading, after: Reading, session: str, people: Collection[int] | None) -> list[Met]:
     """Who of these people, or of all, misses a paper of a session that they did not miss before."""
     several = [f"{number:07}" for number, count in facts.entered(after.rows, session).items()
                if count > 1 and (people is None or number in people)]
-    new = after.clashes(session, several) if several else {}
-    entered = facts.entered(before.rows, session)
-    there = [number for number in new if int(number) in entered]
-    old = before.clashes(session, there) if there else {}
+    new, entered = after.clashes(session, several), facts.entered(before.rows, session)
+    old = before.clashes(session, [number for number in new if int(number) in entered])
     missed = {number: sorted(set(papers) - set(old.get(number, []))) for number, papers in new.items()}
-    return [candidate(session, person.number, person.name, f"does not sit {', '.join(missed[person.number])}")
+    return [Met(session, person.shown(), f"does not sit {', '.join(missed[person.number])}")
             for person in by_name(after, (number for number, papers in missed.items() if papers))]
 
 
 def by_name(reading: Reading, numbers: Iterable[str]) -> list[Person]:
-    return sorted((reading.person(int(number)) for number in numbers),
-                  key=lambda person: name_order(person.name, person.number))
-
-
-def new_overlaps(before: Reading, after: Reading, sessions: list[str]) -> dict[str, list[Met]]:
-    """Who is in two sessions at one time, and in which halls both have candidates, where that was not so before."""
-    found: dict[str, list[Met]] = {TWICE: [], HALLS: []}
-    for each in overlaps.new(before, after, sessions):
-        found[TWICE] += [candidate(each.late, person.number, person.name, f"sits in {each.early} then")
-                         for person in by_name(after, each.candidates)]
-        found[HALLS] += [Met(each.early, f"and {each.late} in {hall}", "both number their desks from 1")
-                         for hall in each.halls]
-    return found
-
-
-def candidate(session: str, number: str, name: str, what: str) -> Met:
-    return Met(session, f"{number} {plain(name)}", what)
+    return lists.by_name(reading.person(int(number)) for number in numbers)
 
 
 def short_at_first(before: Reading, after: Reading) -> list[str]:
@@ -144,21 +135,19 @@ def short_at_first(before: Reading, after: Reading) -> list[str]:
 def other_codes(before: Reading, after: Reading) -> list[str]:
     """A line on those whose access code is another, since the slip that they hold opens nothing then."""
     was = facts.access_codes(before.rows)
-    numbers = [number for number, code in facts.access_codes(after.rows).items() if was.get(number, code) != code]
-    if not numbers:
-        return []
-    people = by_name(after, map(str, numbers)) if len(numbers) <= MOST_NAMED else []
-    who = "; ".join(f"{person.number} {plain(person.name)}" for person in people)
-    return [f"{counted(CODES, numbers)}{': ' if who else ''}{who}; a slip with the old code opens nothing"]
+    others = [number for number, code in facts.access_codes(after.rows).items() if was.get(number, code) != code]
+    people = by_name(after, map(str, others)) if len(others) <= MOST_NAMED else []
+    who = ": " + "; ".join(person.shown() for person in people) if people else ""
+    return [f"{counted(CODES, others)}{who}; a slip with the old code opens nothing"] if others else []
 
 
 def grouped(changes: list[Change], people: dict[str, list[Met]]) -> list[Group]:
-    """The changes, and besides those who are met in other ways, by kind."""
-    named: dict[str, Change] = {}
-    for change in changes:
-        if change.kind() != "name" or named.setdefault(change.number, change) is change:  # once, not in each session
-            met = candidate(change.session, change.number, change.name, change.what())
-            people.setdefault(change.kind(), []).append(met)
+    """The changes, another name once and not in each session, and besides those who are met in other ways, by kind."""
+    found, renamed = telling.by_kind(changes), dict[str, Change]()
+    for change in found.get("name", []):
+        renamed.setdefault(change.number, change)
+    people |= {kind: [Met(each.session, each.person(), each.what()) for each in part]
+               for kind, part in {**found, "name": [*renamed.values()]}.items()}
     return [Group(kind, people[kind]) for kind in KINDS if people.get(kind)]
 
 
@@ -175,11 +164,8 @@ def lines(met: list[Group], at_most: int | None) -> list[str]:
 
 def brief(met: list[Group]) -> list[str]:
     """At most five lines, the gravest first; none where nobody is met."""
-    first, others = met[:GRAVEST], met[GRAVEST:]
-    shown = [headline(each) for each in first]
-    if others:
-        shown.append(", ".join(each.title() for each in others))
-    return shown
+    rest = ", ".join(each.title() for each in met[GRAVEST:])
+    return [*map(headline, met[:GRAVEST]), *filter(None, [rest])]
 
 
 def listing(met: list[Group], copy: int) -> str:
@@ -195,7 +181,7 @@ def headline(met: Group) -> str:
     desk alone."""
     if met.kind == DESK_ALONE:
         return met.title()
-    if met.is_one():
+    if met.kind != HALLS and len({each.person for each in met.people}) == 1 < len(met.people):
         return f"{counted(KINDS[met.kind], ['one'])}: {met.people[0].person} in {len(met.people)} sessions"
     if len(met.people) <= MOST_NAMED:
         return f"{met.title()}: " + "; ".join(each.who for each in met.people)
@@ -208,21 +194,9 @@ def most(counts: Counter[str]) -> str:
     return ", ".join([*where[:MOST_NAMED], *([".."] if len(where) > MOST_NAMED else [])])
 
 
-def session_lines(before: Reading, after: Reading) -> list[str]:
-    """A line for each session whose candidates or seats are other ones: how many they are, counted by their rows."""
-    was = figures(before)
-    return [f"session {code}: {lists.count(people, 'candidate')}, {people - seats:,} without a desk"
-            + (f" (before: {was[code][0]:,} and {was[code][0] - was[code][1]:,})" if code in was else "")
-            for code, (people, seats) in figures(after).items() if was.get(code) != (people, seats)]
-
-
 def figures(reading: Reading) -> dict[str, tuple[int, int]]:
     """How many are entered and how many have a seat, by session, in the order of the sessions."""
-    entered = dict(reading.rows.execute("SELECT session, count(DISTINCT number) FROM entry JOIN paper ON code = paper "
-                                        "WHERE live = 1 GROUP BY session").fetchall())
-    seated = dict(reading.rows.execute("SELECT session, count(*) FROM seat GROUP BY session").fetchall())
-    return {head["code"]: (entered.get(head["code"], 0), seated.get(head["code"], 0))
-            for head in facts.sessions(reading.rows)}
+    return {code: (entered, seated) for code, entered, seated in reading.rows.execute(FIGURES)}
 
 
 def has_seats(reading: Reading) -> bool:

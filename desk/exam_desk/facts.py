@@ -33,10 +33,6 @@ def sessions(rows: Rows, asked: Collection[str] = ()) -> list[sqlite3.Row]:
     return [head for head in found if not asked or head["code"] in asked]
 
 
-def papers(rows: Rows, session: str) -> list[str]:
-    return [code for code, in rows.execute("SELECT code FROM paper WHERE session = ? ORDER BY code", [session])]
-
-
 def paper_titles(rows: Rows) -> dict[str, str]:
     return {code: title for code, title in rows.execute("SELECT code, title FROM paper")}
 
@@ -50,7 +46,6 @@ def candidate_names(rows: Rows) -> dict[str, str]:
 
 
 def access_codes(rows: Rows) -> dict[int, str]:
-    """The access code of each candidate, by number."""
     return {number: code for number, code in rows.execute("SELECT number, code FROM candidate")}
 
 

@@ -2,16 +2,19 @@
 from __future__ import annotations
 
 from collections.abc import Collection, Iterable
+from typing import TypeVar
 
 from exam_desk import facts
 from exam_desk.answers import Sitting
 from exam_desk.names import name_order
-from exam_desk.reading import Member, Reading
+from exam_desk.reading import Member, Person, Reading
 from exam_desk.trouble import Trouble
 
+Named = TypeVar("Named", Member, Person)
 
-def by_name(members: Iterable[Member]) -> list[Member]:
-    return sorted(members, key=lambda member: name_order(member.name, member.number))
+
+def by_name(people: Iterable[Named]) -> list[Named]:
+    return sorted(people, key=lambda each: name_order(each.name, each.number))
 
 
 def by_desk(members: Iterable[Member], hall: str) -> list[Member]:
@@ -23,13 +26,11 @@ def halls(reading: Reading, session: str, asked: Collection[str] = ()) -> list[t
     """The halls that are asked for, or all in which somebody sits, each with who sits there, by desk. Raises `Trouble`
     where nobody sits in one that is asked for."""
     members = reading.members(session)
-    found = [(opening, there) for opening in facts.openings(reading.rows, session)
-             if (there := by_desk(members, opening.hall)) and (not asked or opening.hall in asked)]
-    missing = [code for code in asked if code not in {opening.hall for opening, _ in found}]
-    if missing:
-        used = ", ".join(sorted({member.sitting.hall for member in members if member.sitting.hall}))
-        raise Trouble(f"nobody sits in {missing[0]} in {session}; somebody sits in {used or 'no hall'}")
-    return found
+    found = {opening.hall: (opening, there) for opening in facts.openings(reading.rows, session)
+             if (there := by_desk(members, opening.hall))}
+    if missing := [code for code in asked if code not in found]:
+        raise Trouble(f"nobody sits in {missing[0]} in {session}; somebody sits in {', '.join(found) or 'no hall'}")
+    return [found[code] for code in found if not asked or code in asked]
 
 
 def count(number: int, thing: str) -> str:

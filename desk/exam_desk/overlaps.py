@@ -6,28 +6,25 @@ only of those whom the rows leave in doubt: nobody sits in a hall for longer tha
 from __future__ import annotations
 
 import itertools
-from collections import defaultdict
 from collections.abc import Collection, Iterator
 from typing import NamedTuple
 
 from exam_desk.lists import count
 from exam_desk.reading import Reading
-from exam_desk.words import plain
 
 LONGEST = 1200  # minutes that somebody without a desk may sit: those of the longest paper, and as many more
 MOST_NAMED = 3  # candidates, or halls, in a line
 MOST_LINES = 20
 SESSIONS = "SELECT code, CAST(julianday(day) * 1440 AS INTEGER) + start AS begins FROM session ORDER BY begins, code"
-IN_BOTH = ("SELECT DISTINCT printf('%07d', entry.number) FROM session JOIN paper ON paper.session = session.code "
+IN_BOTH = ("SELECT DISTINCT NULL, printf('%07d', entry.number) FROM session JOIN paper ON paper.session = session.code "
            "JOIN entry ON entry.paper = paper.code "
            "LEFT JOIN seat ON seat.session = session.code AND seat.number = entry.number "
            "LEFT JOIN opening ON opening.session = seat.session AND opening.hall = seat.hall "
            "WHERE session.code = :early AND live = 1 AND coalesce(until - start, :longest) > :gap AND entry.number IN "
-           "(SELECT number FROM paper JOIN entry ON entry.paper = paper.code WHERE session = :late AND live = 1) "
-           "ORDER BY 1")
-SEATED = ("SELECT hall, printf('%07d', number) FROM seat JOIN opening USING (session, hall) "
-          "JOIN session ON code = session WHERE session = :early AND until - start > :gap "
-          "AND hall IN (SELECT hall FROM seat WHERE session = :late) ORDER BY hall")
+           "(SELECT number FROM paper JOIN entry ON entry.paper = paper.code WHERE session = :late AND live = 1)")
+IN_HALLS = ("SELECT hall, printf('%07d', number) FROM seat JOIN opening USING (session, hall) "
+            "JOIN session ON code = session WHERE session = :early AND until - start > :gap "
+            "AND hall IN (SELECT hall FROM seat WHERE session = :late) ORDER BY 1, 2")
 
 
 class Pair(NamedTuple):
@@ -35,6 +32,13 @@ class Pair(NamedTuple):
     early: str
     late: str
     gap: int  # minutes from one start to the other
+
+
+class Doubtful(NamedTuple):
+    """Who sits in the first of two sessions, and may sit yet when the second begins."""
+    pair: Pair
+    hall: str | None  # in which candidates of the second sit, too; None where this one has both sessions
+    number: str
 
 
 class Overlap(NamedTuple):
@@ -45,19 +49,16 @@ class Overlap(NamedTuple):
     halls: list[str]
 
 
-Doubtful = tuple[Pair, list[str], dict[str, list[str]]]  # candidates, and those of halls, who may be there in both
-
-
 def of_candidate(reading: Reading, number: str) -> list[Overlap]:
     """The overlaps of the sessions in which a candidate sits, as far as they or their halls are in both."""
-    own = reading.all_of(number)
+    own, doubtful = reading.all_of(number), list[Doubtful]()
     opened = {(session, hall) for session, hall in reading.rows.execute("SELECT session, hall FROM opening")}
-    doubtful = []
     for pair in pairs(reading, own) if own else []:
         mine = [own[code].hall for code in (pair.early, pair.late) if code in own]
-        is_shared = any({(pair.early, hall), (pair.late, hall)} <= opened for hall in mine)
-        there = seated(reading, pair) if is_shared else {}
-        doubtful.append((pair, [number] * (len(mine) == 2), {hall: there[hall] for hall in there if hall in mine}))
+        doubtful += [Doubtful(pair, None, number)] * (len(mine) == 2)
+        if any({(pair.early, hall), (pair.late, hall)} <= opened for hall in mine):
+            there = reading.rows.execute(IN_HALLS, pair._asdict())
+            doubtful += [Doubtful(pair, hall, each) for hall, each in there if hall in mine]
     return certain(reading, doubtful)
 
 
@@ -67,27 +68,29 @@ def found(reading: Reading, asked: Collection[str] = ()) -> list[Overlap]:
 
 
 def in_doubt(reading: Reading, asked: Collection[str] = ()) -> list[Doubtful]:
-    """The pairs of these sessions with any others, otherwise all, with those whom the rows leave in doubt."""
+    """Whom the rows leave in doubt in the pairs of these sessions with any others, otherwise in all."""
     reading.rows.index_entries()
-    doubtful = []
-    for pair in pairs(reading, asked):
-        in_both = reading.rows.execute(IN_BOTH, {**pair._asdict(), "longest": LONGEST})
-        doubtful.append((pair, [number for number, in in_both], seated(reading, pair)))
-    return doubtful
+    return [Doubtful(pair, hall, number) for pair in pairs(reading, asked) for hall, number in
+            reading.rows.execute(f"{IN_BOTH} UNION ALL {IN_HALLS}", {**pair._asdict(), "longest": LONGEST})]
 
 
 def numbers_of(doubtful: Collection[Doubtful]) -> list[int]:
-    return sorted({int(number) for _, people, halls in doubtful
-                   for number in (*people, *itertools.chain(*halls.values()))})
+    return sorted({int(each.number) for each in doubtful})
 
 
 def certain(reading: Reading, doubtful: Collection[Doubtful]) -> list[Overlap]:
-    """What is left of pairs when the program has said who sits until when."""
+    """What is left when the program has said who sits until when."""
     reading.ask(map(reading.person, numbers_of(doubtful)))
-    overlaps = [Overlap(pair.early, pair.late, [number for number in people if lasts(reading, pair, number)],
-                        [hall for hall, there in halls.items() if any(lasts(reading, pair, each) for each in there)])
-                for pair, people, halls in doubtful]
-    return [each for each in overlaps if each.candidates or each.halls]
+    overlaps: dict[Pair, Overlap] = {}
+    for pair, hall, number in doubtful:
+        sitting = reading.all_of(number)[pair.early]
+        if of_day(sitting.finish) - of_day(sitting.start) > pair.gap:
+            each = overlaps.setdefault(pair, Overlap(pair.early, pair.late, [], []))
+            if hall is None:
+                each.candidates.append(number)
+            elif hall not in each.halls:
+                each.halls.append(hall)
+    return list(overlaps.values())
 
 
 def new(before: Reading, after: Reading, sessions: Collection[str]) -> Iterator[Overlap]:
@@ -110,32 +113,16 @@ def pairs(reading: Reading, asked: Collection[str]) -> list[Pair]:
             if not asked or early in asked or late in asked]
 
 
-def seated(reading: Reading, pair: Pair) -> dict[str, list[str]]:
-    """By hall those who sit there in the first session and may still sit when the second begins, where candidates of
-    the second have it too."""
-    halls: dict[str, list[str]] = defaultdict(list)
-    for hall, number in reading.rows.execute(SEATED, pair._asdict()):
-        halls[hall].append(number)
-    return halls
-
-
-def lasts(reading: Reading, pair: Pair, number: str) -> bool:
-    """Whether a candidate of the first session sits when the second begins, as the program says."""
-    sitting = reading.all_of(number)[pair.early]
-    return of_day(sitting.finish) - of_day(sitting.start) > pair.gap
-
-
 def of_day(clock: str) -> int:
     hours, minutes = clock.split(":")
     return int(hours) * 60 + int(minutes)
 
 
 def line(reading: Reading, each: Overlap) -> str:
-    parts = [f"{count(len(each.candidates), 'candidate')} in both: "
-             + few([f"{number} {plain(reading.person(int(number)).name)}" for number in each.candidates])
-             ] if each.candidates else []
-    parts += [f"candidates of both in {few(each.halls)}"] if each.halls else []
-    return f"{each.early} and {each.late} overlap: {'; '.join(parts)}"
+    people = [reading.person(int(number)).shown() for number in each.candidates]
+    both = f"{count(len(people), 'candidate')} in both: {few(people)}" if people else ""
+    halls = f"candidates of both in {few(each.halls)}" if each.halls else ""
+    return f"{each.early} and {each.late} overlap: {'; '.join(filter(None, (both, halls)))}"
 
 
 def lines(reading: Reading, found: Collection[Overlap]) -> list[str]:

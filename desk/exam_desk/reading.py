@@ -10,8 +10,7 @@ import contextlib
 import os
 import threading
 import time
-from collections.abc import Callable, Collection, Iterable, Sequence
-from types import TracebackType
+from collections.abc import Callable, Collection, Iterable
 from typing import NamedTuple, TypeVar
 
 from exam_desk import answers, asking, bad_rows, facts, private, running, snapshot, turns
@@ -19,9 +18,10 @@ from exam_desk.answers import Appeal, Sitting
 from exam_desk.asking import Progress, Serve, ask_all
 from exam_desk.office import Office
 from exam_desk.trouble import BadRows, Trouble
+from exam_desk.words import plain
 
 Found = TypeVar("Found")
-
+REQUEST = "GET /candidates/{}/{} HTTP/1.1\r\nHost: office\r\nexam-code: {}\r\n\r\n"
 JUST_NOW = 50_000_000  # nanoseconds in which a second change of a file may leave its time as it is
 
 
@@ -38,15 +38,14 @@ class Person(NamedTuple):
     name: str
     code: str
 
-
-def silent(done: int, of: int) -> None:
-    """Shows nothing of how far the questions are."""
+    def shown(self) -> str:
+        return f"{self.number} {plain(self.name)}"
 
 
 class Reading:
     """A context. Several threads may use it; the first that asks must live as long as it."""
 
-    def __init__(self, office: Office, path: str | None = None, progress: Progress = silent,
+    def __init__(self, office: Office, path: str | None = None, progress: Progress = lambda done, of: None,
                  kept: asking.Server | None = None) -> None:
         """Reads the office, or another file of an office. Who is given as `kept` is asked in place of a `serve` over
         the copy. Raises `Trouble` where the office cannot be read."""
@@ -56,8 +55,8 @@ class Reading:
         self.asking, self.printing = threading.Lock(), threading.Lock()
         self.kept = kept
         self.serve: Serve | None = None
-        self.sittings: dict[int, dict[str, Sitting]] = {}  # what the program said, by number and session
-        self.missed: dict[int, list[answers.Clash]] = {}
+        self.sittings: dict[str, dict[str, Sitting]] = {}  # what the program said, by number and session
+        self.missed: dict[str, dict[str, list[str]]] = {}
         self.read_at = time.time_ns()
         with contextlib.ExitStack() as stack:
             try:
@@ -65,15 +64,13 @@ class Reading:
                 self.copy = stack.enter_context(private.private_copy(self.path, office.path))
             except OSError as fault:
                 raise snapshot.unreadable(self.path, fault) from fault
-            self.rows = snapshot.rows_of(self.copy, self.path)
-            stack.callback(self.rows.close)
+            self.rows = stack.enter_context(contextlib.closing(snapshot.rows_of(self.copy, self.path)))
             self.stack = stack.pop_all()
 
     def __enter__(self) -> Reading:
         return self
 
-    def __exit__(self, kind: type[BaseException] | None, fault: BaseException | None,
-                 place: TracebackType | None) -> None:
+    def __exit__(self, *_: object) -> None:
         self.stack.close()
 
     def is_current(self) -> bool:
@@ -84,45 +81,38 @@ class Reading:
             return settled and self.state == state_of(self.path)
         return False
 
-    def members(self, session: str) -> list[Member]:
-        """Who sits what in a session, by number. Raises `Trouble` where there is no such session."""
-        snapshot.session_row(self.rows, session)
-        people = [self.person(number) for number in facts.entered(self.rows, session)]
+    def members(self, session: str, only: Iterable[int] | None = None) -> list[Member]:
+        """Who sits what in a session, by number, or who of some candidates does. Raises `Trouble` where all are asked
+        for and there is no such session."""
+        if only is None:
+            snapshot.session_row(self.rows, session)
+            only = facts.entered(self.rows, session)
+        people = [self.person(number) for number in only]
         self.ask(people)
-        return [member for person in people if (member := self.member_of(person, session))]
+        return [Member(number, name, sitting) for number, name, _ in people
+                if (sitting := self.sittings[number].get(session))]
 
     def member(self, session: str, number: str) -> Member | None:
         """What one candidate sits in a session; None where they sit nothing."""
-        person = self.person(int(number))
-        self.ask([person])
-        return self.member_of(person, session)
-
-    def member_of(self, person: Person, session: str) -> Member | None:
-        sitting = self.sittings[int(person.number)].get(session)
-        return sitting and Member(person.number, person.name, sitting)
+        return next(iter(self.members(session, [int(number)])), None)
 
     def all_of(self, number: str) -> dict[str, Sitting]:
-        self.ask([self.person(int(number))])
-        return self.sittings[int(number)]
+        person = self.person(int(number))
+        self.ask([person])
+        return self.sittings[person.number]
 
-    def clashes(self, session: str, only: Collection[str] = ()) -> dict[str, list[str]]:
+    def clashes(self, session: str, only: Collection[str] | None = None) -> dict[str, list[str]]:
         """The papers that each candidate with such papers is entered for and does not sit, by number; of all members,
         or of some candidates."""
-        asked = map(int, only) if only else (
-            number for number, count in facts.entered(self.rows, session).items() if count > 1)
-        several = [self.person(number) for number in asked]
-        with self.asking:
-            unknown = [person for person in several if int(person.number) not in self.missed]
-            for person, body in zip(unknown, self.bodies(unknown, "clashes")):
-                self.missed[int(person.number)] = answers.clashes(body)
-        found = {person.number: [clash.paper for clash in self.missed[int(person.number)] if clash.session == session]
-                 for person in several}
-        return {number: papers for number, papers in found.items() if papers}
+        asked = (number for number, count in facts.entered(self.rows, session).items() if count > 1)
+        several = [self.person(number) for number in (asked if only is None else map(int, only))]
+        self.learn(several, "clashes", self.missed, answers.clashes)
+        return {person.number: papers for person in several if (papers := self.missed[person.number].get(session))}
 
     def appeals(self, number: str) -> list[Appeal]:
-        with self.asking:
-            [body] = self.bodies([self.person(int(number))], "appeals")
-        return answers.appeals(body)
+        found: dict[str, list[Appeal]] = {}
+        self.learn([self.person(int(number))], "appeals", found, answers.appeals)
+        return found.popitem()[1]
 
     def knows(self, number: str) -> bool:
         """Whether the office has a candidate with this number of seven digits."""
@@ -136,24 +126,21 @@ class Reading:
             raise Trouble(f"there is no candidate {number:07}")
         return Person(f"{number:07}", row["name"], row["code"])
 
-    def ask_sessions(self, sessions: Iterable[str]) -> None:
-        """Asks at once for the members of several sessions, so that the progress is that of the whole."""
-        numbers = dict.fromkeys(number for session in sessions for number in facts.entered(self.rows, session))
-        self.ask(map(self.person, numbers))
-
     def ask(self, people: Iterable[Person]) -> None:
         """Asks the program what those sit of whom it was not asked yet."""
-        with self.asking:
-            unknown = [person for person in people if int(person.number) not in self.sittings]
-            for person, body in zip(unknown, self.bodies(unknown, "seats")):
-                self.sittings[int(person.number)] = answers.sittings(body)
+        self.learn(people, "seats", self.sittings, answers.sittings)
 
-    def bodies(self, people: Sequence[Person], what: str) -> list[bytes]:
-        """The answers to one question about each. Call it with the lock of those who ask."""
-        requests = [request(person, what) for person in people]
-        if self.kept:
-            return ask_all(self.kept, requests, [], self.progress)
-        return self.begun().bodies(requests, self.progress) if requests else []
+    def learn(self, people: Iterable[Person], what: str, known: dict[str, Found],
+              read: Callable[[bytes], Found]) -> None:
+        """Asks one question about each of whom the answer is not known yet."""
+        with self.asking:
+            unknown = [person for person in people if person.number not in known]
+            requests = [REQUEST.format(person.number, what, person.code).encode("ascii") for person in unknown]
+            if self.kept:
+                bodies = ask_all(self.kept, requests, [], self.progress)
+            else:
+                bodies = self.begun().bodies(requests, self.progress) if requests else []
+            known.update((person.number, read(body)) for person, body in zip(unknown, bodies))
 
     def begun(self) -> Serve:
         """The `serve`, over a second copy. Call it with the lock of those who ask."""
@@ -165,8 +152,7 @@ class Reading:
                 for ending in ("", "-wal"):
                     with contextlib.suppress(FileNotFoundError):
                         private.copy_file(self.copy + ending, path + ending)
-            self.serve = serve = Serve(self.office, path, self.refuse_rows)
-            self.stack.callback(serve.close)
+            self.serve = self.stack.enter_context(contextlib.closing(Serve(self.office, path, self.refuse_rows)))
         return self.serve
 
     def prepare(self) -> None:
@@ -210,11 +196,6 @@ def of_few(office: Office, read: Callable[[Reading], Found]) -> Found:
                 return found
     with Reading(office) as reading:
         return read(reading)
-
-
-def request(person: Person, what: str) -> bytes:
-    head = f"GET /candidates/{person.number}/{what} HTTP/1.1\r\nHost: office\r\nexam-code: {person.code}\r\n\r\n"
-    return head.encode("ascii")
 
 
 def state_of(path: str) -> list[tuple[int, ...]]:

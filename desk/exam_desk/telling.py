@@ -1,14 +1,20 @@
-"""Who must be told: what members of a session sit, when and where, at two moments of an office."""
+"""Who must be told: what members of a session sit, when and where, at two moments of an office.
+
+Somebody sits otherwise only where a row of theirs, of the session or of one of its papers is another, or where another
+row of somebody in their hall is: desks are numbered hall by hall. So the program need not be asked of the others.
+"""
 from __future__ import annotations
 
+import contextlib
+import sqlite3
+from collections import defaultdict
 from collections.abc import Collection, Iterable
 from typing import NamedTuple
 
-from exam_desk import facts, files, touched
+from exam_desk import facts, files
 from exam_desk.answers import Sitting
 from exam_desk.names import name_order
 from exam_desk.reading import Reading
-from exam_desk.touched import Touched
 from exam_desk.trouble import Trouble
 from exam_desk.words import plain
 
@@ -24,6 +30,30 @@ KINDS = {  # the gravest first; what one does and what several do
     "joins": ("joins a session", "join a session"),
     "desk": ("has another desk in the same hall", "have other desks in the same hall"),
 }
+TO_TELL, DESK_ALONE = ("to tell",) * 2, ("with another desk only",) * 2
+
+SESSIONS_OF = ("SELECT DISTINCT session FROM {moment}.paper JOIN {moment}.entry ON entry.paper = paper.code "
+               "WHERE entry.number IN ({numbers})")
+OF_NUMBERS = SESSIONS_OF.replace("{numbers}", "SELECT number FROM different")
+SESSIONS = {  # by table: which sessions a row that is another can change, as a query over the rows in `different`
+    "session": "SELECT code FROM different UNION " + SESSIONS_OF.replace(
+        "{numbers}", "SELECT number FROM {moment}.appeal WHERE session IN (SELECT code FROM different)"),
+    "paper": "SELECT session FROM different",
+    "hall": "SELECT session FROM {moment}.opening WHERE hall IN (SELECT code FROM different)",
+    "opening": "SELECT session FROM different",
+    "seat": "SELECT session FROM different",
+    "entry": "SELECT session FROM {moment}.paper WHERE code IN (SELECT paper FROM different)",
+    "candidate": OF_NUMBERS, "arrangement": OF_NUMBERS, "appeal": OF_NUMBERS, "standing": OF_NUMBERS,
+}
+OF_ALL = ["session", "paper"]  # a row of such a table can meet all members of its sessions
+OF_ONE = ["seat", "entry", "candidate", "arrangement", "appeal", "standing"]  # a row belongs to one candidate
+NEIGHBOURS = (  # whoever sits in a hall with one of the numbers, before or after
+    "WITH halls AS (SELECT session, hall FROM before.seat WHERE number IN numbers "
+    "UNION SELECT session, hall FROM after.seat WHERE number IN numbers) "
+    "SELECT session, number FROM before.seat JOIN halls USING (session, hall) "
+    "UNION SELECT session, number FROM after.seat JOIN halls USING (session, hall)")
+MOMENTS = ("before", "after")
+Touched = dict[str, set[int] | None]  # by session the numbers; None for all of its members
 
 
 class Change(NamedTuple):
@@ -52,18 +82,16 @@ class Change(NamedTuple):
             return "moves" if old.hall else "gets"
         return "time" if time(old) != time(new) else "name" if self.name != self.old_name else "desk"
 
+    def person(self) -> str:
+        return f"{self.number} {plain(self.name)}"
+
     def what(self) -> str:
-        if self.old is None or self.new is None:
-            word, sitting = ("joined", self.new) if self.old is None else ("left", self.old)
-            return f"{word}: {sitting.paper}, {time(sitting)}, {place(sitting)}" if sitting else ""
-        pairs = [(part(self.old), part(self.new)) for part in (place, paper, time)]
-        pairs.append((plain(self.old_name), plain(self.name)))
-        return ", ".join(f"{old} -> {new}" for old, new in pairs if old != new)
-
-
-def shown(sitting: Sitting) -> list[str]:
-    """The columns of the CSV."""
-    return [sitting.date, sitting.start, sitting.finish, sitting.paper, sitting.hall or "", str(sitting.desk or "")]
+        if self.old and self.new:
+            old, new = ([place(each), each.paper, time(each)] for each in (self.old, self.new))
+            pairs = zip([*old, plain(self.old_name)], [*new, plain(self.name)])
+            return ", ".join(f"{was} -> {now}" for was, now in pairs if was != now)
+        word, sitting = ("joined", self.new) if self.old is None else ("left", self.old)
+        return f"{word}: {sitting.paper}, {time(sitting)}, {place(sitting)}" if sitting else ""
 
 
 def time(sitting: Sitting) -> str:
@@ -74,52 +102,90 @@ def place(sitting: Sitting) -> str:
     return f"{sitting.hall} desk {sitting.desk}" if sitting.hall else "no desk"
 
 
-def paper(sitting: Sitting) -> str:
-    return sitting.paper
+def columns(sitting: Sitting | None) -> list[str]:
+    """Those of the CSV."""
+    if sitting is None:
+        return [""] * 6
+    return [sitting.date, sitting.start, sitting.finish, sitting.paper, sitting.hall or "", str(sitting.desk or "")]
+
+
+def touched(before: Reading, after: Reading) -> Touched:
+    """The sessions in order, each with those whom the change can meet there."""
+    people: dict[str, set[int]] = defaultdict(set)
+    with contextlib.closing(sqlite3.connect(":memory:")) as both:
+        both.execute("PRAGMA temp_store = MEMORY")  # reasons of appeals are in no file of others
+        for moment, reading in zip(MOMENTS, (before, after)):
+            both.execute(f"ATTACH ? AS {moment}", [reading.copy])
+        both.execute("CREATE TEMP TABLE numbers (number PRIMARY KEY)")
+        found = {table: sessions_of(both, table) for table in SESSIONS}
+        numbers = {number for number, in both.execute("SELECT number FROM numbers")}
+        for session, number in both.execute(NEIGHBOURS):
+            people[session].add(number)
+    sessions, whole = set().union(*found.values()), set().union(*(found[table] for table in OF_ALL))
+    return {code: None if code in whole else numbers | people[code]
+            for code in all_sessions(before, after) if code in sessions}
+
+
+def all_sessions(before: Reading, after: Reading) -> list[str]:
+    """The codes of the sessions after, by day and start; then of those that are gone."""
+    return list(dict.fromkeys(head["code"] for reading in (after, before) for head in facts.sessions(reading.rows)))
+
+
+def sessions_of(both: sqlite3.Connection, table: str) -> set[str]:
+    """The sessions that rows of a table touch; the numbers in such rows are kept."""
+    found: set[str] = set()
+    for moment, other in (MOMENTS, MOMENTS[::-1]):
+        both.execute("DROP TABLE IF EXISTS temp.different")
+        both.execute(f"CREATE TEMP TABLE different AS SELECT * FROM {moment}.{table} EXCEPT "
+                     f"SELECT * FROM {other}.{table}")
+        found.update(code for code, in both.execute(SESSIONS[table].format(moment=moment)))
+        if table in OF_ONE:
+            both.execute("INSERT OR IGNORE INTO numbers SELECT number FROM different")
+    return found
 
 
 def differences(before: Reading, after: Reading, asked: Collection[str] = ()) -> list[Change]:
     """The changes by session, in each by name; of these sessions, or of all. The program is asked only of whom rows
     that are others can meet. Raises `Trouble` where neither office has a session that is asked for."""
-    sessions = touched.all_sessions(before, after)
+    sessions = all_sessions(before, after)
     for code in asked:
         if code not in sessions:
             raise Trouble(f"there is no session {code}; the office has {', '.join(sessions[:20])}")
-    found = touched.of_readings(before, after)
+    found = touched(before, after)
     return of_touched(before, after, {code: found[code] for code in found if not asked or code in asked})
 
 
 def of_touched(before: Reading, after: Reading, sessions: Touched) -> list[Change]:
-    """The changes of those who are touched; the program is asked of all of them at once."""
+    """The changes of those who are touched."""
     for reading in (before, after):  # both open their copies at once
         if sessions:
             reading.prepare()
-    for reading in (before, after):
-        numbers = {number for code, people in sessions.items() for number in members(reading, code, people)}
-        reading.ask(map(reading.person, sorted(numbers)))
-    return [change for code, people in sessions.items() for change in of_session(before, after, code, people)]
+    old, new = (sat(reading, sessions) for reading in (before, after))
+    nobody: tuple[str, None] = ("", None)
+    found = []
+    for session, number in {**old, **new}:
+        (old_name, then), (name, now) = old.get((session, number), nobody), new.get((session, number), nobody)
+        if columns(then) != columns(now) or old_name != name:
+            found.append(Change(session, number, name or old_name, then, now, old_name or name))
+    places = {session: place for place, session in enumerate(sessions)}
+    return sorted(found, key=lambda change: (places[change.session], name_order(change.name, change.number)))
 
 
-def members(reading: Reading, session: str, people: Collection[int] | None) -> list[int]:
-    """The numbers of those of these people, or of all, who have an entry in a session."""
-    return [number for number in facts.entered(reading.rows, session) if people is None or number in people]
+def sat(reading: Reading, sessions: Touched) -> dict[tuple[str, str], tuple[str, Sitting]]:
+    """The names of those who are touched, and what they sit, by session and number; all are asked of at once."""
+    numbers = {session: [number for number in facts.entered(reading.rows, session) if people is None or number in people]
+               for session, people in sessions.items()}
+    reading.ask(map(reading.person, sorted(set().union(*numbers.values()))))
+    return {(session, number): (name, sitting) for session, asked in numbers.items()
+            for number, name, sitting in reading.members(session, asked)}
 
 
-def of_session(before: Reading, after: Reading, session: str, people: Collection[int] | None) -> list[Change]:
-    old, new = (sittings(reading, session, people) for reading in (before, after))
-    none: tuple[str, None] = ("", None)
-    pairs = {number: (old.get(number, none), new.get(number, none)) for number in {**old, **new}}
-    found = [Change(session, number, after[0] or before[0], before[1], after[1], before[0] or after[0])
-             for number, (before, after) in pairs.items()]
-    return sorted((change for change in found if change.old is None or change.new is None
-                   or shown(change.old) != shown(change.new) or change.old_name != change.name),
-                  key=lambda change: name_order(change.name, change.number))
-
-
-def sittings(reading: Reading, session: str, people: Collection[int] | None) -> dict[str, tuple[str, Sitting]]:
-    """By number the name and what they sit; nothing where there is no such session."""
-    found = (reading.member(session, f"{number:07}") for number in members(reading, session, people))
-    return {member.number: (member.name, member.sitting) for member in found if member}
+def by_kind(changes: Iterable[Change]) -> dict[str, list[Change]]:
+    """The changes of each kind, the gravest kind first."""
+    found: dict[str, list[Change]] = {kind: [] for kind in KINDS}
+    for change in changes:
+        found[change.kind()].append(change)
+    return {kind: part for kind, part in found.items() if part}
 
 
 def text(changes: Collection[Change], tells_alone: bool = False) -> str:
@@ -128,30 +194,25 @@ def text(changes: Collection[Change], tells_alone: bool = False) -> str:
     telling = [change.number for change in changes if change.is_to_tell()]
     told = set(telling)
     others = [change.number for change in changes if change.number not in told]
-    last = f"{people(telling, 'to tell')}, {people(others, 'with another desk only')}" if changes else "nothing changed"
-    shown = ""
-    for kind, words in KINDS.items():
-        found = [change for change in changes if change.kind() == kind]
-        if found and not (tells_alone and kind == "desk"):
-            shown += "".join([f"{counted(words, [change.number for change in found])}:\n", *map(line, found)])
-    return f"{shown}{last}\n"
+    lines, last = [], f"{counted(TO_TELL, telling)}, {counted(DESK_ALONE, others)}" if changes else "nothing changed"
+    for kind, part in by_kind(changes).items():
+        if part[0].is_to_tell() or not tells_alone:
+            mark = "!" if part[0].is_to_tell() else " "
+            lines += [f"{counted(KINDS[kind], [change.number for change in part])}:",
+                      *(f"{mark} {change.session} {change.person()}: {change.what()}" for change in part)]
+    return "".join(f"{line}\n" for line in [*lines, last])
 
 
 def counted(words: tuple[str, str], who: Collection[object]) -> str:
-    """How many people there are, and what one does or several do, from who it is in each sitting."""
-    return people(who, words[len(set(who)) > 1])
+    """How many people there are, what one does or several do, and in how many sittings where these are more."""
+    people, sittings = people_and_sittings(who)
+    more = f" ({sittings:,} {'sessions' if people == 1 else 'sittings'})" if sittings > people else ""
+    return f"{people:,} {words[people > 1]}{more}"
 
 
-def people(who: Collection[object], what: str) -> str:
-    """How many people there are, what they do, and in how many sittings where these are more."""
-    several = len(set(who))
-    sittings = f" ({len(who):,} {'sessions' if several == 1 else 'sittings'})" if len(who) > several else ""
-    return f"{several:,} {what}{sittings}"
-
-
-def line(change: Change) -> str:
-    mark = "!" if change.is_to_tell() else " "
-    return f"{mark} {change.session} {change.number} {plain(change.name)}: {change.what()}\n"
+def people_and_sittings(who: Collection[object]) -> tuple[int, int]:
+    """How many people there are, and in how many sittings, from who it is in each sitting."""
+    return len(set(who)), len(who)
 
 
 def csv_text(changes: Iterable[Change], titles: dict[str, str]) -> str:
@@ -160,11 +221,11 @@ def csv_text(changes: Iterable[Change], titles: dict[str, str]) -> str:
 
 
 def csv_row(change: Change, titles: dict[str, str]) -> list[str]:
-    old, new = (shown(each) if each else [""] * 6 for each in (change.old, change.new))
     last = change.new or change.old
     codes = [last.paper, last.hall or ""] if last else ["", ""]
     return ["yes" if change.is_to_tell() else "no", change.session, change.number, files.guarded(change.name),
-            *old, *new, *(files.guarded(titles.get(code, "")) for code in codes), files.guarded(change.old_name)]
+            *columns(change.old), *columns(change.new), *(files.guarded(titles.get(code, "")) for code in codes),
+            files.guarded(change.old_name)]
 
 
 def titles_of(*readings: Reading) -> dict[str, str]:

@@ -6,8 +6,8 @@ from flask import Blueprint, Response, redirect, render_template, request, url_f
 from werkzeug.wrappers import Response as Answer
 
 from exam_desk import facts, names, notebook, second_sitting
-from exam_desk.sheets import notes, person
 from exam_desk.sheets import slips as slip_pages
+from exam_desk.sheets import texts
 from exam_desk.trouble import Trouble
 from exam_web import output
 from exam_web.desk import View, candidate_row, desk, once, view
@@ -47,7 +47,7 @@ def people(found: View) -> list[tuple[int, str, str]]:
 @pages.get("/candidates/<int:number>")
 def page(number: int, code: str = "") -> str:
     who = candidate_row(number)
-    entries = view().rows(person.ENTRIES, [number])
+    entries = view().rows(texts.ENTRIES, [number])
     lodged = view().rows("SELECT appeal.*, day FROM appeal JOIN session ON session.code = session WHERE number = ? "
                          "ORDER BY state, lodged, ref", [number])
     standing = {ref for ref, in view().rows("SELECT ref FROM standing WHERE number = ?", [number])}
@@ -94,7 +94,7 @@ def note(number: int) -> Answer:
 
 @pages.get("/candidates/notes")
 def all_notes() -> Response:
-    return Response(notes.text(desk().office, view().reading.rows), mimetype="text/plain")
+    return Response(texts.notes(desk().office, view().reading.rows), mimetype="text/plain")
 
 
 @pages.post("/candidates/slips")

@@ -3,7 +3,7 @@ from collections import Counter
 from collections.abc import Iterable
 from typing import NamedTuple
 
-from exam_desk import facts, overlaps, telling, touched
+from exam_desk import facts, overlaps, telling
 from exam_desk.consequences import by_name, has_seats
 from exam_desk.reading import Member, Person, Reading
 from exam_desk.telling import Change
@@ -65,7 +65,7 @@ class Effects:
 def effects(before: View, after: View) -> Effects:
     """Where nobody has a seat yet, nobody can lose or change one: then the sessions say all."""
     changes = telling.differences(before.reading, after.reading) if has_seats(before.reading) else []
-    twice = overlaps.new(before.reading, after.reading, list(touched.of_readings(before.reading, after.reading)))
+    twice = overlaps.new(before.reading, after.reading, list(telling.touched(before.reading, after.reading)))
     was = facts.access_codes(before.reading.rows)
     codes = sum(was.get(number, code) != code for number, code in facts.access_codes(after.reading.rows).items())
     return Effects(changes, session_changes(before, after), new_clashes(before, after), named(after.reading, twice),

@@ -9,7 +9,7 @@ from typing import NamedTuple
 from flask import Response, g
 
 from exam_desk import files, private
-from exam_desk.sheets import board, cards, chart, counts, doors, poster, slips
+from exam_desk.sheets import papers, slips
 from exam_web.desk import desk
 
 
@@ -21,11 +21,12 @@ class Sheet(NamedTuple):
 
 
 SHEETS = {
-    "doors": Sheet("Invigilators' sheets to sign", doors.page, True), "poster": Sheet("Posters for doors", poster.page),
-    "cards": Sheet("Desk cards", cards.page, True), "chart": Sheet("Seating charts", chart.page, True),
+    "doors": Sheet("Invigilators' sheets to sign", papers.doors, True),
+    "poster": Sheet("Posters for doors", papers.poster),
+    "cards": Sheet("Desk cards", papers.cards, True), "chart": Sheet("Seating charts", papers.chart, True),
     "slips": Sheet("Slips for candidates", lambda reading, session: slips.page(
         reading, slips.Choice(sessions=[session], desks=True))),
-    "board": Sheet("Notice board by name", board.page), "counts": Sheet("Copies of each paper", counts.page),
+    "board": Sheet("Notice board by name", papers.board), "counts": Sheet("Copies of each paper", papers.counts),
 }
 
 

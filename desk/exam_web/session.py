@@ -11,7 +11,7 @@ from exam_desk import appeals, facts, lists, notebook
 from exam_desk.facts import Opening
 from exam_desk.notebook import Rows
 from exam_desk.reading import Member
-from exam_desk.sheets.chart import NotDrawn, numbered
+from exam_desk.sheets.papers import NotDrawn, numbered
 from exam_desk.trouble import Trouble
 from exam_web import counting, output, shortages
 from exam_web.desk import View, desk, once, view
@@ -84,10 +84,7 @@ def clashes(code: str, most: int = MOST_PEOPLE) -> list[tuple[Member, list[str]]
 
 def members_of(code: str, numbers: list[int]) -> list[Member]:
     """What the program says of some members of a session."""
-    reading = view().reading
-    people = [reading.person(number) for number in numbers]
-    reading.ask(people)
-    return [member for person in people if (member := reading.member_of(person, code))]
+    return view().reading.members(code, numbers)
 
 
 @pages.get("/sessions/<code>/halls/<hall>", endpoint="hall")

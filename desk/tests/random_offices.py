@@ -25,7 +25,7 @@ from exam_desk import overlaps, reasons, telling  # beside the tests' folder
 from exam_desk.names import fold, name_order
 from exam_desk.office import Office
 from exam_desk.reading import Reading
-from exam_desk.sheets import board, counts, doors, person, printing, slips, summary
+from exam_desk.sheets import papers, printing, slips, texts
 from exam_desk.sheets.session_page import Page
 from exam_desk.snapshot import session_row
 from exam_desk.words import FEATURES, plain
@@ -223,7 +223,7 @@ class RandomOffice:
 
     def doors(self, reading, session):
         tables = collections.defaultdict(list)
-        for table in Cells(page := doors.page(reading, session)).tables:
+        for table in Cells(page := papers.doors(reading, session)).tables:
             tables[re.search(r"\|([A-Z0-9]+), page [0-9]+ of [0-9]+\|", table[0][0])[1]].append(table)
         halls = sorted({seat.hall for seat in self.now[session].values()} - {"-"})
         equal([*tables], halls, "halls", page)
@@ -236,10 +236,10 @@ class RandomOffice:
             equal([row for table in parts for row in table[2:]][:-1], wanted, "doors", page)
             last = max(self.now[session][number].finish for _, number, *_ in rows)
             copies = collections.Counter(row[2] for row in rows)
-            papers = "|".join(f"{code} {plain(self.titles[code])}: {copies[code]}" for code in sorted(copies))
+            counted = "|".join(f"{code} {plain(self.titles[code])}: {copies[code]}" for code in sorted(copies))
             for place, table in enumerate(parts, 1):
                 for words in (f"last finish {last}|", f", {len(rows):,} candidate",
-                              f"|{hall}, page {place} of {len(parts)}|{papers}"):
+                              f"|{hall}, page {place} of {len(parts)}|{counted}"):
                     assert words in table[0][0], (words, table[0])
 
     def board(self, reading, session):
@@ -248,7 +248,7 @@ class RandomOffice:
         wanted = [[plain(seat.name) + (f" {number}" if names[fold(seat.name)] > 1 else ""),
                    *(["ask the office", ""] if seat.hall == "-" else [seat.hall, seat.desk])]
                   for number, seat in seats]
-        equal(Cells(page := board.page(reading, session)).rows[2:], wanted, "board", page)
+        equal(Cells(page := papers.board(reading, session)).rows[2:], wanted, "board", page)
 
     def counts(self, reading, session):
         copies, total = collections.Counter(), collections.Counter()
@@ -260,7 +260,7 @@ class RandomOffice:
         wanted = [[self.titled(hall) if hall != "-" else "no desk", self.titled(paper), str(copies[key]), last[key], "",
                    ""] for key in sorted(copies) for _, hall, paper in [key]]
         wanted_sums = [[self.titled(paper), str(total[paper]), last_of_all[paper]] for paper in sorted(total)]
-        tables = Cells(page := counts.page(reading, session)).tables
+        tables = Cells(page := papers.counts(reading, session)).tables
         equal((tables[0][2:], tables[1][1:]), (wanted, wanted_sums), "counts", page)
 
     def titled(self, code):
@@ -342,7 +342,7 @@ class RandomOffice:
 
     def summary(self, reading):
         both = at_one_time(reading.rows, self.now)
-        lines = summary.text(reading).split("\n")[1:-1]
+        lines = texts.summary(reading).split("\n")[1:-1]
         notes = [overlaps.line(reading, overlaps.Overlap(*pair, *both[pair])) for pair in both]
         equal(lines[len(self.sessions):], [f"NOTE: {note}" for note in notes], "overlaps", "")
         self.compared["overlaps"] += len(notes)
@@ -361,7 +361,7 @@ class RandomOffice:
     def persons(self, reading):
         both = at_one_time(reading.rows, self.now)
         for number in self.chance.sample(sorted(self.codes), 3):
-            text = "\n".join(person.lines(reading, person.find(reading.rows, number), True))
+            text = "\n".join(texts.asked_lines(reading, number, True))
             notes = [line[len("  NOTE: "):] for line in text.split("\n") if line.startswith("  NOTE: ")]
             wanted = [overlaps.line(reading, overlaps.Overlap(*pair, *found))
                       for pair, *found in of_candidate(both, self.now, number)]

@@ -9,7 +9,7 @@ import sample
 from exam_desk import changing, consequences, copies, telling
 from exam_desk.answers import Sitting
 from exam_desk.office import Office
-from exam_desk.sheets.changes import page
+from exam_desk.sheets import papers
 
 SITTING = Sitting("S1", "2027-06-01", "09:00", "MA-1", "10:00", (), 0, "A", 1)
 LAST = "`office changes 1` lists them"
@@ -77,7 +77,7 @@ class Kinds(unittest.TestCase):
         self.assertTrue(telling.text(changes[:3]).startswith("1 sits at another time (3 sessions):\n"))
         [title, *_] = consequences.lines(consequences.grouped(changes, {}), 1)
         self.assertEqual(title, "2 sit at other times (4 sittings)")
-        self.assertIn("<b>2 sit at other times (4 sittings)</b>", page(self.office, changes, {}, "Since 1"))
+        self.assertIn("<b>2 sit at other times (4 sittings)</b>", papers.changes(self.office, changes, {}, "Since 1"))
         halls = [consequences.Met(session, "and S3 in A", "") for session in ("S1", "S2")]
         self.assertEqual(consequences.Group(consequences.HALLS, halls).title(),
                          "2 halls have candidates of two sessions at one time")

@@ -9,25 +9,25 @@ import sample
 import test_paper
 
 from exam_desk.notebook import Rows  # beside the tests' folder
-from exam_desk.sheets import chart
+from exam_desk.sheets import papers
 
 PRIVATE = ["extra time", "reader", "step-free", "small-room", "VMGNZGEDP9"]  # arrangements, a code
 
 
 class Numbers(unittest.TestCase):
     def test_how_the_numbers_run(self):
-        self.assertEqual(chart.numbered(5, Rows(3, "across")), [[1, 2, 3], [4, 5, None]])
-        self.assertEqual(chart.numbered(5, Rows(3, "across-and-back")), [[1, 2, 3], [None, 5, 4]])
-        self.assertEqual(chart.numbered(5, Rows(3, "down")), [[1, 3, 5], [2, 4, None]])
-        self.assertEqual(chart.numbered(5, Rows(3, "down-and-up")), [[1, 4, 5], [2, 3, None]])
-        self.assertEqual(chart.numbered(2, Rows(3, "down")), [[1, 2, None]])
-        self.assertEqual(chart.numbered(1, Rows(1, "across-and-back")), [[1]])
+        self.assertEqual(papers.numbered(5, Rows(3, "across")), [[1, 2, 3], [4, 5, None]])
+        self.assertEqual(papers.numbered(5, Rows(3, "across-and-back")), [[1, 2, 3], [None, 5, 4]])
+        self.assertEqual(papers.numbered(5, Rows(3, "down")), [[1, 3, 5], [2, 4, None]])
+        self.assertEqual(papers.numbered(5, Rows(3, "down-and-up")), [[1, 4, 5], [2, 3, None]])
+        self.assertEqual(papers.numbered(2, Rows(3, "down")), [[1, 2, None]])
+        self.assertEqual(papers.numbered(1, Rows(1, "across-and-back")), [[1]])
 
     def test_each_desk_stands_once(self):
         for running in ("across", "across-and-back", "down", "down-and-up"):
             for desks in range(1, 40):
                 for across in range(1, 9):
-                    found = [number for row in chart.numbered(desks, Rows(across, running)) for number in row if number]
+                    found = [number for row in papers.numbered(desks, Rows(across, running)) for number in row if number]
                     self.assertEqual(sorted(found), list(range(1, desks + 1)))
 
 

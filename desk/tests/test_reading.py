@@ -117,8 +117,8 @@ class Kept(sample.KeptSchool):
 
 
 def looked(reading):
-    from exam_desk.sheets import person
-    return person.asked_lines(reading, sample.NUMBER, False)
+    from exam_desk.sheets import texts
+    return texts.asked_lines(reading, sample.NUMBER, False)
 
 
 def is_running(process):

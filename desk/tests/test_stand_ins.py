@@ -14,7 +14,7 @@ from cells import Cells
 
 from exam_desk import reasons, telling  # beside the tests' folder
 from exam_desk.reading import Reading
-from exam_desk.sheets import board, counts, doors, person, printing, slips, summary
+from exam_desk.sheets import papers, printing, slips, texts
 from exam_desk.sheets.session_page import Page
 from exam_desk.snapshot import session_row
 from exam_desk.trouble import Trouble
@@ -28,16 +28,16 @@ class Pages:
     """All pages and lists of one reading."""
 
     def __init__(self, reading, before):
-        self.doors = doors.page(reading, SESSION)
+        self.doors = papers.doors(reading, SESSION)
         self.slips = slips.page(reading, slips.Choice([SESSION], desks=True))
-        self.board = board.page(reading, SESSION)
-        self.counts = counts.page(reading, SESSION)
+        self.board = papers.board(reading, SESSION)
+        self.counts = papers.counts(reading, SESSION)
         page = Page(reading, SESSION)
         self.page, self.faults = page.document(), page.faults
-        self.summary = summary.text(reading, [SESSION])
+        self.summary = texts.summary(reading, [SESSION])
         self.reasons = reasons.Reasons(reading, SESSION)
         self.sheets = printing.written(reading, session_row(reading.rows, SESSION))
-        self.look = "\n".join(person.lines(reading, person.find(reading.rows, NUMBER), False))
+        self.look = "\n".join(texts.asked_lines(reading, NUMBER, False))
         changes = telling.differences(before, reading)
         self.changes = telling.text(changes)
         text = telling.csv_text(changes, telling.titles_of(reading)).removeprefix("\ufeff")

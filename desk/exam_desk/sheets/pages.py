@@ -6,16 +6,13 @@ from __future__ import annotations
 
 import os
 import re
-import sqlite3
-from collections.abc import Iterable, Mapping, Sequence
+from collections.abc import Iterable, Sequence
 
 from markupsafe import Markup, escape
 
 from exam_desk import notebook
-from exam_desk.notebook import Desk
 from exam_desk.office import Office
-from exam_desk.reading import Member
-from exam_desk.words import clock, long_day, plain
+from exam_desk.words import plain
 
 STYLES = os.path.join(os.path.dirname(__file__), "styles")
 DOCUMENT = ('<!doctype html>\n<html lang="en"><head><meta charset="utf-8"><title>{}</title>\n<style>{}</style></head>\n'
@@ -65,10 +62,6 @@ def table(heads: Sequence[str], rows: Iterable[Sequence[object]], above: Markup 
                   f"<tbody>\n{body}\n{under}</tbody></table>\n")
 
 
-def when(head: sqlite3.Row) -> Markup:
-    return html("{}, {} ({})", long_day(head["day"]), clock(head["start"]), head["code"])
-
-
 def style(*names: str) -> Markup:
     """Style sheets, one behind the other."""
     found = ""
@@ -83,22 +76,7 @@ def document(title: str, body: Markup, name: str) -> str:
     return str(html(DOCUMENT, title, style("page", "paper", name), body))
 
 
-def of_desks(title: str, sheets: Iterable[Markup], name: str) -> str:
-    """As `document`, of sheets on who has a desk."""
-    return document(title, joined(sheets) or Markup("<p>Nobody has a desk.</p>\n"), name)
-
-
 def school(office: Office, behind: str = "") -> Markup:
     """The name of the school and what stands behind it; nothing where no name was given."""
     name = notebook.school_name(office)
     return html("{}{}", text(name), Markup(behind)) if name else Markup()
-
-
-def desk(member: Member, before: Mapping[str, Desk]) -> Markup:
-    """The desk of a candidate, with the one that was printed where that is another."""
-    now = Desk(member.sitting.hall or "", member.sitting.desk or 0)
-    if not before or before.get(member.number) == now:
-        return safe(now.desk)
-    old = before.get(member.number)
-    words = "new" if old is None else f"was {old.desk}" if old.hall == now.hall else f"was {old.hall} {old.desk}"
-    return html("{} <small>{}</small>", now.desk, words)

@@ -24,7 +24,7 @@ Sheets = dict[tuple[str, ...], list[str]]  # the lines of each sheet, by the wor
 
 
 def text(reading: Reading, session: str, lines: int, columns: int,
-         progress: Callable[[str, float], None] = lambda text, part: None) -> str:
+         progress: Callable[[str, float], None]) -> str:
     """All sheets, each page of at most so many lines of so many letters; a form feed stands between two pages. Raises
     `Trouble` where a sheet is not as the program prints it."""
     sheets = written(reading, session_row(reading.rows, session))
@@ -48,7 +48,7 @@ def written(reading: Reading, row: sqlite3.Row) -> Sheets:
         found["door-list", session, opening.hall] = [
             f"DOOR LIST session {session} hall {opening.hall}", f"{start} desks {opening.desks} seated {len(there)}",
             *(f"{it.sitting.desk:4} {it.number} {it.sitting.paper:12} {it.name}" for it in there)]
-    for paper in facts.papers(reading.rows, session):
+    for paper in sorted({it.sitting.paper for it in members}):
         sits = [it for it in members if it.sitting.paper == paper]
         found["attendance", session, paper] = [
             f"ATTENDANCE session {session} paper {paper}", f"{start} candidates {len(sits)}",

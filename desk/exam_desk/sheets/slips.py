@@ -1,7 +1,6 @@
 """A slip of paper for each candidate, to be cut out and handed over; or what stands on them as CSV, for letters."""
 from __future__ import annotations
 
-import sqlite3
 from collections.abc import Collection, Mapping
 from typing import NamedTuple
 
@@ -9,18 +8,16 @@ from markupsafe import Markup
 
 from exam_desk import facts, files, lists, notebook
 from exam_desk.answers import Sitting
-from exam_desk.names import name_order
 from exam_desk.reading import Person, Reading
 from exam_desk.sheets import pages
+from exam_desk.sheets.pages import html, joined, text
 from exam_desk.trouble import Trouble
-from exam_desk.words import clock, short_day
+from exam_desk.words import short_day
 
 HEADS = ["w:Day", "w:Time", "Paper", "Hall"]
 HEADER = ["number", "name", "session", "date", "start", "finish", "paper", "paper title", "hall", "hall title",
           "arrangement", "not sat", "note", "group", "desk", "code"]
-GROUP = "<div class=sheet><h2>{}</h2>\n{}</div>\n"
 MOST_GROUP_BYTES = 80
-NO_GROUP = "in no group"
 
 
 class Choice(NamedTuple):
@@ -34,7 +31,6 @@ class Choice(NamedTuple):
 
 class Sat(NamedTuple):
     """What a candidate sits in a session, and the papers that they miss there."""
-    head: sqlite3.Row
     sitting: Sitting
     missed: list[str]
 
@@ -49,14 +45,36 @@ class Slip(NamedTuple):
 def page(reading: Reading, choice: Choice) -> str:
     """The slips by name, or by group and name. Raises `Trouble` where a candidate who is asked for sits nothing in
     these sessions."""
-    halls, papers = facts.hall_titles(reading.rows), facts.paper_titles(reading.rows)
-    look = Look(choice, pages.school(reading.office, "<br>"), pages.titled(papers), pages.titled(halls))
+    papers, halls = (pages.titled(titles(reading.rows)) for titles in (facts.paper_titles, facts.hall_titles))
+    school = pages.school(reading.office, "<br>")
     by_group: dict[str, list[Markup]] = {}
     for each in slips_of(reading, choice):
-        by_group.setdefault(each.group, []).append(slip(look, each))
-    bodies = [pages.html(GROUP, pages.text(group or NO_GROUP), pages.joined(found)) if choice.groups
-              else pages.joined(found) for group, found in by_group.items()]
-    return pages.document("Slips", pages.joined(bodies), "slips")
+        rows = [row(choice, sat, papers, halls) for sat in each.sittings]
+        above = html("{}{}", school, heading(choice, each))
+        by_group.setdefault(each.group, []).append(html("<div class=slip>{}</div>\n", pages.table(HEADS, rows, above)))
+    form = "<div class=sheet><h2>{}</h2>\n{}</div>\n" if choice.groups else "{1}"
+    return pages.document("Slips", joined(html(form, text(group or "in no group"), joined(found))
+                                          for group, found in by_group.items()), "slips")
+
+
+def heading(choice: Choice, each: Slip) -> Markup:
+    """Whose slip it is, with the code and the group, and a note below."""
+    code = html("<span>access code {}</span>", each.person.code) if choice.codes else ""
+    group = html("<span>{}</span>", text(each.group)) if each.group else ""
+    note = html("<br><small>{}</small>", text(each.note)) if each.note else ""
+    return html("{}{}<span>{}</span><b>{}</b>{}", code, group, each.person.number, text(each.person.name), note)
+
+
+def row(choice: Choice, sat: Sat, papers: Mapping[str, Markup], halls: Mapping[str, Markup]) -> list[object]:
+    """When, what and where; below the paper what else holds there in small lines."""
+    sits, allowance = sat.sitting, lists.allowance(sat.sitting)
+    notes: list[object] = [f"with {allowance}"] if allowance else []
+    notes += [html("not {}, at the same time: ask the exams office", papers[code]) for code in sat.missed]
+    where = Markup("<b>no desk yet: ask the office</b>")
+    if sits.hall:
+        where = html("{}, desk&nbsp;{}" if choice.desks else "{}", halls[sits.hall], sits.desk)
+    what = joined([papers[sits.paper], *(html("<small>{}</small>", note) for note in notes)], "<br>")
+    return [short_day(sits.date), f"{sits.start}–{sits.finish}", what, where]
 
 
 def csv_text(reading: Reading, choice: Choice) -> str:
@@ -68,73 +86,30 @@ def csv_text(reading: Reading, choice: Choice) -> str:
 
 def csv_row(choice: Choice, each: Slip, sat: Sat, papers: Mapping[str, str], halls: Mapping[str, str]) -> list[str]:
     person, sits = each.person, sat.sitting
-    row = [person.number, person.name, sits.session, sits.date, sits.start, sits.finish, sits.paper, papers[sits.paper],
-           sits.hall or "", halls.get(sits.hall or "", ""), lists.allowance(sits), " ".join(sat.missed), each.note,
-           each.group, str(sits.desk or "") if choice.desks else "", person.code if choice.codes else ""]
-    return [files.guarded(value) for value in row]
+    values = [person.number, person.name, sits.session, sits.date, sits.start, sits.finish, sits.paper,
+              papers[sits.paper], sits.hall or "", halls.get(sits.hall or "", ""), lists.allowance(sits),
+              " ".join(sat.missed), each.note, each.group, str(sits.desk or "") if choice.desks else "",
+              person.code if choice.codes else ""]
+    return [files.guarded(value) for value in values]
 
 
 def slips_of(reading: Reading, choice: Choice) -> list[Slip]:
     """The slips in their order; whoever is in no group comes last. Raises `Trouble` as `page`."""
-    choice = choice._replace(only=list(dict.fromkeys(choice.only)))
-    refuse_missing(choice.only, set(filter(reading.knows, choice.only)))
-    found = sittings_by_candidate(reading, choice)
-    refuse_missing(choice.only, {number for _, number in found})
-    notes, groups = notebook.notes(reading.office), [*dict.fromkeys(filter(None, choice.groups.values()))]
+    codes = [head["code"] for head in facts.sessions(reading.rows, choice.sessions)]
+    only = [number for number in dict.fromkeys(choice.only) if reading.knows(number)] if choice.only else None
+    entered = dict.fromkeys(number for code in codes for number in facts.entered(reading.rows, code))
+    people = lists.by_name(map(reading.person, entered if only is None else map(int, only)))
+    reading.ask(people)
+    clashes, notes = {code: reading.clashes(code, only) for code in codes}, notebook.notes(reading.office)
+    slips = []
+    for person in people:
+        sittings = reading.all_of(person.number)
+        sat = [Sat(sittings[code], clashes[code].get(person.number, [])) for code in codes if code in sittings]
+        if sat:
+            slips.append(Slip(person, choice.groups.get(person.number, ""), notes.get(person.number, ""), sat))
+    numbers = {each.person.number for each in slips}
+    if missing := [number for number in choice.only if number not in numbers]:
+        raise Trouble(f"{missing[0]} sits nothing there; a number has seven digits")
+    groups = [*dict.fromkeys(filter(None, choice.groups.values())), ""]
     places = {group: place for place, group in enumerate(groups)}
-    slips = [Slip(reading.person(int(number)), choice.groups.get(number, ""), notes.get(number, ""),
-                  found[name, number]) for name, number in sorted(found, key=lambda key: name_order(*key))]
-    return sorted(slips, key=lambda each: places.get(each.group, len(places)))
-
-
-def refuse_missing(asked: Collection[str], found: Collection[str]) -> None:
-    for number in asked:
-        if number not in found:
-            raise Trouble(f"{number} sits nothing there; a number has seven digits")
-
-
-def sittings_by_candidate(reading: Reading, choice: Choice) -> dict[tuple[str, str], list[Sat]]:
-    heads = facts.sessions(reading.rows, choice.sessions)
-    if not choice.only:
-        reading.ask_sessions(head["code"] for head in heads)
-    found: dict[tuple[str, str], list[Sat]] = {}
-    for head in heads:
-        clashes = reading.clashes(head["code"], choice.only)
-        asked = (reading.member(head["code"], number) for number in choice.only)
-        for member in filter(None, asked) if choice.only else reading.members(head["code"]):
-            found.setdefault((member.name, member.number), []).append(
-                Sat(head, member.sitting, clashes.get(member.number, [])))
-    return found
-
-
-class Look(NamedTuple):
-    """What stands on all slips, and the titles."""
-    choice: Choice
-    school: Markup
-    papers: Mapping[str, Markup]
-    halls: Mapping[str, Markup]
-
-
-def where(look: Look, sitting: Sitting) -> Markup:
-    if sitting.hall is None:
-        return Markup("<b>no desk yet: ask the office</b>")
-    return pages.html("{}, desk&nbsp;{}" if look.choice.desks else "{}", look.halls[sitting.hall], sitting.desk)
-
-
-def what(look: Look, sat: Sat) -> Markup:
-    """The paper, and in small lines what else holds there."""
-    notes = [f"with {lists.allowance(sat.sitting)}"] if lists.allowance(sat.sitting) else []
-    notes += [pages.html("not {}, at the same time: ask the exams office", look.papers[code]) for code in sat.missed]
-    return pages.joined([look.papers[sat.sitting.paper], *(pages.html("<small>{}</small>", note) for note in notes)],
-                        "<br>")
-
-
-def slip(look: Look, each: Slip) -> Markup:
-    rows = [[short_day(sat.head["day"]), f"{clock(sat.head['start'])}–{sat.sitting.finish}", what(look, sat),
-             where(look, sat.sitting)] for sat in each.sittings]
-    marks = [pages.html("<span>access code {}</span>", each.person.code)] if look.choice.codes else []
-    marks += [pages.html("<span>{}</span>", pages.text(each.group))] if each.group else []
-    below = pages.html("<br><small>{}</small>", pages.text(each.note)) if each.note else ""
-    above = pages.html("{}{}<span>{}</span><b>{}</b>{}", look.school, pages.joined(marks), each.person.number,
-                       pages.text(each.person.name), below)
-    return pages.html("<div class=slip>{}</div>\n", pages.table(HEADS, rows, above))
+    return sorted(slips, key=lambda each: places[each.group])

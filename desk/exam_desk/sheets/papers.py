@@ -1,0 +1,267 @@
+"""The papers of a session: a notice board, posters, desk cards, seating charts, copies to print, invigilators' sheets.
+
+Who asks for halls gets their sheets alone, as `lists.halls` has them. Besides, who must be told of changes.
+"""
+from __future__ import annotations
+
+import unicodedata
+from collections import Counter
+from collections.abc import Callable, Collection, Iterable, Iterator, Mapping, Sequence
+from typing import NamedTuple
+
+from markupsafe import Markup
+
+from exam_desk import facts, lists, notebook, telling
+from exam_desk.answers import Sitting
+from exam_desk.names import fold
+from exam_desk.notebook import Desk, Rows
+from exam_desk.office import Office
+from exam_desk.reading import Member, Reading
+from exam_desk.sheets.pages import document, html, joined, safe, school, table, text, titled
+from exam_desk.snapshot import session_row
+from exam_desk.telling import Change
+from exam_desk.trouble import Trouble
+from exam_desk.words import clock, long_day, short_day
+
+BOARD = "<h1>{}{}</h1>\n<p class=legend>{}</p>\n<div class=columns>{}</div>\n"
+POSTER = "<h1>{}</h1>\n<h2>{}</h2>\n<p>{}{} &middot; {}</p>\n<div class=columns>{}</div>"
+CARD = "<div class=card><b>{}</b><i>{}</i><p>{}</p><p>{}</p><p>{}, {}, {}</p></div>"
+ROWS_OF_CARDS = 5  # on a page, of two cards each
+CHART = ("<h1>{} ({})</h1>\n<p>{}{}. Front of the hall above. {}</p>\n"
+         "<table class=chart><tbody>\n{}</tbody></table>")
+COPIES = ["Hall", "Paper", "n:Copies", "n:Last finish", "box:Spare", "box:Packed"]
+ALL_COPIES = ["Paper, all halls", "n:Copies", "n:Last finish"]
+TOLD = ["w:Session", "w:Number", "Name", "Before", "Now", "box:Told"]
+SAT = "{}<br>{} ({})<br>{}, <span class=w>{}–{}</span>"
+
+DOORS = ["n:Desk", "w:Number", "Name", "w:Paper", "w:Finish", "Arrangement", "sign:Signature"]
+ABOVE = "<span>{}<br>open until {}, last finish {}<br>{}, {} expected</span><b>{}</b><br>{}, page {} of {}<br>{}"
+BELOW = Markup("Present: ________ &emsp; Absent: ________ &emsp; Invigilator: ______________________________")
+# Estimates in millimetres, rather too large than too small: so a page of A4 can say which of how many it is.
+HEIGHT = 267  # of a page between the margins
+LINE = 4.6  # of a line of 10 points
+ROW, HEADING, LAST = 9.05, 16.0, 11.5  # heights of a row, of a heading without titles, of the line below all
+NAME, ARRANGEMENT, TITLES = 50.0, 34.0, 90.0  # widths of these texts
+WIDE = "WFA"  # letters that are as wide as high, or may be
+MARKS = {"Mn", "Me", "Cf"}  # stand over other letters, or nowhere
+
+Copies = tuple[bool, str, str]  # whether there is no desk, the hall, the paper
+
+
+class NotDrawn(Trouble):
+    """Nobody has said how the desks of halls stand."""
+
+    def __init__(self, halls: list[str]) -> None:
+        super().__init__(f"say once how the desks stand in {', '.join(halls)}: `office rows {halls[0]} 8` for rows of "
+                         "8 desks")
+        self.halls = halls
+
+
+def when(reading: Reading, session: str) -> Markup:
+    head = session_row(reading.rows, session)
+    return html("{}, {} ({})", long_day(head["day"]), clock(head["start"]), session)
+
+
+def of_desks(title: str, sheets: Iterable[Markup], name: str) -> str:
+    """A document of sheets on who has a desk, each on pages of its own."""
+    found = joined(html("<div class=sheet>{}</div>\n", sheet) for sheet in sheets)
+    return document(title, found or Markup("<p>Nobody has a desk.</p>\n"), name)
+
+
+def desk(member: Member, before: Mapping[str, Desk]) -> Markup:
+    """The desk of a candidate, with the one that was printed where that is another."""
+    now, old = Desk(member.sitting.hall or "", member.sitting.desk or 0), before.get(member.number)
+    if not before or old == now:
+        return safe(now.desk)
+    words = "new" if old is None else f"was {old.desk}" if old.hall == now.hall else f"was {old.hall} {old.desk}"
+    return html("{} <small>{}</small>", now.desk, words)
+
+
+def board(reading: Reading, session: str) -> str:
+    """A notice board, by name, with the numbers of namesakes alone."""
+    members = lists.by_name(reading.members(session))
+    names = Counter(fold(member.name) for member in members)
+    titles, printed = facts.hall_titles(reading.rows), notebook.printed(reading.office, session)
+    used = sorted({member.sitting.hall for member in members if member.sitting.hall})
+    legend = joined((html("<b>{}</b> {}", code, text(titles[code])) for code in used), "<br>")
+    moment = when(reading, session)
+    rows = []
+    for member in members:
+        number = html(" <small class=w>{}</small>", member.number) if names[fold(member.name)] > 1 else ""
+        hall: list[object] = [member.sitting.hall, desk(member, printed)]
+        rows.append([text(member.name) + number,
+                     *(hall if member.sitting.hall else [Markup("<b>ask the office</b>"), ""])])
+    body = html(BOARD, school(reading.office, "<br>"), moment, legend,
+                table(["Name", "w:Hall", "n:Desk"], rows, moment))
+    return document(f"Notice board {session}", body, "board")
+
+
+def poster(reading: Reading, session: str) -> str:
+    """Posters for the doors: each hall from a page of its own on, names with desks and nothing private."""
+    moment, name = when(reading, session), school(reading.office, " &middot; ")
+    return of_desks(f"Posters {session}", (
+        html(POSTER, text(opening.title), moment, name, opening.hall, lists.count(len(there), "candidate"),
+             table(["Name", "n:Desk"], [[text(each.name), each.sitting.desk] for each in lists.by_name(there)]))
+        for opening, there in lists.halls(reading, session)), "poster")
+
+
+def cards(reading: Reading, session: str, asked: Collection[str] = ()) -> str:
+    """Cards for desks, ten on a page, by hall and desk; without what others need not know."""
+    papers = titled(facts.paper_titles(reading.rows))
+    found = [html(CARD, sits.desk, text(name), number, papers[sits.paper], short_day(sits.date), sits.start,
+                  text(opening.title))
+             for opening, there in lists.halls(reading, session, asked) for number, name, sits in there]
+    rows = [html("<div class=pair>{}</div>\n", joined(found[at:at + 2])) for at in range(0, len(found), 2)]
+    return of_desks(f"Desk cards {session}", (joined(rows[at:at + ROWS_OF_CARDS])
+                                              for at in range(0, len(rows), ROWS_OF_CARDS)), "cards")
+
+
+def chart(reading: Reading, session: str, asked: Collection[str] = ()) -> str:
+    """Seating charts: halls as rows of desks, with who sits where. Raises `NotDrawn` too."""
+    halls, rows = lists.halls(reading, session, asked), notebook.rows_of_halls(reading.office)
+    moment, name = when(reading, session), school(reading.office, ". ")
+    if unknown := [opening.hall for opening, _ in halls if opening.hall not in rows]:
+        raise NotDrawn(unknown)
+    return of_desks(f"Seating charts {session}", (
+        html(CHART, text(opening.title), opening.hall, name, moment, lists.count(len(there), "candidate"),
+             joined(drawn(opening.desks, there, rows[opening.hall]))) for opening, there in halls), "chart")
+
+
+def drawn(desks: int, members: Iterable[Member], rows: Rows) -> Iterator[Markup]:
+    """The rows of desks of a hall, with who sits there."""
+    places: dict[int | None, Markup] = {number: html("<td><b>{}</b></td>", number) for number in range(1, desks + 1)}
+    places |= {sits.desk: html("<td><b>{}</b>{} {} {}</td>", sits.desk, text(name), number, sits.paper)
+               for number, name, sits in members}
+    places[None] = Markup("<td class=none></td>")
+    for line in numbered(desks, rows):
+        yield html("<tr>{}</tr>\n", joined(places[number] for number in line))
+
+
+def numbered(desks: int, rows: Rows) -> list[list[int | None]]:
+    """The numbers of the desks of a hall, row by row from the front; None where no desk stands."""
+    depth = -(-desks // rows.across)
+    is_across, turns_back = rows.running.startswith("across"), "-and-" in rows.running
+    length = rows.across if is_across else depth
+    grid: list[list[int | None]] = [[None] * rows.across for _ in range(depth)]
+    for number in range(1, desks + 1):
+        line, place = divmod(number - 1, length)
+        if turns_back and line % 2:
+            place = length - 1 - place
+        row, column = (line, place) if is_across else (place, line)
+        grid[row][column] = number
+    return grid
+
+
+def counts(reading: Reading, session: str) -> str:
+    """How many copies of each paper each hall needs, and the last finish, with boxes for spare ones and to tick."""
+    sat = [member.sitting for member in reading.members(session)]
+    papers = titled(facts.paper_titles(reading.rows))
+    halls = {"": Markup("<b>no desk</b>"), **titled(facts.hall_titles(reading.rows))}
+    rows = [[halls[hall], papers[code], *found, "", ""] for (_, hall, code), found in
+            copies(sat, lambda each: (each.hall is None, each.hall or "", each.paper))]
+    total = [[papers[code], *found] for (*_, code), found in copies(sat, lambda each: (False, "", each.paper))]
+    above = html("{}<b>Copies</b> &emsp; {}", school(reading.office, "<br>"), when(reading, session))
+    return document(f"Copies {session}", table(COPIES, rows, above) + table(ALL_COPIES, total), "counts")
+
+
+def copies(sittings: Iterable[Sitting], key: Callable[[Sitting], Copies]) -> list[tuple[Copies, tuple[int, str]]]:
+    """For each key the copies and the last finish."""
+    finishes: dict[Copies, list[str]] = {}
+    for sitting in sittings:
+        finishes.setdefault(key(sitting), []).append(sitting.finish)
+    return [(each, (len(found), max(found))) for each, found in sorted(finishes.items())]
+
+
+class Beside(NamedTuple):
+    """What else stands on invigilators' sheets."""
+    heading: Markup
+    papers: dict[str, str]  # their titles
+    notes: dict[str, str]
+    printed: dict[str, Desk]
+
+
+def doors(reading: Reading, session: str, asked: Collection[str] = ()) -> str:
+    """Invigilators' sheets: each hall from a page of its own on, by desk."""
+    also = Beside(school(reading.office, "<br>") + when(reading, session), facts.paper_titles(reading.rows),
+                  notebook.notes(reading.office), notebook.printed(reading.office, session))
+    return of_desks(f"Invigilators' sheets {session}", (
+        sheet for opening, there in lists.halls(reading, session, asked) for sheet in of_door(also, opening, there)),
+        "doors")
+
+
+def of_door(also: Beside, opening: facts.Opening, members: list[Member]) -> Iterator[Markup]:
+    """The pages of a hall: each is a table, whose heading says which it is."""
+    counted = sorted(Counter(member.sitting.paper for member in members).items())
+    papers = joined((html("{} {}: {}", code, text(also.papers[code]), count) for code, count in counted), "<br>")
+    titles = [opening.title, *(f"{code} {also.papers[code]}" for code, _ in counted)]
+    rows, heights = zip(*(row_of(also, member) for member in members))
+    parts = parted(heights, HEIGHT - HEADING - LINE * max(3, lines(titles, TITLES)))
+    last = max(member.sitting.finish for member in members)
+    for place, part in enumerate(parts, 1):
+        above = html(ABOVE, also.heading, clock(opening.until), last, lists.count(opening.desks, "desk"),
+                     lists.count(len(members), "candidate"), text(opening.title), opening.hall, place, len(parts),
+                     papers)
+        yield table(DOORS, rows[part], above, BELOW if place == len(parts) else Markup())
+
+
+def row_of(also: Beside, member: Member) -> tuple[list[object], float]:
+    """The cells of a candidate, and how high they are."""
+    sits = member.sitting
+    arranged = [*filter(None, (lists.allowance(sits), also.notes.get(member.number)))]
+    height = 1 + LINE * max(lines([member.name], NAME), lines(arranged, ARRANGEMENT))
+    return [desk(member, also.printed), member.number, text(member.name), sits.paper, sits.finish,
+            joined(map(text, arranged), "<br>"), ""], max(ROW, height)
+
+
+def width(words: str) -> float:
+    """How wide a text of 10 points is."""
+    return sum(0 if unicodedata.category(letter) in MARKS else
+               3.6 if unicodedata.east_asian_width(letter) in WIDE else
+               3.4 if letter in "WMwm%@" else 2.6 if letter.isupper() or not letter.isalnum() and letter != " " else 2
+               for letter in words)
+
+
+def lines(texts: Iterable[str], room: float) -> int:
+    """How many lines texts take, one below the other, in a column that is so wide."""
+    return sum(1 + int(1.15 * width(each) / room) for each in texts)
+
+
+def parted(heights: Sequence[float], room: float) -> list[slice]:
+    """Which rows stand on each page; below the last row there is room for a line."""
+    found, first, left = [], 0, room
+    for place, height in enumerate(heights):
+        needed = height + (LAST if place == len(heights) - 1 else 0)
+        if needed > left and place > first:
+            found.append(slice(first, place))
+            first, left = place, room
+        left -= height
+    return [*found, slice(first, None)]
+
+
+def changes(office: Office, found: Iterable[Change], titles: Mapping[str, str], since: str) -> str:
+    """Who must be told: what became of each candidate since a copy, the gravest first, with a box to tick. `since` says
+    what they are compared with."""
+    tables = [table(TOLD, [told(each, titles) for each in part],
+                    html("<b>{}</b>", telling.counted(telling.KINDS[kind], [each.number for each in part])))
+              for kind, part in telling.by_kind(found).items()]
+    above = html("<h1>Who must be told</h1>\n<p>{}{}</p>\n", school(office, " &middot; "), since)
+    return document("Changes", above + (joined(tables) or Markup("<p>Nobody.</p>\n")), "changes")
+
+
+def told(change: Change, titles: Mapping[str, str]) -> list[object]:
+    before = html("<br><small>before: {}</small>", text(change.old_name)) if change.old_name != change.name else ""
+    return [change.session, change.number, text(change.name) + before, sat(change.old, titles),
+            sat(change.new, titles), ""]
+
+
+def sat(sits: Sitting | None, titles: Mapping[str, str]) -> Markup:
+    if sits is None:
+        return Markup("nothing")
+    place = Markup("<b>no desk</b>")
+    if sits.hall:
+        place = html("{} ({}), desk {}", text(titles.get(sits.hall, "")), sits.hall, sits.desk)
+    return html(SAT, place, text(titles.get(sits.paper, "")), sits.paper, short_day(sits.date), sits.start, sits.finish)
+
+
+PAGES: dict[str, Callable[..., str]] = {"board": board, "cards": cards, "chart": chart, "counts": counts,
+                                        "doors": doors, "poster": poster}

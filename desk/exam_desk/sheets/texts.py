@@ -1,0 +1,155 @@
+"""What lists say as text: of a candidate, of two papers at once, of each session, of notes; and the file of titles."""
+from __future__ import annotations
+
+import contextlib
+import itertools
+import json
+import os
+import re
+import sqlite3
+import tempfile
+from collections import Counter
+from collections.abc import Collection, Iterator
+
+from exam_desk import facts, lists, notebook, overlaps
+from exam_desk.answers import Sitting
+from exam_desk.names import fold
+from exam_desk.office import Office
+from exam_desk.reading import Person, Reading
+from exam_desk.snapshot import Rows
+from exam_desk.trouble import Trouble
+from exam_desk.words import clock, feature_text, plain
+
+MOST_SHOWN = 10  # candidates; of more only names and numbers
+CANDIDATES = "SELECT printf('%07d', number), name, code FROM candidate"
+ENTRIES = ("SELECT session.code AS session, day, start, paper.code AS paper, title, live = 1 AS live FROM entry "
+           "JOIN paper ON paper.code = paper JOIN session ON session.code = session WHERE number = ? "
+           "ORDER BY day, start, session.code, paper.code")
+SUMMARY = "{:12} {:10} {:5} {:>7} {:>6} {:>5} {:>6} {:>6} {:>7} {:>8} {:>12}\n"
+HEADS = ["session", "date", "start", "members", "seated", "short", "desks", "free", "clashes", "overlaps",
+         "open appeals"]
+READABLE = 0o644  # the file of titles: the web server is another user
+
+
+def find(rows: Rows, asked: str) -> list[Person]:
+    """The candidates with this number, or with this in their names, by name."""
+    if re.fullmatch("[0-9]{1,7}", asked):
+        return [Person(*row) for row in rows.execute(f"{CANDIDATES} WHERE number = ?", [int(asked)])]
+    wanted = fold(asked)
+    return lists.by_name(Person(*row) for row in rows.execute(CANDIDATES) if wanted in fold(row["name"]))
+
+
+def asked_lines(reading: Reading, asked: str, codes: bool) -> list[str]:
+    """Lines on whoever is meant; of more than MOST_SHOWN a line each. Raises `Trouble` where nobody is."""
+    found, said = find(reading.rows, asked), []
+    if not found:
+        raise Trouble(f"no candidate has {asked} as number or in the name")
+    for person in found:
+        said.append(f"{person.number} {person.name}" + (f", access code {person.code}" if codes else ""))
+        if len(found) <= MOST_SHOWN:
+            twice, number = overlaps.of_candidate(reading, person.number), int(person.number)
+            arranged = reading.rows.execute("SELECT needs, extra FROM arrangement WHERE number = ?", [number])
+            said += [*entries(reading, person), *(f"  NOTE: {overlaps.line(reading, each)}" for each in twice),
+                     *(f"  imported arrangement: needs {feature_text(needs)}, extra {extra}"
+                       for needs, extra in arranged), *lodged(reading, person)]
+    if len(found) > MOST_SHOWN:
+        said.append(f"{len(found)} candidates; say more of the name, or the number")
+    return said
+
+
+def entries(reading: Reading, person: Person) -> Iterator[str]:
+    """A line for each entry: where they sit it, or why not."""
+    halls, sittings = facts.hall_titles(reading.rows), reading.all_of(person.number)
+    for row in reading.rows.execute(ENTRIES, [int(person.number)]).fetchall():
+        head = f"  {row['day']} {clock(row['start'])} {row['session']}: {row['paper']} {row['title']}: "
+        yield head + fate(row, sittings.get(row["session"]), halls)
+
+
+def fate(row: sqlite3.Row, sitting: Sitting | None, halls: dict[str, str]) -> str:
+    if not row["live"] or sitting is None:
+        return "withdrawn"
+    if row["paper"] != sitting.paper:
+        return f"not sat, since they sit {sitting.paper} then"
+    place = f"{sitting.hall} {halls[sitting.hall]}, desk {sitting.desk}" if sitting.hall else "no desk"
+    allowance = lists.allowance(sitting)
+    return f"{place}, until {sitting.finish}" + (f", with {allowance}" if allowance else "")
+
+
+def lodged(reading: Reading, person: Person) -> Iterator[str]:
+    """Lines on each appeal, by the day on which it was lodged."""
+    for appeal in sorted(reading.appeals(person.number), key=lambda appeal: (appeal.lodged, appeal.ref)):
+        state = appeal.state + (", standing" if appeal.standing else "")
+        yield f"  appeal {appeal.ref} of {appeal.lodged}, {appeal.session}: {appeal.kind} {appeal.subject}: {state}"
+        said = {"reason": appeal.reason, "answer": appeal.answer}
+        yield from (f"    {word}: {text}" for word, text in said.items() if text)
+
+
+def papers_at_once(reading: Reading, asked: Collection[str] = ()) -> list[str]:
+    """Who has two papers at once, by session and pair of papers; in these sessions, or in all. Raises `Trouble` where
+    there is no such session."""
+    found = [line for head in facts.sessions(reading.rows, asked) for line in at_once_in(reading, head["code"])]
+    return found or ["nobody has two papers at once"]
+
+
+def at_once_in(reading: Reading, session: str) -> Iterator[str]:
+    """The pairs of a session that most candidates share come first."""
+    missed = reading.clashes(session)
+    if missed:
+        yield f"{session}: {lists.count(len(missed), 'candidate')} with two papers or more"
+    pairs = sorted((member.sitting.paper, paper, member) for member in reading.members(session, map(int, missed))
+                   for paper in missed[member.number])
+    shared = [(pair, [each for *_, each in found]) for pair, found in itertools.groupby(pairs, lambda each: each[:2])]
+    for (sat, other), members in sorted(shared, key=lambda each: -len(each[1])):
+        yield f"  {sat} is sat, {other} is missed: {lists.count(len(members), 'candidate')}"
+        yield from (f"    {member.number} {member.name}" for member in lists.by_name(members))
+
+
+def summary(reading: Reading, asked: Collection[str] = ()) -> str:
+    """A line for each session that is asked for, or for all: members, seated, short, desks, free desks, candidates with
+    a clash, sessions at one time, and open appeals. Below it a note for each two sessions at one time."""
+    heads = facts.sessions(reading.rows, asked)
+    entered = dict.fromkeys(number for head in heads for number in facts.entered(reading.rows, head["code"]))
+    reading.ask(map(reading.person, entered))  # of all at once, so that the progress is that of the whole
+    found = overlaps.found(reading, asked)
+    twice = Counter(code for each in found for code in (each.early, each.late))
+    lines = [SUMMARY.format(*HEADS)]
+    for code, day, start in heads:
+        members, openings = reading.members(code), facts.openings(reading.rows, code)
+        seated, desks = sum(bool(member.sitting.hall) for member in members), sum(each.desks for each in openings)
+        [[waiting]] = reading.rows.execute("SELECT count(*) FROM appeal WHERE session = ? AND state = 1", [code])
+        lines.append(SUMMARY.format(code, day, clock(start), len(members), seated, len(members) - seated, desks,
+                                    desks - seated, len(reading.clashes(code)), twice[code], waiting))
+    return "".join([*lines, *(f"NOTE: {each}\n" for each in overlaps.lines(reading, found))])
+
+
+def notes(office: Office, rows: Rows) -> str:
+    """The notes on candidates, a line for each, by number."""
+    names = facts.candidate_names(rows)
+    lines = (f"{number} {names.get(number, '')}: {note}" for number, note in notebook.notes(office).items())
+    return "".join(f"{plain(line)}\n" for line in lines)
+
+
+def titles(rows: Rows) -> str:
+    """The titles of papers and halls and the days of sessions, for the candidates' page, and nothing of any candidate:
+    in ASCII, by code, a line for each row."""
+    found = {
+        "sessions": {head["code"]: {"date": head["day"], "start": clock(head["start"])}
+                     for head in sorted(facts.sessions(rows), key=lambda head: str(head["code"]))},
+        "papers": dict(sorted(facts.paper_titles(rows).items())),
+        "halls": dict(sorted(facts.hall_titles(rows).items())),
+    }
+    return json.dumps(found, indent=0) + "\n"
+
+
+def put_titles(path: str, content: str) -> None:
+    """Writes the file whole, or leaves the one that is there."""
+    handle, making = tempfile.mkstemp(prefix=".titles-", dir=os.path.dirname(os.path.abspath(path)))
+    try:
+        with open(handle, "w", encoding="ascii") as file:
+            file.write(content)
+        os.chmod(making, READABLE)
+        os.replace(making, path)
+    except BaseException:
+        with contextlib.suppress(FileNotFoundError):
+            os.remove(making)
+        raise
