@@ -34,8 +34,7 @@ def desk(parser: ArgumentParser) -> None:
         os.execv(PYTHON, [PYTHON, command.OFFICE, "desk", *sys.argv[1:]])
     from exam_web import serving
     parser.add_argument("--port", type=int, metavar="NUMBER", help=f"{serving.PORT} or the next that is free")
-    parser.add_argument("--link", action="store_true", help="print another link of the desk that runs")
-    given = parser.parse_args()
+    given = command.given(parser, "--link: print another link of the desk that runs")
     office = command.office()
     if given.link:
         command.say(serving.another_link(office) + "\n")

@@ -11,7 +11,6 @@ import errno
 import functools
 import itertools
 import os
-import re
 import sqlite3
 import time
 from collections.abc import Callable, Iterable, Iterator, Sequence
@@ -25,7 +24,6 @@ from exam_desk.trouble import Stale, Trouble
 CHANGES = ["import", "withdraw", "reinstate", "close-hall", "decide", "migrate"]
 PAUSE = 0.2  # seconds from one try to the next
 MOST_NAMED = 3  # sessions, candidates, papers or halls in the title of a change
-SAME = re.compile("added 0 changed 0 same [0-9]+\n")  # what the program says of an import of what is there already
 Tell = Callable[[str], None]  # hears which step begins
 Value = TypeVar("Value")
 
@@ -172,7 +170,8 @@ def rehearse(office: Office, steps: Sequence[Step], tell: Tell = lambda title: N
 
 def carry_out(office: Office, steps: Sequence[Step], made_from: str | None = None, promised: str | None = None,
               title: str = "", tell: Tell = lambda title: None) -> Carried:
-    """Carries steps out in one turn, whole or not at all, with one copy from before.
+    """Carries steps out in one turn, whole or not at all, with one copy from before. That goes again where they change
+    nothing: where the files have the bytes from before, as they have unless appeals came just before it.
 
     Where names of states are given, the office must be of the first one, else `Stale` is raised; and it is said whether
     it is of the second one then. Raises `Trouble` where nothing could begin, and nothing is changed.
@@ -193,7 +192,7 @@ def carry_out(office: Office, steps: Sequence[Step], made_from: str | None = Non
             copies.drop(copy)
             raise
         as_promised = None if promised is None or is_undone else is_in_state(office, promised)
-        if is_undone or all(SAME.fullmatch(each.ran.answer) for each in answers) and is_as_in(office, copy):
+        if is_undone or copies.is_as_now(office, copy):
             copies.drop(copy)
             return Carried(answers, None, as_promised)
     return Carried(answers, copy, as_promised)
@@ -223,13 +222,6 @@ def is_in_state(office: Office, name: str) -> bool:
         return states.name_now(office) == name
     except Trouble:  # it cannot be read
         return False
-
-
-def is_as_in(office: Office, copy: str) -> bool:
-    """Whether the office is in the state of a copy; not where either cannot be read."""
-    with contextlib.suppress(Trouble):
-        return is_in_state(office, states.name_now(office, copies.file_in(office, copy)))
-    return False
 
 
 def kept_copy(office: Office, title: str) -> str:
@@ -333,6 +325,7 @@ def broken_off(office: Office, found: logbook.Unfinished) -> str:
     behind = f" behind `{found.done}`" if found.done else " in its first step"
     if copy not in copies.listed(office):
         return f"{what} was broken off{behind}; its copy is gone"
-    if is_as_in(office, copy):
-        return f"{what} was broken off; nothing of it is left"
+    with contextlib.suppress(Trouble):
+        if is_in_state(office, states.name_now(office, copies.file_in(office, copy))):
+            return f"{what} was broken off; nothing of it is left"
     return f"{what} was broken off{behind}: {way_back(copy)}"

@@ -7,6 +7,7 @@ import socket
 import subprocess
 import sys
 import tempfile
+import threading
 import time
 import unittest
 from unittest import mock
@@ -98,10 +99,61 @@ class Asking(unittest.TestCase):
                 self.assertEqual(process.stdout.readline(), f"{len(REQUEST)}\n")
                 self.refuses(asking.Server(os.getpid(), place), process)
 
+    def test_an_answer_is_read_though_the_request_is_not(self):
+        """Who answers and leaves bytes unread resets the connection, after the request or before it."""
+        for taken in (1, 0):
+            with socket.create_server(("127.0.0.1", 0)) as listener:
+                def serve():
+                    with listener.accept()[0] as client:
+                        client.recv(taken)
+                        client.sendall(ANSWER)
+                thread = threading.Thread(target=serve)
+                thread.start()
+                server = asking.Server(os.getpid(), str(listener.getsockname()[1]))
+                with mock.patch("exam_desk.asking.refuse_stranger", side_effect=lambda *_: taken or thread.join()):
+                    connection = asking.sent(server, REQUEST * 100, 30)
+                thread.join()
+                self.assertEqual(asking.received(connection), ANSWER, taken)
+
     def test_status(self):
         for text, status in [(ANSWER, 200), (ANSWER[:-1], 0), (b"", 0), (ANSWER + b"x", 0), (b"\r\n\r\n", 0),
                              (b"HTTP/1.1 500 X\r\nContent-Length: 0\r\n\r\n", 500)]:
             self.assertEqual(asking.status_of(text), status, text)
+
+
+class Requests(unittest.IsolatedAsyncioTestCase):
+    """What the door hands on of a request: as much as `serve` reads, however it comes."""
+
+    async def whole(self, text):
+        """The same for bytes that come at once, in pieces, and before the end of what the client sends."""
+        found = set()
+        for size in (1 << 16, 4096, 997):
+            reader = asyncio.StreamReader(limit=hold.LIMIT)
+            reader.set_transport(mock.Mock())
+            waiting = asyncio.create_task(hold.whole_request(reader))
+            for place in range(0, len(text), size):
+                reader.feed_data(text[place:place + size])
+                await asyncio.sleep(0)
+            reader.feed_eof()
+            found.add(await waiting)
+        self.assertEqual(len(found), 1)
+        return found.pop()
+
+    async def test_a_head_up_to_its_limit(self):
+        for more, handed in ((-1, -1), (0, 0), (1, 0), (5, 0), (2000, 0)):
+            text = b"x" * (hold.MOST_HEAD + more - 4) + b"\r\n\r\n"
+            self.assertEqual(await self.whole(text), text[:hold.MOST_HEAD + handed], more)
+            self.assertEqual(await self.whole(text + b"more"), text[:hold.MOST_HEAD + handed], more)
+            self.assertEqual(await self.whole(text[:-4]), text[:-4][:hold.MOST_HEAD], more)
+
+    async def test_a_body_as_long_as_the_head_names(self):
+        for named, length in ((0, 0), (7, 7), (4096, 4096), (4097, 0)):
+            head = b"POST / HTTP/1.1\r\ncontent-length : %d\r\n\r\n" % named
+            self.assertEqual(await self.whole(head + b"y" * 5000), head + b"y" * length)
+            self.assertEqual(await self.whole(head + b"yyy"), head + b"yyy"[:length])
+        for head in (b"POST / HTTP/1.1\r\nContent-Length: x\r\n\r\n",
+                     b"POST / HTTP/1.1\r\nContent-Length: 2\r\nContent-Length: 2\r\n\r\n"):
+            self.assertEqual(await self.whole(head + b"yy"), head)
 
 
 class Held(unittest.IsolatedAsyncioTestCase):

@@ -195,18 +195,21 @@ class Same(Changing):
 
     def test_what_changes_something_keeps_its_copy(self):
         steps = [*self.imported("sessions"), STEPS[2]]
-        self.assertEqual(self.kept(), [changing.carry_out(self.value, steps).copy])
+        copy = changing.carry_out(self.value, steps).copy
+        self.assertEqual(self.kept(), [copy])
         self.change(APPEAL, "HA1", 1)
         before = self.state()
-        self.office("decide", "0001051", "HA1", "refused", "no")
-        self.assertEqual((self.state(), len(self.kept())), (before, 2))  # an appeal that is refused is no part of a state
+        for _ in range(2):
+            self.office("decide", "0001051", "HA1", "refused", "no")  # which is no part of a state
+            self.assertEqual((self.state(), len(self.kept())), (before, 2))
 
     def test_an_answer_alone_is_not_believed(self):
         """A program that says it, but did more."""
         liar = self.program(f'[ "$5" = import ] && {sample.built_program()} --db "$2" --today "$4" withdraw 0001000 MA-1 '
                             ">/dev/null")
         office = Office(self.path, liar, self.value.today, "tester")
-        self.assertEqual(self.kept(), [changing.carry_out(office, self.imported("halls")).copy])
+        copy = changing.carry_out(office, self.imported("halls")).copy
+        self.assertEqual(self.kept(), [copy])
 
 
 class States(Changing):
