@@ -114,10 +114,13 @@ def match_header(kind: str, row: int, cells: Mapping[int, Cell], given: Given, n
 def find_header(kind: str, sheet: Sheet, given: Given, whole: bool = False) -> Header | None:
     """The header of a kind among the first rows of a sheet; `whole` asks for every column of the kind."""
     needed = set(files.HEADERS[kind]) - {"code"} if whole else files.needed_columns(kind)
-    found = [match_header(kind, row, sheet.rows[row], given) for row in sorted(sheet.rows)[:WITHIN]]
-    good = [header for header in found if header.columns and needed <= (have := {*header.columns, *given.fixed})
-            and len(have) > 1]
-    return max(good, key=lambda header: len(header.columns)) if good else None
+    found: list[Header] = []
+    for row in sorted(sheet.rows)[:WITHIN]:
+        header = match_header(kind, row, sheet.rows[row], given)
+        have = {*header.columns, *given.fixed}
+        if header.columns and needed <= have and len(have) > 1:
+            found.append(header)
+    return max(found, key=lambda header: len(header.columns)) if found else None
 
 
 def is_exact(kind: str, sheet: Sheet) -> bool:
