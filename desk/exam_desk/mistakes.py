@@ -18,7 +18,7 @@ MOST_MEMBERS, MOST_OPENINGS = 4096, 256  # of a session
 WITHDRAWN = "SELECT printf('%07d', number), paper FROM entry WHERE live = 0"
 STANDING = ("SELECT printf('%07d', number) FROM standing JOIN appeal USING (number, ref) "
             f"WHERE state = {states.GRANTED}")
-NAMES, CODES = ["name", "title"], ["session", "paper", "hall", "code"]  # columns
+NAMES, CODES = {"name", "title"}, {"session", "paper", "hall", "code"}  # columns
 CODE = "1 to 12 of A-Z, 0-9 and -"
 TIME_CURE = "a time as 09:00; format the column as text"
 FEATURES_CURE = f"features are {', '.join(words.FEATURES)}, in this order, joined by +; - for none"
@@ -171,19 +171,17 @@ def needed(column: str, field: bytes) -> str:
     return f"1 to 80 bytes; it has {len(field)}"
 
 
-def notes_on(column: str, field: bytes) -> Iterator[str]:
+def notes_on(column: str, field: bytes) -> list[str]:
     """What only a human eye can judge in a value of a right form."""
-    text = field.decode("utf-8", "replace") if column in NAMES else ""
     if column in CODES and LIKE_A_NUMBER(field):
-        yield "may be what a spreadsheet made of a code such as 1E5, or will make of it"
+        return ["may be what a spreadsheet made of a code such as 1E5, or will make of it"]
+    text = field.decode("utf-8", "replace") if column in NAMES else ""
     if text.isascii() and text.isprintable() and text == text.strip():
-        return
-    if WRONG_LETTERS(text):
-        yield "looks like letters that were read in a wrong encoding"
-    if text != text.strip() or "\u00a0" in text:
-        yield "has a space at an end, or a hard space"
-    if words.plain(text) != text:
-        yield "holds marks that no screen shows"
+        return []
+    looks = [(WRONG_LETTERS(text), "looks like letters that were read in a wrong encoding"),
+             (text != text.strip() or "\u00a0" in text, "has a space at an end, or a hard space"),
+             (words.plain(text) != text, "holds marks that no screen shows")]
+    return [note for is_so, note in looks if is_so]
 
 
 def looked_through(kind: str, text: bytes, known: Known, most: int = MOST_COUNTED) -> tuple[Found, Found]:

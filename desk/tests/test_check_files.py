@@ -199,6 +199,15 @@ class Words(unittest.TestCase):
         self.assertEqual(self.mistakes_in("openings", b"session,desks,until,reserved\nS1,1,12:00,no\n")[0],
                          ["the first line must be session,hall,desks,until,reserved; no such header is found"])
 
+    def test_rows_that_are_wrong_as_a_whole(self):
+        for row, said in (
+                (b"0001000,Lin, Ada,WK3DEGZDPC", "4 fields in place of 3; put a value with a comma in double quotes"),
+                (b"0001000,Ada", "2 fields in place of 3; values are missing"),
+                (b",,", "an empty row of the spreadsheet: delete it"),
+                (b",,,", "4 fields in place of 3; an empty row of the spreadsheet: delete it"),
+                (b'0001000,"Ada', "2 fields in place of 3; a quote is not closed")):
+            self.assertEqual(self.mistakes_in("candidates", b"number,name,code\n" + row), ([said], []), row)
+
     def test_dates_and_times_are_put_right(self):
         text = b"session,date,start\nS1,15.1.2027,9:00\nS2,2027-01-15,13:30:00\nS3,1/2/2027,09:00\n"
         self.assertEqual(self.mistakes_in("sessions", text)[0], [
