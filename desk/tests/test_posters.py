@@ -27,7 +27,8 @@ class Numbers(unittest.TestCase):
         for running in ("across", "across-and-back", "down", "down-and-up"):
             for desks in range(1, 40):
                 for across in range(1, 9):
-                    found = [number for row in papers.numbered(desks, notebook.Rows(across, running)) for number in row if number]
+                    rows = papers.numbered(desks, notebook.Rows(across, running))
+                    found = [number for row in rows for number in row if number]
                     self.assertEqual(sorted(found), list(range(1, desks + 1)))
 
 
