@@ -5,9 +5,8 @@ from collections.abc import Collection, Iterable
 from typing import TypeVar
 
 from exam_desk import facts
-from exam_desk.answers import Sitting
 from exam_desk.names import name_order
-from exam_desk.reading import Member, Person, Reading
+from exam_desk.reading import Member, Person, Reading, Sitting
 from exam_desk.trouble import Trouble
 
 Named = TypeVar("Named", Member, Person)

@@ -3,26 +3,68 @@
 A reading has a private copy of the office's files. The rows are those of the copy. Who sits what, until when, in which
 hall and at which desk is not worked out from them: a `serve` over the same copy says it, to whoever shows the access
 code of a candidate, which is among the rows; and sheets are printed from it. `serve` begins with the first question.
+What its answers mean docs/HTTP.md says. One of another form raises `Trouble`: this desk belongs to another version of the
+program.
 """
 from __future__ import annotations
 
 import contextlib
+import json
 import os
+import re
 import threading
 import time
 from collections.abc import Callable, Collection, Iterable
-from typing import NamedTuple, TypeVar
+from typing import Any, NamedTuple, TypeVar
 
-from exam_desk import answers, asking, bad_rows, facts, private, running, snapshot, turns
-from exam_desk.answers import Appeal, Sitting
+from exam_desk import asking, bad_rows, facts, private, running, snapshot, turns
 from exam_desk.asking import Progress, Serve, ask_all
 from exam_desk.office import Office
 from exam_desk.trouble import BadRows, Trouble
 from exam_desk.words import plain
 
 Found = TypeVar("Found")
+Objects = list[dict[str, Any]]  # of an answer
 REQUEST = "GET /candidates/{}/{} HTTP/1.1\r\nHost: office\r\nexam-code: {}\r\n\r\n"
+CODE, ANY, WHOLE = '"[A-Z0-9-]+"', r'"([^"\\]|\\.)*"', "[0-9]+"
+DATE, CLOCK = '"[0-9]{4}-[0-9]{2}-[0-9]{2}"', '"[0-9]{2}:[0-9]{2}"'
+FORMS = {  # of each answer the members of its objects in their order, each with the form of its value in JSON
+    "seats": {"date": DATE, "desk": f"{WHOLE}|null", "extra": WHOLE, "finish": CLOCK, "hall": f"{CODE}|null",
+              "needs": r'"(-|[a-z-]+(\+[a-z-]+)*)"', "paper": CODE, "session": CODE, "start": CLOCK},
+    "clashes": {"paper": CODE, "session": CODE, "sitting": CODE},
+    "appeals": {"answer": f"{ANY}|null", "kind": '"(hall|clash|arrangement)"', "lodged": DATE, "reason": ANY,
+                "ref": CODE, "session": CODE, "standing": "true|false",
+                "state": '"(open|granted|refused|retracted|superseded)"', "subject": ANY},
+}
+FORMED = {what: re.compile("{%s}" % ", ".join(f'"{name}": ({form})' for name, form in forms.items()))
+          for what, forms in FORMS.items()}
 JUST_NOW = 50_000_000  # nanoseconds in which a second change of a file may leave its time as it is
+
+
+class Sitting(NamedTuple):
+    """What a candidate sits in a session, and where."""
+    session: str
+    date: str
+    start: str
+    paper: str
+    finish: str  # as 11:00; may pass 24:00
+    needs: tuple[str, ...]  # of the arrangement in force, without what the paper requires
+    extra: int  # percent
+    hall: str | None
+    desk: int | None
+
+
+class Appeal(NamedTuple):
+    """An appeal as its candidate sees it."""
+    ref: str
+    session: str
+    kind: str
+    subject: str  # a hall, a paper, or needs and extra time
+    lodged: str  # a date
+    reason: str
+    state: str
+    standing: bool
+    answer: str | None
 
 
 class Member(NamedTuple):
@@ -106,12 +148,13 @@ class Reading:
         or of some candidates."""
         asked = (number for number, count in facts.entered(self.rows, session).items() if count > 1)
         several = [self.person(number) for number in (asked if only is None else map(int, only))]
-        self.learn(several, "clashes", self.missed, answers.clashes)
+        self.learn(several, "clashes", self.missed, clashes)
         return {person.number: papers for person in several if (papers := self.missed[person.number].get(session))}
 
     def appeals(self, number: str) -> list[Appeal]:
+        """The appeals of a candidate, by reference."""
         found: dict[str, list[Appeal]] = {}
-        self.learn([self.person(int(number))], "appeals", found, answers.appeals)
+        self.learn([self.person(int(number))], "appeals", found, lambda answered: [Appeal(**row) for row in answered])
         return found.popitem()[1]
 
     def knows(self, number: str) -> bool:
@@ -128,10 +171,10 @@ class Reading:
 
     def ask(self, people: Iterable[Person]) -> None:
         """Asks the program what those sit of whom it was not asked yet."""
-        self.learn(people, "seats", self.sittings, answers.sittings)
+        self.learn(people, "seats", self.sittings, sittings)
 
     def learn(self, people: Iterable[Person], what: str, known: dict[str, Found],
-              read: Callable[[bytes], Found]) -> None:
+              read: Callable[[Objects], Found]) -> None:
         """Asks one question about each of whom the answer is not known yet."""
         with self.asking:
             unknown = [person for person in people if person.number not in known]
@@ -140,7 +183,7 @@ class Reading:
                 bodies = ask_all(self.kept, requests, [], self.progress)
             else:
                 bodies = self.begun().bodies(requests, self.progress) if requests else []
-            known.update((person.number, read(body)) for person, body in zip(unknown, bodies))
+            known.update((person.number, read(objects(body, what))) for person, body in zip(unknown, bodies))
 
     def begun(self) -> Serve:
         """The `serve`, over a second copy. Call it with the lock of those who ask."""
@@ -204,3 +247,29 @@ def state_of(path: str) -> list[tuple[int, ...]]:
     with contextlib.suppress(FileNotFoundError):
         found.append(os.stat(os.path.realpath(path) + "-wal"))
     return [(each.st_ino, each.st_size, each.st_ctime_ns, each.st_mtime_ns) for each in found]
+
+
+def sittings(answered: Objects) -> dict[str, Sitting]:
+    """What is sat, by session."""
+    found: dict[str, Sitting] = {}
+    for row in answered:
+        needs = () if row["needs"] == "-" else tuple(row["needs"].split("+"))
+        found[row["session"]] = Sitting(**row)._replace(needs=needs)
+    return found
+
+
+def clashes(answered: Objects) -> dict[str, list[str]]:
+    """By session the papers that a candidate is entered for and does not sit, since another is at the same time."""
+    found: dict[str, list[str]] = {}
+    for row in answered:
+        found.setdefault(row["session"], []).append(row["paper"])
+    return found
+
+
+def objects(body: bytes, what: str) -> Objects:
+    """Those of an answer. Raises `Trouble` where one has other members, or a value of another form."""
+    with contextlib.suppress(ValueError, KeyError, TypeError, RecursionError):
+        found = json.loads(body)[what]
+        if all(FORMED[what].fullmatch(json.dumps(each)) for each in found):
+            return list(found)
+    raise Trouble(f"the program answered something else than {what}: are desk and program of one version?")

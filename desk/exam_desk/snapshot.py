@@ -1,6 +1,6 @@
 """The rows of an office as they were at one moment: names, titles, openings, entries, appeals.
 
-Who sits what, where and until when is not read from rows: the program says it (answers.py).
+Who sits what, where and until when is not read from rows: the program says it (reading.py).
 """
 from __future__ import annotations
 

@@ -12,9 +12,8 @@ from collections.abc import Collection, Iterable
 from typing import NamedTuple
 
 from exam_desk import facts, files
-from exam_desk.answers import Sitting
 from exam_desk.names import name_order
-from exam_desk.reading import Reading
+from exam_desk.reading import Reading, Sitting
 from exam_desk.trouble import Trouble
 from exam_desk.words import plain
 

@@ -7,8 +7,8 @@ from unittest import mock
 
 import sample
 from exam_desk import changing, consequences, copies, telling
-from exam_desk.answers import Sitting
 from exam_desk.office import Office
+from exam_desk.reading import Sitting
 from exam_desk.sheets import papers
 
 SITTING = Sitting("S1", "2027-06-01", "09:00", "MA-1", "10:00", (), 0, "A", 1)

@@ -8,7 +8,7 @@ import unittest
 import sample
 import test_paper
 
-from exam_desk.notebook import Rows  # beside the tests' folder
+from exam_desk import notebook  # beside the tests' folder
 from exam_desk.sheets import papers
 
 PRIVATE = ["extra time", "reader", "step-free", "small-room", "VMGNZGEDP9"]  # arrangements, a code
@@ -16,19 +16,30 @@ PRIVATE = ["extra time", "reader", "step-free", "small-room", "VMGNZGEDP9"]  # a
 
 class Numbers(unittest.TestCase):
     def test_how_the_numbers_run(self):
-        self.assertEqual(papers.numbered(5, Rows(3, "across")), [[1, 2, 3], [4, 5, None]])
-        self.assertEqual(papers.numbered(5, Rows(3, "across-and-back")), [[1, 2, 3], [None, 5, 4]])
-        self.assertEqual(papers.numbered(5, Rows(3, "down")), [[1, 3, 5], [2, 4, None]])
-        self.assertEqual(papers.numbered(5, Rows(3, "down-and-up")), [[1, 4, 5], [2, 3, None]])
-        self.assertEqual(papers.numbered(2, Rows(3, "down")), [[1, 2, None]])
-        self.assertEqual(papers.numbered(1, Rows(1, "across-and-back")), [[1]])
+        self.assertEqual(papers.numbered(5, notebook.Rows(3, "across")), [[1, 2, 3], [4, 5, None]])
+        self.assertEqual(papers.numbered(5, notebook.Rows(3, "across-and-back")), [[1, 2, 3], [None, 5, 4]])
+        self.assertEqual(papers.numbered(5, notebook.Rows(3, "down")), [[1, 3, 5], [2, 4, None]])
+        self.assertEqual(papers.numbered(5, notebook.Rows(3, "down-and-up")), [[1, 4, 5], [2, 3, None]])
+        self.assertEqual(papers.numbered(2, notebook.Rows(3, "down")), [[1, 2, None]])
+        self.assertEqual(papers.numbered(1, notebook.Rows(1, "across-and-back")), [[1]])
 
     def test_each_desk_stands_once(self):
         for running in ("across", "across-and-back", "down", "down-and-up"):
             for desks in range(1, 40):
                 for across in range(1, 9):
-                    found = [number for row in papers.numbered(desks, Rows(across, running)) for number in row if number]
+                    rows = papers.numbered(desks, notebook.Rows(across, running))
+                    found = [number for row in rows for number in row if number]
                     self.assertEqual(sorted(found), list(range(1, desks + 1)))
+
+
+class Rows(unittest.TestCase):
+    def test_each_stands_on_one_page_that_has_room(self):
+        heights = [9.05, 20, 13.8] * 20
+        parts = papers.parted(heights, 200)
+        self.assertEqual([height for part in parts for height in heights[part]], heights)
+        self.assertEqual(len(parts), 5)
+        for part in parts:
+            self.assertLessEqual(sum(heights[part]) + papers.LAST * (part is parts[-1]), 200)
 
 
 class Posters(sample.SampleSchool):

@@ -5,9 +5,8 @@ import re
 import unittest
 
 import sample
-from exam_desk.answers import Sitting
 from exam_desk.facts import Opening
-from exam_desk.reading import Member
+from exam_desk.reading import Member, Sitting
 from exam_desk.reasons import Reasons, Shortage
 from exam_desk.words import FEATURES
 

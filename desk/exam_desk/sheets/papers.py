@@ -12,11 +12,10 @@ from typing import NamedTuple
 from markupsafe import Markup
 
 from exam_desk import facts, lists, notebook, telling
-from exam_desk.answers import Sitting
 from exam_desk.names import fold
 from exam_desk.notebook import Desk, Rows
 from exam_desk.office import Office
-from exam_desk.reading import Member, Reading
+from exam_desk.reading import Member, Reading, Sitting
 from exam_desk.sheets.pages import document, html, joined, safe, school, table, text, titled
 from exam_desk.snapshot import session_row
 from exam_desk.telling import Change

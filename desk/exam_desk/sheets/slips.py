@@ -7,8 +7,7 @@ from typing import NamedTuple
 from markupsafe import Markup
 
 from exam_desk import facts, files, lists, notebook
-from exam_desk.answers import Sitting
-from exam_desk.reading import Person, Reading
+from exam_desk.reading import Person, Reading, Sitting
 from exam_desk.sheets import pages
 from exam_desk.sheets.pages import html, joined, text
 from exam_desk.trouble import Trouble

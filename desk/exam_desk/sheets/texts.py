@@ -12,10 +12,9 @@ from collections import Counter
 from collections.abc import Collection, Iterator
 
 from exam_desk import facts, lists, notebook, overlaps
-from exam_desk.answers import Sitting
 from exam_desk.names import fold
 from exam_desk.office import Office
-from exam_desk.reading import Person, Reading
+from exam_desk.reading import Person, Reading, Sitting
 from exam_desk.snapshot import Rows
 from exam_desk.trouble import Trouble
 from exam_desk.words import clock, feature_text, plain
