@@ -11,9 +11,8 @@ import sqlite3
 from typing import NamedTuple
 
 from exam_desk import files, lists, overlaps
-from exam_desk.answers import Sitting
 from exam_desk.changing import Step
-from exam_desk.reading import Member, Reading
+from exam_desk.reading import Member, Reading, Sitting
 from exam_desk.reasons import Reasons
 from exam_desk.snapshot import Rows
 from exam_desk.trouble import Trouble
