@@ -142,10 +142,15 @@ def counted(words: tuple[str, str], who: Collection[object]) -> str:
     return people(who, words[len(set(who)) > 1])
 
 
+def tally(who: Collection[object]) -> tuple[int, int]:
+    """How many people there are, and in how many sittings, from who it is in each."""
+    return len(set(who)), len(who)
+
+
 def people(who: Collection[object], what: str) -> str:
     """How many people there are, what they do, and in how many sittings where these are more."""
-    several = len(set(who))
-    sittings = f" ({len(who):,} {'sessions' if several == 1 else 'sittings'})" if len(who) > several else ""
+    several, count = tally(who)
+    sittings = f" ({count:,} {'sessions' if several == 1 else 'sittings'})" if count > several else ""
     return f"{several:,} {what}{sittings}"
 
 

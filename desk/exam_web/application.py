@@ -4,20 +4,20 @@ import sqlite3
 from typing import Any
 
 from flask import Flask, g, redirect, render_template, request, url_for
+from flask.typing import ResponseReturnValue
 from werkzeug.exceptions import HTTPException
-from werkzeug.routing import RequestRedirect
 from werkzeug.wrappers import Response
 
-from exam_desk import appeals as appeal_words
+from exam_desk import appeals
+from exam_desk.telling import tally
 from exam_desk.trouble import Trouble
 from exam_desk.words import FEATURES
-from exam_web import (appeals, candidates, clashes, effects, files, forms, guard, office, plans, proposals,
-                      season, session, wording)
-from exam_web.desk import Desk, StillReading, desk, release
+from exam_web import candidates, forms, guard, office, plans, proposals, season, session, uploads, wording
+from exam_web.desk import Desk, StillReading, desk
 from exam_web.wording import text
 
-SCREENS = [screen.pages for screen in (guard, season, session, candidates, appeals, clashes, files, plans, proposals,
-                                       office)]
+SCREENS = [guard.pages, season.pages, session.pages, candidates.pages, candidates.appeal_pages, candidates.clash_pages,
+           uploads.pages, plans.pages, proposals.pages, office.pages]
 PLACES = [("season.page", "Season"), ("files.page", "Files"), ("candidates.find", "Candidates"),
           ("appeals.page", "Appeals"), ("office.page", "Office")]
 PROBLEMS = {
@@ -35,20 +35,17 @@ def make(here: Desk) -> Flask:
     app.extensions["desk"] = here
     app.extensions["guard"] = guard.Guard(app, here.address, here.prefix)
     wording.prepare(app)
-    app.jinja_env.globals.update(appeals=appeal_words, EFFECTS=effects.KINDS, FEATURES=FEATURES, places=PLACES,
-                                 RUNNING=session.RUNNING)
+    app.jinja_env.globals.update(appeals=appeals, EFFECTS=proposals.KINDS, FEATURES=FEATURES, places=PLACES,
+                                 RUNNING=session.RUNNING, copy_key=proposals.copy_key, tally=tally)
     for screen in SCREENS:
         app.register_blueprint(screen)
     app.before_request(begin)
     app.context_processor(everywhere)
-    app.teardown_request(release)
     app.register_error_handler(HTTPException, refused)
     app.register_error_handler(forms.Wrong, forms.wrong_page)
     app.register_error_handler(StillReading, still_reading)
-    app.register_error_handler(Trouble, faulty)
-    app.register_error_handler(OSError, faulty)
-    app.register_error_handler(sqlite3.Error, faulty)
-    here.warm = season.warm
+    for kind in (Trouble, OSError, sqlite3.Error):
+        app.register_error_handler(kind, faulty)
     return app
 
 
@@ -74,11 +71,9 @@ def everywhere() -> dict[str, Any]:
             "direction": "rtl" if wording.language() in wording.RIGHT_TO_LEFT else "ltr"}
 
 
-def refused(fault: HTTPException) -> Response | tuple[str, int]:
+def refused(fault: HTTPException) -> ResponseReturnValue:
     if fault.code == 401:
         return redirect(url_for("entering.page"))
-    if isinstance(fault, RequestRedirect):
-        return redirect(fault.new_url, fault.code)
     return problem(text(PROBLEMS[fault.code]) if fault.code in PROBLEMS else str(fault.description), fault.code or 500)
 
 
@@ -88,7 +83,7 @@ def problem(said: object, status: int) -> tuple[str, int]:
     return render_template("problem.html", status=status, text=said), status
 
 
-def still_reading(stage: StillReading) -> tuple[str, int, dict[str, str]]:
+def still_reading(stage: StillReading) -> ResponseReturnValue:
     return render_template("reading.html", stage=text(str(stage)), address=request.path), 503, {"Retry-After": "1"}
 
 

@@ -1,25 +1,32 @@
-"""Candidates: the search, their notes, and the page of one with timetable, arrangement, appeals and access code."""
+"""Candidates: the search, their notes, and the page of one with timetable, arrangement, appeals and access code. Appeals:
+the open ones by their last day, and one with what its grant would come to. Two papers at once: who has them, whether they
+have asked to sit the other, a second sitting; and two sessions at one time."""
 import contextlib
 import sqlite3
 
-from flask import Blueprint, Response, redirect, render_template, request, url_for
-from werkzeug.wrappers import Response as Answer
+from flask import Blueprint, abort, redirect, render_template, request, url_for
+from werkzeug.datastructures import MultiDict
+from werkzeug.wrappers import Response
 
-from exam_desk import facts, names, notebook, second_sitting
+from exam_desk import facts, lastdays, names, notebook, overlaps, second_sitting
 from exam_desk.sheets import notes, person
 from exam_desk.sheets import slips as slip_pages
 from exam_desk.trouble import Trouble
-from exam_web import output
-from exam_web.desk import View, candidate_row, desk, once, view
-from exam_web.forms import Page, Wrong, lead, short
-from exam_web.wording import text
+from exam_web import plans, proposals, session
+from exam_web.desk import View, candidate_row, desk, once, sums, view
+from exam_web.forms import Page, Wrong, lead, short, styled
+from exam_web.proposals import APPEALS, BY_DAY
+from exam_web.wording import days_until, text
 
 pages = Blueprint("candidates", __name__)
+appeal_pages = Blueprint("appeals", __name__)
+clash_pages = Blueprint("clashes", __name__)
 MOST_FOUND, MOST_ASKED = 100, 80
+MOST_SHOWN, MOST_MOVES = 300, 12
 
 
 @pages.get("/candidates")
-def find() -> str | Answer:
+def find() -> str | Response:
     asked = request.args.get("q", "").strip()[:MOST_ASKED]
     found = search(asked) if asked else []
     if len(found) == 1:
@@ -79,7 +86,7 @@ def code(number: int) -> str:
 
 
 @pages.post("/candidates/<int:number>/note")
-def note(number: int) -> Answer:
+def note(number: int) -> Response:
     """Keeps the note on a candidate, or takes it away; no seat depends on it."""
     candidate_row(number)
     page_of: Page = ("candidates.page", {"number": number})
@@ -103,4 +110,76 @@ def slips(number: int | None = None) -> str:
     """The slip of one candidate, or those of all, of all sessions."""
     only = [] if number is None else [f"{candidate_row(number)['number']:07}"]
     choice = slip_pages.Choice(only=only, codes="codes" in request.form, desks=bool(only))
-    return output.styled(slip_pages.page(view().reading, choice))
+    return styled(slip_pages.page(view().reading, choice))
+
+
+@appeal_pages.get("/appeals", endpoint="page")
+def appeals() -> str:
+    waiting = view().rows(f"{APPEALS} WHERE state = 1 {BY_DAY}")
+    rest = view().rows(f"{APPEALS} WHERE state <> 1 {BY_DAY} LIMIT ?", [MOST_SHOWN])
+    decided = view().count("SELECT count(*) FROM appeal WHERE state <> 1")
+    return render_template("appeals.html", waiting=waiting, rest=rest, decided=decided, last_day=lastdays.to_decide)
+
+
+def appeal_row(number: int, ref: str) -> sqlite3.Row:
+    return view().row(f"{APPEALS} WHERE appeal.number = ? AND ref = ?", [number, ref]) or abort(404)
+
+
+@appeal_pages.get("/appeals/<int:number>/<ref>")
+def one(number: int, ref: str) -> str:
+    row = appeal_row(number, ref)
+    last = lastdays.to_decide(row["day"])
+    others = view().count("SELECT count(*) FROM appeal WHERE number = ?", [number]) - 1
+    return render_template("appeal.html", row=row, member=view().reading.member(row["session"], f"{number:07}"),
+                           others=others, last=last, late=days_until(last) < 0,
+                           titles=facts.paper_titles(view().reading.rows))
+
+
+@appeal_pages.get("/appeals/<int:number>/<ref>/if-granted")
+def if_granted(number: int, ref: str) -> str:
+    """What a grant would come to: it is tried on a private copy, so the office stays as it is."""
+    row = appeal_row(number, ref)
+    if row["state"] != 1:
+        abort(404)
+    outcome = "standing" if "standing" in request.args and row["kind"] == 3 else "granted"
+    plan = plans.decide(MultiDict({"number": f"{number:07}", "ref": ref, "outcome": outcome}))
+    with desk().rehearsing:
+        proposals.rehearse(plan, desk(), desk().office)
+    return render_template("if_granted.html", row=row, e=plan.effects, refusal=plan.words(), most=MOST_MOVES)
+
+
+@clash_pages.get("/clashes", endpoint="page")
+def clashes() -> str:
+    """The sessions with two papers at once, and those who have them in one of these."""
+    lodged = view().rows("SELECT * FROM appeal WHERE kind = 2 ORDER BY lodged")
+    sessions = [each for each in sums(view()).values() if each.clashes]
+    shown = [each for each in sessions if each.code == request.args.get("session", "")] or sessions[:1]
+    return render_template("clashes.html", sessions=sessions, shown=shown,
+                           found={each.code: session.clashes(each.code, MOST_SHOWN) for each in shown},
+                           asked={(row["session"], row["number"]): row for row in lodged},
+                           titles=facts.paper_titles(view().reading.rows))
+
+
+@once
+def at_one_time(found: View) -> list[overlaps.Overlap]:
+    """The sessions that overlap. All whom the rows leave in doubt are asked of."""
+    doubtful = overlaps.in_doubt(found.reading)
+    found.ask(overlaps.numbers_of(doubtful))
+    return overlaps.certain(found.reading, doubtful)
+
+
+@clash_pages.get("/overlaps")
+def overlapping() -> str:
+    found = proposals.named(view().reading, at_one_time(view()))
+    return render_template("overlaps.html", overlaps=found, most=MOST_SHOWN)
+
+
+@clash_pages.get("/clashes/<code>/<int:number>")
+def second(code: str, number: int) -> str | Response:
+    """The form for a second sitting: which paper, from when, and where."""
+    found, who = session.sums_of(code), f"{candidate_row(number)['number']:07}"
+    member, missed = view().reading.member(code, who), view().missed(code, [number]).get(who)
+    if not member or not missed:
+        return redirect(url_for("clashes.page", session=code))
+    return render_template("second.html", s=found, member=member, missed=missed, choices=session.hall_choices(code),
+                           titles=facts.paper_titles(view().reading.rows))

@@ -6,13 +6,12 @@ endpoint stands in OPEN.
 import base64
 import contextlib
 import hashlib
-import hmac
 import os
 import re
 import secrets
 import threading
 import time
-from collections.abc import Callable, Iterable, Iterator
+from collections.abc import Callable, Iterable
 from dataclasses import dataclass, field
 from typing import Any
 
@@ -44,6 +43,8 @@ HEADERS = {
 POLICY = ("default-src 'none'; script-src 'self'; style-src 'self'{}; img-src 'self'; connect-src 'self'; "
           "form-action 'self'; frame-ancestors 'none'; base-uri 'none'")
 STRANGE_HOST = "The desk answers to its own address alone: http://{}. Open it by that address, not by a name.\n"
+NOTHING = "Nothing is here. `office desk --link` prints a link to the desk.\n"
+REFUSED = {"X-Content-Type-Options": "nosniff", "Cache-Control": "no-store"}
 Start = Callable[..., Any]
 
 
@@ -65,19 +66,12 @@ class Door:
         self.pages, self.address, self.prefix = pages, address, prefix
 
     def __call__(self, environ: dict[str, Any], start: Start) -> Iterable[bytes]:
-        if environ.get("HTTP_HOST") != self.address:  # a stranger's name that points here (DNS rebinding)
-            return refusal(start, "421 Misdirected Request", STRANGE_HOST.format(self.address))
         path = environ.get("PATH_INFO", "")
+        if environ.get("HTTP_HOST") != self.address:  # a stranger's name that points here (DNS rebinding)
+            return Response(STRANGE_HOST.format(self.address), 421, REFUSED)(environ, start)
         if not path.startswith(self.prefix + "/"):
-            return refusal(start, "404 Not Found", "Nothing is here. `office desk --link` prints a link to the desk.\n")
+            return Response(NOTHING, 404, REFUSED)(environ, start)
         return self.pages({**environ, "SCRIPT_NAME": self.prefix, "PATH_INFO": path[len(self.prefix):]}, start)
-
-
-def refusal(start: Start, status: str, text: str) -> list[bytes]:
-    body = text.encode()
-    start(status, [("Content-Type", "text/plain; charset=utf-8"), ("Content-Length", str(len(body))),
-                   ("X-Content-Type-Options", "nosniff"), ("Cache-Control", "no-store")])
-    return [body]
 
 
 def digest(secret: str) -> str:
@@ -92,38 +86,25 @@ def new_link(office: str, address: str, prefix: str) -> str:
     return f"http://{address}{prefix}/enter#{token}"
 
 
-@contextlib.contextmanager
-def links(office: str) -> Iterator[int]:
-    """The folder of links. Raises OSError where it is not there, or cannot be used."""
-    folder = beside.open_folder(office, LINKS)
-    try:
-        yield folder
-    finally:
-        os.close(folder)
-
-
-def use_link(office: str, token: str) -> bool:
-    """Whether a token opens the desk. It does so once, since its file goes; links that nobody used go too."""
-    with contextlib.suppress(FileNotFoundError), links(office) as folder:
+def use_link(office: str, token: str, lasting: float = LINK_SECONDS) -> bool:
+    """Whether a token opens the desk. It does so once, since its file goes; links that are too old go too."""
+    used, opens = digest(token), False
+    with contextlib.suppress(FileNotFoundError), contextlib.ExitStack() as stack:
+        folder = beside.open_folder(office, LINKS)
+        stack.callback(os.close, folder)
         for name in os.listdir(folder):
             with contextlib.suppress(FileNotFoundError):  # somebody else may come in just now
-                if name != digest(token) and age(name, folder) > LINK_SECONDS:
+                age = abs(time.time() - os.stat(name, dir_fd=folder, follow_symlinks=False).st_mtime)
+                if name == used or age >= lasting:
                     os.unlink(name, dir_fd=folder)
-        made = age(digest(token), folder)
-        os.unlink(digest(token), dir_fd=folder)
-        return made < LINK_SECONDS
-    return False
-
-
-def age(name: str, folder: int) -> float:
-    return abs(time.time() - os.stat(name, dir_fd=folder, follow_symlinks=False).st_mtime)
+                    opens |= name == used and age < lasting
+    return opens
 
 
 def drop_links(office: str) -> None:
     """Removes all links: none of them opens the next desk."""
-    with contextlib.suppress(OSError), links(office) as folder:
-        for name in os.listdir(folder):
-            os.unlink(name, dir_fd=folder)
+    with contextlib.suppress(OSError):
+        use_link(office, "", lasting=0)
         os.rmdir(os.path.join(beside.folder(office), LINKS))
 
 
@@ -152,7 +133,7 @@ class Guard:
             return
         if g.visit is None:
             abort(401)
-        if not reads and not hmac.compare_digest(request.form.get(MARK, "").encode(), g.visit.mark.encode()):
+        if not reads and not secrets.compare_digest(request.form.get(MARK, "").encode(), g.visit.mark.encode()):
             abort(403)
 
     def found(self) -> Visit | None:

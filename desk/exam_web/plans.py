@@ -10,7 +10,7 @@ from functools import partial
 from flask import Blueprint, abort, g, request
 from werkzeug.wrappers import Response
 
-from exam_desk import coding, files, lodging, second_sitting
+from exam_desk import coding, facts, files, lodging, second_sitting
 from exam_desk.changing import Step
 from exam_desk.trouble import Trouble
 from exam_desk.words import FEATURES, clock
@@ -34,9 +34,7 @@ def command(word: str, names: Sequence[str], values: Mapping[str, str]) -> Step:
 
 def import_step(kind: str, values: Mapping[str, str]) -> Step:
     """An import of one row that was typed in."""
-    header = files.HEADERS[kind]
-    data = files.written([header, [values[name] for name in header]]).encode("utf-8", "surrogateescape")
-    return Step(("import", kind, f"{kind}.csv"), data)
+    return second_sitting.imported(kind, *(values[name] for name in files.HEADERS[kind]))
 
 
 def candidate(form: Form, **columns: str) -> tuple[Values, Page]:
@@ -49,8 +47,7 @@ def candidate(form: Form, **columns: str) -> tuple[Values, Page]:
 
 
 def features(form: Form, field: str = "needs") -> str:
-    chosen = form.getlist(field)
-    return "+".join(name for name in FEATURES if name in chosen) or "-"
+    return "+".join(name for name in FEATURES if name in form.getlist(field)) or "-"
 
 
 def of_entry(step: Callable[[Values], Step], form: Form) -> Plan:
@@ -68,12 +65,12 @@ def rename(form: Form) -> Plan:
     values, page = candidate(form)
     values["other"] = checked(page, form, name="name")["name"]
     step = coding.renamed(desk().office, values["number"], values["other"])
-    return Plan(values, [step], page, made_from=view().name)
+    return Plan(values, [step], page, made_for=view().name)
 
 
 def new_code(form: Form) -> Plan:
     values, page = candidate(form)
-    code = coding.new_code({code for code, in view().rows("SELECT code FROM candidate")})
+    code = coding.new_code(set(facts.access_codes(view().reading.rows).values()))
     return Plan(values, [import_step("candidates", {**values, "code": code})], page)
 
 
@@ -174,7 +171,7 @@ def of_second(values: Values, page: Page, name: str, make: Callable[[], second_s
         found = make()
     except Trouble as trouble:
         raise Wrong(page, **{name: said(trouble.sentence)}) from None
-    return Plan(values, found.steps, page, {TROUBLE: name}, command=found.title, made_from=view().name,
+    return Plan(values, found.steps, page, {TROUBLE: name}, command=found.title, made_for=view().name,
                 look=partial(second_sitting.lines, found))
 
 

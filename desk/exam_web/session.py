@@ -2,58 +2,85 @@
 import math
 import re
 import sqlite3
-from collections.abc import Sequence
+from collections.abc import Callable, Iterator, Sequence
+from typing import NamedTuple
 
 from flask import Blueprint, abort, render_template, request
 from werkzeug.wrappers import Response
 
-from exam_desk import absences, facts, lastdays, lists, notebook, printed
+from exam_desk import absences, facts, files, lastdays, lists, notebook, printed, reasons
 from exam_desk.facts import Opening
 from exam_desk.notebook import Rows
+from exam_desk.overlaps import of_day
 from exam_desk.reading import Member
-from exam_desk.sheets.chart import NotDrawn, numbered
+from exam_desk.sheets import board, cards, chart, counts, doors, poster, slips
+from exam_desk.shortage import Shortage
 from exam_desk.trouble import Trouble
-from exam_web import counting, output, shortages
-from exam_web.desk import View, desk, once, view
-from exam_web.forms import Page, Wrong, lead, whole
+from exam_web.desk import Sums, View, desk, once, sums, two_papers, view
+from exam_web.forms import Page, Wrong, attached, lead, styled, whole
 from exam_web.wording import many, said, text
 
 pages = Blueprint("session", __name__)
 MOST_PEOPLE = 100  # that a page lists for one reason
+MOST_EXPLAINED, MOST_REMEDIES = 30, 4
 WIDTH, HEIGHT, GAP = 78, 38, 5  # of a desk in a picture, and from one to the next
 RUNNING = dict(zip(notebook.RUNNING, ("along the rows", "along and back", "down the columns", "down and up")))
 MOST_SUPPOSED = 14  # desks in a row, where nobody said how many
 SEATS = "session,date,start,finish,number,name,paper,paper title,hall,desk,extra,needs".split(",")
+MIDNIGHT = 24 * 60
+USUAL = "SELECT desks, until FROM opening WHERE hall = ? GROUP BY desks, until ORDER BY count(*) DESC LIMIT 1"
 
 
-def sums_of(code: str) -> counting.Sums:
-    return counting.sums(view()).get(code) or abort(404)
+class Sheet(NamedTuple):
+    """A paper of a session, and the function that makes it."""
+    title: str
+    page: Callable[..., str]  # of a reading, a session and, where it is by hall, the halls: all where none is named
+    by_hall: bool = False
 
 
-@once
-def openings(found: View, code: str) -> list[Opening]:
-    return facts.openings(found.reading.rows, code)
+SHEETS = {
+    "doors": Sheet("Invigilators' sheets to sign", doors.page, True), "poster": Sheet("Posters for doors", poster.page),
+    "cards": Sheet("Desk cards", cards.page, True), "chart": Sheet("Seating charts", chart.page, True),
+    "slips": Sheet("Slips for candidates", lambda reading, session: slips.page(
+        reading, slips.Choice(sessions=[session], desks=True))),
+    "board": Sheet("Notice board by name", board.page), "counts": Sheet("Copies of each paper", counts.page),
+}
+
+
+class Remedy(NamedTuple):
+    """An opening that would suit some of those without a desk, and how the hall is open now: a guess that a button
+    rehearses, since only the program says what it comes to."""
+    suits: int
+    opening: Opening
+    now: Opening | None = None
+
+
+def sums_of(code: str) -> Sums:
+    return sums(view()).get(code) or abort(404)
+
+
+def openings(code: str) -> dict[str, Opening]:
+    """The halls that are open in a session, by code."""
+    return {each.hall: each for each in facts.openings(view().reading.rows, code)}
 
 
 def opening(code: str, hall: str) -> Opening:
-    found = [each for each in openings(view(), code) if each.hall == hall]
-    return found[0] if found else abort(404)
+    return openings(code).get(hall) or abort(404)
 
 
 @pages.get("/sessions/<code>")
 def page(code: str) -> str:
-    sums, noted = sums_of(code), notebook.absent(desk().office, code)
-    codes = list(counting.sums(view()))
+    found, noted = sums_of(code), notebook.absent(desk().office, code)
+    codes = list(sums(view()))
     before, _, after = [None, *codes, None][codes.index(code):][:3]
     lodged = view().rows("SELECT appeal.*, name FROM appeal JOIN candidate ON candidate.number = appeal.number "
                          "WHERE session = ? ORDER BY state, appeal.number, ref LIMIT ?", [code, MOST_PEOPLE + 1])
-    known = [number for number, in view().rows("SELECT number FROM candidate ORDER BY number")
-             if f"{number:07}" in noted] if noted else []  # a copy from before they came may have been put back
+    known = noted & facts.candidate_names(view().reading.rows).keys()  # a copy from before they came may be back
     return render_template(
-        "session.html", s=sums, halls=openings(view(), code), taken=taken(code), papers=papers(code), lodged=lodged,
+        "session.html", s=found, halls=openings(code).values(), taken=taken(code), papers=papers(code), lodged=lodged,
         previous=before, next=after, choices=hall_choices(code), clashes=clashes(code), most=MOST_PEOPLE,
-        absent=members_of(code, known), shortage=shortages.of(view(), code) if sums.short else None,
-        sheets=output.SHEETS, last=lastdays.to_decide(sums.day))
+        absent=members_of(code, sorted(map(int, known))), shortage=shortage(view(), code) if found.short else None, sheets=SHEETS,
+        last=lastdays.to_decide(found.day))
 
 
 def taken(code: str) -> dict[str, int]:
@@ -69,20 +96,19 @@ def papers(code: str) -> list[sqlite3.Row]:
 
 def hall_choices(code: str) -> list[tuple[str, str, Opening | None]]:
     """All halls to choose from, those that are closed in a session first; each with its title, and how it is open."""
-    opened = {each.hall: each for each in openings(view(), code)}
-    halls = sorted(facts.hall_titles(view().reading.rows).items())
-    return sorted(((hall, title, opened.get(hall)) for hall, title in halls), key=lambda each: each[2] is not None)
+    opened, titles = openings(code), facts.hall_titles(view().reading.rows)
+    return [(hall, titles[hall], opened.get(hall)) for hall in sorted(titles, key=lambda hall: (hall in opened, hall))]
 
 
 def clashes(code: str, most: int = MOST_PEOPLE) -> list[tuple[Member, list[str]]]:
     """Who has two papers at once, and which ones they miss, both as the program says. Who is asked of has two live
     entries in the rows."""
-    numbers = list(counting.two_papers(view()).get(code, {}))[:most]
+    numbers = list(two_papers(view()).get(code, {}))[:most]
     missed = view().missed(code, numbers)
     return [(member, missed[member.number]) for member in members_of(code, numbers) if member.number in missed]
 
 
-def members_of(code: str, numbers: list[int]) -> list[Member]:
+def members_of(code: str, numbers: Sequence[int]) -> list[Member]:
     """What the program says of some members of a session."""
     reading = view().reading
     people = [reading.person(number) for number in numbers]
@@ -90,19 +116,55 @@ def members_of(code: str, numbers: list[int]) -> list[Member]:
     return [member for person in people if (member := reading.member_of(person, code))]
 
 
+@once
+def shortage(view: View, code: str) -> tuple[Shortage, list[tuple[Member, dict[str, list[str]]]], list[Remedy]]:
+    """Why a session is short: the program's own account; for some of those without a desk the halls by reason; and what
+    could help."""
+    why, sheet = reasons.compared(view.reading, code)
+    return (sheet, [(member, by_reason(why.of(member))) for member in why.unseated()[:MOST_EXPLAINED]],
+            sorted(remedies(view, why), key=lambda each: -each.suits)[:MOST_REMEDIES])
+
+
+def by_reason(halls: list[tuple[str, str]]) -> dict[str, list[str]]:
+    """The halls by reason; who sits in a full one is left out."""
+    found: dict[str, list[str]] = {}
+    for hall, reason in halls:
+        found.setdefault(reason.partition(": ")[0], []).append(hall)
+    return found
+
+
+def remedies(view: View, why: reasons.Reasons) -> Iterator[Remedy]:
+    """Halls that are open in another way, or are not open, and suit some of those without a desk."""
+    opened = {each.hall: each for each in why.openings}
+    for code, title, features in view.rows("SELECT code, title, features FROM hall ORDER BY code"):
+        widest = Opening(code, title, features, 1, MIDNIGHT, False)  # open as long as can be, for everybody
+        suited = [member for member in why.unseated() if not why.obstacles(member, widest)]
+        last = max((of_day(member.sitting.finish) for member in suited), default=0)
+        if suited and code in opened:
+            now = opened[code]
+            longer = now._replace(until=max(now.until, last))
+            reserved = now.reserved and all(not why.obstacles(member, longer) for member in suited)
+            desks = max(now.desks, len(suited) + len(why.taken[code]))
+            if (then := longer._replace(reserved=reserved, desks=desks)) != now:
+                yield Remedy(len(suited), then, now)
+        elif suited:  # open as it is in most sessions, and long enough
+            desks, until = view.row(USUAL, [code]) or (len(suited), last)
+            yield Remedy(len(suited), widest._replace(desks=desks, until=max(until, last)))
+
+
 @pages.get("/sessions/<code>/halls/<hall>", endpoint="hall")
 def hall_page(code: str, hall: str) -> str:
     """A hall as a picture: a piece of the session's page, or a page of its own where no script runs."""
-    sums, found = sums_of(code), opening(code, hall)
+    found, shown = sums_of(code), opening(code, hall)
     seated = view().rows("SELECT number FROM seat WHERE session = ? AND hall = ?", [code, hall])
-    members, rows = lists.by_desk(members_of(code, [number for number, in seated]), hall), standing(found)
+    members, rows = lists.by_desk(members_of(code, [number for number, in seated]), hall), standing(shown)
     desks = sorted((number, column * (WIDTH + GAP) + 2, row * (HEIGHT + GAP) + 2)
-                   for row, line in enumerate(numbered(found.desks, rows))
+                   for row, line in enumerate(chart.numbered(shown.desks, rows))
                    for column, number in enumerate(line) if number is not None)
-    return render_template("hall.html", s=sums, opening=found, rows=rows, desks=desks, members=members,
+    return render_template("hall.html", s=found, opening=shown, rows=rows, desks=desks, members=members,
                            by_desk={member.sitting.desk: member for member in members}, desk_width=WIDTH,
-                           desk_height=HEIGHT,
-                           codes=[row["code"] for row in papers(code)], absent=notebook.absent(desk().office, code))
+                           desk_height=HEIGHT, codes=facts.papers(view().reading.rows, code),
+                           absent=notebook.absent(desk().office, code))
 
 
 def standing(found: Opening) -> Rows:
@@ -149,37 +211,37 @@ def note_absent(code: str) -> Response:
 @pages.get("/sessions/<code>/attendance.csv")
 def attendance_csv(code: str) -> Response:
     sums_of(code)
-    return output.attached(absences.listed(view().reading, code).encode(), f"{code}-attendance.csv")
+    return attached(absences.listed(view().reading, code).encode(), f"{code}-attendance.csv")
 
 
 @pages.get("/sessions/<code>/seats.csv")
 def seats_csv(code: str) -> Response:
-    sums = sums_of(code)
-    titles = facts.paper_titles(view().reading.rows)
-    rows = [[code, sums.day, each.sitting.start, each.sitting.finish, each.number, each.name, each.sitting.paper,
+    found, titles = sums_of(code), facts.paper_titles(view().reading.rows)
+    rows = [[code, found.day, each.sitting.start, each.sitting.finish, each.number, each.name, each.sitting.paper,
              titles[each.sitting.paper], each.sitting.hall or "", each.sitting.desk or "", each.sitting.extra,
              "+".join(each.sitting.needs) or "-"] for each in view().reading.members(code)]
-    return output.csv(SEATS, rows, f"{code}-seats.csv")
+    content = files.written([SEATS, *([files.guarded(str(value)) for value in row] for row in rows)])
+    return attached(files.BOM + content.encode("utf-8", "surrogateescape"), f"{code}-seats.csv")
 
 
 @pages.get("/sessions/<code>/print/<sheet>")
 def sheet(code: str, sheet: str, hall: Sequence[str] = ()) -> str:
     """A sheet to print, of all halls or of some, made by the function that the command line uses. A chart asks first
     how the desks stand, in each hall where nobody has said it."""
-    sums, halls = sums_of(code), hall or request.args.getlist("hall")
-    made = output.SHEETS.get(sheet) or abort(404)
+    found, halls = sums_of(code), hall or request.args.getlist("hall")
+    made = SHEETS.get(sheet) or abort(404)
     try:
-        return output.styled(made.page(view().reading, code, *([halls] if made.by_hall else [])))
-    except NotDrawn as trouble:
+        return styled(made.page(view().reading, code, *([halls] if made.by_hall else [])))
+    except chart.NotDrawn as trouble:
         asked = [opening(code, each) for each in trouble.halls]
-        return render_template("charts.html", s=sums, halls=[(each, standing(each)) for each in asked], of=halls)
+        return render_template("charts.html", s=found, halls=[(each, standing(each)) for each in asked], of=halls)
 
 
 @pages.get("/sessions/<code>/printed")
 def compare_printed(code: str) -> str:
     """Who has another desk than on paper: a piece of the session's page, or a page of its own where no script runs."""
     return render_template("printed.html", s=sums_of(code), found=printed.compared(view().reading, code),
-                           most=MOST_PEOPLE, taken=taken(code), sheets=output.SHEETS)
+                           most=MOST_PEOPLE, taken=taken(code), sheets=SHEETS)
 
 
 @pages.post("/sessions/<code>/printed")
