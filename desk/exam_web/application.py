@@ -5,6 +5,7 @@ from typing import Any
 
 from flask import Flask, g, redirect, render_template, request, url_for
 from flask.typing import ResponseReturnValue
+from markupsafe import escape
 from werkzeug.exceptions import HTTPException
 from werkzeug.wrappers import Response
 
@@ -12,12 +13,12 @@ from exam_desk import appeals
 from exam_desk.telling import tally
 from exam_desk.trouble import Trouble
 from exam_desk.words import FEATURES
-from exam_web import candidates, forms, guard, office, plans, proposals, season, session, uploads, wording
+from exam_web import candidates, forms, guard, office, proposals, season, session, uploads, wording
 from exam_web.desk import Desk, StillReading, desk
 from exam_web.wording import text
 
 SCREENS = [guard.pages, season.pages, session.pages, candidates.pages, candidates.appeal_pages, candidates.clash_pages,
-           uploads.pages, plans.pages, proposals.pages, office.pages]
+           uploads.pages, proposals.pages, office.pages]
 PLACES = [("season.page", "Season"), ("files.page", "Files"), ("candidates.find", "Candidates"),
           ("appeals.page", "Appeals"), ("office.page", "Office")]
 PROBLEMS = {
@@ -41,11 +42,10 @@ def make(here: Desk) -> Flask:
         app.register_blueprint(screen)
     app.before_request(begin)
     app.context_processor(everywhere)
-    app.register_error_handler(HTTPException, refused)
     app.register_error_handler(forms.Wrong, forms.wrong_page)
     app.register_error_handler(StillReading, still_reading)
-    for kind in (Trouble, OSError, sqlite3.Error):
-        app.register_error_handler(kind, faulty)
+    for kind in (HTTPException, Trouble, OSError, sqlite3.Error):
+        app.register_error_handler(kind, problem)
     return app
 
 
@@ -57,13 +57,11 @@ def begin() -> Response | None:
 
 def everywhere() -> dict[str, Any]:
     """What every page has besides its own."""
-    here, visit = desk(), g.get("visit")
-    said: list[tuple[str, Any]] = []
-    if visit:
-        said, visit.said = visit.said, []
-    left = visit.proposals.get(request.args.get("again", "")) if visit else None
+    here, visit = desk(), g.get("visit") or guard.Visit("", mark="")  # a stranger's, where there is none
+    said, visit.said = visit.said, []
+    left = visit.proposals.get(request.args.get("again", ""))
     asked = g.get("asked") or (left.asked if left else forms.Asked())
-    return {"mark": visit and visit.mark, "initials": visit and visit.initials, "said": said,
+    return {"mark": visit.mark, "initials": visit.initials, "said": said,
             "today": here.office.today().isoformat(), "pretended": here.pretended,
             "office_name": here.office.base_name(), "state": g.view.name if "view" in g else "",
             "layout": "piece.html" if "piece" in request.args else "base.html",
@@ -71,26 +69,23 @@ def everywhere() -> dict[str, Any]:
             "direction": "rtl" if wording.language() in wording.RIGHT_TO_LEFT else "ltr"}
 
 
-def refused(fault: HTTPException) -> ResponseReturnValue:
-    if fault.code == 401:
-        return redirect(url_for("entering.page"))
-    return problem(text(PROBLEMS[fault.code]) if fault.code in PROBLEMS else str(fault.description), fault.code or 500)
-
-
-def problem(said: object, status: int) -> tuple[str, int]:
-    if not g.get("visit"):  # a stranger sees no page
-        return str(said), status
-    return render_template("problem.html", status=status, text=said), status
-
-
 def still_reading(stage: StillReading) -> ResponseReturnValue:
     return render_template("reading.html", stage=text(str(stage)), address=request.path), 503, {"Retry-After": "1"}
 
 
-def faulty(fault: Exception) -> tuple[str, int]:
-    """What the package, a file or the database refuses."""
-    if isinstance(fault, OSError) and fault.errno in NO_ROOM:
-        return problem(text("The disk is full: make room, for example in the folder {place}, and try again.",
-                            place=str(fault.filename or "desk-office.db/days")), 500)
-    words = f"{fault.filename}: {fault.strerror}" if isinstance(fault, OSError) and fault.filename else str(fault)
-    return problem(wording.shown(words), 500)
+def problem(fault: Exception) -> ResponseReturnValue:
+    """A fault in words: of a request, or what the package, a file or the database refuses."""
+    said, status = wording.shown(str(fault)), 500
+    if isinstance(fault, HTTPException):
+        if fault.code == 401:
+            return redirect(url_for("entering.page"))
+        status = fault.code or 500
+        said = text(PROBLEMS[fault.code]) if fault.code in PROBLEMS else escape(fault.description)
+    elif isinstance(fault, OSError) and fault.errno in NO_ROOM:
+        said = text("The disk is full: make room, for example in the folder {place}, and try again.",
+                    place=str(fault.filename or "desk-office.db/days"))
+    elif isinstance(fault, OSError) and fault.filename:
+        said = wording.shown(f"{fault.filename}: {fault.strerror}")
+    if not g.get("visit"):  # a stranger sees no page
+        return str(said), status
+    return render_template("problem.html", status=status, text=said), status

@@ -1,28 +1,35 @@
-"""Candidates: the search, their notes, and the page of one with timetable, arrangement, appeals and access code. Appeals:
-the open ones by their last day, and one with what its grant would come to. Two papers at once: who has them, whether they
-have asked to sit the other, a second sitting; and two sessions at one time."""
+"""Candidates: the search, their notes, and the page of one with timetable, arrangement, appeals and access code.
+Appeals: the open ones by their last day, and one with what its grant would come to. Two papers at once: who has them,
+whether they have asked to sit the other, a second sitting; and two sessions at one time."""
 import contextlib
 import sqlite3
+from collections.abc import Callable, Collection
+from functools import partial
 
 from flask import Blueprint, abort, redirect, render_template, request, url_for
 from werkzeug.datastructures import MultiDict
 from werkzeug.wrappers import Response
 
-from exam_desk import facts, lastdays, names, notebook, overlaps, second_sitting
+from exam_desk import coding, facts, lastdays, lodging, names, notebook, overlaps, second_sitting
+from exam_desk.changing import Step
 from exam_desk.sheets import notes, person
 from exam_desk.sheets import slips as slip_pages
 from exam_desk.trouble import Trouble
-from exam_web import plans, proposals, session
+from exam_web import proposals
 from exam_web.desk import View, candidate_row, desk, once, sums, view
-from exam_web.forms import Page, Wrong, lead, short, styled
-from exam_web.proposals import APPEALS, BY_DAY
-from exam_web.wording import days_until, text
+from exam_web.forms import Form, Page, Wrong, checked, lead, short, styled
+from exam_web.proposals import APPEALS, BY_DAY, PLANS, TROUBLE, Plan, command, features, import_step
+from exam_web.session import Session
+from exam_web.wording import days_until, said, text
 
 pages = Blueprint("candidates", __name__)
 appeal_pages = Blueprint("appeals", __name__)
 clash_pages = Blueprint("clashes", __name__)
 MOST_FOUND, MOST_ASKED = 100, 80
 MOST_SHOWN, MOST_MOVES = 300, 12
+OUTCOMES = ["granted", "standing", "refused"]
+OF_ENTRY = (5, 6, 8, 9, 10, 20)  # refusals
+Values = dict[str, str]
 
 
 @pages.get("/candidates")
@@ -142,7 +149,7 @@ def if_granted(number: int, ref: str) -> str:
     if row["state"] != 1:
         abort(404)
     outcome = "standing" if "standing" in request.args and row["kind"] == 3 else "granted"
-    plan = plans.decide(MultiDict({"number": f"{number:07}", "ref": ref, "outcome": outcome}))
+    plan = decide(MultiDict({"number": f"{number:07}", "ref": ref, "outcome": outcome}))
     with desk().rehearsing:
         proposals.rehearse(plan, desk(), desk().office)
     return render_template("if_granted.html", row=row, e=plan.effects, refusal=plan.words(), most=MOST_MOVES)
@@ -155,7 +162,7 @@ def clashes() -> str:
     sessions = [each for each in sums(view()).values() if each.clashes]
     shown = [each for each in sessions if each.code == request.args.get("session", "")] or sessions[:1]
     return render_template("clashes.html", sessions=sessions, shown=shown,
-                           found={each.code: session.clashes(each.code, MOST_SHOWN) for each in shown},
+                           found={each.code: Session(each.code).clashes(MOST_SHOWN) for each in shown},
                            asked={(row["session"], row["number"]): row for row in lodged},
                            titles=facts.paper_titles(view().reading.rows))
 
@@ -177,9 +184,96 @@ def overlapping() -> str:
 @clash_pages.get("/clashes/<code>/<int:number>")
 def second(code: str, number: int) -> str | Response:
     """The form for a second sitting: which paper, from when, and where."""
-    found, who = session.sums_of(code), f"{candidate_row(number)['number']:07}"
+    shown, who = Session(code), f"{candidate_row(number)['number']:07}"
     member, missed = view().reading.member(code, who), view().missed(code, [number]).get(who)
     if not member or not missed:
         return redirect(url_for("clashes.page", session=code))
-    return render_template("second.html", s=found, member=member, missed=missed, choices=session.hall_choices(code),
+    return render_template("second.html", s=shown.sums, member=member, missed=missed, choices=shown.choices(),
                            titles=facts.paper_titles(view().reading.rows))
+
+
+def candidate(form: Form, **columns: str) -> tuple[Values, Page]:
+    """The number and the name of a candidate, with the needs and the values of fields; and the candidate's page."""
+    number = form.get("number", "")
+    row = view().row("SELECT number, name FROM candidate WHERE printf('%07d', number) = ?", [number]) or abort(404)
+    page = ("candidates.page", {"number": row["number"]})
+    return {**checked(page, form, **columns), "number": number, "name": row["name"], "needs": features(form)}, page
+
+
+def of_one(field: str, refusals: Collection[int], step: Callable[[Values], Step], form: Form) -> Plan:
+    """A plan whose form has one field for a candidate, beside which these refusals stand."""
+    values, page = candidate(form, **{field: field})
+    return Plan(values, [step(values)], page, dict.fromkeys(refusals, field))
+
+
+def rename(form: Form) -> Plan:
+    values, page = candidate(form)
+    values["other"] = checked(page, form, name="name")["name"]
+    step = coding.renamed(desk().office, values["number"], values["other"])
+    return Plan(values, [step], page, made_for=view().name)
+
+
+def new_code(form: Form) -> Plan:
+    values, page = candidate(form)
+    code = coding.new_code(set(facts.access_codes(view().reading.rows).values()))
+    return Plan(values, [import_step("candidates", {**values, "code": code})], page)
+
+
+def lodge(form: Form) -> Plan:
+    """An appeal for a candidate who is there, lodged over HTTP as candidates do: so its reason is no argument."""
+    values, page = candidate(form, session="session")
+    kind = form.get("kind", "")
+    if kind not in lodging.KINDS:
+        raise Wrong(page, kind=text("choose one"))
+    field = "wanted_extra" if kind == "arrangement" else f"wanted_{kind}"
+    wanted = [values["needs"]] if kind == "arrangement" else []
+    wanted.append(checked(page, form, **{field: lodging.KINDS[kind][-1]})[field])
+    fields = {**dict.fromkeys((4, 12, 13, 20, 21), "session"), **dict.fromkeys((5, 7, 8, 11, 18, 19), field)}
+    return Plan({**values, "kind": kind, "wanted": " ".join(wanted)}, [], page, fields,
+                lodge=(values["number"], values["session"], kind, *wanted, short(page, "reason")))
+
+
+def decide(form: Form) -> Plan:
+    values, _ = candidate(form)
+    values |= {"ref": form.get("ref", ""), "outcome": form.get("outcome", "")}
+    found = view().row("SELECT number, ref FROM appeal WHERE number = ? AND ref = ?", [values["number"], values["ref"]])
+    page: Page = ("appeals.one", dict(found or abort(404)))
+    if values["outcome"] not in OUTCOMES:
+        raise Wrong(page, outcome=text("choose one"))
+    step = command("decide", ["number", "ref", "outcome", "reason"], {**values, "reason": short(page, "reason")})
+    return Plan(values, [step], page, dict.fromkeys((8, 12, 15, 16, 17, 26), "outcome"))
+
+
+def second_plan(form: Form) -> Plan:
+    """A second sitting for a candidate with two papers at once."""
+    values, _ = candidate(form)
+    page: Page = ("clashes.second", {"code": Session(form.get("session", "")).code, "number": int(values["number"])})
+    asked = checked(page, form, paper="paper", start="start", hall="hall")
+    return of_second({**values, **asked}, page, "start",
+                     lambda: second_sitting.plan(view().reading, second_sitting.Asked(values["number"], **asked)))
+
+
+def second_back(form: Form) -> Plan:
+    values, page = candidate(form, paper="paper")
+    return of_second(values, page, "paper",
+                     lambda: second_sitting.plan_back(view().reading, values["number"], values["paper"]))
+
+
+def of_second(values: Values, page: Page, name: str, make: Callable[[], second_sitting.Plan]) -> Plan:
+    """A plan as the command line makes it; what it refuses is said beside the field of this name."""
+    try:
+        found = make()
+    except Trouble as trouble:
+        raise Wrong(page, **{name: said(trouble.sentence)}) from None
+    return Plan(values, found.steps, page, {TROUBLE: name}, command=found.title, made_for=view().name,
+                look=partial(second_sitting.lines, found))
+
+
+PLANS.update({
+    "withdraw": partial(of_one, "paper", OF_ENTRY, partial(command, "withdraw", ["number", "paper"])),
+    "reinstate": partial(of_one, "paper", OF_ENTRY, partial(command, "reinstate", ["number", "paper"])),
+    "enter": partial(of_one, "paper", OF_ENTRY, partial(import_step, "entries")),
+    "arrangement": partial(of_one, "extra", [20], partial(import_step, "arrangements")),
+    "code": new_code, "name": rename, "lodge": lodge, "decide": decide, "second": second_plan,
+    "second-back": second_back,
+})

@@ -176,7 +176,7 @@ class Desk:
         return found
 
     def before(self, copy: str) -> View:
-        """The office as a rehearsal found it: the view at hand where it is still so, else one of the copy from before."""
+        """The office as a rehearsal found it: the view at hand where it is still so, else one of its copy."""
         return self.fresh() or View(self.office, copy)
 
     def close(self) -> None:

@@ -1,5 +1,7 @@
-"""What a request is answered with: it leads to a page, or the page of its form says what is wrong at its fields; or it is
-given a sheet to print, or a file."""
+"""What a request comes to: it leads to a page, or the page of its form says what is wrong at its fields; or it is given
+a sheet to print, or a file."""
+import base64
+import hashlib
 import io
 import os
 import re
@@ -88,8 +90,9 @@ def keep(found: dict[str, Any], most: int, value: object) -> str:
 
 
 def styled(page: str) -> str:
-    """A sheet, whose own style the policy of this answer lets through."""
-    g.style = page[page.index("<style>") + len("<style>"):page.index("</style>")]
+    """A sheet, whose own style the policy of this answer lets through, and no other."""
+    style = page[page.index("<style>") + len("<style>"):page.index("</style>")]
+    g.style = f" 'sha256-{base64.b64encode(hashlib.sha256(style.encode()).digest()).decode()}'"
     return page
 
 

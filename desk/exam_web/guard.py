@@ -1,9 +1,8 @@
 """Who may come in: one address, one link, one visit, with initials for the log; and what a page of the desk may load.
 
-Every request passes `Door` and `Guard.check` before a route sees it. A route is open without a visit only where its
-endpoint stands in OPEN.
+Every request passes `Guard.door` and `Guard.check` before a route sees it. A route is open without a visit only where
+its endpoint stands in OPEN.
 """
-import base64
 import contextlib
 import hashlib
 import os
@@ -45,7 +44,6 @@ POLICY = ("default-src 'none'; script-src 'self'; style-src 'self'{}; img-src 's
 STRANGE_HOST = "The desk answers to its own address alone: http://{}. Open it by that address, not by a name.\n"
 NOTHING = "Nothing is here. `office desk --link` prints a link to the desk.\n"
 REFUSED = {"X-Content-Type-Options": "nosniff", "Cache-Control": "no-store"}
-Start = Callable[..., Any]
 
 
 @dataclass
@@ -57,21 +55,6 @@ class Visit:
     said: list[tuple[str, Any]] = field(default_factory=list)  # what the next page says once
     proposals: dict[str, Any] = field(default_factory=dict)
     uploads: dict[str, Any] = field(default_factory=dict)
-
-
-class Door:
-    """Lets through to the pages what asks for the desk's own address, below its secret prefix."""
-
-    def __init__(self, pages: Callable[[dict[str, Any], Start], Iterable[bytes]], address: str, prefix: str) -> None:
-        self.pages, self.address, self.prefix = pages, address, prefix
-
-    def __call__(self, environ: dict[str, Any], start: Start) -> Iterable[bytes]:
-        path = environ.get("PATH_INFO", "")
-        if environ.get("HTTP_HOST") != self.address:  # a stranger's name that points here (DNS rebinding)
-            return Response(STRANGE_HOST.format(self.address), 421, REFUSED)(environ, start)
-        if not path.startswith(self.prefix + "/"):
-            return Response(NOTHING, 404, REFUSED)(environ, start)
-        return self.pages({**environ, "SCRIPT_NAME": self.prefix, "PATH_INFO": path[len(self.prefix):]}, start)
 
 
 def digest(secret: str) -> str:
@@ -112,12 +95,23 @@ class Guard:
     """Checks every request before a route sees it, and dresses every answer."""
 
     def __init__(self, app: Flask, address: str, prefix: str) -> None:
-        self.address, self.prefix = address, prefix
+        self.app, self.address, self.prefix = app, address, prefix
         self.visits: dict[str, Visit] = {}  # by the hash of their cookie
         self.lock = threading.Lock()
         app.config["MAX_CONTENT_LENGTH"] = MOST_UPLOAD
         app.before_request(self.check)
         app.after_request(self.dress)
+
+    def door(self, environ: dict[str, Any], start: Callable[..., Any]) -> Iterable[bytes]:
+        """Lets through to the pages what asks for the desk's own address, below its secret prefix."""
+        path = environ.get("PATH_INFO", "")
+        if environ.get("HTTP_HOST") != self.address:  # a stranger's name that points here (DNS rebinding)
+            return Response(STRANGE_HOST.format(self.address), 421, REFUSED)(environ, start)
+        if not path.startswith(self.prefix + "/"):
+            return Response(NOTHING, 404, REFUSED)(environ, start)
+        environ |= {"SCRIPT_NAME": self.prefix, "PATH_INFO": path[len(self.prefix):]}
+        answer: Iterable[bytes] = self.app(environ, start)
+        return answer
 
     def check(self) -> None:
         """Refuses what another page, another server or a stranger asks: 401, 403."""
@@ -164,11 +158,7 @@ class Guard:
         response.delete_cookie(COOKIE, path=self.prefix + "/")
 
     def dress(self, response: Response) -> Response:
-        for name, value in HEADERS.items():
-            response.headers.setdefault(name, value)
-        hashed = base64.b64encode(hashlib.sha256(g.get("style", "").encode()).digest()).decode()
-        own = f" 'sha256-{hashed}'" if "style" in g else ""  # of a printed sheet: its style, and no other
-        response.headers["Content-Security-Policy"] = POLICY.format(own)
+        response.headers.update({**HEADERS, "Content-Security-Policy": POLICY.format(g.get("style", ""))})
         if request.endpoint == "static":
             response.headers["Cache-Control"] = "private, max-age=3600"
         return response

@@ -1,4 +1,9 @@
-"""The one way for all changes: a form becomes a plan, the plan is rehearsed and shown, then one button does it."""
+"""The one way for all changes: a form becomes a plan, the plan is rehearsed and shown, then one button does it.
+
+What forms ask becomes steps of the program. Values have the forms of the import files, and stand under the names of the
+columns that they become; all else the program says. What a plan is called, and the words of its button, are in
+templates/plan.html.
+"""
 import contextlib
 import dataclasses
 import datetime
@@ -8,7 +13,7 @@ import sqlite3
 import threading
 import time
 from collections import Counter
-from collections.abc import Callable, Iterable
+from collections.abc import Callable, Iterable, Mapping, Sequence
 from dataclasses import dataclass, field
 from operator import attrgetter
 from typing import Any
@@ -17,13 +22,15 @@ from flask import Blueprint, abort, g, render_template, request, url_for
 from markupsafe import Markup
 from werkzeug.wrappers import Response
 
-from exam_desk import changing, consequences, facts, lodging, logbook, overlaps, private, refusals, telling, touched
+from exam_desk import (changing, consequences, facts, files, lodging, logbook, overlaps, private, refusals,
+                       second_sitting, telling, touched)
 from exam_desk.changing import Answered, Step
 from exam_desk.office import Office
 from exam_desk.reading import Member, Person, Reading
 from exam_desk.trouble import Stale, Trouble
+from exam_desk.words import FEATURES
 from exam_web.desk import PATIENCE, Desk, View, desk, office, sums, two_papers, view
-from exam_web.forms import Asked, Page, Wrong, attached, keep, lead
+from exam_web.forms import Asked, Form, Page, Wrong, attached, keep, lead
 from exam_web.wording import said
 
 pages = Blueprint("proposals", __name__)
@@ -182,8 +189,28 @@ class Plan:
         return [Step(("decide", self.lodge[0], self.lodged, "granted", ""))]
 
 
-def propose(plan: Plan) -> Response:
-    """Rehearses a plan. Raises `Wrong` for a refusal that belongs to a field."""
+PLANS: dict[str, Callable[[Form], Plan]] = {}  # what forms ask, by the name of the form; screens put theirs in
+
+
+def command(word: str, names: Sequence[str], values: Mapping[str, str]) -> Step:
+    """A command of the program with the values of these names; `--` keeps what begins with - from being an option."""
+    found = [values[name] for name in names]
+    return Step((word, *(["--"] if any(value.startswith("-") for value in found) else []), *found))
+
+
+def import_step(kind: str, values: Mapping[str, str]) -> Step:
+    """An import of one row that was typed in."""
+    return second_sitting.imported(kind, *(values[name] for name in files.HEADERS[kind]))
+
+
+def features(form: Form, field: str = "needs") -> str:
+    return "+".join(name for name in FEATURES if name in form.getlist(field)) or "-"
+
+
+@pages.post("/propose/<what>")
+def propose(what: str) -> Response:
+    """Rehearses what a form asks. Raises `Wrong` for a refusal that belongs to a field."""
+    plan = (PLANS.get(what) or abort(404))(request.form)
     plan.key = keep(g.visit.proposals, MOST_PROPOSALS, plan)
     work(plan, rehearse)
     name = plan.fields.get(refusals.number_of(plan.refusal) or TROUBLE)

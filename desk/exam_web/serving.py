@@ -88,7 +88,7 @@ def serve(office: Office, port: int | None, pretended: bool, ready: Callable[[st
         stack.callback(desk.close)  # behind the two below
         stack.callback(guard.drop_links, office.path)
         stack.callback(os.ftruncate, lock, 0)
-        app = application.make(desk)
+        door = application.make(desk).extensions["guard"].door
         os.pwrite(lock, f"{address} {prefix}".ljust(NOTE_BYTES).encode(), 0)
         guard.drop_links(office.path)
         logging.getLogger("waitress.queue").setLevel(logging.ERROR)  # that a request waits is nothing to say
@@ -96,5 +96,5 @@ def serve(office: Office, port: int | None, pretended: bool, ready: Callable[[st
             desk.start_reading()
         ready(guard.new_link(office.path, address, prefix))
         serve: Callable[..., None] = waitress.serve  # untyped where python3-typeshed is missing
-        serve(guard.Door(app, address, prefix), sockets=[listening], threads=THREADS, ident="desk",
+        serve(door, sockets=[listening], threads=THREADS, ident="desk",
               max_request_body_size=guard.MOST_UPLOAD + (1 << 20), channel_timeout=SILENCE, _quiet=True)

@@ -12,6 +12,8 @@ import zipfile
 import zlib
 from collections.abc import Iterable, Mapping
 from dataclasses import dataclass, field
+from functools import partial
+from pathlib import PureWindowsPath
 from typing import IO, NamedTuple
 
 from flask import Blueprint, abort, g, render_template, request
@@ -19,7 +21,8 @@ from markupsafe import Markup
 from werkzeug.datastructures import FileStorage
 from werkzeug.wrappers import Response
 
-from exam_desk import coding, dumping, facts, files, mistakes, private
+from exam_desk import checking, coding, dumping, facts, files, mistakes, private
+from exam_desk.changing import Step
 from exam_desk.trouble import Trouble
 from exam_desk.workbook.checking import file_parts
 from exam_desk.workbook.opening import open_book
@@ -28,7 +31,8 @@ from exam_desk.workbook.report import Line, together
 from exam_desk.workbook.tables import Choices, Job
 from exam_desk.workbook.texts import Way
 from exam_web.desk import desk, view
-from exam_web.forms import archive, attached, keep, lead
+from exam_web.forms import Form, archive, attached, keep, lead
+from exam_web.proposals import PLANS, Plan
 from exam_web.wording import many, said, shown, text
 
 pages = Blueprint("files", __name__)
@@ -40,7 +44,6 @@ MOST_CURED = 20_000  # of a file that one press of a button can mend
 MOST_VALUE = 400  # letters of a value that is typed
 MOST_LINES = 300  # of a workbook, on the page
 DATES = ("", "day-first", "month-first")
-BOOKS = (".xlsx", ".xlsm", ".ods")
 NEW_CODE = "a new code"  # is made where it is written
 HIDDEN = "hidden"  # stands in the lines of a reading that speak of hidden rows and sheets
 UNREADABLE = (zipfile.BadZipFile, zipfile.LargeZipFile, zlib.error, RuntimeError, EOFError, OSError, ValueError)
@@ -106,18 +109,14 @@ def of_visit(key: str) -> Upload:
 def taken(storages: Iterable[FileStorage], dates: str) -> Upload:
     upload = Upload()
     for storage in storages:
-        name = last_part(storage.filename or "")
+        name = PureWindowsPath(storage.filename or "").name
         if name.lower().endswith(".zip"):
             take_zip(upload, name, storage.stream)
-        elif name.lower().endswith(BOOKS):
+        elif name.lower().endswith(checking.WORKBOOKS):
             take_book(upload, Book(name[-MOST_NAME:], storage.stream.read(), Way(dates)))
         elif name:
             take(upload, name, storage.stream.read(files.MOST_BYTES + 1))
     return upload
-
-
-def last_part(name: str) -> str:
-    return name.replace("\\", "/").rsplit("/", 1)[-1]
 
 
 def take_zip(upload: Upload, name: str, stream: IO[bytes]) -> None:
@@ -129,7 +128,7 @@ def take_zip(upload: Upload, name: str, stream: IO[bytes]) -> None:
                 return
             for member in members:
                 with archive.open(member) as file:
-                    take(upload, last_part(member.filename), file.read(files.MOST_BYTES + 1))
+                    take(upload, PureWindowsPath(member.filename).name, file.read(files.MOST_BYTES + 1))
     except UNREADABLE as fault:
         upload.note(name, text("it cannot be read: {why}", why=str(fault)))
 
@@ -186,23 +185,22 @@ def looked_through(texts: Mapping[str, bytes]) -> dict[str, Looked]:
         wrong, notes = mistakes.looked_through(kind, texts[kind], known)
         found = list(wrong)[:MOST_CURED], list(notes)[:MOST_SHOWN]
         lines = {each.line for part in found for each in part}
-        records = {record.line: record for record in files.records(texts[kind]) if record.line in lines}
+        fields = {record.line: [part.decode("utf-8", "replace") for part in record.fields]
+                  for record in files.records(texts[kind]) if record.line in lines}
         count = sum(1 for _ in files.records(texts[kind])) - 1
-        faults, shown = ([fault(kind, each, records, coded) for each in part] for part in found)
+        faults, shown = ([fault(kind, each, fields.get(each.line, []), coded) for each in part] for part in found)
         looked[kind] = Looked(faults, shown, wrong.count, sum(each.write != "" for each in faults), max(0, count))
     return looked
 
 
-def fault(kind: str, mistake: mistakes.Mistake, records: Mapping[int, files.Record], coded: Mapping[int, str]) -> Fault:
+def fault(kind: str, mistake: mistakes.Mistake, fields: list[str], coded: Mapping[int, str]) -> Fault:
     column, _, value = mistake.what.partition(" ")
-    record = records.get(mistake.line)
-    fields = [part.decode("utf-8", "replace") for part in record.fields] if record else []
-    place = files.HEADERS[kind].index(column) if column in files.HEADERS[kind] else None
-    if place is None or place >= len(fields):
-        return Fault(mistake.line, column, value, mistake.text, "", fields, None)
-    if column == "code" and not fields[place]:
-        return Fault(mistake.line, column, value, *for_no_code(fields[0], coded), fields, place)
-    return Fault(mistake.line, column, value, mistake.text, mistake.write, fields, place)
+    header = files.HEADERS[kind][:len(fields)]
+    place = header.index(column) if column in header else None
+    cure, write = mistake.text, "" if place is None else mistake.write
+    if place is not None and column == "code" and not fields[place]:
+        cure, write = for_no_code(fields[0], coded)
+    return Fault(mistake.line, column, value, cure, write, fields, place)
 
 
 def for_no_code(number: str, coded: Mapping[int, str]) -> tuple[Markup, str]:
@@ -300,10 +298,21 @@ def hidden(key: str) -> Response:
 
 @pages.get("/files/uploaded/<key>/<kind>.csv")
 def download(key: str, kind: str) -> Response:
-    found = of_visit(key).texts.get(kind) if kind in files.HEADERS else None
+    found = of_visit(key).texts.get(kind)
     return abort(404) if found is None else attached(found, f"{kind}.csv")
 
 
 @pages.post("/files/dump")
 def dump() -> Response:
     return archive("facts", lambda folder: dumping.write_all(view().reading.rows, folder))
+
+
+def import_files(form: Form) -> Plan:
+    key = form.get("upload", "")
+    upload = of_visit(key)
+    steps = [Step(("import", kind, f"{kind}.csv"), upload.texts[kind]) for kind in upload.kinds]
+    return Plan({"kinds": ", ".join(upload.kinds)}, steps, ("files.look", {"key": key}),
+                done=partial(setattr, upload, "is_imported", True))
+
+
+PLANS["files"] = import_files
