@@ -175,10 +175,6 @@ class Desk:
                 raise StillReading(self.stage) from None
         return found
 
-    def before(self, copy: str) -> View:
-        """The office as a rehearsal found it: the view at hand where it is still so, else one of its copy."""
-        return self.fresh() or View(self.office, copy)
-
     def close(self) -> None:
         self.reader.shutdown(cancel_futures=True)
         self.held = None

@@ -253,7 +253,7 @@ def rehearse(plan: Plan, here: Desk, who: Office) -> None:
         if plan.refusal:
             return
         rehearsal = stack.enter_context(changing.rehearse(who, steps, plan.tell))
-        before = here.before(rehearsal.before)
+        before = here.fresh() or View(here.office, rehearsal.before)
         if plan.made_for not in ("", before.name):
             raise Trouble(OTHER_OFFICE)
         if not plan.lodge:  # a grant may be refused where a lodging is not
@@ -287,11 +287,6 @@ def carry_out(plan: Plan, here: Desk, who: Office) -> None:
         plan.done()
 
 
-def plan_of(key: str) -> Plan:
-    found: Plan | None = g.visit.proposals.get(key)
-    return found or abort(404)
-
-
 def copy_key(path: str) -> str:
     """The name by which a browser knows a copy: it is looked up, and never a path."""
     return hashlib.sha256(os.path.basename(path).encode()).hexdigest()[:16]
@@ -299,7 +294,7 @@ def copy_key(path: str) -> str:
 
 @pages.get("/proposals/<key>")
 def page(key: str) -> str:
-    plan = plan_of(key)
+    plan: Plan = g.visit.proposals.get(key) or abort(404)
     if plan.is_working:
         return render_template("working.html", p=plan, seconds=int(time.monotonic() - plan.began))
     following = None
@@ -311,7 +306,7 @@ def page(key: str) -> str:
 
 @pages.post("/proposals/<key>/do")
 def do(key: str) -> Response:
-    plan = plan_of(key)
+    plan: Plan = g.visit.proposals.get(key) or abort(404)
     with plan.lock:  # a second click does nothing
         if plan.can_be_done:
             work(plan, carry_out)
@@ -320,5 +315,5 @@ def do(key: str) -> Response:
 
 @pages.get("/proposals/<key>/told.csv")
 def told(key: str) -> Response:
-    effects = plan_of(key).effects or abort(404)
-    return effects.csv("who-must-be-told.csv")
+    plan: Plan = g.visit.proposals.get(key) or abort(404)
+    return (plan.effects or abort(404)).csv("who-must-be-told.csv")

@@ -101,11 +101,6 @@ class Upload:
         self.notes.append(Markup("{}: {}").format(shown(name[:MOST_NAME]), words))
 
 
-def of_visit(key: str) -> Upload:
-    found: Upload | None = g.visit.uploads.get(key)
-    return found or abort(404)
-
-
 def taken(storages: Iterable[FileStorage], dates: str) -> Upload:
     upload = Upload()
     for storage in storages:
@@ -263,7 +258,7 @@ def upload() -> Response:
 
 @pages.get("/files/uploaded/<key>")
 def look(key: str) -> str:
-    found = of_visit(key)
+    found: Upload = g.visit.uploads.get(key) or abort(404)
     return render_template("look.html", key=key, upload=found, looked=looked_through(found.texts),
                            headers=files.HEADERS, most=MOST_SHOWN, most_lines=MOST_LINES)
 
@@ -271,8 +266,8 @@ def look(key: str) -> str:
 @pages.post("/files/uploaded/<key>/correct")
 def correct(key: str) -> Response:
     """Values typed beside mistakes, or all cures that are clear; the officer's own files stay as they are."""
-    found, rows = of_visit(key), 0
-    codes = set(facts.access_codes(view().reading.rows).values())
+    found: Upload = g.visit.uploads.get(key) or abort(404)
+    rows, codes = 0, set(facts.access_codes(view().reading.rows).values())
     for kind, looked in looked_through(found.texts).items():
         if wanted := corrections(kind, looked, request.form, codes):
             found.texts[kind] = corrected(found.texts[kind], wanted)
@@ -286,7 +281,8 @@ def correct(key: str) -> Response:
 @pages.post("/files/uploaded/<key>/hidden")
 def hidden(key: str) -> Response:
     """Reads a workbook once more, with its hidden rows and sheets, or without them."""
-    found, place = of_visit(key), request.form.get("book", "")
+    found: Upload = g.visit.uploads.get(key) or abort(404)
+    place = request.form.get("book", "")
     if place not in map(str, range(len(found.workbooks))) or found.is_imported:
         abort(404)
     book = found.workbooks.pop(int(place))
@@ -298,8 +294,8 @@ def hidden(key: str) -> Response:
 
 @pages.get("/files/uploaded/<key>/<kind>.csv")
 def download(key: str, kind: str) -> Response:
-    found = of_visit(key).texts.get(kind)
-    return abort(404) if found is None else attached(found, f"{kind}.csv")
+    found: Upload = g.visit.uploads.get(key) or abort(404)
+    return attached(found.texts[kind], f"{kind}.csv") if kind in found.texts else abort(404)
 
 
 @pages.post("/files/dump")
@@ -309,7 +305,7 @@ def dump() -> Response:
 
 def import_files(form: Form) -> Plan:
     key = form.get("upload", "")
-    upload = of_visit(key)
+    upload: Upload = g.visit.uploads.get(key) or abort(404)
     steps = [Step(("import", kind, f"{kind}.csv"), upload.texts[kind]) for kind in upload.kinds]
     return Plan({"kinds": ", ".join(upload.kinds)}, steps, ("files.look", {"key": key}),
                 done=partial(setattr, upload, "is_imported", True))
