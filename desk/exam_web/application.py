@@ -10,6 +10,7 @@ from werkzeug.exceptions import HTTPException
 from werkzeug.wrappers import Response
 
 from exam_desk import appeals
+from exam_desk.lastdays import to_decide
 from exam_desk.telling import tally
 from exam_desk.trouble import Trouble
 from exam_desk.words import FEATURES
@@ -36,12 +37,14 @@ def make(here: Desk) -> Flask:
     app.extensions["desk"] = here
     app.extensions["guard"] = guard.Guard(app, here.address, here.prefix)
     wording.prepare(app)
-    app.jinja_env.globals.update(appeals=appeals, EFFECTS=proposals.KINDS, FEATURES=FEATURES, places=PLACES,
-                                 RUNNING=session.RUNNING, copy_key=proposals.copy_key, tally=tally)
+    app.jinja_env.globals.update(
+        EFFECTS=proposals.KINDS, FEATURES=FEATURES, RUNNING=session.RUNNING, SHEETS=session.SHEETS, places=PLACES,
+        appeals=appeals, copy_key=proposals.copy_key, last_day=to_decide, tally=tally)
     for screen in SCREENS:
         app.register_blueprint(screen)
     app.before_request(begin)
     app.context_processor(everywhere)
+    app.teardown_request(lambda _: g.pop("view", None))  # a template holds `g` for longer
     app.register_error_handler(forms.Wrong, forms.wrong_page)
     app.register_error_handler(StillReading, still_reading)
     for kind in (HTTPException, Trouble, OSError, sqlite3.Error):

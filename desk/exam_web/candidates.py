@@ -10,7 +10,7 @@ from flask import Blueprint, abort, redirect, render_template, request, url_for
 from werkzeug.datastructures import MultiDict
 from werkzeug.wrappers import Response
 
-from exam_desk import coding, facts, lastdays, lodging, names, notebook, overlaps, second_sitting
+from exam_desk import coding, facts, lodging, names, notebook, overlaps, second_sitting
 from exam_desk.changing import Step
 from exam_desk.sheets import notes, person
 from exam_desk.sheets import slips as slip_pages
@@ -20,7 +20,7 @@ from exam_web.desk import View, candidate_row, desk, once, sums, view
 from exam_web.forms import Form, Page, Wrong, checked, lead, short, styled
 from exam_web.proposals import APPEALS, BY_DAY, PLANS, TROUBLE, Plan, command, features, import_step
 from exam_web.session import Session
-from exam_web.wording import days_until, said, text
+from exam_web.wording import said, text
 
 pages = Blueprint("candidates", __name__)
 appeal_pages = Blueprint("appeals", __name__)
@@ -125,7 +125,7 @@ def appeals() -> str:
     waiting = view().rows(f"{APPEALS} WHERE state = 1 {BY_DAY}")
     rest = view().rows(f"{APPEALS} WHERE state <> 1 {BY_DAY} LIMIT ?", [MOST_SHOWN])
     decided = view().count("SELECT count(*) FROM appeal WHERE state <> 1")
-    return render_template("appeals.html", waiting=waiting, rest=rest, decided=decided, last_day=lastdays.to_decide)
+    return render_template("appeals.html", waiting=waiting, rest=rest, decided=decided)
 
 
 def appeal_row(number: int, ref: str) -> sqlite3.Row:
@@ -135,11 +135,9 @@ def appeal_row(number: int, ref: str) -> sqlite3.Row:
 @appeal_pages.get("/appeals/<int:number>/<ref>")
 def one(number: int, ref: str) -> str:
     row = appeal_row(number, ref)
-    last = lastdays.to_decide(row["day"])
     others = view().count("SELECT count(*) FROM appeal WHERE number = ?", [number]) - 1
     return render_template("appeal.html", row=row, member=view().reading.member(row["session"], f"{number:07}"),
-                           others=others, last=last, late=days_until(last) < 0,
-                           titles=facts.paper_titles(view().reading.rows))
+                           others=others, titles=facts.paper_titles(view().reading.rows))
 
 
 @appeal_pages.get("/appeals/<int:number>/<ref>/if-granted")

@@ -8,7 +8,7 @@ from typing import NamedTuple
 from flask import Blueprint, abort, g, render_template, request
 from werkzeug.wrappers import Response
 
-from exam_desk import absences, facts, files, lastdays, lists, notebook, printed, reasons
+from exam_desk import absences, facts, files, lists, notebook, printed, reasons
 from exam_desk.changing import Step
 from exam_desk.facts import Opening
 from exam_desk.notebook import Rows
@@ -113,8 +113,7 @@ def page(code: str) -> str:
     lodged = view().rows("SELECT appeal.*, name FROM appeal JOIN candidate ON candidate.number = appeal.number "
                          "WHERE session = ? ORDER BY state, appeal.number, ref LIMIT ?", [code, MOST_PEOPLE + 1])
     return render_template("session.html", shown=shown, s=shown.sums, lodged=lodged, previous=before, next=after,
-                           shortage=shortage(view(), code) if shown.sums.short else None, sheets=SHEETS,
-                           last=lastdays.to_decide(shown.sums.day), most=MOST_PEOPLE)
+                           shortage=shortage(view(), code) if shown.sums.short else None, most=MOST_PEOPLE)
 
 
 @once
@@ -244,7 +243,7 @@ def compare_printed(code: str) -> str:
     """Who has another desk than on paper: a piece of the session's page, or a page of its own where no script runs."""
     shown = Session(code)
     return render_template("printed.html", s=shown.sums, found=printed.compared(view().reading, code),
-                           most=MOST_PEOPLE, taken=shown.taken(), sheets=SHEETS)
+                           most=MOST_PEOPLE, taken=shown.taken())
 
 
 @pages.post("/sessions/<code>/printed")
