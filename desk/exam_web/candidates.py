@@ -27,7 +27,6 @@ appeal_pages = Blueprint("appeals", __name__)
 clash_pages = Blueprint("clashes", __name__)
 MOST_FOUND, MOST_ASKED = 100, 80
 MOST_SHOWN, MOST_MOVES = 300, 12
-OUTCOMES = ["granted", "standing", "refused"]
 OF_ENTRY = (5, 6, 8, 9, 10, 20)  # refusals
 Values = dict[str, str]
 
@@ -236,7 +235,7 @@ def decide(form: Form) -> Plan:
     values |= {"ref": form.get("ref", ""), "outcome": form.get("outcome", "")}
     found = view().row("SELECT number, ref FROM appeal WHERE number = ? AND ref = ?", [values["number"], values["ref"]])
     page: Page = ("appeals.one", dict(found or abort(404)))
-    if values["outcome"] not in OUTCOMES:
+    if values["outcome"] not in ("granted", "standing", "refused"):
         raise Wrong(page, outcome=text("choose one"))
     step = command("decide", ["number", "ref", "outcome", "reason"], {**values, "reason": short(page, "reason")})
     return Plan(values, [step], page, dict.fromkeys((8, 12, 15, 16, 17, 26), "outcome"))

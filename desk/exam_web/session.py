@@ -65,6 +65,7 @@ class Session:
     def __init__(self, code: str) -> None:
         """Answers 404 where there is no such session."""
         self.code, self.sums = code, sums(view()).get(code) or abort(404)
+        self.page: Page = ("session.page", {"code": code})
         self.halls = {each.hall: each for each in facts.openings(view().reading.rows, code)}  # that are open
 
     def opening(self, hall: str) -> Opening:
@@ -196,14 +197,13 @@ def rows_given(hall: str) -> Rows:
 @pages.post("/sessions/<code>/absent")
 def note_absent(code: str) -> Response:
     """Notes as absent who is ticked, or named by number; whoever is listed and not ticked was there."""
-    Session(code)
-    ticked = request.form.getlist("absent")
+    shown, ticked = Session(code), request.form.getlist("absent")
     typed = request.form.get("numbers", "").replace(",", " ").split()
     there = set(request.form.getlist("listed")).difference(ticked)
     try:
         found = absences.note(view().reading, code, [*ticked, *typed], there)
     except Trouble as trouble:
-        raise Wrong(("session.page", {"code": code}), "absent", numbers=said(trouble.sentence)) from None
+        raise Wrong(shown.page, "absent", numbers=said(trouble.sentence)) from None
     told = many(len(found), "{count} candidate is noted as absent in {session}.",
                 "{count} candidates are noted as absent in {session}.", session=code)
     return lead("session.page", told, code=code, _anchor="absent")
@@ -274,32 +274,30 @@ def opening(form: Form, page: Page, code: str) -> tuple[Values, list[Step]]:
 
 
 def open_hall(form: Form) -> Plan:
-    code = Session(form.get("session", "")).code
-    page: Page = ("session.page", {"code": code})
-    values, steps = opening(form, page, code)
-    return Plan(values, steps, page, {4: "hall", 7: "hall", 20: "desks"})
+    shown = Session(form.get("session", ""))
+    values, steps = opening(form, shown.page, shown.code)
+    return Plan(values, steps, shown.page, {4: "hall", 7: "hall", 20: "desks"})
 
 
 def close_hall(form: Form) -> Plan:
     """A hall that cannot be used; with another in its place where the form on the first rehearsal's page asks it."""
-    code = Session(form.get("session", "")).code
-    page: Page = ("session.page", {"code": code})
-    lost, first = checked(page, form, lost="hall")["lost"], form.get("proposal", "")
-    values, steps, form_page = {"session": code, "lost": lost}, list[Step](), page
+    shown = Session(form.get("session", ""))
+    lost, first = checked(shown.page, form, lost="hall")["lost"], form.get("proposal", "")
+    values, steps, form_page = {"session": shown.code, "lost": lost}, list[Step](), shown.page
     if first in g.visit.proposals:
         form_page = ("proposals.page", {"key": first})
-        other, steps = opening(form, form_page, code)
+        other, steps = opening(form, form_page, shown.code)
         values |= other
         if other["hall"] == lost:
             raise Wrong(form_page, hall=text("this is the hall that is lost"))
-    return Plan(values, [*steps, command("close-hall", ["session", "lost"], values)], page, {25: "lost", 7: "lost"},
-                others=others(code, lost), form_page=form_page)
+    step = command("close-hall", ["session", "lost"], values)
+    return Plan(values, [*steps, step], shown.page, dict.fromkeys((7, 25), "lost"), others=others(shown.choices(), lost),
+                form_page=form_page)
 
 
-def others(code: str, lost: str) -> dict[str, object]:
+def others(choices: list[tuple[str, str, Opening | None]], lost: str) -> dict[str, object]:
     """What the form for another hall begins with: the closed halls first, desks and end of the lost one; where the
     first is open already, as many desks more."""
-    choices = Session(code).choices()
     halls = [each for each in choices if each[0] != lost]
     needed = [now for hall, _, now in choices if now and hall in (lost, *(each[0] for each in halls[:1]))]
     return {"halls": halls, "desks": sum(each.desks for each in needed) or "",

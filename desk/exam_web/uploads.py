@@ -43,7 +43,6 @@ MOST_SHOWN = 40  # mistakes of a file on the page
 MOST_CURED = 20_000  # of a file that one press of a button can mend
 MOST_VALUE = 400  # letters of a value that is typed
 MOST_LINES = 300  # of a workbook, on the page
-DATES = ("", "day-first", "month-first")
 NEW_CODE = "a new code"  # is made where it is written
 HIDDEN = "hidden"  # stands in the lines of a reading that speak of hidden rows and sheets
 UNREADABLE = (zipfile.BadZipFile, zipfile.LargeZipFile, zlib.error, RuntimeError, EOFError, OSError, ValueError)
@@ -248,7 +247,7 @@ def page() -> str:
 @pages.post("/files")
 def upload() -> Response:
     dates = request.form.get("dates", "")
-    if dates not in DATES:
+    if dates not in ("", "day-first", "month-first"):
         abort(400)
     found = taken(request.files.getlist("files"), dates)
     if not (found.texts or found.notes or found.workbooks):
