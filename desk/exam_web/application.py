@@ -4,20 +4,22 @@ import sqlite3
 from typing import Any
 
 from flask import Flask, g, redirect, render_template, request, url_for
+from flask.typing import ResponseReturnValue
+from markupsafe import escape
 from werkzeug.exceptions import HTTPException
-from werkzeug.routing import RequestRedirect
 from werkzeug.wrappers import Response
 
-from exam_desk import appeals as appeal_words
+from exam_desk import appeals
+from exam_desk.lastdays import to_decide
+from exam_desk.telling import people_and_sittings
 from exam_desk.trouble import Trouble
 from exam_desk.words import FEATURES
-from exam_web import (appeals, candidates, clashes, effects, files, forms, guard, office, plans, proposals,
-                      season, session, wording)
-from exam_web.desk import Desk, StillReading, desk, release
+from exam_web import candidates, forms, guard, office, proposals, season, session, uploads, wording
+from exam_web.desk import Desk, StillReading, desk
 from exam_web.wording import text
 
-SCREENS = [screen.pages for screen in (guard, season, session, candidates, appeals, clashes, files, plans, proposals,
-                                       office)]
+SCREENS = [guard.pages, season.pages, session.pages, candidates.pages, candidates.appeal_pages, candidates.clash_pages,
+           uploads.pages, proposals.pages, office.pages]
 PLACES = [("season.page", "Season"), ("files.page", "Files"), ("candidates.find", "Candidates"),
           ("appeals.page", "Appeals"), ("office.page", "Office")]
 PROBLEMS = {
@@ -35,20 +37,18 @@ def make(here: Desk) -> Flask:
     app.extensions["desk"] = here
     app.extensions["guard"] = guard.Guard(app, here.address, here.prefix)
     wording.prepare(app)
-    app.jinja_env.globals.update(appeals=appeal_words, EFFECTS=effects.KINDS, FEATURES=FEATURES, places=PLACES,
-                                 RUNNING=session.RUNNING)
+    app.jinja_env.globals.update(
+        EFFECTS=proposals.KINDS, FEATURES=FEATURES, RUNNING=session.RUNNING, SHEETS=session.SHEETS, places=PLACES,
+        appeals=appeals, copy_key=proposals.copy_key, last_day=to_decide, tally=people_and_sittings)
     for screen in SCREENS:
         app.register_blueprint(screen)
     app.before_request(begin)
     app.context_processor(everywhere)
-    app.teardown_request(release)
-    app.register_error_handler(HTTPException, refused)
+    app.teardown_request(lambda _: g.pop("view", None))  # a template holds `g` for longer
     app.register_error_handler(forms.Wrong, forms.wrong_page)
     app.register_error_handler(StillReading, still_reading)
-    app.register_error_handler(Trouble, faulty)
-    app.register_error_handler(OSError, faulty)
-    app.register_error_handler(sqlite3.Error, faulty)
-    here.warm = season.warm
+    for kind in (HTTPException, Trouble, OSError, sqlite3.Error):
+        app.register_error_handler(kind, problem)
     return app
 
 
@@ -60,13 +60,11 @@ def begin() -> Response | None:
 
 def everywhere() -> dict[str, Any]:
     """What every page has besides its own."""
-    here, visit = desk(), g.get("visit")
-    said: list[tuple[str, Any]] = []
-    if visit:
-        said, visit.said = visit.said, []
-    left = visit.proposals.get(request.args.get("again", "")) if visit else None
+    here, visit = desk(), g.get("visit") or guard.Visit("", mark="")  # a stranger's, where there is none
+    said, visit.said = visit.said, []
+    left = visit.proposals.get(request.args.get("again", ""))
     asked = g.get("asked") or (left.asked if left else forms.Asked())
-    return {"mark": visit and visit.mark, "initials": visit and visit.initials, "said": said,
+    return {"mark": visit.mark, "initials": visit.initials, "said": said,
             "today": here.office.today().isoformat(), "pretended": here.pretended,
             "office_name": here.office.base_name(), "state": g.view.name if "view" in g else "",
             "layout": "piece.html" if "piece" in request.args else "base.html",
@@ -74,28 +72,23 @@ def everywhere() -> dict[str, Any]:
             "direction": "rtl" if wording.language() in wording.RIGHT_TO_LEFT else "ltr"}
 
 
-def refused(fault: HTTPException) -> Response | tuple[str, int]:
-    if fault.code == 401:
-        return redirect(url_for("entering.page"))
-    if isinstance(fault, RequestRedirect):
-        return redirect(fault.new_url, fault.code)
-    return problem(text(PROBLEMS[fault.code]) if fault.code in PROBLEMS else str(fault.description), fault.code or 500)
-
-
-def problem(said: object, status: int) -> tuple[str, int]:
-    if not g.get("visit"):  # a stranger sees no page
-        return str(said), status
-    return render_template("problem.html", status=status, text=said), status
-
-
-def still_reading(stage: StillReading) -> tuple[str, int, dict[str, str]]:
+def still_reading(stage: StillReading) -> ResponseReturnValue:
     return render_template("reading.html", stage=text(str(stage)), address=request.path), 503, {"Retry-After": "1"}
 
 
-def faulty(fault: Exception) -> tuple[str, int]:
-    """What the package, a file or the database refuses."""
-    if isinstance(fault, OSError) and fault.errno in NO_ROOM:
-        return problem(text("The disk is full: make room, for example in the folder {place}, and try again.",
-                            place=str(fault.filename or "desk-office.db/days")), 500)
-    words = f"{fault.filename}: {fault.strerror}" if isinstance(fault, OSError) and fault.filename else str(fault)
-    return problem(wording.shown(words), 500)
+def problem(fault: Exception) -> ResponseReturnValue:
+    """A fault in words: of a request, or what the package, a file or the database refuses."""
+    said, status = wording.shown(str(fault)), 500
+    if isinstance(fault, HTTPException):
+        if fault.code == 401:
+            return redirect(url_for("entering.page"))
+        status = fault.code or 500
+        said = text(PROBLEMS[fault.code]) if fault.code in PROBLEMS else escape(fault.description)
+    elif isinstance(fault, OSError) and fault.errno in NO_ROOM:
+        said = text("The disk is full: make room, for example in the folder {place}, and try again.",
+                    place=str(fault.filename or "desk-office.db/days"))
+    elif isinstance(fault, OSError) and fault.filename:
+        said = wording.shown(f"{fault.filename}: {fault.strerror}")
+    if not g.get("visit"):  # a stranger sees no page
+        return str(said), status
+    return render_template("problem.html", status=status, text=said), status

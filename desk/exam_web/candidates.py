@@ -1,25 +1,38 @@
-"""Candidates: the search, their notes, and the page of one with timetable, arrangement, appeals and access code."""
+"""Candidates: the search, their notes, and the page of one with timetable, arrangement, appeals and access code.
+Appeals: the open ones by their last day, and one with what its grant would come to. Two papers at once: who has them,
+whether they have asked to sit the other, a second sitting; and two sessions at one time."""
 import contextlib
 import sqlite3
+from collections.abc import Callable, Collection
+from functools import partial
 
-from flask import Blueprint, Response, redirect, render_template, request, url_for
-from werkzeug.wrappers import Response as Answer
+from flask import Blueprint, abort, redirect, render_template, request, url_for
+from werkzeug.datastructures import MultiDict
+from werkzeug.wrappers import Response
 
-from exam_desk import facts, names, notebook, second_sitting
+from exam_desk import coding, facts, lodging, names, notebook, overlaps, second_sitting
+from exam_desk.changing import Step
 from exam_desk.sheets import slips as slip_pages
 from exam_desk.sheets import texts
 from exam_desk.trouble import Trouble
-from exam_web import output
-from exam_web.desk import View, candidate_row, desk, once, view
-from exam_web.forms import Page, Wrong, lead, short
-from exam_web.wording import text
+from exam_web import proposals
+from exam_web.desk import View, candidate_row, desk, once, sums, view
+from exam_web.forms import Form, Page, Wrong, checked, lead, short, styled
+from exam_web.proposals import APPEALS, BY_DAY, PLANS, TROUBLE, Plan, command, features, import_step
+from exam_web.session import Session
+from exam_web.wording import said, text
 
 pages = Blueprint("candidates", __name__)
+appeal_pages = Blueprint("appeals", __name__)
+clash_pages = Blueprint("clashes", __name__)
 MOST_FOUND, MOST_ASKED = 100, 80
+MOST_SHOWN, MOST_MOVES = 300, 12
+OF_ENTRY = (5, 6, 8, 9, 10, 20)  # refusals
+Values = dict[str, str]
 
 
 @pages.get("/candidates")
-def find() -> str | Answer:
+def find() -> str | Response:
     asked = request.args.get("q", "").strip()[:MOST_ASKED]
     found = search(asked) if asked else []
     if len(found) == 1:
@@ -79,7 +92,7 @@ def code(number: int) -> str:
 
 
 @pages.post("/candidates/<int:number>/note")
-def note(number: int) -> Answer:
+def note(number: int) -> Response:
     """Keeps the note on a candidate, or takes it away; no seat depends on it."""
     candidate_row(number)
     page_of: Page = ("candidates.page", {"number": number})
@@ -103,4 +116,161 @@ def slips(number: int | None = None) -> str:
     """The slip of one candidate, or those of all, of all sessions."""
     only = [] if number is None else [f"{candidate_row(number)['number']:07}"]
     choice = slip_pages.Choice(only=only, codes="codes" in request.form, desks=bool(only))
-    return output.styled(slip_pages.page(view().reading, choice))
+    return styled(slip_pages.page(view().reading, choice))
+
+
+@appeal_pages.get("/appeals", endpoint="page")
+def appeals() -> str:
+    waiting = view().rows(f"{APPEALS} WHERE state = 1 {BY_DAY}")
+    rest = view().rows(f"{APPEALS} WHERE state <> 1 {BY_DAY} LIMIT ?", [MOST_SHOWN])
+    decided = view().count("SELECT count(*) FROM appeal WHERE state <> 1")
+    return render_template("appeals.html", waiting=waiting, rest=rest, decided=decided)
+
+
+def appeal_row(number: int, ref: str) -> sqlite3.Row:
+    return view().row(f"{APPEALS} WHERE appeal.number = ? AND ref = ?", [number, ref]) or abort(404)
+
+
+@appeal_pages.get("/appeals/<int:number>/<ref>")
+def one(number: int, ref: str) -> str:
+    row = appeal_row(number, ref)
+    others = view().count("SELECT count(*) FROM appeal WHERE number = ?", [number]) - 1
+    return render_template("appeal.html", row=row, member=view().reading.member(row["session"], f"{number:07}"),
+                           others=others, titles=facts.paper_titles(view().reading.rows))
+
+
+@appeal_pages.get("/appeals/<int:number>/<ref>/if-granted")
+def if_granted(number: int, ref: str) -> str:
+    """What a grant would come to: it is tried on a private copy, so the office stays as it is."""
+    row = appeal_row(number, ref)
+    if row["state"] != 1:
+        abort(404)
+    outcome = "standing" if "standing" in request.args and row["kind"] == 3 else "granted"
+    plan = decide(MultiDict({"number": f"{number:07}", "ref": ref, "outcome": outcome}))
+    with desk().rehearsing:
+        proposals.rehearse(plan, desk(), desk().office)
+    return render_template("if_granted.html", row=row, e=plan.effects, refusal=plan.words(), most=MOST_MOVES)
+
+
+@clash_pages.get("/clashes", endpoint="page")
+def clashes() -> str:
+    """The sessions with two papers at once, and those who have them in one of these."""
+    lodged = view().rows("SELECT * FROM appeal WHERE kind = 2 ORDER BY lodged")
+    sessions = [each for each in sums(view()).values() if each.clashes]
+    shown = [each for each in sessions if each.code == request.args.get("session", "")] or sessions[:1]
+    return render_template("clashes.html", sessions=sessions, shown=shown,
+                           found={each.code: Session(each.code).clashes(MOST_SHOWN) for each in shown},
+                           asked={(row["session"], row["number"]): row for row in lodged},
+                           titles=facts.paper_titles(view().reading.rows))
+
+
+@once
+def at_one_time(found: View) -> list[overlaps.Overlap]:
+    """The sessions that overlap. All whom the rows leave in doubt are asked of."""
+    doubtful = overlaps.in_doubt(found.reading)
+    found.ask(overlaps.numbers_of(doubtful))
+    return overlaps.certain(found.reading, doubtful)
+
+
+@clash_pages.get("/overlaps")
+def overlapping() -> str:
+    found = proposals.named(view().reading, at_one_time(view()))
+    return render_template("overlaps.html", overlaps=found, most=MOST_SHOWN)
+
+
+@clash_pages.get("/clashes/<code>/<int:number>")
+def second(code: str, number: int) -> str | Response:
+    """The form for a second sitting: which paper, from when, and where."""
+    shown, who = Session(code), f"{candidate_row(number)['number']:07}"
+    member, missed = view().reading.member(code, who), view().missed(code, [number]).get(who)
+    if not member or not missed:
+        return redirect(url_for("clashes.page", session=code))
+    return render_template("second.html", s=shown.sums, member=member, missed=missed, choices=shown.choices(),
+                           titles=facts.paper_titles(view().reading.rows))
+
+
+def candidate(form: Form, **columns: str) -> tuple[Values, Page]:
+    """The number and the name of a candidate, with the needs and the values of fields; and the candidate's page."""
+    number = form.get("number", "")
+    row = view().row("SELECT number, name FROM candidate WHERE printf('%07d', number) = ?", [number]) or abort(404)
+    page = ("candidates.page", {"number": row["number"]})
+    return {**checked(page, form, **columns), "number": number, "name": row["name"], "needs": features(form)}, page
+
+
+def of_one(field: str, refusals: Collection[int], step: Callable[[Values], Step], form: Form) -> Plan:
+    """A plan whose form has one field for a candidate, beside which these refusals stand."""
+    values, page = candidate(form, **{field: field})
+    return Plan(values, [step(values)], page, dict.fromkeys(refusals, field))
+
+
+def rename(form: Form) -> Plan:
+    values, page = candidate(form)
+    values["other"] = checked(page, form, name="name")["name"]
+    step = coding.renamed(desk().office, values["number"], values["other"])
+    return Plan(values, [step], page, made_for=view().name)
+
+
+def new_code(form: Form) -> Plan:
+    values, page = candidate(form)
+    code = coding.new_code(set(facts.access_codes(view().reading.rows).values()))
+    return Plan(values, [import_step("candidates", {**values, "code": code})], page)
+
+
+def lodge(form: Form) -> Plan:
+    """An appeal for a candidate who is there, lodged over HTTP as candidates do: so its reason is no argument."""
+    values, page = candidate(form, session="session")
+    kind = form.get("kind", "")
+    if kind not in lodging.KINDS:
+        raise Wrong(page, kind=text("choose one"))
+    field = "wanted_extra" if kind == "arrangement" else f"wanted_{kind}"
+    wanted = [values["needs"]] if kind == "arrangement" else []
+    wanted.append(checked(page, form, **{field: lodging.KINDS[kind][-1]})[field])
+    fields = {**dict.fromkeys((4, 12, 13, 20, 21), "session"), **dict.fromkeys((5, 7, 8, 11, 18, 19), field)}
+    return Plan({**values, "kind": kind, "wanted": " ".join(wanted)}, [], page, fields,
+                lodge=(values["number"], values["session"], kind, *wanted, short(page, "reason")))
+
+
+def decide(form: Form) -> Plan:
+    values, _ = candidate(form)
+    values |= {"ref": form.get("ref", ""), "outcome": form.get("outcome", "")}
+    found = view().row("SELECT number, ref FROM appeal WHERE number = ? AND ref = ?", [values["number"], values["ref"]])
+    page: Page = ("appeals.one", dict(found or abort(404)))
+    if values["outcome"] not in ("granted", "standing", "refused"):
+        raise Wrong(page, outcome=text("choose one"))
+    step = command("decide", ["number", "ref", "outcome", "reason"], {**values, "reason": short(page, "reason")})
+    return Plan(values, [step], page, dict.fromkeys((8, 12, 15, 16, 17, 26), "outcome"))
+
+
+def second_plan(form: Form) -> Plan:
+    """A second sitting for a candidate with two papers at once."""
+    values, _ = candidate(form)
+    page: Page = ("clashes.second", {"code": Session(form.get("session", "")).code, "number": int(values["number"])})
+    asked = checked(page, form, paper="paper", start="start", hall="hall")
+    return of_second({**values, **asked}, page, "start",
+                     lambda: second_sitting.plan(view().reading, second_sitting.Asked(values["number"], **asked)))
+
+
+def second_back(form: Form) -> Plan:
+    values, page = candidate(form, paper="paper")
+    return of_second(values, page, "paper",
+                     lambda: second_sitting.plan_back(view().reading, values["number"], values["paper"]))
+
+
+def of_second(values: Values, page: Page, name: str, make: Callable[[], second_sitting.Plan]) -> Plan:
+    """A plan as the command line makes it; what it refuses is said beside the field of this name."""
+    try:
+        found = make()
+    except Trouble as trouble:
+        raise Wrong(page, **{name: said(trouble.sentence)}) from None
+    return Plan(values, found.steps, page, {TROUBLE: name}, command=found.title, made_for=view().name,
+                look=partial(second_sitting.lines, found))
+
+
+PLANS.update({
+    "withdraw": partial(of_one, "paper", OF_ENTRY, partial(command, "withdraw", ["number", "paper"])),
+    "reinstate": partial(of_one, "paper", OF_ENTRY, partial(command, "reinstate", ["number", "paper"])),
+    "enter": partial(of_one, "paper", OF_ENTRY, partial(import_step, "entries")),
+    "arrangement": partial(of_one, "extra", [20], partial(import_step, "arrangements")),
+    "code": new_code, "name": rename, "lodge": lodge, "decide": decide, "second": second_plan,
+    "second-back": second_back,
+})

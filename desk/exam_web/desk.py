@@ -1,4 +1,5 @@
-"""What the pages of one desk share: the office that they show, read once for each of its states."""
+"""What the pages of one desk share: the office that they show, read once for each of its states, and what is counted of
+its sessions by rows: members, seats, desks, two papers at once, open appeals."""
 import contextlib
 import dataclasses
 import math
@@ -6,13 +7,14 @@ import os
 import sqlite3
 import threading
 import time
-from collections.abc import Callable, Iterable, Iterator, Sequence
+import weakref
+from collections.abc import Callable, Iterable, Sequence
 from concurrent.futures import Future, ThreadPoolExecutor
-from typing import Any, Concatenate, ParamSpec, TypeVar
+from typing import Any, Concatenate, NamedTuple, ParamSpec, TypeVar
 
 from flask import abort, current_app, g, has_request_context
 
-from exam_desk import changing, states
+from exam_desk import consequences, facts, states
 from exam_desk.office import Office
 from exam_desk.reading import Reading
 from exam_desk.trouble import Trouble
@@ -20,6 +22,9 @@ from exam_desk.trouble import Trouble
 PATIENCE = 4  # seconds that a page waits for the office to be read, or for a rehearsal
 MANY, TURN = 200, 0.005  # candidates who are asked of at once, and the seconds that others have their turn then
 COPYING, COUNTING = "Its files are copied and read", "Candidates and desks are counted"
+AT_ONCE = ("SELECT session, number, group_concat(code) FROM (SELECT session, number, paper.code AS code "
+           "FROM entry JOIN paper ON paper.code = entry.paper WHERE live = 1 ORDER BY session, number, paper.code) "
+           "GROUP BY session, number HAVING count(*) > 1 ORDER BY 1, 2")
 Found = TypeVar("Found")
 Asked = ParamSpec("Asked")
 
@@ -29,16 +34,16 @@ class StillReading(Exception):
 
 
 class View:
-    """An office at one moment, with all that pages worked out of it. Close it."""
+    """An office at one moment, with all that pages worked out of it. It is closed when nobody holds it any more: keep it
+    out of what refers to itself."""
 
     def __init__(self, office: Office, path: str | None = None) -> None:
         self.began = time.monotonic()
         self.lock = threading.Lock()  # of the locks of what is worked out
         self.locks: dict[Any, threading.RLock] = {}
         self.found: dict[Any, Any] = {}
-        self.readers, self.is_old = 0, False  # of Desk
-        self.stack = contextlib.ExitStack()
-        self.reading = self.stack.enter_context(Reading(office, path))
+        self.reading = Reading(office, path)
+        weakref.finalize(self, self.reading.stack.close)
         self.name = states.name_of(self.reading.rows)
 
     def rows(self, query: str, values: Sequence[object] = ()) -> list[Any]:
@@ -62,9 +67,6 @@ class View:
             self.reading.ask(people[place:place + MANY])
             time.sleep(TURN)
 
-    def close(self) -> None:
-        self.stack.close()
-
 
 def once(make: Callable[Concatenate[View, Asked], Found]) -> Callable[Concatenate[View, Asked], Found]:
     """What is worked out of a view is worked out once. A page waits a little for another one that does it, and raises
@@ -85,6 +87,45 @@ def once(make: Callable[Concatenate[View, Asked], Found]) -> Callable[Concatenat
     return found
 
 
+class Sums(NamedTuple):
+    """A session, and what is counted of it."""
+    code: str
+    day: str
+    start: int  # minutes of the day
+    members: int
+    seated: int
+    desks: int
+    clashes: int  # members with more than one live entry
+    waiting: int  # open appeals
+
+    @property
+    def short(self) -> int:
+        return self.members - self.seated
+
+    @property
+    def free(self) -> int:
+        return self.desks - self.seated
+
+
+@once
+def sums(view: View) -> dict[str, Sums]:
+    """All sessions by code, in the order of their days."""
+    people, clashing = consequences.figures(view.reading), two_papers(view)
+    desks = dict(view.rows("SELECT session, sum(desks) FROM opening GROUP BY session"))
+    waiting = dict(view.rows("SELECT session, count(*) FROM appeal WHERE state = 1 GROUP BY session"))
+    return {code: Sums(code, day, start, *people[code], desks.get(code, 0), len(clashing.get(code, ())),
+                       waiting.get(code, 0)) for code, day, start in facts.sessions(view.reading.rows)}
+
+
+@once
+def two_papers(view: View) -> dict[str, dict[int, str]]:
+    """By session the numbers of those who have two live entries in it, each with these papers."""
+    found: dict[str, dict[int, str]] = {}
+    for code, number, papers in view.rows(AT_ONCE):
+        found.setdefault(code, {})[number] = papers
+    return found
+
+
 class Desk:
     """One office, the address of its pages, and the view that they show.
 
@@ -94,10 +135,8 @@ class Desk:
     def __init__(self, office: Office, address: str, prefix: str, pretended: bool) -> None:
         self.office, self.address, self.prefix = office, address, prefix
         self.pretended = pretended  # whether the day is not the clock's
-        self.warm: Callable[[View], None] = lambda view: None  # works out what pages want first
         self.rehearsing = threading.Lock()  # one rehearsal at a time: each takes a core
-        self.reader = ThreadPoolExecutor(1)
-        self.lock = threading.Lock()  # of all below
+        self.reader, self.lock = ThreadPoolExecutor(1), threading.Lock()
         self.held: View | None = None
         self.reading: Future[None] | None = None  # the last one
         self.stage = ""
@@ -116,60 +155,30 @@ class Desk:
         """Reads the office, and puts it in the place of the view that is held."""
         self.stage = COPYING
         view = View(self.office)
-        try:
-            with contextlib.suppress(Trouble, OSError):  # a page that asks the program says it
-                view.reading.prepare()
-            self.stage = COUNTING
-            self.warm(view)
-        except Exception:
-            view.close()
-            raise
-        with self.lock:
-            old, self.held = self.held, view
-            if old:
-                self.drop(old)
+        with contextlib.suppress(Trouble, OSError):  # a page that asks the program says it
+            view.reading.prepare()
+        self.stage = COUNTING
+        sums(view)  # the first page shows them
+        self.held = view
 
-    def drop(self, view: View) -> None:
-        view.is_old = True
-        if not view.readers:
-            view.close()
+    def fresh(self, since: float = math.inf) -> View | None:
+        """The view that is held, if it was read since then or is still that of the office."""
+        held = self.held
+        return held if held and (held.began >= since or held.reading.is_current()) else None
 
     def view(self) -> View:
-        """The office as it is now, for one reader, who releases it. Raises `StillReading` where that takes long."""
+        """The office as it is now. Raises `StillReading` where that takes long."""
         asked = time.monotonic()
-        while not (found := self.taken(asked)):
+        while not (found := self.fresh(asked)):
             try:
                 self.start_reading().result(max(0, asked + PATIENCE - time.monotonic()))
             except TimeoutError:
                 raise StillReading(self.stage) from None
         return found
 
-    def taken(self, since: float = math.inf) -> View | None:
-        """The view that is held, for one reader, if it was read since then or is still that of the office."""
-        with self.lock:
-            if self.held and (self.held.began >= since or self.held.reading.is_current()):
-                self.held.readers += 1
-                return self.held
-        return None
-
-    def release(self, view: View) -> None:
-        with self.lock:
-            view.readers -= 1
-            if view.is_old:
-                self.drop(view)
-
-    @contextlib.contextmanager
-    def before(self, rehearsal: changing.Rehearsal) -> Iterator[View]:
-        """The office as a rehearsal found it: the view at hand, where the office is still of that state."""
-        with contextlib.ExitStack() as stack:
-            if held := self.taken():
-                stack.callback(self.release, held)
-            yield held or stack.enter_context(contextlib.closing(View(self.office, rehearsal.before)))
-
     def close(self) -> None:
         self.reader.shutdown(cancel_futures=True)
-        if self.held:
-            self.held.close()
+        self.held = None
 
 
 def desk() -> Desk:
@@ -198,8 +207,3 @@ def view() -> View:
 
 def candidate_row(number: int) -> sqlite3.Row:
     return view().row("SELECT number, name, code FROM candidate WHERE number = ?", [number]) or abort(404)
-
-
-def release(_: BaseException | None = None) -> None:
-    if found := g.pop("view", None):
-        desk().release(found)

@@ -1,6 +1,13 @@
-"""What a form that was posted comes to: it leads to a page, or its own page says what is wrong at its fields."""
+"""What a request comes to: it leads to a page, or the page of its form says what is wrong at its fields; or it is given
+a sheet to print, or a file."""
+import base64
+import hashlib
+import io
+import os
+import re
 import secrets
-from collections.abc import Mapping
+import zipfile
+from collections.abc import Callable, Mapping
 from typing import Any, NamedTuple
 
 from flask import current_app, g, redirect, request, url_for
@@ -9,7 +16,8 @@ from markupsafe import Markup
 from werkzeug.datastructures import MultiDict
 from werkzeug.wrappers import Response
 
-from exam_desk import mistakes, notebook
+from exam_desk import mistakes, notebook, private
+from exam_web.desk import desk
 from exam_web.wording import text
 
 Form = MultiDict[str, str]
@@ -79,3 +87,28 @@ def keep(found: dict[str, Any], most: int, value: object) -> str:
     key = secrets.token_urlsafe(9)
     found[key] = value
     return key
+
+
+def styled(page: str) -> str:
+    """A sheet, whose own style the policy of this answer lets through, and no other."""
+    style = page[page.index("<style>") + len("<style>"):page.index("</style>")]
+    g.style = f" 'sha256-{base64.b64encode(hashlib.sha256(style.encode()).digest()).decode()}'"
+    return page
+
+
+def attached(content: bytes, name: str, kind: str = "text/csv") -> Response:
+    answer = Response(content, mimetype=kind)
+    answer.headers["Content-Disposition"] = f'attachment; filename="{re.sub("[^A-Za-z0-9.-]", "-", name)}"'
+    return answer
+
+
+def archive(name: str, fill: Callable[[str], object]) -> Response:
+    """A zip of the files that are put into a folder; its name has the day."""
+    out, name = io.BytesIO(), f"{name}-{desk().office.today().isoformat()}"
+    with private.own_folder(desk().office.path) as folder, zipfile.ZipFile(out, "w", zipfile.ZIP_DEFLATED) as packed:
+        place = os.path.join(folder, name)
+        os.mkdir(place, 0o700)
+        fill(place)
+        for each in sorted(os.listdir(place)):
+            packed.write(os.path.join(place, each), f"{name}/{each}")
+    return attached(out.getvalue(), f"{name}.zip", "application/zip")

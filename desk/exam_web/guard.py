@@ -1,18 +1,16 @@
 """Who may come in: one address, one link, one visit, with initials for the log; and what a page of the desk may load.
 
-Every request passes `Door` and `Guard.check` before a route sees it. A route is open without a visit only where its
-endpoint stands in OPEN.
+Every request passes `Guard.door` and `Guard.check` before a route sees it. A route is open without a visit only where
+its endpoint stands in OPEN.
 """
-import base64
 import contextlib
 import hashlib
-import hmac
 import os
 import re
 import secrets
 import threading
 import time
-from collections.abc import Callable, Iterable, Iterator
+from collections.abc import Callable, Iterable
 from dataclasses import dataclass, field
 from typing import Any
 
@@ -44,7 +42,8 @@ HEADERS = {
 POLICY = ("default-src 'none'; script-src 'self'; style-src 'self'{}; img-src 'self'; connect-src 'self'; "
           "form-action 'self'; frame-ancestors 'none'; base-uri 'none'")
 STRANGE_HOST = "The desk answers to its own address alone: http://{}. Open it by that address, not by a name.\n"
-Start = Callable[..., Any]
+NOTHING = "Nothing is here. `office desk --link` prints a link to the desk.\n"
+REFUSED = {"X-Content-Type-Options": "nosniff", "Cache-Control": "no-store"}
 
 
 @dataclass
@@ -56,28 +55,6 @@ class Visit:
     said: list[tuple[str, Any]] = field(default_factory=list)  # what the next page says once
     proposals: dict[str, Any] = field(default_factory=dict)
     uploads: dict[str, Any] = field(default_factory=dict)
-
-
-class Door:
-    """Lets through to the pages what asks for the desk's own address, below its secret prefix."""
-
-    def __init__(self, pages: Callable[[dict[str, Any], Start], Iterable[bytes]], address: str, prefix: str) -> None:
-        self.pages, self.address, self.prefix = pages, address, prefix
-
-    def __call__(self, environ: dict[str, Any], start: Start) -> Iterable[bytes]:
-        if environ.get("HTTP_HOST") != self.address:  # a stranger's name that points here (DNS rebinding)
-            return refusal(start, "421 Misdirected Request", STRANGE_HOST.format(self.address))
-        path = environ.get("PATH_INFO", "")
-        if not path.startswith(self.prefix + "/"):
-            return refusal(start, "404 Not Found", "Nothing is here. `office desk --link` prints a link to the desk.\n")
-        return self.pages({**environ, "SCRIPT_NAME": self.prefix, "PATH_INFO": path[len(self.prefix):]}, start)
-
-
-def refusal(start: Start, status: str, text: str) -> list[bytes]:
-    body = text.encode()
-    start(status, [("Content-Type", "text/plain; charset=utf-8"), ("Content-Length", str(len(body))),
-                   ("X-Content-Type-Options", "nosniff"), ("Cache-Control", "no-store")])
-    return [body]
 
 
 def digest(secret: str) -> str:
@@ -92,38 +69,25 @@ def new_link(office: str, address: str, prefix: str) -> str:
     return f"http://{address}{prefix}/enter#{token}"
 
 
-@contextlib.contextmanager
-def links(office: str) -> Iterator[int]:
-    """The folder of links. Raises OSError where it is not there, or cannot be used."""
-    folder = beside.open_folder(office, LINKS)
-    try:
-        yield folder
-    finally:
-        os.close(folder)
-
-
-def use_link(office: str, token: str) -> bool:
-    """Whether a token opens the desk. It does so once, since its file goes; links that nobody used go too."""
-    with contextlib.suppress(FileNotFoundError), links(office) as folder:
+def use_link(office: str, token: str, lasting: float = LINK_SECONDS) -> bool:
+    """Whether a token opens the desk. It does so once, since its file goes; links that are too old go too."""
+    used, opens = digest(token), False
+    with contextlib.suppress(FileNotFoundError), contextlib.ExitStack() as stack:
+        folder = beside.open_folder(office, LINKS)
+        stack.callback(os.close, folder)
         for name in os.listdir(folder):
             with contextlib.suppress(FileNotFoundError):  # somebody else may come in just now
-                if name != digest(token) and age(name, folder) > LINK_SECONDS:
+                age = abs(time.time() - os.stat(name, dir_fd=folder, follow_symlinks=False).st_mtime)
+                if name == used or age >= lasting:
                     os.unlink(name, dir_fd=folder)
-        made = age(digest(token), folder)
-        os.unlink(digest(token), dir_fd=folder)
-        return made < LINK_SECONDS
-    return False
-
-
-def age(name: str, folder: int) -> float:
-    return abs(time.time() - os.stat(name, dir_fd=folder, follow_symlinks=False).st_mtime)
+                    opens |= name == used and age < lasting
+    return opens
 
 
 def drop_links(office: str) -> None:
     """Removes all links: none of them opens the next desk."""
-    with contextlib.suppress(OSError), links(office) as folder:
-        for name in os.listdir(folder):
-            os.unlink(name, dir_fd=folder)
+    with contextlib.suppress(OSError):
+        use_link(office, "", lasting=0)
         os.rmdir(os.path.join(beside.folder(office), LINKS))
 
 
@@ -131,12 +95,23 @@ class Guard:
     """Checks every request before a route sees it, and dresses every answer."""
 
     def __init__(self, app: Flask, address: str, prefix: str) -> None:
-        self.address, self.prefix = address, prefix
+        self.app, self.address, self.prefix = app, address, prefix
         self.visits: dict[str, Visit] = {}  # by the hash of their cookie
         self.lock = threading.Lock()
         app.config["MAX_CONTENT_LENGTH"] = MOST_UPLOAD
         app.before_request(self.check)
         app.after_request(self.dress)
+
+    def door(self, environ: dict[str, Any], start: Callable[..., Any]) -> Iterable[bytes]:
+        """Lets through to the pages what asks for the desk's own address, below its secret prefix."""
+        path = environ.get("PATH_INFO", "")
+        if environ.get("HTTP_HOST") != self.address:  # a stranger's name that points here (DNS rebinding)
+            return Response(STRANGE_HOST.format(self.address), 421, REFUSED)(environ, start)
+        if not path.startswith(self.prefix + "/"):
+            return Response(NOTHING, 404, REFUSED)(environ, start)
+        environ |= {"SCRIPT_NAME": self.prefix, "PATH_INFO": path[len(self.prefix):]}
+        answer: Iterable[bytes] = self.app(environ, start)
+        return answer
 
     def check(self) -> None:
         """Refuses what another page, another server or a stranger asks: 401, 403."""
@@ -152,7 +127,7 @@ class Guard:
             return
         if g.visit is None:
             abort(401)
-        if not reads and not hmac.compare_digest(request.form.get(MARK, "").encode(), g.visit.mark.encode()):
+        if not reads and not secrets.compare_digest(request.form.get(MARK, "").encode(), g.visit.mark.encode()):
             abort(403)
 
     def found(self) -> Visit | None:
@@ -183,11 +158,7 @@ class Guard:
         response.delete_cookie(COOKIE, path=self.prefix + "/")
 
     def dress(self, response: Response) -> Response:
-        for name, value in HEADERS.items():
-            response.headers.setdefault(name, value)
-        hashed = base64.b64encode(hashlib.sha256(g.get("style", "").encode()).digest()).decode()
-        own = f" 'sha256-{hashed}'" if "style" in g else ""  # of a printed sheet: its style, and no other
-        response.headers["Content-Security-Policy"] = POLICY.format(own)
+        response.headers.update({**HEADERS, "Content-Security-Policy": POLICY.format(g.get("style", ""))})
         if request.endpoint == "static":
             response.headers["Cache-Control"] = "private, max-age=3600"
         return response

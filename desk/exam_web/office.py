@@ -1,30 +1,23 @@
 """The office: whether it serves, its copies and how one is put back, its log, a backup."""
-import hashlib
 import os
 import pathlib
 import re
 import sys
-from contextlib import closing
 
-from flask import Blueprint, Response, abort, render_template, request
-from werkzeug.wrappers import Response as Answer
+from flask import Blueprint, abort, render_template, request
+from werkzeug.wrappers import Response
 
 from exam_desk import changing, copies, keeping, logbook, private, turns
 from exam_desk.trouble import Stale
-from exam_web import effects, output, proposals
 from exam_web.desk import View, desk, office, once, view
-from exam_web.forms import Wrong, lead, whole
+from exam_web.forms import Wrong, archive, lead, whole
+from exam_web.proposals import MOST_ROWS, Effects, copy_key
 from exam_web.wording import shown, text
 
 pages = Blueprint("office", __name__)
 MOST_LINES = 200  # of the log
 COMMAND = str(pathlib.Path(__file__).resolve().parent.parent / "office")
 LOWEST_PORT, HIGHEST_PORT = 1024, 65535
-
-
-def copy_key(path: str) -> str:
-    """The name by which a browser knows a copy: it is looked up, and never a path."""
-    return hashlib.sha256(os.path.basename(path).encode()).hexdigest()[:16]
 
 
 def copy_of(key: str) -> str:
@@ -47,33 +40,32 @@ def page() -> str:
 def copy(key: str) -> str:
     path = copy_of(key)
     when, what = copies.when_and_what(path)
-    return render_template("copy.html", key=key, when=when, what=what, e=since(view(), path), most=proposals.MOST_ROWS,
+    return render_template("copy.html", key=key, when=when, what=what, e=since(view(), path), most=MOST_ROWS,
                            lost=copies.taken_away(desk().office, path),
                            log=[line for line in log_since(when) if line[3] not in (logbook.BEGINS, logbook.STEP)])
 
 
 @once
-def since(now: View, path: str) -> effects.Effects:
+def since(now: View, path: str) -> Effects:
     """What is another since a copy was made."""
-    with desk().rehearsing, closing(View(desk().office, copies.file_in(desk().office, path))) as then:
-        return effects.effects(then, now)
+    with desk().rehearsing:
+        return Effects(View(desk().office, copies.file_in(desk().office, path)), now)
 
 
 @pages.get("/office/copies/<key>/changes.csv")
 def copy_csv(key: str) -> Response:
-    return output.attached(since(view(), copy_of(key)).csv(), "changes-since.csv")
+    return since(view(), copy_of(key)).csv("changes-since.csv")
 
 
 @pages.post("/office/copies/<key>/back")
-def back(key: str) -> Answer:
+def back(key: str) -> Response:
     """Puts a copy back, if the office is as the page showed it and each appeal that would be lost has its tick."""
-    path, who = copy_of(key), office()
+    path, ticked = copy_of(key), set(request.form.getlist("lost"))
     when, _ = copies.when_and_what(path)
-    ticked = set(request.form.getlist("lost"))
     try:
         with desk().rehearsing:
-            is_back, *_ = changing.go_back(who, ["back"], path, lambda lost: ticked.issuperset(lost),
-                                          request.form.get("state", ""))
+            is_back, *_ = changing.go_back(office(), ["back"], path, lambda lost: ticked.issuperset(lost),
+                                           request.form.get("state", ""))
     except Stale:
         said = text("Nothing is changed: the office is another than the page showed. This is how it stands now.")
         return lead("office.copy", said, "bad", key=key)
@@ -85,7 +77,7 @@ def back(key: str) -> Answer:
 
 
 @pages.post("/office/keep")
-def keep() -> Answer:
+def keep() -> Response:
     what, port = request.form.get("what"), request.form.get("port", "")
     if what == "stop":
         keeping.stop(office())
@@ -101,5 +93,5 @@ def keep() -> Answer:
 @pages.post("/office/backup")
 def backup() -> Response:
     here = desk().office
-    return output.archive("office", lambda folder: private.copy_files(os.path.realpath(here.path),
-                                                                         os.path.join(folder, here.base_name())))
+    return archive("office", lambda folder: private.copy_files(os.path.realpath(here.path),
+                                                               os.path.join(folder, here.base_name())))

@@ -1,45 +1,114 @@
-"""The one way for all changes: a form becomes a plan, the plan is rehearsed and shown, then one button does it."""
+"""The one way for all changes: a form becomes a plan, the plan is rehearsed and shown, then one button does it.
+
+What forms ask becomes steps of the program. Values have the forms of the import files, and stand under the names of the
+columns that they become; all else the program says. What a plan is called, and the words of its button, are in
+templates/plan.html.
+"""
+import contextlib
 import dataclasses
 import datetime
+import hashlib
+import os
 import sqlite3
 import threading
 import time
-from collections.abc import Callable
-from contextlib import closing
+from collections import Counter
+from collections.abc import Callable, Iterable, Mapping, Sequence
 from dataclasses import dataclass, field
+from operator import attrgetter
 from typing import Any
 
 from flask import Blueprint, abort, g, render_template, request, url_for
 from markupsafe import Markup
 from werkzeug.wrappers import Response
 
-from exam_desk import changing, lodging, logbook, private, refusals
+from exam_desk import (changing, consequences, facts, files, lodging, logbook, overlaps, private, refusals,
+                       second_sitting, telling)
 from exam_desk.changing import Answered, Step
 from exam_desk.office import Office
-from exam_desk.reading import Reading
+from exam_desk.reading import Member, Person, Reading
 from exam_desk.trouble import Stale, Trouble
-from exam_web import effects, output
-from exam_web.desk import PATIENCE, Desk, View, desk, office, view
-from exam_web.effects import Effects
-from exam_web.forms import Asked, Page, Wrong, keep, lead
+from exam_desk.words import FEATURES
+from exam_web.desk import PATIENCE, Desk, View, desk, office, sums, two_papers, view
+from exam_web.forms import Asked, Form, Page, Wrong, attached, keep, lead
 from exam_web.wording import said
 
 pages = Blueprint("proposals", __name__)
 MOST_PROPOSALS = 20  # of a visit
 MOST_ROWS = 250  # of those who must be told, on the page; all are in the CSV file
 MOST_LINES = 20  # of the log, where the office was another
+MOST_CLASHES = 100  # new ones that are named
 COMPARING, LODGING = "Both states are compared", "The appeal is lodged"
 OTHER_OFFICE = ("the office has changed since the page that you came from, so nothing was done: go back to the form, "
                 "and ask once more")
 WRONG_DESK = "the desk is wrong here; the office is as the log says"
 TROUBLE = 0  # among the numbers of refusals: what the desk refuses itself
-NEXT_APPEAL = ("SELECT appeal.*, name FROM appeal JOIN candidate USING (number) JOIN session ON session.code = session "
-               "WHERE state = 1 AND day > ? ORDER BY day, session.start, lodged, appeal.number")
+APPEALS = ("SELECT appeal.*, day, session.start AS start, name FROM appeal JOIN session ON session.code = session "
+           "JOIN candidate ON candidate.number = appeal.number ")
+BY_DAY = "ORDER BY day, session.start, lodged, appeal.number"
+KINDS = {  # the gravest first: in words before the change, after it, and after it of one where that is another
+    "loses": ("would lose the desk", "lost the desk"),
+    "lacks": ("would join a session without a desk", "joined a session without a desk"),
+    "paper": ("would have another paper", "have another paper", "has another paper"),
+    "moves": ("would move to another hall", "moved to another hall"),
+    "time": ("would have another time", "have another time", "has another time"),
+    "name": ("would have another name", "have another name", "has another name"),
+    "gets": ("would get a desk", "got a desk"),
+    "leaves": ("would leave a session", "left a session"),
+    "joins": ("would join a session", "joined a session"),
+    "desk": ("would have another desk number only", "have another desk number only", "has another desk number only"),
+}
+NUMBERS = attrgetter("members", "desks", "short", "clashes")  # of a session
 
 
-@dataclass(frozen=True)
+class Effects:
+    """What a change does: to people, the gravest first, and to sessions."""
+
+    def __init__(self, before: View, after: View) -> None:
+        """Where nobody has a seat yet, nobody can lose or change one: then the sessions say all."""
+        then, now, was = before.reading, after.reading, sums(before)
+        met, codes = telling.touched(then, now), facts.access_codes(then.rows)
+        changes = telling.of_touched(then, now, met) if consequences.has_seats(then) else []
+        self.changes = sorted(changes, key=lambda each: [*KINDS].index(each.kind()))
+        self.counts = {kind: telling.people_and_sittings([each.number for each in changes if each.kind() == kind])
+                       for kind in KINDS}
+        self.to_tell = [each for each in self.changes if each.is_to_tell()]
+        self.people, _ = telling.people_and_sittings([each.number for each in self.to_tell])
+        self.desk_only = Counter(each.session for each in self.changes if each.kind() == "desk")  # by session
+        self.codes = sum(codes.get(number, code) != code for number, code in facts.access_codes(now.rows).items())
+        self.sessions = [(was.get(code), each) for code, each in sums(after).items()
+                         if code not in was or NUMBERS(was[code]) != NUMBERS(each)]
+        self.short = sum(max(0, each.short - (old.short if old else 0)) for old, each in self.sessions)
+        self.clashes, self.overlaps = new_clashes(before, after), named(now, overlaps.new(then, now, [*met]))
+        self.titles = telling.titles_of(then, now)
+
+    def csv(self, name: str) -> Response:
+        return attached(telling.csv_text(self.changes, self.titles).encode("utf-8", "surrogateescape"), name)
+
+
+def new_clashes(before: View, after: View) -> list[tuple[str, Member, list[str]]]:
+    """The first of those: whose papers at once are others in the rows, and of whom the program says what they miss that
+    they did not miss before."""
+    old, found = two_papers(before), list[tuple[str, Member, list[str]]]()
+    for code, people in two_papers(after).items():
+        was = old.get(code, {})
+        others = [number for number in people if people[number] != was.get(number)][:MOST_CLASHES - len(found)]
+        then, now = before.missed(code, [number for number in others if number in was]), after.missed(code, others)
+        for number, papers in now.items():
+            new = [paper for paper in papers if paper not in then.get(number, [])]
+            if new and (member := after.reading.member(code, number)):
+                found.append((code, member, new))
+    return found
+
+
+def named(reading: Reading, found: Iterable[overlaps.Overlap]) -> list[tuple[overlaps.Overlap, list[Person]]]:
+    """Two sessions at one time, with who is in both."""
+    return [(each, consequences.by_name(reading, each.candidates)) for each in found]
+
+
+@dataclass
 class Plan:
-    """What a form asks: its values, and the steps of the program."""
+    """What a form asks, as steps of the program, and how far it is. Its thread alone changes it while it works."""
     values: dict[str, str]
     steps: list[Step]
     page: Page  # to come back to
@@ -48,16 +117,10 @@ class Plan:
     form_page: Page | None = None  # with the form, where that is another
     lodge: tuple[str, ...] = ()  # in the place of steps: the words of an appeal that is lodged the candidate's way
     command: str = ""  # as the log has it, where it is not the steps
-    made_from: str = ""  # the state that the steps were made for; "" where they suit each
+    made_for: str = ""  # the state that the steps were made for; "" where they suit each
     done: Callable[[], None] = lambda: None  # is called once it is carried out
     look: Callable[[Reading, Reading], list[str]] = lambda before, after: []  # says more of a rehearsal, or refuses it
-
-
-@dataclass
-class Proposal:
-    """A plan, and how far it is. Its thread alone changes it while it works."""
-    plan: Plan
-    asked: Asked
+    asked: Asked = field(default_factory=lambda: Asked((request.view_args or {}).get("what", ""), request.form))
     key: str = ""
     lock: threading.Lock = field(default_factory=threading.Lock)  # of who does it
     working: threading.Thread | None = None
@@ -65,14 +128,13 @@ class Proposal:
     seconds: float = 0
     stage: str = ""
     since: str = ""  # when the state was read
-    made_from: str = ""
+    made_from: str = ""  # the states from before the rehearsal, and after it
     promised: str = ""
     answers: list[Answered] = field(default_factory=list)
     effects: Effects | None = None
     lines: list[str] = field(default_factory=list)  # what is said of the rehearsal besides
     refusal: str = ""  # the program's line
-    explained: list[str] = field(default_factory=list)  # it in words, and its place in a file
-    trouble: str = ""
+    against: list[str] = field(default_factory=list)  # it in words, and its place in a file; or what the desk refuses
     moved_on: list[list[str]] | None = None  # what the log has since, where the office was another
     is_done: bool = False
     as_promised: bool = True
@@ -85,168 +147,173 @@ class Proposal:
 
     @property
     def can_be_done(self) -> bool:
-        return not (self.is_done or self.is_working or self.refusal or self.trouble or self.effects is None)
+        return not (self.is_done or self.is_working or self.against or self.effects is None)
 
     def way_back(self) -> str:
         """The address of the page with the form; as long as nothing is done, all that was given is still in it."""
-        endpoint, values = self.plan.page if self.is_done else self.plan.form_page or self.plan.page
+        endpoint, values = self.page if self.is_done else self.form_page or self.page
         left = {} if self.is_done else {"again": self.key, "_anchor": self.asked.form}
         return url_for(endpoint, **{**values, **left})
 
     def words(self) -> list[Markup]:
         """Why it cannot be done, as the program or the desk says; none where it can."""
-        line = self.refusal
-        known = refusals.SENTENCES.get(refusals.number_of(line) or 0, refusals.OTHER.get(line, line))
-        return [said(each.strip()) for each in (self.explained or [known] if line else [self.trouble]) if each]
+        return [said(each.strip()) for each in self.against]
+
+    def imported(self) -> list[tuple[str, int, int, int]]:
+        """For each file of an import the rows that are added, changed and the same."""
+        parts = [(each.step, each.first_line().split()) for each in self.answers if len(self.steps) > 1]
+        return [(step.words[1], int(said[1]), int(said[3]), int(said[5])) for step, said in parts
+                if said[::2] == ["added", "changed", "same"]]
 
     def tell(self, stage: str) -> None:
         self.stage = stage
 
+    def refuse(self, line: str, explained: list[str]) -> None:
+        self.refusal, self.against = line, explained or [line]
+
     def take(self, who: Office, answers: list[Answered]) -> None:
         """Keeps what the program said of the steps, and in words where it refuses the last."""
-        self.answers, self.refusal, self.explained = answers, "", []
+        self.answers = answers
         if refused := changing.refused_of(answers):
-            self.refusal = refused.first_line()
-            self.explained = refusals.explained(who, refused.step.words, refused.ran.complaint, refused.step.data)
+            self.refuse(refused.first_line(), refusals.explained(who, refused.step.words, refused.ran.complaint,
+                                                                 refused.step.data))
 
-    def lodge(self, who: Office) -> None:
-        """Lodges the appeal of the plan, and keeps its reference."""
-        lodged = lodging.lodge(who, self.plan.lodge)
+    def grant(self, who: Office) -> list[Step]:
+        """Lodges the appeal, and keeps its reference; gives the step that would grant it, none where it is refused."""
+        lodged = lodging.lodge(who, self.lodge)
         assert lodged, "the form has all values"
-        self.refusal, self.explained = (lodged.line, lodged.explained) if lodged.status else ("", [])
-        self.lodged = "" if lodged.status else lodged.line.split()[1]
-
-    def compare(self, here: Desk, rehearsal: changing.Rehearsal) -> None:
-        """Keeps what a rehearsal would come to. Raises `Trouble` where the plan refuses it."""
-        self.tell(COMPARING)
-        with here.before(rehearsal) as before, closing(View(here.office, rehearsal.after)) as after:
-            self.lines = self.plan.look(before.reading, after.reading)
-            self.effects = effects.effects(before, after)
-            self.made_from, self.promised = before.name, after.name
+        if lodged.status:
+            self.refuse(lodged.line, lodged.explained)
+            return []
+        self.lodged = lodged.line.split()[1]
+        return [Step(("decide", self.lodge[0], self.lodged, "granted", ""))]
 
 
-def propose(plan: Plan) -> Response:
-    """Rehearses a plan. Raises `Wrong` for a refusal that belongs to a field."""
-    proposal = Proposal(plan, Asked((request.view_args or {})["what"], request.form))
-    proposal.key = keep(g.visit.proposals, MOST_PROPOSALS, proposal)
-    work(proposal, rehearse_lodging if plan.lodge else rehearse)
-    name = plan.fields.get(refusals.number_of(proposal.refusal) or TROUBLE)
-    if name and (proposal.refusal or proposal.trouble) and not proposal.is_working:
-        del g.visit.proposals[proposal.key]
-        raise Wrong(plan.page, **{name: Markup("; ").join(proposal.words())})
-    return lead("proposals.page", key=proposal.key)
+PLANS: dict[str, Callable[[Form], Plan]] = {}  # what forms ask, by the name of the form; screens put theirs in
 
 
-def work(proposal: Proposal, task: Callable[[Proposal, Desk, Office], None]) -> None:
+def command(word: str, names: Sequence[str], values: Mapping[str, str]) -> Step:
+    """A command of the program with the values of these names; `--` keeps what begins with - from being an option."""
+    found = [values[name] for name in names]
+    return Step((word, *(["--"] if any(value.startswith("-") for value in found) else []), *found))
+
+
+def import_step(kind: str, values: Mapping[str, str]) -> Step:
+    """An import of one row that was typed in."""
+    return second_sitting.imported(kind, *(values[name] for name in files.HEADERS[kind]))
+
+
+def features(form: Form, field: str = "needs") -> str:
+    return "+".join(name for name in FEATURES if name in form.getlist(field)) or "-"
+
+
+@pages.post("/propose/<what>")
+def propose(what: str) -> Response:
+    """Rehearses what a form asks. Raises `Wrong` for a refusal that belongs to a field."""
+    plan = (PLANS.get(what) or abort(404))(request.form)
+    plan.key = keep(g.visit.proposals, MOST_PROPOSALS, plan)
+    work(plan, rehearse)
+    name = plan.fields.get(refusals.number_of(plan.refusal) or TROUBLE)
+    if name and plan.against and not plan.is_working:
+        del g.visit.proposals[plan.key]
+        raise Wrong(plan.page, **{name: Markup("; ").join(plan.words())})
+    return lead("proposals.page", key=plan.key)
+
+
+def work(plan: Plan, task: Callable[[Plan, Desk, Office], None]) -> None:
     """Runs a task beside the request, which waits a little: a long one shows a page that says how far it is."""
     here, who = desk(), office()
 
     def run() -> None:
         try:
             with here.rehearsing:
-                task(proposal, here, who)
+                task(plan, here, who)
         except (Trouble, OSError, sqlite3.Error) as fault:
-            proposal.trouble = str(fault)
+            plan.against = [str(fault)]
         except Exception:
-            proposal.trouble = WRONG_DESK
+            plan.against = [WRONG_DESK]
             raise
         finally:
-            proposal.seconds = time.monotonic() - proposal.began
-    proposal.trouble, proposal.began = "", time.monotonic()
-    proposal.working = threading.Thread(target=run, daemon=True)
-    proposal.working.start()
-    proposal.working.join(PATIENCE)
+            plan.seconds = time.monotonic() - plan.began
+    plan.against, plan.began = [], time.monotonic()
+    plan.working = threading.Thread(target=run, daemon=True)
+    plan.working.start()
+    plan.working.join(PATIENCE)
 
 
-def rehearse(proposal: Proposal, here: Desk, who: Office) -> None:
-    """Carries the plan out on a private copy, and keeps what that would come to. Raises `Trouble` where the steps were
-    made for another state, whatever they would do in this one."""
-    plan, proposal.since = proposal.plan, datetime.datetime.now().isoformat(" ", "seconds")
-    with changing.rehearse(who, plan.steps, proposal.tell) as rehearsal:
-        with here.before(rehearsal) as before:
-            if plan.made_from not in ("", before.name):
-                raise Trouble(OTHER_OFFICE)
-        proposal.take(who, rehearsal.answers)
-        if not proposal.refusal:
-            proposal.compare(here, rehearsal)
+def rehearse(plan: Plan, here: Desk, who: Office) -> None:
+    """Carries the plan out on a private copy, and keeps what that would come to; an appeal is lodged and granted there.
+    Raises `Trouble` where the steps were made for another state, whatever they would do in this one."""
+    plan.since, steps = datetime.datetime.now().isoformat(" ", "seconds"), plan.steps
+    with contextlib.ExitStack() as stack:
+        if plan.lodge:
+            plan.tell(LODGING)
+            who = dataclasses.replace(who, path=stack.enter_context(private.private_copy(who.path, who.path)))
+            steps = plan.grant(who)
+        if plan.refusal:
+            return
+        rehearsal = stack.enter_context(changing.rehearse(who, steps, plan.tell))
+        before = here.fresh() or View(here.office, rehearsal.before)
+        if plan.made_for not in ("", before.name):
+            raise Trouble(OTHER_OFFICE)
+        if not plan.lodge:  # a grant may be refused where a lodging is not
+            plan.take(who, rehearsal.answers)
+        if not plan.refusal:
+            plan.tell(COMPARING)
+            after = View(here.office, rehearsal.after)
+            plan.lines = plan.look(before.reading, after.reading)
+            plan.effects = Effects(before, after)
+            plan.made_from, plan.promised = before.name, after.name
 
 
-def rehearse_lodging(proposal: Proposal, here: Desk, who: Office) -> None:
-    """Lodges on a private copy, and grants it there: what either would come to."""
-    with private.private_copy(who.path, who.path) as copy:
-        there = dataclasses.replace(who, path=copy)
-        proposal.tell(LODGING)
-        proposal.lodge(there)
-        if not proposal.refusal:
-            grant = Step(("decide", proposal.plan.lodge[0], proposal.lodged, "granted", ""))
-            with changing.rehearse(there, [grant], proposal.tell) as rehearsal:
-                proposal.answers = rehearsal.answers  # a grant may be refused where a lodging is not
-                proposal.compare(here, rehearsal)
-
-
-def lodge(proposal: Proposal, here: Desk, who: Office) -> None:
-    """Lodges an appeal: it moves nobody, so no state has to be the same."""
-    proposal.lodge(who)
-    proposal.is_done = not proposal.refusal
-
-
-def carry_out(proposal: Proposal, here: Desk, who: Office) -> None:
-    """Does what was rehearsed, if the office is still the same; else rehearses anew, for another look."""
-    proposal.moved_on = None
-    try:
-        carried = changing.carry_out(who, proposal.plan.steps, proposal.made_from, proposal.promised,
-                                     proposal.plan.command, proposal.tell)
-    except Stale:
-        since = proposal.since
-        rehearse(proposal, here, who)
-        proposal.moved_on = [line for line in logbook.last_lines(who) if line[0] >= since][-MOST_LINES:]
+def carry_out(plan: Plan, here: Desk, who: Office) -> None:
+    """Does what was rehearsed, if the office is still the same; else rehearses anew, for another look. A lodging moves
+    nobody, so no state has to be the same."""
+    plan.moved_on = None
+    if plan.lodge:
+        plan.is_done = plan.grant(who) != []
         return
-    proposal.take(who, carried.answers)
-    proposal.copy, proposal.as_promised = carried.copy or "", carried.as_promised is not False
-    proposal.is_done = not proposal.refusal
-    if proposal.is_done:
-        proposal.plan.done()
+    try:
+        carried = changing.carry_out(who, plan.steps, plan.made_from, plan.promised, plan.command, plan.tell)
+    except Stale:
+        since = plan.since
+        rehearse(plan, here, who)
+        plan.moved_on = [line for line in logbook.last_lines(who) if line[0] >= since][-MOST_LINES:]
+        return
+    plan.take(who, carried.answers)
+    plan.copy, plan.as_promised = carried.copy or "", carried.as_promised is not False
+    plan.is_done = not plan.refusal
+    if plan.is_done:
+        plan.done()
 
 
-def proposal_of(key: str) -> Proposal:
-    found: Proposal | None = g.visit.proposals.get(key)
-    return found or abort(404)
+def copy_key(path: str) -> str:
+    """The name by which a browser knows a copy: it is looked up, and never a path."""
+    return hashlib.sha256(os.path.basename(path).encode()).hexdigest()[:16]
 
 
 @pages.get("/proposals/<key>")
 def page(key: str) -> str:
-    from exam_web.office import copy_key
-    proposal = proposal_of(key)
-    plan = proposal.plan
-    if proposal.is_working:
-        return render_template("working.html", p=proposal, seconds=int(time.monotonic() - proposal.began))
-    elsewhere = proposal.made_from and proposal.asked.given.get("state", "") not in ("", proposal.made_from)
-    decided = proposal.is_done and plan.page[0] == "appeals.one"
-    today = desk().office.today().isoformat()
-    return render_template("proposal.html", p=proposal, plan=plan, e=proposal.effects, most=MOST_ROWS,
-                           back=proposal.way_back(),
-                           elsewhere=elsewhere and not proposal.is_done,
-                           next_appeal=view().row(NEXT_APPEAL, [today]) if decided else None, rows=imported(proposal),
-                           copy_key=copy_key(proposal.copy) if proposal.copy else "")
-
-
-def imported(proposal: Proposal) -> list[tuple[str, int, int, int]]:
-    """For each file of an import the rows that are added, changed and the same."""
-    parts = [(each.step, each.first_line().split()) for each in proposal.answers if len(proposal.plan.steps) > 1]
-    return [(step.words[1], int(said[1]), int(said[3]), int(said[5])) for step, said in parts
-            if said[::2] == ["added", "changed", "same"]]
+    plan: Plan = g.visit.proposals.get(key) or abort(404)
+    if plan.is_working:
+        return render_template("working.html", p=plan, seconds=int(time.monotonic() - plan.began))
+    following = None
+    if plan.is_done and plan.asked.form == "decide":
+        today = desk().office.today().isoformat()
+        following = view().row(f"{APPEALS} WHERE state = 1 AND day > ? {BY_DAY}", [today])
+    return render_template("proposal.html", p=plan, most=MOST_ROWS, next_appeal=following)
 
 
 @pages.post("/proposals/<key>/do")
 def do(key: str) -> Response:
-    proposal = proposal_of(key)
-    with proposal.lock:  # a second click does nothing
-        if proposal.can_be_done:
-            work(proposal, lodge if proposal.plan.lodge else carry_out)
+    plan: Plan = g.visit.proposals.get(key) or abort(404)
+    with plan.lock:  # a second click does nothing
+        if plan.can_be_done:
+            work(plan, carry_out)
     return lead("proposals.page", key=key)
 
 
 @pages.get("/proposals/<key>/told.csv")
 def told(key: str) -> Response:
-    found = proposal_of(key).effects or abort(404)
-    return output.attached(found.csv(), "who-must-be-told.csv")
+    plan: Plan = g.visit.proposals.get(key) or abort(404)
+    return (plan.effects or abort(404)).csv("who-must-be-told.csv")

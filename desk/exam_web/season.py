@@ -9,10 +9,10 @@ from werkzeug.wrappers import Response
 
 from exam_desk import appeals, facts, logbook, notebook, running, turns
 from exam_desk.trouble import Trouble
-from exam_web import clashes as clashing
-from exam_web import counting, office
-from exam_web.desk import View, desk, once, view
+from exam_web import candidates
+from exam_web.desk import Sums, desk, sums, two_papers, view
 from exam_web.forms import lead
+from exam_web.proposals import copy_key
 from exam_web.wording import days_until, text
 
 pages = Blueprint("season", __name__)
@@ -34,7 +34,7 @@ class Attention(NamedTuple):
 def page() -> str:
     if not desk().is_there():
         return render_template("begin.html")
-    found = list(counting.sums(view()).values())
+    found = list(sums(view()).values())
     is_whole = "piece" in request.args or "all" in request.args
     return render_template("season.html", sessions=found, weeks=weeks_of(found), attention=attention(found, is_whole),
                            is_whole=is_whole, deadlines=deadlines(found), most=MOST_SHOWN,
@@ -52,13 +52,7 @@ def init() -> Response:
     return lead("season.page", text("The office is there, and empty. Bring a workbook or the seven files."))
 
 
-def warm(found: View) -> None:
-    """Works out what the first page shows."""
-    counting.sums(found)
-    unheard_clashes(found)
-
-
-def weeks_of(found: list[counting.Sums]) -> list[list[tuple[str, list[counting.Sums]]]]:
+def weeks_of(found: list[Sums]) -> list[list[tuple[str, list[Sums]]]]:
     """For each week with a session its days, Monday first, each with its sessions."""
     dates = {datetime.date.fromisoformat(each.day) for each in found}
     mondays = sorted({date - datetime.timedelta(date.weekday()) for date in dates})
@@ -67,13 +61,21 @@ def weeks_of(found: list[counting.Sums]) -> list[list[tuple[str, list[counting.S
     return [[(day, [each for each in found if each.day == day]) for day in week] for week in weeks]
 
 
-def attention(found: list[counting.Sums], is_whole: bool) -> list[Attention]:
+def attention(found: list[Sums], is_whole: bool) -> list[Attention]:
     """What to do, the most urgent first; what the program has to be asked for only where all of it is wanted."""
     coming = [each for each in found if days_until(each.day) >= 0]
-    todo = [*broken_off(), *shortages(coming), *open_appeals(), *clashes(coming), *unserved(coming)]
+    todo = [Attention(level_of(each), each.day, "short", url_for("session.page", code=each.code, _anchor="short"),
+                      {"count": each.short, "session": each.code}) for each in coming if each.short]
+    todo += [*broken_off(), *open_appeals(), *clashes(coming)]
+    if coming and turns.keep_state(desk().office) is None:
+        todo.append(Attention("note", None, "unserved", url_for("office.page", _anchor="serve")))
     if is_whole:
         todo += [*out_of_date(coming), *at_one_time(coming)]
     return sorted(todo, key=lambda each: (LEVELS.index(each.level), each.day or "9"))
+
+
+def level_of(session: Sums) -> str:
+    return "now" if days_until(session.day) <= SOON else "soon"
 
 
 def broken_off() -> Iterator[Attention]:
@@ -81,13 +83,8 @@ def broken_off() -> Iterator[Attention]:
     stopped."""
     here = desk().office
     if (found := logbook.unfinished(here)) and not turns.is_taken(here):
-        link = url_for("office.copy", key=office.copy_key(found.copy)) if found.copy else url_for("office.page")
+        link = url_for("office.copy", key=copy_key(found.copy)) if found.copy else url_for("office.page")
         yield Attention("late", None, "broken", link, {"command": found.command, "when": found.when})
-
-
-def shortages(coming: list[counting.Sums]) -> list[Attention]:
-    return [Attention(level_of(each), each.day, "short", url_for("session.page", code=each.code, _anchor="short"),
-                      {"count": each.short, "session": each.code}) for each in coming if each.short]
 
 
 def open_appeals() -> list[Attention]:
@@ -101,23 +98,17 @@ def open_appeals() -> list[Attention]:
             for (last, code), counts in kinds.items()]
 
 
-@once
-def unheard_clashes(found: View) -> dict[str, int]:
-    """By session how many have two papers at once and no appeal on it that is open or decided."""
-    heard = set(map(tuple, found.rows("SELECT session, number FROM appeal WHERE kind = 2 AND state IN (1, 2, 3)")))
-    counts = {code: sum((code, number) not in heard for number in numbers)
-              for code, numbers in counting.two_papers(found).items()}
-    return {code: count for code, count in counts.items() if count}
-
-
-def clashes(coming: list[counting.Sums]) -> Iterator[Attention]:
-    unheard = unheard_clashes(view())
-    if late := [each for each in coming if each.code in unheard and days_until(each.day) > 0]:
+def clashes(coming: list[Sums]) -> Iterator[Attention]:
+    """How many have two papers at once and no appeal on it that is open or decided."""
+    heard = set(map(tuple, view().rows("SELECT session, number FROM appeal WHERE kind = 2 AND state IN (1, 2, 3)")))
+    unheard = {code: sum((code, number) not in heard for number in people)
+               for code, people in two_papers(view()).items()}
+    if late := [each for each in coming if unheard.get(each.code) and days_until(each.day) > 0]:
         yield Attention("note", appeals.to_lodge("clash", late[0].day), "clashes", url_for("clashes.page"),
                         {"count": sum(unheard[each.code] for each in late), "sessions": len(late)})
 
 
-def out_of_date(coming: list[counting.Sums]) -> Iterator[Attention]:
+def out_of_date(coming: list[Sums]) -> Iterator[Attention]:
     """Sessions whose printed papers are no longer right, as `office printed` says."""
     for each in coming:
         if notebook.printed(desk().office, each.code):
@@ -128,23 +119,14 @@ def out_of_date(coming: list[counting.Sums]) -> Iterator[Attention]:
                                 {"count": len(found.moves), "session": each.code, "halls": found.halls})
 
 
-def at_one_time(coming: list[counting.Sums]) -> Iterator[Attention]:
+def at_one_time(coming: list[Sums]) -> Iterator[Attention]:
     days = {each.code: each for each in coming}
-    if found := [each for each in clashing.at_one_time(view()) if each.early in days]:
+    if found := [each for each in candidates.at_one_time(view()) if each.early in days]:
         first = days[found[0].early]
         yield Attention(level_of(first), first.day, "overlaps", url_for("clashes.overlapping"), {"pairs": found})
 
 
-def level_of(session: counting.Sums) -> str:
-    return "now" if days_until(session.day) <= SOON else "soon"
-
-
-def unserved(coming: list[counting.Sums]) -> Iterator[Attention]:
-    if coming and turns.keep_state(desk().office) is None:
-        yield Attention("note", None, "unserved", url_for("office.page", _anchor="serve"))
-
-
-def deadlines(found: list[counting.Sums], days: int = 14) -> list[tuple[str, dict[str, list[str]]]]:
+def deadlines(found: list[Sums], days: int = 14) -> list[tuple[str, dict[str, list[str]]]]:
     """The last days to lodge that come next: by date, and for each kind of appeal the sessions."""
     coming: dict[str, dict[str, list[str]]] = {}
     for session in found:

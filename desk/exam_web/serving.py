@@ -55,16 +55,10 @@ def running_at(office: Office) -> tuple[str, str]:
 def listener(port: int | None) -> socket.socket:
     """A socket that listens before a link is printed, since a browser may be quick."""
     for each in [port] if port is not None else range(PORT, PORT + PORTS):
-        listening = socket.socket()
-        listening.setsockopt(socket.SOL_SOCKET, socket.SO_REUSEADDR, 1)
         try:
-            listening.bind((HOST, each))
+            return socket.create_server((HOST, each), backlog=64)
         except OSError as fault:
-            listening.close()
-            why = fault.strerror
-            continue
-        listening.listen(64)
-        return listening
+            why = os.strerror(fault.errno or 0)
     raise Trouble(f"port {port or PORT} of {HOST} cannot be had: {why}; name another with --port")
 
 
@@ -81,33 +75,26 @@ def serve(office: Office, port: int | None, pretended: bool, ready: Callable[[st
     """Serves until a signal ends it; `ready` is given the first link. Where a desk of the office runs already it is
     given a link to that one."""
     import_waitress()
-    with lock_of(office) as lock:
-        if lock is not None:
-            with contextlib.closing(listener(port)) as listening:
-                serve_at(office, listening, lock, pretended, ready)
-            return
-    ready(another_link(office))
-
-
-def serve_at(office: Office, listening: socket.socket, lock: int, pretended: bool,
-             ready: Callable[[str], None]) -> None:
     import waitress
     from exam_web import application, guard
     from exam_web.desk import Desk
-    address, prefix = f"{HOST}:{listening.getsockname()[1]}", f"/{secrets.token_urlsafe(12)}"
-    desk = Desk(office, address, prefix, pretended)
-    app = application.make(desk)
-    os.pwrite(lock, f"{address} {prefix}".ljust(NOTE_BYTES).encode(), 0)
-    guard.drop_links(office.path)
-    logging.getLogger("waitress.queue").setLevel(logging.ERROR)  # that a request waits is nothing to say
-    try:
+    with lock_of(office) as lock, contextlib.ExitStack() as stack:
+        if lock is None:
+            ready(guard.new_link(office.path, *running_at(office)))
+            return
+        listening = stack.enter_context(listener(port))
+        address, prefix = f"{HOST}:{listening.getsockname()[1]}", f"/{secrets.token_urlsafe(12)}"
+        desk = Desk(office, address, prefix, pretended)
+        stack.callback(desk.close)  # behind the two below
+        stack.callback(guard.drop_links, office.path)
+        stack.callback(os.ftruncate, lock, 0)
+        door = application.make(desk).extensions["guard"].door
+        os.pwrite(lock, f"{address} {prefix}".ljust(NOTE_BYTES).encode(), 0)
+        guard.drop_links(office.path)
+        logging.getLogger("waitress.queue").setLevel(logging.ERROR)  # that a request waits is nothing to say
         if desk.is_there():
             desk.start_reading()
         ready(guard.new_link(office.path, address, prefix))
         serve: Callable[..., None] = waitress.serve  # untyped where python3-typeshed is missing
-        serve(guard.Door(app, address, prefix), sockets=[listening], threads=THREADS, ident="desk",
+        serve(door, sockets=[listening], threads=THREADS, ident="desk",
               max_request_body_size=guard.MOST_UPLOAD + (1 << 20), channel_timeout=SILENCE, _quiet=True)
-    finally:
-        os.ftruncate(lock, 0)
-        guard.drop_links(office.path)
-        desk.close()

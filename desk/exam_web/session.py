@@ -2,104 +2,168 @@
 import math
 import re
 import sqlite3
-from collections.abc import Sequence
+from collections.abc import Callable, Iterator, Sequence
+from typing import NamedTuple
 
-from flask import Blueprint, abort, render_template, request
+from flask import Blueprint, abort, g, render_template, request
 from werkzeug.wrappers import Response
 
-from exam_desk import appeals, facts, lists, notebook
+from exam_desk import facts, files, lists, notebook, reasons
+from exam_desk.changing import Step
 from exam_desk.facts import Opening
 from exam_desk.notebook import Rows
+from exam_desk.overlaps import of_day
 from exam_desk.reading import Member
-from exam_desk.sheets.papers import NotDrawn, numbered
+from exam_desk.reasons import Shortage
+from exam_desk.sheets import papers, slips
 from exam_desk.trouble import Trouble
-from exam_web import counting, output, shortages
-from exam_web.desk import View, desk, once, view
-from exam_web.forms import Page, Wrong, lead, whole
+from exam_desk.words import clock
+from exam_web.desk import View, desk, once, sums, two_papers, view
+from exam_web.forms import Form, Page, Wrong, attached, checked, lead, styled, whole
+from exam_web.proposals import PLANS, Plan, command, features, import_step
 from exam_web.wording import many, said, text
 
 pages = Blueprint("session", __name__)
 MOST_PEOPLE = 100  # that a page lists for one reason
+MOST_EXPLAINED, MOST_REMEDIES = 30, 4
 WIDTH, HEIGHT, GAP = 78, 38, 5  # of a desk in a picture, and from one to the next
 RUNNING = dict(zip(notebook.RUNNING, ("along the rows", "along and back", "down the columns", "down and up")))
 MOST_SUPPOSED = 14  # desks in a row, where nobody said how many
 SEATS = "session,date,start,finish,number,name,paper,paper title,hall,desk,extra,needs".split(",")
+MIDNIGHT = 24 * 60
+Values = dict[str, str]
+USUAL = "SELECT desks, until FROM opening WHERE hall = ? GROUP BY desks, until ORDER BY count(*) DESC LIMIT 1"
 
 
-def sums_of(code: str) -> counting.Sums:
-    return counting.sums(view()).get(code) or abort(404)
+class Sheet(NamedTuple):
+    """A paper of a session, and the function that makes it."""
+    title: str
+    page: Callable[..., str]  # of a reading, a session and, where it is by hall, the halls: all where none is named
+    by_hall: bool = False
 
 
-@once
-def openings(found: View, code: str) -> list[Opening]:
-    return facts.openings(found.reading.rows, code)
+SHEETS = {
+    "doors": Sheet("Invigilators' sheets to sign", papers.doors, True),
+    "poster": Sheet("Posters for doors", papers.poster),
+    "cards": Sheet("Desk cards", papers.cards, True), "chart": Sheet("Seating charts", papers.chart, True),
+    "slips": Sheet("Slips for candidates", lambda reading, session: slips.page(
+        reading, slips.Choice(sessions=[session], desks=True))),
+    "board": Sheet("Notice board by name", papers.board), "counts": Sheet("Copies of each paper", papers.counts),
+}
 
 
-def opening(code: str, hall: str) -> Opening:
-    found = [each for each in openings(view(), code) if each.hall == hall]
-    return found[0] if found else abort(404)
+class Remedy(NamedTuple):
+    """An opening that would suit some of those without a desk, and how the hall is open now: a guess that a button
+    rehearses, since only the program says what it comes to."""
+    suits: int
+    opening: Opening
+    now: Opening | None = None
+
+
+class Session:
+    """A session of the view that the request shows."""
+
+    def __init__(self, code: str) -> None:
+        """Answers 404 where there is no such session."""
+        self.code, self.sums = code, sums(view()).get(code) or abort(404)
+        self.page: Page = ("session.page", {"code": code})
+        self.halls = {each.hall: each for each in facts.openings(view().reading.rows, code)}  # that are open
+
+    def opening(self, hall: str) -> Opening:
+        return self.halls.get(hall) or abort(404)
+
+    def taken(self) -> dict[str, int]:
+        """How many sit in each hall."""
+        return dict(view().rows("SELECT hall, count(*) FROM seat WHERE session = ? GROUP BY hall", [self.code]))
+
+    def papers(self) -> list[sqlite3.Row]:
+        """The papers, each with how many are entered."""
+        return view().rows("SELECT paper.code AS code, title, minutes, requires, "
+                           "(SELECT count(*) FROM entry WHERE paper = paper.code AND live = 1) AS entered "
+                           "FROM paper WHERE session = ? ORDER BY paper.code", [self.code])
+
+    def choices(self) -> list[tuple[str, str, Opening | None]]:
+        """All halls to choose from, those that are closed first; each with its title, and how it is open."""
+        titles = facts.hall_titles(view().reading.rows)
+        return [(hall, titles[hall], self.halls.get(hall))
+                for hall in sorted(titles, key=lambda hall: (hall in self.halls, hall))]
+
+    def clashes(self, most: int) -> list[tuple[Member, list[str]]]:
+        """Who has two papers at once, and which ones they miss, both as the program says. Who is asked of has two live
+        entries in the rows."""
+        numbers = list(two_papers(view()).get(self.code, {}))[:most]
+        missed = view().missed(self.code, numbers)
+        return [(member, missed[member.number]) for member in self.members(numbers) if member.number in missed]
+
+    def members(self, numbers: Sequence[int]) -> list[Member]:
+        """What the program says of some members."""
+        return view().reading.members(self.code, numbers)
+
+    def absent(self) -> list[Member]:
+        """Who is noted as absent; a copy from before somebody came may have been put back."""
+        noted = notebook.absent(desk().office, self.code) & facts.candidate_names(view().reading.rows).keys()
+        return self.members(sorted(map(int, noted)))
 
 
 @pages.get("/sessions/<code>")
 def page(code: str) -> str:
-    sums, noted = sums_of(code), notebook.absent(desk().office, code)
-    codes = list(counting.sums(view()))
+    shown, codes = Session(code), [*sums(view())]
     before, _, after = [None, *codes, None][codes.index(code):][:3]
     lodged = view().rows("SELECT appeal.*, name FROM appeal JOIN candidate ON candidate.number = appeal.number "
                          "WHERE session = ? ORDER BY state, appeal.number, ref LIMIT ?", [code, MOST_PEOPLE + 1])
-    known = [number for number, in view().rows("SELECT number FROM candidate ORDER BY number")
-             if f"{number:07}" in noted] if noted else []  # a copy from before they came may have been put back
-    return render_template(
-        "session.html", s=sums, halls=openings(view(), code), taken=taken(code), papers=papers(code), lodged=lodged,
-        previous=before, next=after, choices=hall_choices(code), clashes=clashes(code), most=MOST_PEOPLE,
-        absent=members_of(code, known), shortage=shortages.of(view(), code) if sums.short else None,
-        sheets=output.SHEETS, last=appeals.to_decide(sums.day))
+    return render_template("session.html", shown=shown, s=shown.sums, lodged=lodged, previous=before, next=after,
+                           shortage=shortage(view(), code) if shown.sums.short else None, most=MOST_PEOPLE)
 
 
-def taken(code: str) -> dict[str, int]:
-    return dict(view().rows("SELECT hall, count(*) FROM seat WHERE session = ? GROUP BY hall", [code]))
+@once
+def shortage(view: View, code: str) -> tuple[Shortage, list[tuple[Member, dict[str, list[str]]]], list[Remedy]]:
+    """Why a session is short: the program's own account; for some of those without a desk the halls by reason; and what
+    could help."""
+    why, sheet = reasons.compared(view.reading, code)
+    return (sheet, [(member, by_reason(why.of(member))) for member in why.unseated()[:MOST_EXPLAINED]],
+            sorted(remedies(view, why), key=lambda each: -each.suits)[:MOST_REMEDIES])
 
 
-def papers(code: str) -> list[sqlite3.Row]:
-    """The papers of a session, each with how many are entered."""
-    return view().rows("SELECT paper.code AS code, title, minutes, requires, "
-                       "(SELECT count(*) FROM entry WHERE paper = paper.code AND live = 1) AS entered "
-                       "FROM paper WHERE session = ? ORDER BY paper.code", [code])
+def by_reason(halls: list[tuple[str, str]]) -> dict[str, list[str]]:
+    """The halls by reason; who sits in a full one is left out."""
+    found: dict[str, list[str]] = {}
+    for hall, reason in halls:
+        found.setdefault(reason.partition(": ")[0], []).append(hall)
+    return found
 
 
-def hall_choices(code: str) -> list[tuple[str, str, Opening | None]]:
-    """All halls to choose from, those that are closed in a session first; each with its title, and how it is open."""
-    opened = {each.hall: each for each in openings(view(), code)}
-    halls = sorted(facts.hall_titles(view().reading.rows).items())
-    return sorted(((hall, title, opened.get(hall)) for hall, title in halls), key=lambda each: each[2] is not None)
-
-
-def clashes(code: str, most: int = MOST_PEOPLE) -> list[tuple[Member, list[str]]]:
-    """Who has two papers at once, and which ones they miss, both as the program says. Who is asked of has two live
-    entries in the rows."""
-    numbers = list(counting.two_papers(view()).get(code, {}))[:most]
-    missed = view().missed(code, numbers)
-    return [(member, missed[member.number]) for member in members_of(code, numbers) if member.number in missed]
-
-
-def members_of(code: str, numbers: list[int]) -> list[Member]:
-    """What the program says of some members of a session."""
-    return view().reading.members(code, numbers)
+def remedies(view: View, why: reasons.Reasons) -> Iterator[Remedy]:
+    """Halls that are open in another way, or are not open, and suit some of those without a desk."""
+    opened = {each.hall: each for each in why.openings}
+    for code, title, mask in view.rows("SELECT code, title, features FROM hall ORDER BY code"):
+        widest = Opening(code, title, mask, 1, MIDNIGHT, False)  # open as long as can be, for everybody
+        suited = [member for member in why.unseated() if not why.obstacles(member, widest)]
+        last = max((of_day(member.sitting.finish) for member in suited), default=0)
+        if suited and code in opened:
+            now = opened[code]
+            longer = now._replace(until=max(now.until, last))
+            reserved = now.reserved and all(not why.obstacles(member, longer) for member in suited)
+            desks = max(now.desks, len(suited) + len(why.taken[code]))
+            if (then := longer._replace(reserved=reserved, desks=desks)) != now:
+                yield Remedy(len(suited), then, now)
+        elif suited:  # open as it is in most sessions, and long enough
+            desks, until = view.row(USUAL, [code]) or (len(suited), last)
+            yield Remedy(len(suited), widest._replace(desks=desks, until=max(until, last)))
 
 
 @pages.get("/sessions/<code>/halls/<hall>", endpoint="hall")
 def hall_page(code: str, hall: str) -> str:
     """A hall as a picture: a piece of the session's page, or a page of its own where no script runs."""
-    sums, found = sums_of(code), opening(code, hall)
+    shown, opening = Session(code), Session(code).opening(hall)
     seated = view().rows("SELECT number FROM seat WHERE session = ? AND hall = ?", [code, hall])
-    members, rows = lists.by_desk(members_of(code, [number for number, in seated]), hall), standing(found)
+    members, rows = lists.by_desk(shown.members([number for number, in seated]), hall), standing(opening)
     desks = sorted((number, column * (WIDTH + GAP) + 2, row * (HEIGHT + GAP) + 2)
-                   for row, line in enumerate(numbered(found.desks, rows))
+                   for row, line in enumerate(papers.numbered(opening.desks, rows))
                    for column, number in enumerate(line) if number is not None)
-    return render_template("hall.html", s=sums, opening=found, rows=rows, desks=desks, members=members,
+    return render_template("hall.html", s=shown.sums, opening=opening, rows=rows, desks=desks, members=members,
                            by_desk={member.sitting.desk: member for member in members}, desk_width=WIDTH,
-                           desk_height=HEIGHT,
-                           codes=[row["code"] for row in papers(code)], absent=notebook.absent(desk().office, code))
+                           desk_height=HEIGHT, codes=[row["code"] for row in shown.papers()],
+                           absent=notebook.absent(desk().office, code))
 
 
 def standing(found: Opening) -> Rows:
@@ -111,7 +175,8 @@ def standing(found: Opening) -> Rows:
 @pages.post("/sessions/<code>/draw")
 def draw(code: str) -> Response:
     """Keeps how the desks of halls stand; nobody moves. It leads to the charts that wait for that, else to the hall."""
-    halls = [opening(code, hall).hall for hall in request.form.getlist("hall")] or abort(400)
+    shown = Session(code)
+    halls = [shown.opening(hall).hall for hall in request.form.getlist("hall")] or abort(400)
     charts: Page = ("session.sheet", {"code": code, "sheet": "chart", "hall": request.form.getlist("of")})
     drawn, is_chart = {hall: rows_given(hall) for hall in halls}, "chart" in request.form
     if wrong := {f"across-{hall}": whole(1, notebook.MOST_ACROSS) for hall, rows in drawn.items()
@@ -130,14 +195,13 @@ def rows_given(hall: str) -> Rows:
 @pages.post("/sessions/<code>/absent")
 def note_absent(code: str) -> Response:
     """Notes as absent who is ticked, or named by number; whoever is listed and not ticked was there."""
-    sums_of(code)
-    ticked = request.form.getlist("absent")
+    shown, ticked = Session(code), request.form.getlist("absent")
     typed = request.form.get("numbers", "").replace(",", " ").split()
     there = set(request.form.getlist("listed")).difference(ticked)
     try:
         found = notebook.note_absent(view().reading, code, [*ticked, *typed], there)
     except Trouble as trouble:
-        raise Wrong(("session.page", {"code": code}), "absent", numbers=said(trouble.sentence)) from None
+        raise Wrong(shown.page, "absent", numbers=said(trouble.sentence)) from None
     told = many(len(found), "{count} candidate is noted as absent in {session}.",
                 "{count} candidates are noted as absent in {session}.", session=code)
     return lead("session.page", told, code=code, _anchor="absent")
@@ -145,44 +209,45 @@ def note_absent(code: str) -> Response:
 
 @pages.get("/sessions/<code>/attendance.csv")
 def attendance_csv(code: str) -> Response:
-    sums_of(code)
-    return output.attached(notebook.attendance(view().reading, code).encode(), f"{code}-attendance.csv")
+    Session(code)
+    return attached(notebook.attendance(view().reading, code).encode(), f"{code}-attendance.csv")
 
 
 @pages.get("/sessions/<code>/seats.csv")
 def seats_csv(code: str) -> Response:
-    sums = sums_of(code)
-    titles = facts.paper_titles(view().reading.rows)
-    rows = [[code, sums.day, each.sitting.start, each.sitting.finish, each.number, each.name, each.sitting.paper,
+    day, titles = Session(code).sums.day, facts.paper_titles(view().reading.rows)
+    rows = [[code, day, each.sitting.start, each.sitting.finish, each.number, each.name, each.sitting.paper,
              titles[each.sitting.paper], each.sitting.hall or "", each.sitting.desk or "", each.sitting.extra,
              "+".join(each.sitting.needs) or "-"] for each in view().reading.members(code)]
-    return output.csv(SEATS, rows, f"{code}-seats.csv")
+    content = files.written([SEATS, *([files.guarded(str(value)) for value in row] for row in rows)])
+    return attached(files.BOM + content.encode("utf-8", "surrogateescape"), f"{code}-seats.csv")
 
 
 @pages.get("/sessions/<code>/print/<sheet>")
 def sheet(code: str, sheet: str, hall: Sequence[str] = ()) -> str:
     """A sheet to print, of all halls or of some, made by the function that the command line uses. A chart asks first
     how the desks stand, in each hall where nobody has said it."""
-    sums, halls = sums_of(code), hall or request.args.getlist("hall")
-    made = output.SHEETS.get(sheet) or abort(404)
+    shown, halls = Session(code), hall or request.args.getlist("hall")
+    made = SHEETS.get(sheet) or abort(404)
     try:
-        return output.styled(made.page(view().reading, code, *([halls] if made.by_hall else [])))
-    except NotDrawn as trouble:
-        asked = [opening(code, each) for each in trouble.halls]
-        return render_template("charts.html", s=sums, halls=[(each, standing(each)) for each in asked], of=halls)
+        return styled(made.page(view().reading, code, *([halls] if made.by_hall else [])))
+    except papers.NotDrawn as trouble:
+        asked = map(shown.opening, trouble.halls)
+        return render_template("charts.html", s=shown.sums, halls=[(each, standing(each)) for each in asked], of=halls)
 
 
 @pages.get("/sessions/<code>/printed")
 def compare_printed(code: str) -> str:
     """Who has another desk than on paper: a piece of the session's page, or a page of its own where no script runs."""
-    return render_template("printed.html", s=sums_of(code), found=notebook.compared(view().reading, code),
-                           most=MOST_PEOPLE, taken=taken(code), sheets=output.SHEETS)
+    shown = Session(code)
+    return render_template("printed.html", s=shown.sums, found=notebook.compared(view().reading, code),
+                           most=MOST_PEOPLE, taken=shown.taken())
 
 
 @pages.post("/sessions/<code>/printed")
 def note_printed(code: str) -> Response:
     """Notes that the sheets are printed, if the office is as the page beside them showed it."""
-    sums_of(code)
+    Session(code)
     if request.form.get("state") != view().name:
         told = text("Nothing is noted: the office is another than the page showed. Print the sheets again.")
         return lead("session.page", told, "bad", code=code, _anchor="print")
@@ -190,3 +255,51 @@ def note_printed(code: str) -> Response:
     told = many(desks, "{count} desk of {session} is noted as printed.",
                 "{count} desks of {session} are noted as printed.", session=code)
     return lead("session.page", told, code=code, _anchor="print")
+
+
+def opening(form: Form, page: Page, code: str) -> tuple[Values, list[Step]]:
+    """A hall that is to be open, which was chosen or which the office does not know yet; and the steps for it."""
+    is_new = form.get("new_hall", "").strip() != ""
+    names = {"new_hall": "hall", "new_title": "title"} if is_new else {"hall": "hall"}
+    hall, *titles, desks, until = checked(page, form, **names, desks="desks", until="until").values()
+    if is_new and view().row("SELECT 1 FROM hall WHERE code = ?", [hall]):
+        raise Wrong(page, new_hall=text("the office has this hall: choose it from the list"))
+    values = {"session": code, "hall": hall, "desks": desks, "until": until,
+              "reserved": "yes" if form.get("reserved") else "no"}
+    new = [import_step("halls", {"hall": hall, "title": title, "features": features(form, "new_features")})
+           for title in titles]
+    return values, [*new, import_step("openings", values)]
+
+
+def open_hall(form: Form) -> Plan:
+    shown = Session(form.get("session", ""))
+    values, steps = opening(form, shown.page, shown.code)
+    return Plan(values, steps, shown.page, {4: "hall", 7: "hall", 20: "desks"})
+
+
+def close_hall(form: Form) -> Plan:
+    """A hall that cannot be used; with another in its place where the form on the first rehearsal's page asks it."""
+    shown = Session(form.get("session", ""))
+    lost, first = checked(shown.page, form, lost="hall")["lost"], form.get("proposal", "")
+    values, steps, form_page = {"session": shown.code, "lost": lost}, list[Step](), shown.page
+    if first in g.visit.proposals:
+        form_page = ("proposals.page", {"key": first})
+        other, steps = opening(form, form_page, shown.code)
+        values |= other
+        if other["hall"] == lost:
+            raise Wrong(form_page, hall=text("this is the hall that is lost"))
+    step = command("close-hall", ["session", "lost"], values)
+    return Plan(values, [*steps, step], shown.page, dict.fromkeys((7, 25), "lost"), others=others(shown.choices(), lost),
+                form_page=form_page)
+
+
+def others(choices: list[tuple[str, str, Opening | None]], lost: str) -> dict[str, object]:
+    """What the form for another hall begins with: the closed halls first, desks and end of the lost one; where the
+    first is open already, as many desks more."""
+    halls = [each for each in choices if each[0] != lost]
+    needed = [now for hall, _, now in choices if now and hall in (lost, *(each[0] for each in halls[:1]))]
+    return {"halls": halls, "desks": sum(each.desks for each in needed) or "",
+            "until": clock(max(each.until for each in needed)) if needed else ""}
+
+
+PLANS.update(open=open_hall, close=close_hall)

@@ -27,8 +27,8 @@ def language() -> str:
 
 def text(english: str, **values: object) -> Markup:
     """A text of the table in the reader's language; a word in braces stands for a value."""
-    found = LANGUAGES.get(language(), {}).get(english, english)
-    return Markup(found).format(**{name: shown(value) for name, value in values.items()}) if values else Markup(found)
+    found = Markup(LANGUAGES.get(language(), {}).get(english, english))
+    return found.format(**{name: shown(value) for name, value in values.items()}) if values else found
 
 
 def said(words: str) -> Markup:

@@ -12,9 +12,16 @@ import sample
 from sample import DESK, SampleSchool
 
 MARK, STATE = 'name="mark" value="([^"]+)"', 'name="state" value="([^"]*)"'
+EFFECT = r'effect (\w+)"><b>([\d,]+)</b>[^<]*(?:<small>\((?:<bdi>)?([\d,]+))?'
 LINK = r"http://127\.0\.0\.1:(\d+)(/[^/\s]+)/enter#(\S+)"
 PYTHON = "/usr/bin/python3"
 HAS_FLASK = subprocess.run([PYTHON, "-c", "import flask, waitress"], capture_output=True, check=False).returncode == 0
+
+
+def effects(text):
+    """What a page says of a change: by kind how many people there are, and in how many sittings."""
+    numbers = {kind: [part.replace(",", "") for part in counts] for kind, *counts in re.findall(EFFECT, text)}
+    return {kind: (int(people), int(sittings or people)) for kind, (people, sittings) in numbers.items()}
 
 
 class Browser:

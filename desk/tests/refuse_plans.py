@@ -12,7 +12,7 @@ sys.path.insert(0, str(DESK))
 from exam_desk import changing, lodging, refusals  # noqa: E402
 from exam_desk.office import Office  # noqa: E402
 from exam_desk.running import Ran  # noqa: E402
-from exam_web import application, desk, guard, plans, uploads, wording  # noqa: E402
+from exam_web import application, desk, guard, proposals, uploads, wording  # noqa: E402
 
 WHO, MONDAY = {"number": "0001051"}, {"session": "MON-AM"}
 FORMS = {  # a form of each plan that the sample school takes, and the page that it stands on
@@ -103,7 +103,7 @@ def refused_late(browser, what):
 def main():
     office = Office(sys.argv[1], sys.argv[2], lambda: datetime.date(2027, 5, 1), "tester")
     browser = Browser(office)
-    if missing := set(plans.PLANS) - set(FORMS):
+    if missing := set(proposals.PLANS) - set(FORMS):
         wrong.append(f"no form for {missing}")
     numbers = [*refusals.SENTENCES] if "--all" in sys.argv else [1, 5, 7, 8, 20, 22, 23, 24, 25, 27]
     for what in FORMS:

@@ -18,7 +18,7 @@ from jinja2 import nodes
 DESK = pathlib.Path(__file__).resolve().parent.parent
 sys.path.insert(0, str(DESK))
 from exam_desk import appeals, mistakes, refusals  # noqa: E402
-from exam_web import application, desk, effects, forms, output, proposals, session  # noqa: E402
+from exam_web import application, desk, forms, proposals, session  # noqa: E402
 
 DAYS = [datetime.date(2027, 3, day) for day in range(1, 8)]
 MONTHS = [datetime.date(2027, month, 1) for month in range(1, 13)]
@@ -28,8 +28,8 @@ CURES = [cure.removesuffix(forms.SHEET_HINT) for cure in mistakes.CURES.values()
 OWN = [proposals.OTHER_OFFICE, proposals.WRONG_DESK]
 TABLES = {  # by what stands in the call
     "word": [*(word for _, word in application.PLACES), *session.RUNNING.values()],
-    "sheet.title": [sheet.title for sheet in output.SHEETS.values()],
-    "words[tense]": [word for pair in effects.KINDS.values() for word in pair],
+    "sheet.title": [sheet.title for sheet in session.SHEETS.values()],
+    "words[tense]": [word for pair in proposals.KINDS.values() for word in pair],
     "appeals.KINDS[row.kind]": appeals.KINDS.values(), "appeals.STATES[row.state]": appeals.STATES.values(),
     "kind": appeals.KINDS.values(), "PROBLEMS[fault.code]": application.PROBLEMS.values(),
     "str(stage)": [desk.COPYING, desk.COUNTING], "mistakes.CURES[column].removesuffix(SHEET_HINT)": CURES,

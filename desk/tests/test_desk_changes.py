@@ -10,9 +10,8 @@ import unittest
 import urllib.parse
 
 import sample
-from desk_client import MARK, Browser, DeskSchool
+from desk_client import MARK, Browser, DeskSchool, effects
 
-EFFECT = r'effect (\w+)"><b>([\d,]+)'
 REASON = "asthma, since 2019"
 
 
@@ -21,18 +20,18 @@ class TestRehearsal(DeskSchool):
         before = self.seats()
         page, _ = self.browser.post("/propose/close", "/sessions/MON-AM", session="MON-AM", lost="GYM")
         text = self.browser.get(page)
-        promised = re.findall(EFFECT, text)
+        promised = effects(text)
         self.assertEqual(self.seats(), before)
-        self.assertIn("loses", dict(promised))
+        self.assertIn("loses", promised)
         self.browser.post(page + "/do", page)
         text = self.browser.get(page)
         self.assertIn("What changed", text)
         self.assertNotIn("should never be", text)
-        self.assertEqual(re.findall(EFFECT, text), promised)
+        self.assertEqual(effects(text), promised)
         lost = len(before) - len(self.seats())
-        self.assertEqual(dict(promised)["loses"], str(lost))
+        self.assertEqual(promised["loses"], (lost, lost))
         _, told = self.browser.ask("GET", page + "/told.csv")
-        self.assertEqual(told.count("\n") - 1, sum(int(count) for _, count in promised))
+        self.assertEqual(told.count("\n") - 1, sum(sittings for _, sittings in promised.values()))
         self.assertIn("(ab, desk)\tclose-hall MON-AM GYM\t0\tclosed", self.log())
 
     def test_another_name_and_the_code_stays(self):
@@ -40,9 +39,12 @@ class TestRehearsal(DeskSchool):
         page, _ = self.browser.post("/propose/name", "/candidates/1051", number="0001051", name="Di <b> Marsh")
         words = self.browser.words(page)
         self.assertIn(f"was {was}", re.sub(r"\s+", " ", words))
+        self.assertIn("1 would have another name ( 3 sessions)", words)
         self.assertNotIn("another access code", words)
         self.browser.post(page + "/do", page)
         self.assertEqual(self.rows("SELECT name, code FROM candidate WHERE number = 1051"), [("Di <b> Marsh", code)])
+        self.assertIn("1 has another name (3 sessions)", self.office("changes", "1"))
+        self.assertIn("1 has another name ( 3 sessions)", self.browser.words(page))
         for wrong in ("", "x" * 81):
             _, text = self.browser.post("/propose/name", "/candidates/1051", 422, number="0001051", name=wrong)
             self.assertIn('aria-invalid="true"', text)
@@ -58,8 +60,8 @@ class TestRehearsal(DeskSchool):
         both, _ = self.browser.post("/propose/close", page, session="MON-AM", lost="GYM",
                                     proposal=page.rsplit("/", 1)[1],
                                     hall="R14", desks="30", until="14:00")
-        alone, together = (dict(re.findall(EFFECT, self.browser.get(each))) for each in (page, both))
-        self.assertLess(int(together.get("loses", "0")), int(alone["loses"]))
+        alone, together = (effects(self.browser.get(each)) for each in (page, both))
+        self.assertLess(together.get("loses", (0, 0)), alone["loses"])
         self.browser.post(both + "/do", both)
         self.assertEqual(self.rows("SELECT desks FROM opening WHERE session = 'MON-AM' AND hall IN ('GYM', 'R14')"),
                          [(30,)])

@@ -233,6 +233,13 @@ class TestProcess(DeskSchool):
             sample.until(lambda: not any(os.path.exists(f"/proc/{child}") for child in children))
             self.start()
 
+    def test_a_view_that_nobody_holds_is_closed(self):
+        for what in ("withdraw", "reinstate", "withdraw"):
+            self.browser.post(f"/propose/{what}", "/candidates/1051", number="0001051", paper="PH-1")
+            self.office(what, "0001051", "PH-1")
+            self.browser.get("/candidates/1051")
+        sample.until(lambda: len(os.listdir(os.path.join(self.desk, "tmp"))) == len(self.children()) == 1)
+
     def test_after_a_kill_serve_ends_and_the_next_command_clears(self):
         self.browser.get("/candidates/1051")
         children = self.children()

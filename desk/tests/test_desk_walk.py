@@ -9,10 +9,9 @@ import shutil
 import unittest
 import urllib.parse
 
-from desk_client import MARK, STATE, DeskSchool
+from desk_client import MARK, STATE, DeskSchool, effects
 from random_offices import RandomOffice
 
-EFFECT = r'effect (\w+)"><b>([\d,]+)'
 OF_A_SCHOOL = 25
 
 
@@ -83,7 +82,7 @@ class TestWalk(DeskSchool):
         page = (answer.headers["Location"] or "").removeprefix(self.browser.prefix)
         if answer.status == 422 or f"{page}/do" not in (text := self.browser.get(page)):
             return False
-        promised = re.findall(EFFECT, text)
+        promised = effects(text)
         self.browser.post(page + "/do", page)
         text, after = self.browser.get(page), self.halls()
         self.assertNotIn("should never be", text)
@@ -92,9 +91,9 @@ class TestWalk(DeskSchool):
             self.assertEqual(after, before)
         else:
             self.assertIn("What changed", text)
-            self.assertEqual(re.findall(EFFECT, text), promised)
+            self.assertEqual(effects(text), promised)
             if before:  # else the page has sessions alone, since nobody can lose or change a seat
-                self.compare(before, after, {kind: int(count) for kind, count in promised})
+                self.compare(before, after, {kind: sittings for kind, (_, sittings) in promised.items()})
         return True
 
     def compare(self, before, after, promised):
