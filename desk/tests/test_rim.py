@@ -67,9 +67,10 @@ class Ending(sample.KeptSchool):
 
 class Hanging(sample.SampleSchool):
     def test_a_serve_that_hangs_is_replaced_and_its_client_is_answered(self):
-        with (mock.patch("exam_desk.hold.ANSWER_SECONDS", 1), mock.patch("exam_desk.keeping.say"),
+        with (mock.patch("exam_desk.hold.ANSWER_SECONDS", 1), mock.patch("exam_desk.keeping.say") as say,
               mock.patch("exam_desk.asking.answer", self.hanging_once)):
             self.assertTrue(asyncio.run(self.hangs()).endswith(b'{"error":37}'))
+        self.assertIn(mock.call("serve begins anew after no answer within 1 seconds"), say.mock_calls)
 
     def hanging_once(self, server, request, seconds, really=asking.answer):
         if not self.asked:
