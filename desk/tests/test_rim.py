@@ -90,6 +90,23 @@ class Hanging(sample.SampleSchool):
         return answer
 
 
+class Hidden(sample.SampleSchool):
+    def test_a_serve_whose_port_is_not_seen_is_handed_nothing(self):
+        with mock.patch("exam_desk.asking.listens", return_value=False), mock.patch("exam_desk.keeping.say") as say:
+            asyncio.run(self.is_refused(say))
+
+    async def is_refused(self, say):
+        keep = keeping.Keep(self.value, str(sample.free_port()), 2, turns.open_lock(self.value, "keep.lock"))
+        served = asyncio.create_task(keep.run())
+        async with asyncio.timeout(sample.PATIENCE):
+            while "/proc does not show that serve has port" not in str(say.mock_calls):
+                self.assertFalse(keep.hold.opened.is_set())
+                await asyncio.sleep(0.02)
+        keep.end()
+        await served
+        os.close(keep.lock)
+
+
 class Starting(sample.SampleSchool):
     def test_a_command_that_comes_before_the_handler_does_not_kill_it(self):
         """Each start is met by the signal of a command as soon as `keep` has its lock."""
