@@ -53,8 +53,8 @@ def named(text: str) -> Callable[[Run], Run]:
 
 
 def given(parser: argparse.ArgumentParser, *words: str) -> argparse.Namespace:
-    """The words of a command, asked for as `name`, as `name?` which may be missing, as `name*` which may be several, or as
-    a flag `--name`; what one is for stands behind a colon."""
+    """The words of a command, asked for as `name`, as `name?` which may be missing, as `name*` which may be several, or
+    as a flag `--name`; what one is for stands behind a colon."""
     for word in words:
         name, _, meaning = word.partition(": ")
         if name.startswith("--"):

@@ -205,8 +205,8 @@ class Same(Changing):
 
     def test_an_answer_alone_is_not_believed(self):
         """A program that says it, but did more."""
-        liar = self.program(f'[ "$5" = import ] && {sample.built_program()} --db "$2" --today "$4" withdraw 0001000 MA-1 '
-                            ">/dev/null")
+        more = f'{sample.built_program()} --db "$2" --today "$4" withdraw 0001000 MA-1 >/dev/null'
+        liar = self.program(f'[ "$5" = import ] && {more}')
         office = Office(self.path, liar, self.value.today, "tester")
         copy = changing.carry_out(office, self.imported("halls")).copy
         self.assertEqual(self.kept(), [copy])

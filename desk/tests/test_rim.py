@@ -67,9 +67,10 @@ class Ending(sample.KeptSchool):
 
 class Hanging(sample.SampleSchool):
     def test_a_serve_that_hangs_is_replaced_and_its_client_is_answered(self):
-        with (mock.patch("exam_desk.hold.ANSWER_SECONDS", 1), mock.patch("exam_desk.keeping.say"),
+        with (mock.patch("exam_desk.hold.ANSWER_SECONDS", 1), mock.patch("exam_desk.keeping.say") as say,
               mock.patch("exam_desk.asking.answer", self.hanging_once)):
             self.assertTrue(asyncio.run(self.hangs()).endswith(b'{"error":37}'))
+        self.assertIn(mock.call("serve begins anew after no answer within 1 seconds"), say.mock_calls)
 
     def hanging_once(self, server, request, seconds, really=asking.answer):
         if not self.asked:
@@ -87,6 +88,23 @@ class Hanging(sample.SampleSchool):
         os.close(keep.lock)
         self.assertGreater(len(set(self.asked)), 1)
         return answer
+
+
+class Hidden(sample.SampleSchool):
+    def test_a_serve_whose_port_is_not_seen_is_handed_nothing(self):
+        with mock.patch("exam_desk.asking.listens", return_value=False), mock.patch("exam_desk.keeping.say") as say:
+            asyncio.run(self.is_refused(say))
+
+    async def is_refused(self, say):
+        keep = keeping.Keep(self.value, str(sample.free_port()), 2, turns.open_lock(self.value, "keep.lock"))
+        served = asyncio.create_task(keep.run())
+        async with asyncio.timeout(sample.PATIENCE):
+            while "/proc does not show that serve has port" not in str(say.mock_calls):
+                self.assertFalse(keep.hold.opened.is_set())
+                await asyncio.sleep(0.02)
+        keep.end()
+        await served
+        os.close(keep.lock)
 
 
 class Starting(sample.SampleSchool):
