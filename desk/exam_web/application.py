@@ -10,7 +10,6 @@ from werkzeug.exceptions import HTTPException
 from werkzeug.wrappers import Response
 
 from exam_desk import appeals
-from exam_desk.lastdays import to_decide
 from exam_desk.telling import people_and_sittings
 from exam_desk.trouble import Trouble
 from exam_desk.words import FEATURES
@@ -39,7 +38,7 @@ def make(here: Desk) -> Flask:
     wording.prepare(app)
     app.jinja_env.globals.update(
         EFFECTS=proposals.KINDS, FEATURES=FEATURES, RUNNING=session.RUNNING, SHEETS=session.SHEETS, places=PLACES,
-        appeals=appeals, copy_key=proposals.copy_key, last_day=to_decide, tally=people_and_sittings)
+        appeals=appeals, copy_key=proposals.copy_key, last_day=appeals.to_decide, tally=people_and_sittings)
     for screen in SCREENS:
         app.register_blueprint(screen)
     app.before_request(begin)
