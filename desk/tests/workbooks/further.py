@@ -364,3 +364,10 @@ PAPER_ALWAYS = {"args": ["--columns", "{here}/columns.toml"],
                 "beside": {"columns.toml": '[papers]\npaper = { always = "MA-1" }\n[entries]\npaper = { always = "MA-1" }\n'}}
 case("columns-one-paper", xlsx(sheet("Papers", PAPERS[1:], ["Maths", "S1", 90, "-"]), sheet("Entries", ["number"],
      ["0000001"])), files={"papers": ["MA-1,Maths,S1,90,-"], "entries": ["0000001,MA-1"]}, **PAPER_ALWAYS)
+case("total-beside-no-number", xlsx(candidates(ADA, [None, "Total", None], BO)), files={"candidates": [ADA_LINE, BO_LINE]},
+     told=[["Candidates!3", "total"]])
+case("row-of-another", xlsx(candidates(ADA, [ADA[0], "Another", ADA[2]])), 1, only=True,
+     mistakes=[["Candidates!3", "Candidates!2 has the same key"]])
+case("times-shown-by-halves", xlsx(sheet("Sessions", SESSIONS, ["S1", "2027-06-01", ("n", "0.60416666666666663", "h:mm AM/PM")],
+     ["S2", "2027-06-02", ("n", "0.375", "hh:mm AM/PM")])), files={"sessions": ["S1,2027-06-01,14:30", "S2,2027-06-02,09:00"]},
+     told=[["Sessions!C2", "start 2:30 PM became 14:30"], ["Sessions!C3", "start 09:00 AM became 09:00"]])
