@@ -11,7 +11,7 @@ import tempfile
 from collections import Counter
 from collections.abc import Collection, Iterator
 
-from exam_desk import facts, lists, notebook, overlaps
+from exam_desk import facts, lists, overlaps
 from exam_desk.names import fold
 from exam_desk.office import Office
 from exam_desk.reading import Person, Reading, Sitting
@@ -123,6 +123,7 @@ def summary(reading: Reading, asked: Collection[str] = ()) -> str:
 
 def notes(office: Office, rows: Rows) -> str:
     """The notes on candidates, a line for each, by number."""
+    from exam_desk import notebook  # here, since `office look` answers sooner without it
     names = facts.candidate_names(rows)
     lines = (f"{number} {names.get(number, '')}: {note}" for number, note in notebook.notes(office).items())
     return "".join(f"{plain(line)}\n" for line in lines)
