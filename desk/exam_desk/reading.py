@@ -28,7 +28,7 @@ Objects = list[dict[str, Any]]  # of an answer
 REQUEST = "GET /candidates/{}/{} HTTP/1.1\r\nHost: office\r\nexam-code: {}\r\n\r\n"
 CODE, ANY, WHOLE = '"[A-Z0-9-]+"', r'"([^"\\]|\\.)*"', "[0-9]+"
 DATE, CLOCK = '"[0-9]{4}-[0-9]{2}-[0-9]{2}"', '"[0-9]{2}:[0-9]{2}"'
-FORMS = {  # of each answer the members of its objects in their order, each with the form of its value in JSON
+FORMS = {  # of each answer the members of its objects by name, each with the form of its value in JSON
     "seats": {"date": DATE, "desk": f"{WHOLE}|null", "extra": WHOLE, "finish": CLOCK, "hall": f"{CODE}|null",
               "needs": r'"(-|[a-z-]+(\+[a-z-]+)*)"', "paper": CODE, "session": CODE, "start": CLOCK},
     "clashes": {"paper": CODE, "session": CODE, "sitting": CODE},
@@ -270,6 +270,6 @@ def objects(body: bytes, what: str) -> Objects:
     """Those of an answer. Raises `Trouble` where one has other members, or a value of another form."""
     with contextlib.suppress(ValueError, KeyError, TypeError, RecursionError):
         found = json.loads(body)[what]
-        if all(FORMED[what].fullmatch(json.dumps(each)) for each in found):
+        if all(FORMED[what].fullmatch(json.dumps(each, sort_keys=True)) for each in found):
             return list(found)
     raise Trouble(f"the program answered something else than {what}: are desk and program of one version?")
