@@ -41,8 +41,8 @@ def read_source(office: Office, path: str, given: Namespace, is_folder: bool) ->
     from exam_desk.checking import office_knows
     from exam_desk.workbook import headers, reading, tables, values
     asked, way = headers.read_columns(given.columns) if given.columns else ({}, values.Way())
-    job = tables.Job(office_knows(office), way._replace(dates=given.dates or way.dates), asked, given.sheet, given.leave,
-                     given.together, given.hidden)
+    way = way._replace(dates=given.dates or way.dates)
+    job = tables.Job(office_knows(office), way, asked, given.sheet, given.leave, given.together, given.hidden)
     return (reading.mend_folder if is_folder else reading.read_workbook)(path, job, given.encoding, command.progress)
 
 
@@ -125,7 +125,8 @@ def codes(parser: ArgumentParser) -> int:
         from commands import programs
         from exam_desk.changing import Step
         step = Step(("import", "candidates", "rows with new codes"), coding.file_of(found.rows))
-        return programs.carry_out(command.office(), step, " ".join(["codes", *(["--new", *given.new] if given.new else [])]))
+        title = " ".join(["codes", *(["--new", *given.new] if given.new else [])])
+        return programs.carry_out(command.office(), step, title)
     output = given.output or f"{os.path.splitext(path)[0]}-with-codes.csv"
     coding.write(output, found.rows)
     kept = f", {found.kept} filled from the office" if found.kept else ""

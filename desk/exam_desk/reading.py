@@ -3,8 +3,8 @@
 A reading has a private copy of the office's files. The rows are those of the copy. Who sits what, until when, in which
 hall and at which desk is not worked out from them: a `serve` over the same copy says it, to whoever shows the access
 code of a candidate, which is among the rows; and sheets are printed from it. `serve` begins with the first question.
-What its answers mean docs/HTTP.md says. One of another form raises `Trouble`: this desk belongs to another version of the
-program.
+What its answers mean docs/HTTP.md says. One of another form raises `Trouble`: this desk belongs to another version of
+the program.
 """
 from __future__ import annotations
 

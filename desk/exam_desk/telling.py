@@ -172,7 +172,8 @@ def of_touched(before: Reading, after: Reading, sessions: Touched) -> list[Chang
 
 def sat(reading: Reading, sessions: Touched) -> dict[tuple[str, str], tuple[str, Sitting]]:
     """The names of those who are touched, and what they sit, by session and number; all are asked of at once."""
-    numbers = {session: [number for number in facts.entered(reading.rows, session) if people is None or number in people]
+    numbers = {session: [number for number in facts.entered(reading.rows, session)
+                         if people is None or number in people]
                for session, people in sessions.items()}
     reading.ask(map(reading.person, sorted(set().union(*numbers.values()))))
     return {(session, number): (name, sitting) for session, asked in numbers.items()

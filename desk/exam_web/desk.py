@@ -34,8 +34,8 @@ class StillReading(Exception):
 
 
 class View:
-    """An office at one moment, with all that pages worked out of it. It is closed when nobody holds it any more: keep it
-    out of what refers to itself."""
+    """An office at one moment, with all that pages worked out of it. It is closed when nobody holds it any more: keep
+    it out of what refers to itself."""
 
     def __init__(self, office: Office, path: str | None = None) -> None:
         self.began = time.monotonic()

@@ -289,8 +289,8 @@ def close_hall(form: Form) -> Plan:
         if other["hall"] == lost:
             raise Wrong(form_page, hall=text("this is the hall that is lost"))
     step = command("close-hall", ["session", "lost"], values)
-    return Plan(values, [*steps, step], shown.page, dict.fromkeys((7, 25), "lost"), others=others(shown.choices(), lost),
-                form_page=form_page)
+    return Plan(values, [*steps, step], shown.page, dict.fromkeys((7, 25), "lost"),
+                others=others(shown.choices(), lost), form_page=form_page)
 
 
 def others(choices: list[tuple[str, str, Opening | None]], lost: str) -> dict[str, object]:
