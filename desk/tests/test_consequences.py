@@ -147,7 +147,7 @@ class Told(sample.SampleSchool):
         said = f"1 has another access code: {rows[1][0]} {rows[1][1]}{lost}"
         self.assertEqual(self.told("import", "candidates", one), [said])
         self.assertEqual(self.told("import", "candidates", one), [])
-        self.assertEqual(self.told("back", "2", "--yes"), [said])
+        self.assertEqual(self.told("back", "1", "--yes"), [said])
         others = [",".join(rows[0]), *(f"{number},{name},NEW{code}" for number, name, code in rows[1:])]
         several = self.write("candidates.csv", "\n".join(others))
         self.assertIn(f"5 have other access codes{lost}\n", self.office("what-if", "import", "candidates", several))

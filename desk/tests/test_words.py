@@ -34,7 +34,7 @@ class Words(sample.SampleSchool):
             text = log.read()
         self.assertIn("name of 0001051", text)
         self.assertNotIn(code, text)
-        self.office("back", "2", "--yes")
+        self.office("back", "1", "--yes")
         self.assertEqual(self.row(), (name, code))
 
     def test_a_name_that_cannot_be(self):
