@@ -64,7 +64,7 @@ def given(parser: argparse.ArgumentParser, *words: str) -> argparse.Namespace:
             parser.add_argument(name[:-1], metavar=name[:-1].upper(), nargs=name[-1], default=lacking, help=meaning)
         else:
             parser.add_argument(name, metavar=name.upper(), help=meaning)
-    return parser.parse_args()
+    return parser.parse_intermixed_args()
 
 
 def begin() -> None:

@@ -102,8 +102,11 @@ def compared(reading: Reading, session: str) -> list[str]:
     found = notebook.compared(reading, session)
     if found is None:
         raise Trouble(f"nobody noted which desks are printed for {session}; `office printed {session}` does")
-    last = f"to print again: {', '.join(found.halls)}" if found.halls else "the papers are up to date"
-    return [*(f"{move.number} {move.name}: {place(move.now)}, was {place(move.printed)}" for move in found.moves), last]
+    again = ", ".join(hall for hall in found.halls if hall not in found.empty)
+    return [*(f"{move.number} {move.name}: {place(move.now)}, was {place(move.printed)}" for move in found.moves),
+            *([f"to print again: {again}"] if again else []),
+            *([f"to take away, as nobody sits there now: {', '.join(found.empty)}"] if found.empty else []),
+            *([] if found.halls else ["the papers are up to date"])]
 
 
 def place(desk: Desk | None) -> str:

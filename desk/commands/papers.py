@@ -266,7 +266,7 @@ def check_shortage(parser: ArgumentParser) -> bool:
 @command.named("""Shows what the office knows of a candidate: look NAME|NUMBER, or look --clashes [SESSION ..]
 
     office look 0001051
-    office look ferrari           everybody whose name holds this, without regard to capitals and accents
+    office look ferrari ada       everybody whose name has these words, without regard to capitals and accents
     office look 0001051 --codes   with the access code
     office look --clashes MON-AM  who has two papers at once there, or in any session, by pairs of papers
 

@@ -102,8 +102,13 @@ def run_list(office: Office, name: str, path: str) -> int:
         raise Trouble("nothing is changed")
     statuses: list[int] = []
     about = changing.named("entries", (tuple(map(str.encode, row.step.words[1:])) for row in rows))
-    carried = listed.carry_out(office, " ".join([name, "--list", os.path.basename(path), *about]), rows,
-                               lambda line, answered: statuses.append(tell_row(office, line, answered)))
+    try:
+        carried = listed.carry_out(office, " ".join([name, "--list", os.path.basename(path), *about]), rows,
+                                   lambda line, answered: statuses.append(tell_row(office, line, answered)))
+    except SystemExit:  # a signal
+        command.warn(f"stopped after {len(statuses)} of {len(rows)} rows: those before it that were not refused are done, "
+                     "and look whether the next one is; `office back 1` takes all of them back")
+        raise
     done = sum(answered.ran.status == 0 for answered in carried.answers)
     back = "; `office back 1` takes them back" if done else ""
     printed(Ran(0, f"{done} of {len(rows)} rows are done{back}\n", ""))

@@ -169,10 +169,10 @@ def brief(met: list[Group]) -> list[str]:
 
 
 def listing(met: list[Group], copy: int) -> str:
-    """What lists them: the changes since a copy, or where nobody sits otherwise the clashes and the overlaps."""
-    if any(each.kind not in LISTED_BY for each in met):
-        return f"changes {copy}"
-    words = dict.fromkeys(f"{LISTED_BY[group.kind]} {each.session}" for group in met for each in group.people)
+    """What lists them: the changes since a copy where somebody sits otherwise, and the clashes and the overlaps."""
+    words = dict.fromkeys([f"changes {copy}"] if any(each.kind not in LISTED_BY for each in met) else [])
+    words |= dict.fromkeys(f"{LISTED_BY[group.kind]} {each.session}"
+                           for group in met if group.kind in LISTED_BY for each in group.people)
     return "; office ".join([*words][:MOST_NAMED])
 
 

@@ -16,6 +16,11 @@ def fold(text: str) -> str:
                    and unicodedata.category(part) != "Cf").translate(LETTERS)
 
 
+def letters(text: str) -> str:
+    """A name, or what is asked for, as a search compares them: folded, without apostrophes and commas."""
+    return COMMA.sub(" ", fold(text)).replace("'", "")
+
+
 def name_order(name: str, number: str) -> tuple[str, str, str, str]:
     """The place of a candidate in a list by name: folded surname, folded other names, name as written, number.
 

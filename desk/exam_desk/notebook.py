@@ -69,6 +69,7 @@ class Move(NamedTuple):
 class Compared(NamedTuple):
     moves: list[Move]  # by number
     halls: list[str]  # whose papers are out of date, by code
+    empty: list[str]  # of these, where nobody sits now
 
 
 def school_name(office: Office) -> str:
@@ -149,7 +150,8 @@ def compared(reading: Reading, session: str) -> Compared | None:
     members = reading.members(session)
     now, names = desks_of(members), {member.number: member.name for member in members}
     moves = [Move(number, names.get(number, ""), now.get(number), before.get(number)) for number in moved(before, now)]
-    return Compared(moves, out_of_date(before, now))
+    halls = out_of_date(before, now)
+    return Compared(moves, halls, sorted(set(halls) - {desk.hall for desk in now.values()}))
 
 
 def desks_of(members: Iterable[Member]) -> dict[str, Desk]:

@@ -46,14 +46,15 @@ def search(asked: str) -> list[tuple[int, str]]:
     if asked.isascii() and asked.isdigit():
         end = asked.lstrip("0") or "0"
         return [(number, name) for number, name, _ in people(view()) if str(number).endswith(end)]
-    words = names.fold(asked).split()
-    return [(number, name) for number, name, letters in people(view()) if all(word in letters for word in words)]
+    words = names.letters(asked).split()
+    return [(number, name) for number, name, letters in people(view())
+            if words and all(word in letters for word in words)]
 
 
 @once
 def people(found: View) -> list[tuple[int, str, str]]:
     """All candidates in the order of their names, each with the letters that the search compares."""
-    rows = [(number, name, names.fold(name)) for number, name in found.rows("SELECT number, name FROM candidate")]
+    rows = [(number, name, names.letters(name)) for number, name in found.rows("SELECT number, name FROM candidate")]
     return sorted(rows, key=lambda each: names.name_order(each[1], f"{each[0]:07}"))
 
 

@@ -4,6 +4,7 @@ import base64
 import hashlib
 import io
 import os
+import pathlib
 import re
 import secrets
 import zipfile
@@ -109,6 +110,7 @@ def archive(name: str, fill: Callable[[str], object]) -> Response:
         place = os.path.join(folder, name)
         os.mkdir(place, 0o700)
         fill(place)
-        for each in sorted(os.listdir(place)):
-            packed.write(os.path.join(place, each), f"{name}/{each}")
+        for each in sorted(pathlib.Path(place).rglob("*")):
+            if each.is_file():
+                packed.write(each, f"{name}/{each.relative_to(place)}")
     return attached(out.getvalue(), f"{name}.zip", "application/zip")

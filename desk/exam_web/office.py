@@ -7,7 +7,7 @@ import sys
 from flask import Blueprint, abort, render_template, request
 from werkzeug.wrappers import Response
 
-from exam_desk import changing, copies, keeping, logbook, private, turns
+from exam_desk import beside, changing, copies, keeping, logbook, notebook, private, turns
 from exam_desk.trouble import Stale
 from exam_web.desk import View, desk, office, once, view
 from exam_web.forms import Wrong, archive, lead, whole
@@ -92,6 +92,12 @@ def keep() -> Response:
 
 @pages.post("/office/backup")
 def backup() -> Response:
+    """The office's two files, with the notebook where it lies beside them."""
     here = desk().office
-    return archive("office", lambda folder: private.copy_files(os.path.realpath(here.path),
-                                                               os.path.join(folder, here.base_name())))
+
+    def fill(folder: str) -> None:
+        path = os.path.join(folder, here.base_name())
+        private.copy_files(os.path.realpath(here.path), path)
+        os.mkdir(beside.folder(path), 0o700)
+        notebook.copy_into(here, beside.folder(path))
+    return archive("office", fill)

@@ -111,6 +111,7 @@ class Told(sample.SampleSchool):
         lines = self.told("import", "entries", self.write("e.csv", "number,paper\n0001000,LAT\n"))
         self.assertIn("1 has a new clash: MON-AM 0001000 Ada Lin", lines[:2])
         self.assertIn("1 sits another paper: MON-AM 0001000 Ada Lin", lines[:3])
+        self.assertEqual(lines[-1], "`office changes 1; office clashes MON-AM` lists them")
         self.assertRegex(self.office("clashes", "MON-AM"), "0001000 sits LAT +clash MA-1")
 
     def test_a_clash_where_nobody_sits_otherwise(self):

@@ -206,12 +206,15 @@ class TestFiles(Uploads):
             self.assertNotIn(self.folder, text)
 
     def test_downloads(self):
+        self.office("school", "Hill School")
         mark = re.search(MARK, self.browser.get("/files"))[1]
-        for path, name in (("/files/dump", "entries.csv"), ("/office/backup", "office.db")):
-            answer, _ = self.browser.ask("POST", path, f"mark={mark}")
+        for path, names in (("/files/dump", ["/entries.csv"]),
+                            ("/office/backup", ["/office.db", "/desk-office.db/notebook/school.json"])):
+            answer, text = self.browser.ask("POST", path, f"mark={mark}")
             self.assertEqual(answer.headers["Content-Type"], "application/zip")
             self.assertIn("attachment", answer.headers["Content-Disposition"])
-            self.assertTrue(name)
+            for name in names:
+                self.assertIn(name, text)
         self.assertEqual(os.listdir(os.path.join(self.desk, "tmp")),
                          [name for name in os.listdir(os.path.join(self.desk, "tmp"))
                                                                       if name.startswith("office-copy-")])

@@ -44,6 +44,11 @@ class Names(unittest.TestCase):
                            ("İpek", "ipek"), ("ﬁnn", "Finn"), ("Ada\u200e Lin", "ada lin"), ("Ｌin", "lin")):
             self.assertEqual(names.fold(one), names.fold(other))
 
+    def test_a_search_compares_words_without_apostrophes_and_commas(self):
+        for name, asked in (("O’Neill, Uma", "uma oneill"), ("Smith,Uma", "SMITH uma"), ("كريم، منى", "منى كريم")):
+            for word in names.letters(asked).split():
+                self.assertIn(word, names.letters(name).split())
+
 
 if __name__ == "__main__":
     unittest.main()

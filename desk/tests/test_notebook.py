@@ -215,6 +215,10 @@ class Commands(sample.SampleSchool):
         self.assertIn(hall, lines[-1].removeprefix("to print again: ").split(", "))
         self.assertRegex(self.office("printed", "MON-AM"), r"^\d+ desks noted, [1-9]\d* other than before\n$")
         self.assertEqual(self.office("printed", "MON-AM", "--look"), "the papers are up to date\n")
+        self.office("close-hall", "MON-AM", hall)
+        *_, again, last = self.office("printed", "MON-AM", "--look").splitlines()
+        self.assertEqual(last, f"to take away, as nobody sits there now: {hall}")
+        self.assertNotIn(hall, again.removeprefix("to print again: ").split(", "))
 
     def test_back_leaves_it_and_says_so(self):
         self.office("school", "Hill")

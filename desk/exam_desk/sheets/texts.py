@@ -12,7 +12,7 @@ from collections import Counter
 from collections.abc import Collection, Iterator
 
 from exam_desk import facts, lists, overlaps
-from exam_desk.names import fold
+from exam_desk.names import letters
 from exam_desk.office import Office
 from exam_desk.reading import Person, Reading, Sitting
 from exam_desk.snapshot import Rows
@@ -31,11 +31,12 @@ READABLE = 0o644  # the file of titles: the web server is another user
 
 
 def find(rows: Rows, asked: str) -> list[Person]:
-    """The candidates with this number, or with this in their names, by name."""
+    """The candidates with this number, or with all these words in their names, by name."""
     if re.fullmatch("[0-9]{1,7}", asked):
         return [Person(*row) for row in rows.execute(f"{CANDIDATES} WHERE number = ?", [int(asked)])]
-    wanted = fold(asked)
-    return lists.by_name(Person(*row) for row in rows.execute(CANDIDATES) if wanted in fold(row["name"]))
+    words = letters(asked).split()
+    found = [(Person(*row), letters(row["name"])) for row in rows.execute(CANDIDATES)]
+    return lists.by_name(who for who, name in found if words and all(word in name for word in words))
 
 
 def asked_lines(reading: Reading, asked: str, codes: bool) -> list[str]:
