@@ -159,7 +159,7 @@ class Table(Headed):
         return bool(kinds)
 
     def is_total(self, row: int, here: Row, is_last: bool) -> bool:
-        """Whether a row is a total below the table, which is told and left out."""
+        """Whether a row is a total below the table: it is left out, and a line says so."""
         cells, columns = self.sheet.rows[row].values(), self.header.columns
         if not any(cell.formula or totals(cell) is not None for cell in cells):
             return False

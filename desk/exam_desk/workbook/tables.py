@@ -1,5 +1,4 @@
-"""Where the tables of a workbook stand, and what is told of it: lines with a place, which are changes, notes or
-mistakes."""
+"""Where the tables of a workbook stand, and the lines on it: changes, notes and mistakes, each with its place."""
 import functools
 import itertools
 import re
@@ -187,7 +186,7 @@ class Headed:
             names = ", ".join(self.marks.values())
             self.note(self.header.row, min(self.marks), f"crosses below {names} are read as {what}")
 
-    # -- what is told of the header
+    # -- lines on the header
 
     def tell_header(self) -> None:
         if self.paper:
