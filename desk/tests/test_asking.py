@@ -125,7 +125,7 @@ class Requests(unittest.IsolatedAsyncioTestCase):
     """What the door hands on of a request: as much as `serve` reads, however it comes."""
 
     async def whole(self, text):
-        """What is handed on of bytes, alike whether they come at once or in pieces, and before or after the client's end."""
+        """What is handed on: alike of bytes at once, in pieces, and before the end of what the client sends."""
         found = set()
         for size in (1 << 16, 4096, 997):
             reader = asyncio.StreamReader(limit=hold.LIMIT)
