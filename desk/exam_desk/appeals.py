@@ -47,9 +47,9 @@ def before(day: str, days: int) -> str:
 
 
 def subject(row: sqlite3.Row) -> str:
-    """What an appeal is about: a hall, a paper, or needs and extra time in percent."""
+    """What an appeal is about, as the register has it: a hall, a paper, or needs and extra time."""
     kind, target = KINDS[row["kind"]], str(row["target"])
-    return f"needs {feature_text(row['needs'])}, extra {row['extra']}" if kind == "arrangement" else target
+    return f"{feature_text(row['needs'])} {row['extra']}" if kind == "arrangement" else target
 
 
 def open_lines(rows: Rows, today: str, sessions: Collection[str] = ()) -> list[str]:
