@@ -21,6 +21,11 @@ def letters(text: str) -> str:
     return COMMA.sub(" ", fold(text)).replace("'", "")
 
 
+def has_words(name: str, words: list[str]) -> bool:
+    """Whether a name has all words that are asked for, both as `letters` gives them. No words find nobody."""
+    return bool(words) and all(word in name for word in words)
+
+
 def name_order(name: str, number: str) -> tuple[str, str, str, str]:
     """The place of a candidate in a list by name: folded surname, folded other names, name as written, number.
 

@@ -47,8 +47,7 @@ def search(asked: str) -> list[tuple[int, str]]:
         end = asked.lstrip("0") or "0"
         return [(number, name) for number, name, _ in people(view()) if str(number).endswith(end)]
     words = names.letters(asked).split()
-    return [(number, name) for number, name, letters in people(view())
-            if words and all(word in letters for word in words)]
+    return [(number, name) for number, name, letters in people(view()) if names.has_words(letters, words)]
 
 
 @once

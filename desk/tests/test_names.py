@@ -48,6 +48,9 @@ class Names(unittest.TestCase):
         for name, asked in (("O’Neill, Uma", "uma oneill"), ("Smith,Uma", "SMITH uma"), ("كريم، منى", "منى كريم")):
             for word in names.letters(asked).split():
                 self.assertIn(word, names.letters(name).split())
+            self.assertTrue(names.has_words(names.letters(name), names.letters(asked).split()))
+        self.assertFalse(names.has_words("smith uma", ["uma", "smythe"]))
+        self.assertFalse(names.has_words("smith uma", []))
 
 
 if __name__ == "__main__":

@@ -12,7 +12,7 @@ from collections import Counter
 from collections.abc import Collection, Iterator
 
 from exam_desk import facts, lists, overlaps
-from exam_desk.names import letters
+from exam_desk.names import has_words, letters
 from exam_desk.office import Office
 from exam_desk.reading import Person, Reading, Sitting
 from exam_desk.snapshot import Rows
@@ -36,7 +36,7 @@ def find(rows: Rows, asked: str) -> list[Person]:
         return [Person(*row) for row in rows.execute(f"{CANDIDATES} WHERE number = ?", [int(asked)])]
     words = letters(asked).split()
     found = [(Person(*row), letters(row["name"])) for row in rows.execute(CANDIDATES)]
-    return lists.by_name(who for who, name in found if words and all(word in name for word in words))
+    return lists.by_name(who for who, name in found if has_words(name, words))
 
 
 def asked_lines(reading: Reading, asked: str, codes: bool) -> list[str]:
