@@ -22,23 +22,30 @@ MOST_BYTES = 1 << 16  # of numbers on standard input
     office absent MON-AM 0001051 0001060    notes two candidates as absent
     office absent MON-AM - <numbers.txt     as many as stand in a file, parted by spaces or lines
     office absent MON-AM --there 0001060    takes one back
+    office absent MON-AM --nobody           notes that nobody was absent
     office absent MON-AM >board.csv         prints number, paper, present or absent, by paper
 
-Who was missing is no fact of the office: no seat changes by it. Where one number is wrong nothing is noted. The paper
-is the one that the candidate was to sit.
+All of it from the day of the session on. Who was missing is no fact of the office: no seat changes by it. Zeros in
+front of a number may be left out; where one number is wrong nothing is noted. The paper is the one that the candidate
+was to sit. Where nobody noted anything of a session, all are listed as present, and a note says so.
 """)
 def absent(parser: ArgumentParser) -> None:
     from exam_desk import lists, notebook
     parser.add_argument("--there", metavar="NUMBER", nargs="+", default=[], help="who is not absent after all")
-    given = command.given(parser, "session", "number*")
-    missing, there = numbers(given.number), numbers(given.there)
+    given = command.given(parser, "session", "number*", "--nobody: nobody was absent")
+    session, missing, there = given.session, numbers(given.number), numbers(given.there)
     with command.reading() as reading:
-        if given.number or given.there:
-            members = reading.members(given.session)
-            missed = notebook.note_absent(reading, given.session, missing, there)
+        if given.number or given.there or given.nobody:
+            missed = notebook.note_absent(reading, session, missing, there, given.nobody)
+            members = reading.members(session)
             command.say(f"{lists.count(len(missed), 'candidate')} absent of {len(members):,}\n")
-        else:
-            command.say(notebook.attendance(reading, given.session))
+            return
+        text, members = notebook.attendance(reading, session), reading.members(session)
+    if notebook.absent(command.office(), session) is None:
+        who = "the only candidate is" if len(members) == 1 else f"all {len(members):,} are"
+        command.warn(f"NOTE nobody has noted who was absent in {session}: {who} listed as present; `office absent "
+                     f"{session} --nobody` notes that nobody was")
+    command.say(text)
 
 
 def numbers(words: list[str]) -> list[str]:

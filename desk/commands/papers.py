@@ -9,6 +9,7 @@ from typing import TYPE_CHECKING
 
 import command
 from exam_desk.trouble import Trouble
+from exam_desk.words import number
 
 if TYPE_CHECKING:
     from argparse import ArgumentParser
@@ -61,7 +62,8 @@ which arrangement is private. For the door take `office poster`.
     office poster MON-AM >poster.html
 
 A page for a browser, on A4: each hall from a page of its own on, with a heading that is read from afar, and by name the
-desk of each candidate in three columns. It shows no number, no paper and no arrangement.
+desk of each candidate in three columns. Only namesakes of the session, in whichever halls, have their numbers beside
+the name, so each knows which door is theirs. It shows no paper and no arrangement.
 """),
     "summary": ("session*", """\
 Prints a line for each session: members, seated, short, desks, free, clashes, open appeals: summary [SESSION ..]
@@ -151,7 +153,7 @@ def slips(parser: ArgumentParser) -> None:
     from exam_desk import facts, files, lists
     from exam_desk.reading import of_few
     from exam_desk.sheets import slips
-    parser.add_argument("--only", action="append", default=[], metavar="NUMBER",
+    parser.add_argument("--only", action="append", default=[], metavar="NUMBER", type=number,
                         help="this candidate; may be given again")
     parser.add_argument("--order", metavar="FILE.csv", help="number,group: by group, each on pages of its own")
     given = command.given(parser, "session*", "--codes: with the access code", "--desks: with desk numbers",
@@ -166,7 +168,7 @@ def slips(parser: ArgumentParser) -> None:
         text, known = make(reading, choice), facts.candidate_names(reading.rows).keys()
     if strangers := len(groups.keys() - known):
         command.warn(f"{lists.count(strangers, 'number')} of the file are no candidates of the office")
-    if groups and (alone := len(known - {number for number, group in groups.items() if group})):
+    if groups and (alone := len(known - {each for each, group in groups.items() if group})):
         command.warn(f"{lists.count(alone, 'candidate')} in no group: their slips come last")
     command.say(text)
 
@@ -322,5 +324,5 @@ def why(parser: ArgumentParser) -> bool:
     with command.reading() as reading:
         found, printed = reasons.compared(reading, given.session)
         faults = list(found.faults(printed))
-    command.say(found.text(given.number and given.number.zfill(7)))
+    command.say(found.text(given.number and number(given.number)))
     return warned(faults)

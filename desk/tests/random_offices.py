@@ -205,7 +205,7 @@ class RandomOffice:
         with Reading(self.office) as reading, Reading(self.office, os.path.join(self.before, "office.db")) as before:
             self.titles = telling.titles_of(reading)
             for session in self.sessions:
-                for look in (self.doors, self.board, self.counts, self.session_page, self.printed, self.reasons):
+                for look in (self.doors, self.by_name, self.counts, self.session_page, self.printed, self.reasons):
                     look(reading, session)
             self.slips(reading)
             self.summary(reading)
@@ -242,13 +242,19 @@ class RandomOffice:
                               f"|{hall}, page {place} of {len(parts)}|{counted}"):
                     assert words in table[0][0], (words, table[0])
 
-    def board(self, reading, session):
+    def by_name(self, reading, session):
+        """The notice board, and the posters of the halls: namesakes of the session have their numbers on both."""
         seats = sorted(self.now[session].items(), key=lambda each: name_order(each[1].name, each[0]))
         names = collections.Counter(fold(seat.name) for _, seat in seats)
-        wanted = [[plain(seat.name) + (f" {number}" if names[fold(seat.name)] > 1 else ""),
-                   *(["ask the office", ""] if seat.hall == "-" else [seat.hall, seat.desk])]
-                  for number, seat in seats]
+        shown = [(plain(seat.name) + (f" {number}" if names[fold(seat.name)] > 1 else ""), seat)
+                 for number, seat in seats]
+        wanted = [[name, *(["ask the office", ""] if seat.hall == "-" else [seat.hall, seat.desk])]
+                  for name, seat in shown]
         equal(Cells(page := papers.board(reading, session)).rows[2:], wanted, "board", page)
+        posters = [[[name, seat.desk] for name, seat in shown if seat.hall == hall]
+                   for hall in sorted({seat.hall for _, seat in seats} - {"-"})]
+        equal([table[1:] for table in Cells(page := papers.poster(reading, session)).tables], posters, "poster", page)
+        self.compared["namesakes"] += sum(names[fold(seat.name)] > 1 for _, seat in seats)
 
     def counts(self, reading, session):
         copies, total = collections.Counter(), collections.Counter()

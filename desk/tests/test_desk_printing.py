@@ -104,35 +104,20 @@ class TestPrinting(DeskSchool):
         self.assertEqual((self.office("notes"), self.browser.get("/candidates/notes")), ("", ""))
         self.browser.post("/candidates/9999999/note", "/candidates/1051", 404, note="x")
 
-    def test_who_was_absent(self):
+    def test_who_was_absent_before_the_day(self):
         page = "/sessions/MON-AM"
-        before = self.seats()
-        self.browser.post(page + "/absent", page, numbers="0001051, 0001119 ")
-        self.assertIn("2 candidates are noted as absent in MON-AM", self.browser.words(page))
-        self.browser.post(page + "/absent", page + "/halls/PC1", absent=["0001051"], listed=["0001051", "0001119"])
-        text = self.browser.get(page + "/halls/PC1")
-        self.assertEqual(re.findall(r'value="(\d{7})"[^>]*checked', text), ["0001051"])
-        self.assertEqual(self.browser.ask("GET", page + "/attendance.csv")[1], self.office("absent", "MON-AM"))
-        self.assertIn('"0001051","CS-1","absent"', self.office("absent", "MON-AM"))
-        for wrong in ("1051", "9999999", "0001051 x"):
-            _, text = self.browser.post(page + "/absent", page, 422, numbers=wrong)
-            self.assertRegex(text, 'name="numbers"[^>]*aria-invalid="true"')
-        self.browser.post("/sessions/NONE/absent", page, 404, numbers="0001051")
-        self.browser.post(page + "/absent", page, listed=["0001051"])
-        self.assertNotIn('"absent"', self.office("absent", "MON-AM"))
-        self.assertEqual(self.seats(), before)
-
-    def test_who_was_absent_and_is_gone(self):
-        page = "/sessions/MON-AM"
-        self.office("absent", "MON-AM", "0001051")
-        self.office("withdraw", "0001051", "CS-1")
-        self.office("withdraw", "0001051", "LAT")
-        self.assertIn("0001051", notebook.absent(self.value, "MON-AM"))
-        self.assertNotIn('name="listed"', self.browser.get(page))
-        self.browser.post(page + "/absent", page, numbers="0001119")
-        self.assertIn("0001119", notebook.absent(self.value, "MON-AM"))
-        notebook.keep_absent(self.value, "MON-AM", ["9999999"], [])
-        self.assertNotIn("9999999", self.browser.words(page))
+        self.assertIn("It can be noted from Mon 7 Jun 2027 on.", self.browser.words(page))
+        for text in (self.browser.get(page), self.browser.get(page + "/halls/PC1")):
+            self.assertNotIn("Note who was absent", text)
+            self.assertNotIn("attendance.csv", text)
+            self.assertNotIn('name="absent"', text)
+        for values in ({"numbers": "0001051"}, {"nobody": "1"}, {"listed": ["0001051"]}):
+            _, text = self.browser.post(page + "/absent", page, 422, **values)
+            self.assertIn("nobody can have been present or absent before that day", text)
+        answer, text = self.browser.ask("GET", page + "/attendance.csv")
+        self.assertNotEqual(answer.status, 200)
+        self.assertIn("nobody can have been present or absent before that day", text)
+        self.assertIsNone(notebook.absent(self.value, "MON-AM"))
 
     def test_how_a_hall_is_drawn(self):
         page = "/sessions/MON-AM/halls/GYM"
@@ -169,6 +154,51 @@ class TestPrinting(DeskSchool):
         """Where a desk stands whose numbers run across and back, 83 by 43 from one to the next."""
         row, column = divmod(number - 1, across)
         return 2 + 83 * (across - 1 - column if row % 2 else column), 2 + 43 * row
+
+
+class TestTheDay(DeskSchool):
+    """Who did not come, on the day of the session."""
+    NOTHING_NOTED = "Nobody has noted who was absent: the list has all as present."
+
+    def start(self):
+        self.environment["TODAY"] = "2027-06-07"
+        super().start()
+
+    def test_who_was_absent(self):
+        page = "/sessions/MON-AM"
+        before = self.seats()
+        self.assertIn(self.NOTHING_NOTED, self.browser.words(page))
+        self.browser.post(page + "/absent", page, numbers="1051, 0001119 ")
+        said = self.browser.words(page)
+        self.assertIn("2 candidates are noted as absent in MON-AM", said)
+        self.assertNotIn(self.NOTHING_NOTED, said)
+        self.browser.post(page + "/absent", page + "/halls/PC1", absent=["0001051"], listed=["0001051", "0001119"])
+        text = self.browser.get(page + "/halls/PC1")
+        self.assertEqual(re.findall(r'value="(\d{7})"[^>]*checked', text), ["0001051"])
+        self.assertEqual(self.browser.ask("GET", page + "/attendance.csv")[1], self.office("absent", "MON-AM"))
+        self.assertIn('"0001051","CS-1","absent"', self.office("absent", "MON-AM"))
+        for wrong in ("x1051", "9999999", "0001051 x", ""):
+            _, text = self.browser.post(page + "/absent", page, 422, numbers=wrong)
+            self.assertRegex(text, 'name="numbers"[^>]*aria-invalid="true"')
+        self.browser.post("/sessions/NONE/absent", page, 404, numbers="0001051")
+        self.browser.post(page + "/absent", page, listed=["0001051"])
+        self.assertIn(self.NOTHING_NOTED, self.browser.words(page))
+        self.browser.post(page + "/absent", page, nobody="1")
+        self.assertNotIn(self.NOTHING_NOTED, self.browser.words(page))
+        self.assertNotIn('"absent"', self.office("absent", "MON-AM"))
+        self.assertEqual(self.seats(), before)
+
+    def test_who_was_absent_and_is_gone(self):
+        page = "/sessions/MON-AM"
+        self.office("absent", "MON-AM", "0001051")
+        self.office("withdraw", "0001051", "CS-1")
+        self.office("withdraw", "0001051", "LAT")
+        self.assertIn("0001051", notebook.absent(self.value, "MON-AM"))
+        self.assertNotIn('name="listed"', self.browser.get(page))
+        self.browser.post(page + "/absent", page, numbers="0001119")
+        self.assertIn("0001119", notebook.absent(self.value, "MON-AM"))
+        notebook.keep_absent(self.value, "MON-AM", ["9999999"], [])
+        self.assertNotIn("9999999", self.browser.words(page))
 
 
 if __name__ == "__main__":

@@ -76,20 +76,25 @@ def desk(member: Member, before: Mapping[str, Desk]) -> Markup:
     return html("{} <small>{}</small>", now.desk, words)
 
 
-def board(reading: Reading, session: str) -> str:
-    """A notice board, by name, with the numbers of namesakes alone."""
-    members = lists.by_name(reading.members(session))
+def named(members: Collection[Member]) -> dict[str, Markup]:
+    """The names of all members of a session by their numbers, which stand beside the names of namesakes alone."""
     names = Counter(fold(member.name) for member in members)
+    return {number: text(name) + (html(" <small class=w>{}</small>", number) if names[fold(name)] > 1 else "")
+            for number, name, _ in members}
+
+
+def board(reading: Reading, session: str) -> str:
+    """A notice board, by name."""
+    members = lists.by_name(reading.members(session))
+    names = named(members)
     titles, printed = facts.hall_titles(reading.rows), notebook.printed(reading.office, session)
     used = sorted({member.sitting.hall for member in members if member.sitting.hall})
     legend = joined((html("<b>{}</b> {}", code, text(titles[code])) for code in used), "<br>")
     moment = when(reading, session)
     rows = []
     for member in members:
-        number = html(" <small class=w>{}</small>", member.number) if names[fold(member.name)] > 1 else ""
         hall: list[object] = [member.sitting.hall, desk(member, printed)]
-        rows.append([text(member.name) + number,
-                     *(hall if member.sitting.hall else [Markup("<b>ask the office</b>"), ""])])
+        rows.append([names[member.number], *(hall if member.sitting.hall else [Markup("<b>ask the office</b>"), ""])])
     body = html(BOARD, school(reading.office, "<br>"), moment, legend,
                 table(["Name", "w:Hall", "n:Desk"], rows, moment))
     return document(f"Notice board {session}", body, "board")
@@ -97,10 +102,10 @@ def board(reading: Reading, session: str) -> str:
 
 def poster(reading: Reading, session: str) -> str:
     """Posters for the doors: each hall from a page of its own on, names with desks and nothing private."""
-    moment, name = when(reading, session), school(reading.office, " &middot; ")
+    moment, name, names = when(reading, session), school(reading.office, " &middot; "), named(reading.members(session))
     return of_desks(f"Posters {session}", (
         html(POSTER, text(opening.title), moment, name, opening.hall, lists.count(len(there), "candidate"),
-             table(["Name", "n:Desk"], [[text(each.name), each.sitting.desk] for each in lists.by_name(there)]))
+             table(["Name", "n:Desk"], [[names[each.number], each.sitting.desk] for each in lists.by_name(there)]))
         for opening, there in lists.halls(reading, session)), "poster")
 
 

@@ -108,7 +108,7 @@ def slips_of(reading: Reading, choice: Choice) -> list[Slip]:
             slips.append(Slip(person, choice.groups.get(person.number, ""), notes.get(person.number, ""), sat))
     numbers = {each.person.number for each in slips}
     if missing := [number for number in choice.only if number not in numbers]:
-        raise Trouble(f"{missing[0]} sits nothing there; a number has seven digits")
+        raise Trouble(f"{missing[0]} sits nothing there")
     groups = [*dict.fromkeys(filter(None, choice.groups.values())), ""]
     places = {group: place for place, group in enumerate(groups)}
     return sorted(slips, key=lambda each: places[each.group])
