@@ -139,15 +139,16 @@ def session_page(parser: ArgumentParser) -> bool:
 Prints a slip of paper for each candidate, to be cut out and handed over: slips [SESSION ..] >slips.html
 
     office slips >slips.html                          everybody, all sessions
+    office slips MON-AM --desks >slips.html           one session, with desk numbers
     office slips MON-AM MON-PM --codes >slips.html    the sessions of a day, with the access codes
     office slips --only 0001051 >slip.html            one candidate
     office slips --order forms.csv >slips.html        by the groups of a file with the header number,group
     office slips --csv >letters.csv                   the same for a spreadsheet or the merge of letters
 
-A page for a browser, five or so slips on a sheet of A4, by name: number, days, times with the own finish, papers and
-halls by title, and the arrangement in force. Whoever withdraws or joins gives others in the hall another desk, so desk
-numbers are there only with --desks: print them late. With --order each group begins a page, in the order in which the
-file has them, and who is in none comes last. The CSV has a row for each candidate and session, and no formula.
+Without --desks a slip has no desk number: whoever withdraws or joins gives others in the hall another one, so print them
+late. A page for a browser, five or so slips on a sheet of A4, by name: number, days, times with the own finish, papers
+and halls by title, and the arrangement in force. With --order each group begins a page, in the order in which the file
+has them, and who is in none comes last. The CSV has a row for each candidate and session, and no formula.
 """)
 def slips(parser: ArgumentParser) -> None:
     from exam_desk import facts, files, lists

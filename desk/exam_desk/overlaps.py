@@ -127,5 +127,5 @@ def line(reading: Reading, each: Overlap) -> str:
 
 def lines(reading: Reading, found: Collection[Overlap]) -> list[str]:
     """A line for each, and one for those that are too many."""
-    rest = [f".. and {len(found) - MOST_LINES:,} more overlaps"] if len(found) > MOST_LINES else []
+    rest = [f".. and {count(len(found) - MOST_LINES, 'more overlap')}"] if len(found) > MOST_LINES else []
     return [*(line(reading, each) for each in itertools.islice(found, MOST_LINES)), *rest]

@@ -10,6 +10,7 @@ from __future__ import annotations
 
 import contextlib
 import json
+import operator
 import os
 import re
 import threading
@@ -250,9 +251,9 @@ def state_of(path: str) -> list[tuple[int, ...]]:
 
 
 def sittings(answered: Objects) -> dict[str, Sitting]:
-    """What is sat, by session."""
+    """What is sat, by session, in the order of their days and starts."""
     found: dict[str, Sitting] = {}
-    for row in answered:
+    for row in sorted(answered, key=operator.itemgetter("date", "start", "session")):
         needs = () if row["needs"] == "-" else tuple(row["needs"].split("+"))
         found[row["session"]] = Sitting(**row)._replace(needs=needs)
     return found

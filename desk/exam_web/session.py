@@ -46,7 +46,7 @@ SHEETS = {
     "doors": Sheet("Invigilators' sheets to sign", papers.doors, True),
     "poster": Sheet("Posters for doors", papers.poster),
     "cards": Sheet("Desk cards", papers.cards, True), "chart": Sheet("Seating charts", papers.chart, True),
-    "slips": Sheet("Slips for candidates", lambda reading, session: slips.page(
+    "slips": Sheet("Slips for candidates, with desk numbers", lambda reading, session: slips.page(
         reading, slips.Choice(sessions=[session], desks=True))),
     "board": Sheet("Notice board by name", papers.board), "counts": Sheet("Copies of each paper", papers.counts),
 }

@@ -298,7 +298,7 @@ class Big(unittest.TestCase):
                 big_files.write(os.path.join(folder, f"{big_files.BIG[name][0]}.csv"), name, "with a header", 1 << 20)
                 took = big_files.took(["office", "check-files", folder], OFFICE=os.path.join(folder, "none.db"))
                 self.assertFalse(took.is_bad(), took)
-                self.assertRegex(took.said, "\n1 files, [0-9]+ mistakes, [0-9]+ notes\n$")
+                self.assertRegex(took.said, "\n1 file, [0-9,]+ mistakes?, [0-9,]+ notes?\n$")
 
 
 if __name__ == "__main__":

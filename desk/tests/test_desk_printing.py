@@ -62,8 +62,8 @@ class TestPrinting(DeskSchool):
         found = self.browser.words(self.PRINTED + "?piece")
         self.assertIn("out of date: " + halls.removeprefix("to print again: ") + " ", found)
         self.assertIn("PC1", halls)
-        self.assertIn("And of the whole session: Posters for doors , Slips for candidates , Notice board by name ,",
-                      found)
+        self.assertIn("And of the whole session: Posters for doors , Slips for candidates, with desk numbers , "
+                      "Notice board by name ,", found)
         self.assertIn(f"{len(moves)} candidates have another desk", found)
         for move in moves:
             number, _, was = re.match(r"(\d{7}) (.*): .*, was (.*)", move).groups()

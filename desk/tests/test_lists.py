@@ -42,6 +42,26 @@ class Lists(sample.SampleSchool):
                 shutil.copy2(os.path.join(self.folder, name), folder)
         return folder
 
+    def test_sessions_go_by_day_and_start(self):
+        """Whatever their codes are: on slips and in `look`, in what the program said, in appeals, and in the summary."""
+        for kind, row in (("sessions", "session,date,start\nZ-1,2027-06-07,07:30\nA-9,2027-06-09,09:00\n"
+                           "A-8,2027-06-07,16:00\n"),
+                          ("papers", "paper,title,session,minutes,requires\nZP,Z,Z-1,60,-\n"
+                           "AP,A,A-9,60,-\nBP,B,A-8,60,-\n"),
+                          ("entries", "number,paper\n0001051,ZP\n0001051,AP\n0001051,BP\n")):
+            self.run_office("import", kind, self.write("new.csv", row))
+        by_time = ["Z-1", "MON-AM", "MON-PM", "A-8", "TUE-AM", "A-9"]
+        for place, session in enumerate(sorted(by_time)):
+            self.change(APPEAL, [1051, f"R{place}", session, 3, "", 4, 0, "", 1, None, "2027-04-01"])
+        with Reading(self.value) as reading:
+            self.assertEqual([*reading.all_of("0001051")], by_time)
+        rows = csv.DictReader(self.office("slips", "--csv", "--only", "0001051").removeprefix("\ufeff").split("\n"))
+        self.assertEqual([row["session"] for row in rows], by_time)
+        shown = re.findall(r"^  2027-\S+ \S+ (\S+): (?!LAT)", self.office("look", "0001051"), re.M)
+        self.assertEqual(shown, by_time)
+        self.assertEqual(re.findall(r": (\S+) 0001051 ", self.office("appeals-open")), by_time)
+        self.assertEqual([line.split()[0] for line in self.office("summary").splitlines()[1:]], by_time)
+
     def test_changes(self):
         before = self.copy()
         self.assertEqual(self.office("changes", before), "nothing changed\n")
