@@ -6,7 +6,7 @@ from typing import TYPE_CHECKING
 
 import command
 from exam_desk.trouble import Trouble
-from exam_desk.words import plain
+from exam_desk.words import few, plain
 
 if TYPE_CHECKING:
     from argparse import ArgumentParser
@@ -80,7 +80,7 @@ def notes(parser: ArgumentParser) -> None:
             return
         known = set(facts.candidate_names(rows))
     noted = notebook.take_notes(office, files.texts_by_number(given.file, "text", notebook.MOST_NOTE_BYTES, known))
-    command.say(f"added {noted.added} changed {noted.changed} removed {noted.removed} same {noted.same}\n")
+    command.say(" ".join(f"{word} {noted[word]}" for word in ("added", "changed", "removed", "same")) + "\n")
 
 
 @command.named("""Notes which desks are on paper, and says which are other ones now: printed SESSION [--look]
@@ -139,7 +139,7 @@ def rows(parser: ArgumentParser) -> None:
         titles = facts.hall_titles(connection)
     if given.hall is not None:
         if given.hall not in titles:
-            raise Trouble(f"the office has no hall {given.hall}; it has {', '.join(sorted(titles)[:20])}")
+            raise Trouble(f"the office has no hall {given.hall}; it has {few(sorted(titles), 20)}")
         notebook.keep_rows(office, given.hall, notebook.Rows(given.across or 0, given.running))
     kept = sorted(notebook.rows_of_halls(office).items())
     lines = [f"{hall}: rows of {rows.across}, {rows.running}\n" for hall, rows in kept]

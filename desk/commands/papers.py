@@ -20,8 +20,6 @@ MOST_BYTES = 1 << 20  # no printed shortage is as long
 PAGES = {  # the words that each takes, as in `command.given`, and what `--help` prints
     "board": ("session", """Prints a notice board of a session, by name: board SESSION >board.html
 
-    office board MON-AM >board.html
-
 A page for a browser, two columns on A4, with the hall and the desk of each candidate. Only namesakes have their numbers
 beside the name. Print it after the last change.
 """),
@@ -42,8 +40,6 @@ A page for a browser, on A4: each hall as rows of desks, with the name, number a
     "counts": ("session", """\
 Prints how many copies of each paper each hall needs, and the last finish: counts SESSION >counts.html
 
-    office counts MON-AM >counts.html
-
 A page for a browser, on A4: a row for each hall and paper, then the sums by paper. Candidates without a desk have rows
 of their own at the end.
 """),
@@ -59,16 +55,12 @@ which arrangement is private. For the door take `office poster`.
 """),
     "poster": ("session", """Prints the posters for the doors of a session: poster SESSION >poster.html
 
-    office poster MON-AM >poster.html
-
 A page for a browser, on A4: each hall from a page of its own on, with a heading that is read from afar, and by name the
 desk of each candidate in three columns. Only namesakes of the session, in whichever halls, have their numbers beside
 the name, so each knows which door is theirs. It shows no paper and no arrangement.
 """),
     "summary": ("session*", """\
 Prints a line for each session: members, seated, short, desks, free, clashes, open appeals: summary [SESSION ..]
-
-    office summary
 
 Clashes are the candidates who miss a paper there, since another one is at the same time: `office clashes SESSION`.
 Free desks beside candidates who are short are in halls that do not suit them: `office why SESSION` says why.
@@ -79,10 +71,10 @@ Free desks beside candidates who are short are in halls that do not suit them: `
 def print_page(name: str, words: str, parser: ArgumentParser) -> None:
     """Prints the page that the function of this name makes."""
     from exam_desk.sheets import papers, texts
-    pages = papers.PAGES | {"summary": texts.summary}
+    make = texts.summary if name == "summary" else getattr(papers, name)
     asked = vars(command.given(parser, *words.split())).values()
     with command.reading() as reading:
-        command.say(pages[name](reading, *asked))
+        command.say(make(reading, *asked))
 
 
 for page, (taken, text) in PAGES.items():
@@ -119,9 +111,7 @@ def print_session(parser: ArgumentParser) -> None:
 
 
 @command.named("""\
-Writes one HTML page of a session: halls, shortage, who sits where, clashes and appeals: session-page SESSION
-
-    office session-page MON-AM >mon-am.html
+Writes one HTML page of a session, with shortage, clashes and appeals: session-page SESSION >mon-am.html
 
 The page needs no other file, and prints on A4. The shortage is the program's sheet; of those without a desk the page
 says why, hall by hall. All is of one state of the office. If the program refuses the sheet, nothing is written.
@@ -248,10 +238,9 @@ def since(path: str) -> str:
 
 It prints `right` with the sum, or a line for each fault, and then ends with status 1.
 
-The halls are read from the office's file; what each candidate needs, and until when, is what the program says to that
-candidate. Why the sheet proves that desks are short: its candidates can sit only in its halls.
-These have fewer desks than there are candidates, so every plan leaves some of them without one. The sheet counts how
-many, and no more are without one now. `examples/check-office` in the repository trusts nothing that the program says.
+Halls are rows of the office's file; what each candidate needs, and until when, is what the program says. Why the sheet
+proves that desks are short: its candidates can sit only in its halls, which have fewer desks than they are. So every
+plan leaves as many without one as the sheet counts. `examples/check-office` trusts nothing that the program says.
 """)
 def check_shortage(parser: ArgumentParser) -> bool:
     from exam_desk import lists, reasons
@@ -294,7 +283,6 @@ def look(parser: ArgumentParser) -> None:
 @command.named("""\
 Writes the titles of papers and halls and the days of sessions, for the candidates' page: titles [FILE].
 
-    office titles                                     prints them
     office titles /var/www/examoffice/titles.json     puts them where the web server finds them, as one step
 
 Give it again after an import of sessions, papers or halls. Until then the page shows the codes of what is new. Whoever

@@ -50,14 +50,6 @@ class Rows(NamedTuple):
     running: str  # one of RUNNING
 
 
-class Noted(NamedTuple):
-    """What became of the rows of a file of notes."""
-    added: int
-    changed: int
-    removed: int
-    same: int
-
-
 class Move(NamedTuple):
     """Somebody who has another desk than on paper, or none."""
     number: str
@@ -89,14 +81,13 @@ def notes(office: Office) -> dict[str, str]:
     return read(office, "notes", dict[str, str](), is_text)
 
 
-def take_notes(office: Office, new: Mapping[str, str]) -> Noted:
-    """Keeps notes by number; an empty text takes a note away."""
+def take_notes(office: Office, new: Mapping[str, str]) -> Counter[str]:
+    """Keeps notes by number; an empty text takes a note away. How many are added, changed, removed, and the same."""
     with alone(office) as folder:
         before = notes(office)
-        after = {number: text for number, text in sorted({**before, **new}.items()) if text}
-        write(office, folder, "notes", after)
-    others = Counter((was != "", text != "") for number, text in new.items() if (was := before.get(number, "")) != text)
-    return Noted(others[False, True], others[True, True], others[True, False], len(new) - others.total())
+        write(office, folder, "notes", {number: text for number, text in sorted({**before, **new}.items()) if text})
+    return Counter("same" if text == before.get(number, "") else "added" if number not in before else
+                   "changed" if text else "removed" for number, text in new.items())
 
 
 def is_note(text: bytes) -> bool:

@@ -11,6 +11,7 @@ import sqlite3
 from exam_desk import bad_rows, private
 from exam_desk.office import Office
 from exam_desk.trouble import NoOffice, Trouble
+from exam_desk.words import few
 
 TABLES = ["office", "session", "paper", "hall", "opening", "candidate", "entry", "arrangement", "appeal", "standing",
           "seat"]
@@ -81,6 +82,5 @@ def session_row(connection: sqlite3.Connection, session: str) -> sqlite3.Row:
                                                    [session]).fetchone()
     if found is None:
         codes = [code for code, in connection.execute("SELECT code FROM session ORDER BY day, start, code")]
-        raise Trouble(f"there is no session {session}; the office has {', '.join(codes[:20]) or 'none'}"
-                      + (" .." if len(codes) > 20 else ""))
+        raise Trouble(f"there is no session {session}; the office has {few(codes, 20) or 'none'}")
     return found

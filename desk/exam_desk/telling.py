@@ -15,7 +15,7 @@ from exam_desk import facts, files
 from exam_desk.names import name_order
 from exam_desk.reading import Reading, Sitting
 from exam_desk.trouble import Trouble
-from exam_desk.words import plain
+from exam_desk.words import few, plain
 
 HEADER = ["tell", "session", "number", "name",
           "old date", "old start", "old finish", "old paper", "old hall", "old desk",
@@ -149,7 +149,7 @@ def differences(before: Reading, after: Reading, asked: Collection[str] = ()) ->
     sessions = all_sessions(before, after)
     for code in asked:
         if code not in sessions:
-            raise Trouble(f"there is no session {code}; the office has {', '.join(sessions[:20])}")
+            raise Trouble(f"there is no session {code}; the office has {few(sessions, 20)}")
     found = touched(before, after)
     return of_touched(before, after, {code: found[code] for code in found if not asked or code in asked})
 

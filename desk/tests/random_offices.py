@@ -253,7 +253,8 @@ class RandomOffice:
         equal(Cells(page := papers.board(reading, session)).rows[2:], wanted, "board", page)
         posters = [[[name, seat.desk] for name, seat in shown if seat.hall == hall]
                    for hall in sorted({seat.hall for _, seat in seats} - {"-"})]
-        equal([table[1:] for table in Cells(page := papers.poster(reading, session)).tables], posters, "poster", page)
+        shown = Cells(page := papers.poster(reading, session)).tables
+        equal([table[1:] for table in shown], posters, "poster", page)
         self.compared["namesakes"] += sum(names[fold(seat.name)] > 1 for _, seat in seats)
 
     def counts(self, reading, session):

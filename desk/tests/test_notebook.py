@@ -69,11 +69,11 @@ class Notebook(unittest.TestCase):
     def test_notes(self):
         text = f'\ufeffnumber,text\r\n0000001,"{HOSTILE.replace(chr(34), chr(34) * 2)}"\r\n\r\n0000002,rest breaks\r\n'
         took = notebook.take_notes(self.office, self.texts(text))
-        self.assertEqual(took, (2, 0, 0, 0))
+        self.assertEqual(took, {"added": 2})
         self.assertEqual(notebook.notes(self.office), {"0000001": HOSTILE, "0000002": "rest breaks"})
         took = notebook.take_notes(self.office, {"0000001": "scribe", "0000002": "rest breaks", "0000003": ""})
-        self.assertEqual(took, (0, 1, 0, 2))
-        self.assertEqual(notebook.take_notes(self.office, {"0000001": ""}), (0, 0, 1, 0))
+        self.assertEqual(took, {"changed": 1, "same": 2})
+        self.assertEqual(notebook.take_notes(self.office, {"0000001": ""}), {"removed": 1})
         self.assertEqual(notebook.notes(self.office), {"0000002": "rest breaks"})
 
     def test_wrong_files(self):

@@ -35,7 +35,10 @@ class Papers(sample.SampleSchool):
         self.assertIn("with 50 % extra time, reader", text)
         self.assertIn("<b>no desk yet: ask the office</b>", text)
         self.assertIn("desk&nbsp;1<", self.office("slips", "--desks", "MON-AM"))
-        self.assertIn("sits nothing there", self.refused("slips", "--only", "1051"))
+        self.assertEqual(self.office("slips", "--only", "1051"), self.office("slips", "--only", "0001051"))
+        self.assertIn("9999999 sits nothing there", self.refused("slips", "--only", "9999999"))
+        for wrong in ("x1051", "00001051", "000", ""):
+            self.assertIn(f"'{wrong}' is no candidate number", self.refused("slips", "--only", wrong))
         self.assertIn("no session S9", self.refused("slips", "S9"))
 
     def test_slips_by_group(self):

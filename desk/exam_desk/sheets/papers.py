@@ -5,8 +5,8 @@ Who asks for halls gets their sheets alone, as `lists.halls` has them. Besides, 
 from __future__ import annotations
 
 import unicodedata
-from collections import Counter
-from collections.abc import Callable, Collection, Iterable, Iterator, Mapping, Sequence
+from collections import Counter, defaultdict
+from collections.abc import Collection, Iterable, Iterator, Mapping, Sequence
 from typing import NamedTuple
 
 from markupsafe import Markup
@@ -44,8 +44,6 @@ NAME, ARRANGEMENT, TITLES = 50.0, 34.0, 90.0  # widths of these texts
 WIDE = "WFA"  # letters that are as wide as high, or may be
 MARKS = {"Mn", "Me", "Cf"}  # stand over other letters, or nowhere
 
-Copies = tuple[bool, str, str]  # whether there is no desk, the hall, the paper
-
 
 class NotDrawn(Trouble):
     """Nobody has said how the desks of halls stand."""
@@ -64,7 +62,7 @@ def when(reading: Reading, session: str) -> Markup:
 def of_desks(title: str, sheets: Iterable[Markup], name: str) -> str:
     """A document of sheets on who has a desk, each on pages of its own."""
     found = joined(html("<div class=sheet>{}</div>\n", sheet) for sheet in sheets)
-    return document(title, found or Markup("<p>Nobody has a desk.</p>\n"), name)
+    return document(title, found or Markup("<p>Nobody has a desk.</p>\n"), "paper", name)
 
 
 def desk(member: Member, before: Mapping[str, Desk]) -> Markup:
@@ -97,7 +95,7 @@ def board(reading: Reading, session: str) -> str:
         rows.append([names[member.number], *(hall if member.sitting.hall else [Markup("<b>ask the office</b>"), ""])])
     body = html(BOARD, school(reading.office, "<br>"), moment, legend,
                 table(["Name", "w:Hall", "n:Desk"], rows, moment))
-    return document(f"Notice board {session}", body, "board")
+    return document(f"Notice board {session}", body, "paper", "board")
 
 
 def poster(reading: Reading, session: str) -> str:
@@ -158,22 +156,18 @@ def numbered(desks: int, rows: Rows) -> list[list[int | None]]:
 
 def counts(reading: Reading, session: str) -> str:
     """How many copies of each paper each hall needs, and the last finish, with boxes for spare ones and to tick."""
-    sat = [member.sitting for member in reading.members(session)]
     papers = titled(facts.paper_titles(reading.rows))
     halls = {"": Markup("<b>no desk</b>"), **titled(facts.hall_titles(reading.rows))}
-    rows = [[halls[hall], papers[code], *found, "", ""] for (_, hall, code), found in
-            copies(sat, lambda each: (each.hall is None, each.hall or "", each.paper))]
-    total = [[papers[code], *found] for (*_, code), found in copies(sat, lambda each: (False, "", each.paper))]
+    in_halls: dict[tuple[bool, str, str], list[str]] = defaultdict(list)  # the finishes; last of who has no desk
+    in_all: dict[str, list[str]] = defaultdict(list)
+    for _, _, sits in reading.members(session):
+        in_halls[sits.hall is None, sits.hall or "", sits.paper].append(sits.finish)
+        in_all[sits.paper].append(sits.finish)
+    rows = [[halls[hall], papers[code], len(found), max(found), "", ""]
+            for (_, hall, code), found in sorted(in_halls.items())]
+    total = [[papers[code], len(found), max(found)] for code, found in sorted(in_all.items())]
     above = html("{}<b>Copies</b> &emsp; {}", school(reading.office, "<br>"), when(reading, session))
-    return document(f"Copies {session}", table(COPIES, rows, above) + table(ALL_COPIES, total), "counts")
-
-
-def copies(sittings: Iterable[Sitting], key: Callable[[Sitting], Copies]) -> list[tuple[Copies, tuple[int, str]]]:
-    """For each key the copies and the last finish."""
-    finishes: dict[Copies, list[str]] = {}
-    for sitting in sittings:
-        finishes.setdefault(key(sitting), []).append(sitting.finish)
-    return [(each, (len(found), max(found))) for each, found in sorted(finishes.items())]
+    return document(f"Copies {session}", table(COPIES, rows, above) + table(ALL_COPIES, total), "paper", "counts")
 
 
 class Beside(NamedTuple):
@@ -249,7 +243,7 @@ def changes(office: Office, found: Iterable[Change], titles: Mapping[str, str], 
                     html("<b>{}</b>", telling.counted(telling.KINDS[kind], [each.number for each in part])))
               for kind, part in telling.by_kind(found).items()]
     above = html("<h1>Who must be told</h1>\n<p>{}{}</p>\n", school(office, " &middot; "), since)
-    return document("Changes", above + (joined(tables) or Markup("<p>Nobody.</p>\n")), "changes")
+    return document("Changes", above + (joined(tables) or Markup("<p>Nobody.</p>\n")), "paper", "changes")
 
 
 def told(change: Change, titles: Mapping[str, str]) -> list[object]:
@@ -265,7 +259,3 @@ def sat(sits: Sitting | None, titles: Mapping[str, str]) -> Markup:
     if sits.hall:
         place = html("{} ({}), desk {}", text(titles.get(sits.hall, "")), sits.hall, sits.desk)
     return html(SAT, place, text(titles.get(sits.paper, "")), sits.paper, short_day(sits.date), sits.start, sits.finish)
-
-
-PAGES: dict[str, Callable[..., str]] = {"board": board, "cards": cards, "chart": chart, "counts": counts,
-                                        "doors": doors, "poster": poster}
