@@ -117,17 +117,13 @@ def printed(office: Office, session: str) -> dict[str, Desk]:
     return {number: Desk(*desk) for number, desk in found.items()}
 
 
-def keep_printed(office: Office, session: str, desks: Mapping[str, Desk]) -> None:
-    with alone(office) as folder:
-        write(office, folder, f"printed.{session}", desks)
-
-
 def note_printed(reading: Reading, session: str) -> tuple[int, int]:
     """Notes that the desks of a session are printed as they are; how many, and how many are other ones than those that
     were noted before. Raises `Trouble` where there is no such session."""
     desks = desks_of(reading.members(session))
     before = printed(reading.office, session)
-    keep_printed(reading.office, session, desks)
+    with alone(reading.office) as folder:
+        write(reading.office, folder, f"printed.{session}", desks)
     return len(desks), len(moved(before, desks)) if before else 0
 
 

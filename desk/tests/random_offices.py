@@ -253,8 +253,8 @@ class RandomOffice:
         equal(Cells(page := papers.board(reading, session)).rows[2:], wanted, "board", page)
         posters = [[[name, seat.desk] for name, seat in shown if seat.hall == hall]
                    for hall in sorted({seat.hall for _, seat in seats} - {"-"})]
-        shown = Cells(page := papers.poster(reading, session)).tables
-        equal([table[1:] for table in shown], posters, "poster", page)
+        sheets = (page := papers.poster(reading, session)).split("<div class=sheet>")[1:]
+        equal([Cells(sheet).rows[1:] for sheet in sheets], posters, "poster", page)
         self.compared["namesakes"] += sum(names[fold(seat.name)] > 1 for _, seat in seats)
 
     def counts(self, reading, session):

@@ -95,7 +95,8 @@ class Notebook(unittest.TestCase):
 
     def test_printed(self):
         desks = {"0000001": Desk("A", 1), "0000002": Desk("A", 2), "0000003": Desk("B", 1)}
-        notebook.keep_printed(self.office, "S1", desks)
+        with notebook.alone(self.office) as folder:
+            notebook.write(self.office, folder, "printed.S1", desks)
         self.assertEqual((notebook.printed(self.office, "S1"), notebook.printed(self.office, "S2")), (desks, {}))
         now = {"0000002": Desk("A", 1), "0000003": Desk("B", 1), "0000004": Desk("C", 1)}
         self.assertEqual(notebook.moved(desks, now), ["0000001", "0000002", "0000004"])

@@ -7,7 +7,6 @@ from __future__ import annotations
 import unicodedata
 from collections import Counter, defaultdict
 from collections.abc import Collection, Iterable, Iterator, Mapping, Sequence
-from typing import NamedTuple
 
 from markupsafe import Markup
 
@@ -43,7 +42,7 @@ ROW, HEADING, LAST = 9.05, 16.0, 11.5  # heights of a row, of a heading without 
 NAME, ARRANGEMENT, TITLES = 50.0, 34.0, 90.0  # widths of these texts
 WIDE = "WFA"  # letters that are as wide as high, or may be
 MARKS = {"Mn", "Me", "Cf"}  # stand over other letters, or nowhere
-
+Row = tuple[list[object], float]  # the cells of a candidate, and how high they are
 
 class NotDrawn(Trouble):
     """Nobody has said how the desks of halls stand."""
@@ -170,44 +169,37 @@ def counts(reading: Reading, session: str) -> str:
     return document(f"Copies {session}", table(COPIES, rows, above) + table(ALL_COPIES, total), "paper", "counts")
 
 
-class Beside(NamedTuple):
-    """What else stands on invigilators' sheets."""
-    heading: Markup
-    papers: dict[str, str]  # their titles
-    notes: dict[str, str]
-    printed: dict[str, Desk]
-
-
 def doors(reading: Reading, session: str, asked: Collection[str] = ()) -> str:
     """Invigilators' sheets: each hall from a page of its own on, by desk."""
-    also = Beside(school(reading.office, "<br>") + when(reading, session), facts.paper_titles(reading.rows),
-                  notebook.notes(reading.office), notebook.printed(reading.office, session))
+    heading, titles = school(reading.office, "<br>") + when(reading, session), facts.paper_titles(reading.rows)
+    notes, printed = notebook.notes(reading.office), notebook.printed(reading.office, session)
     return of_desks(f"Invigilators' sheets {session}", (
-        sheet for opening, there in lists.halls(reading, session, asked) for sheet in of_door(also, opening, there)),
+        page for opening, there in lists.halls(reading, session, asked)
+        for page in of_door(heading, titles, opening, there, [row_of(member, notes, printed) for member in there])),
         "doors")
 
 
-def of_door(also: Beside, opening: facts.Opening, members: list[Member]) -> Iterator[Markup]:
+def of_door(heading: Markup, paper_titles: Mapping[str, str], opening: facts.Opening, members: list[Member],
+            found: list[Row]) -> Iterator[Markup]:
     """The pages of a hall: each is a table, whose heading says which it is."""
     counted = sorted(Counter(member.sitting.paper for member in members).items())
-    papers = joined((html("{} {}: {}", code, text(also.papers[code]), count) for code, count in counted), "<br>")
-    titles = [opening.title, *(f"{code} {also.papers[code]}" for code, _ in counted)]
-    rows, heights = zip(*(row_of(also, member) for member in members))
+    papers = joined((html("{} {}: {}", code, text(paper_titles[code]), count) for code, count in counted), "<br>")
+    titles = [opening.title, *(f"{code} {paper_titles[code]}" for code, _ in counted)]
+    rows, heights = zip(*found)
     parts = parted(heights, HEIGHT - HEADING - LINE * max(3, lines(titles, TITLES)))
     last = max(member.sitting.finish for member in members)
     for place, part in enumerate(parts, 1):
-        above = html(ABOVE, also.heading, clock(opening.until), last, lists.count(opening.desks, "desk"),
+        above = html(ABOVE, heading, clock(opening.until), last, lists.count(opening.desks, "desk"),
                      lists.count(len(members), "candidate"), text(opening.title), opening.hall, place, len(parts),
                      papers)
         yield table(DOORS, rows[part], above, BELOW if place == len(parts) else Markup())
 
 
-def row_of(also: Beside, member: Member) -> tuple[list[object], float]:
-    """The cells of a candidate, and how high they are."""
+def row_of(member: Member, notes: Mapping[str, str], printed: Mapping[str, Desk]) -> Row:
     sits = member.sitting
-    arranged = [*filter(None, (lists.allowance(sits), also.notes.get(member.number)))]
+    arranged = [*filter(None, (lists.allowance(sits), notes.get(member.number)))]
     height = 1 + LINE * max(lines([member.name], NAME), lines(arranged, ARRANGEMENT))
-    return [desk(member, also.printed), member.number, text(member.name), sits.paper, sits.finish,
+    return [desk(member, printed), member.number, text(member.name), sits.paper, sits.finish,
             joined(map(text, arranged), "<br>"), ""], max(ROW, height)
 
 
