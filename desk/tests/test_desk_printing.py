@@ -1,6 +1,8 @@
 """Papers at the desk in a browser, and what it keeps beside the office: each is that of the commands."""
+import contextlib
 import html
 import re
+import sqlite3
 import unittest
 
 import sample
@@ -68,6 +70,42 @@ class TestPrinting(DeskSchool):
         for move in moves:
             number, _, was = re.match(r"(\d{7}) (.*): .*, was (.*)", move).groups()
             self.assertRegex(found, rf"{number} {was.replace(' ', ' desk ')} ")
+
+    def test_sessions_go_by_day_and_start(self):
+        """In what a change did, in the form that lodges an appeal, and in what the season asks for."""
+        for kind, rows in (("sessions", "session,date,start\nZ-1,2027-06-07,07:30\nA-9,2027-06-09,09:00\n"),
+                           ("papers", "paper,title,session,minutes,requires\nZA,Z,Z-1,60,-\nZB,Z,Z-1,60,-\n"
+                            "AA,A,A-9,60,-\nAB,A,A-9,60,-\n"),
+                           ("entries", "number,paper\n0001051,ZA\n0001051,ZB\n0001051,AA\n0001051,AB\n")):
+            self.run_office("import", kind, self.write("new.csv", rows))
+        with contextlib.closing(sqlite3.connect(self.path)) as file:
+            file.executemany("INSERT INTO appeal VALUES (?, 'R', ?, 3, '', 4, 0, '', 1, NULL, '2027-04-01')",
+                             [(1000, "MON-AM"), (1051, "Z-1")])
+            file.commit()
+        copy = re.search(r"/office/copies/\w+", self.browser.get("/office"))[0]
+        clashes = self.browser.get(copy).partition("Two papers at once anew")[2].partition("</table>")[0]
+        self.assertEqual(re.findall(r'<td class="w">([ZA]-\d)</td>', clashes), ["Z-1", "A-9"])
+        form = self.browser.get("/candidates/1051").partition('<select name="session"')[2].partition("</select>")[0]
+        self.assertEqual(re.findall(r"<option[^>]*>([^<]*)", form), ["Z-1", "MON-AM", "MON-PM", "TUE-AM", "A-9"])
+        self.assertEqual(re.findall(r'href="[^"]*/appeals#([^"]*)"', self.browser.get("/")), ["Z-1", "MON-AM"])
+
+    def test_a_rehearsal_says_which_printed_papers_would_be_out_of_date(self):
+        """The halls that `office printed --look` names once it is done; nothing where nobody noted what is printed."""
+        line = "Printed papers {} out of date: MON-AM ({})"
+        rehearse = "/propose/withdraw", "/candidates/1051"
+        page, _ = self.browser.post(*rehearse, number="0001051", paper="CS-1")
+        self.assertNotIn("Printed papers", self.browser.words(page))
+        self.office("printed", "MON-AM")
+        page, _ = self.browser.post(*rehearse, number="0001051", paper="CS-1")
+        shown = self.browser.words(page)
+        self.browser.post(page + "/do", page)
+        *_, again = self.office("printed", "MON-AM", "--look").splitlines()
+        halls = again.removeprefix("to print again: ")
+        self.assertIn("PC1", halls.split(", "))
+        self.assertIn(line.format("would be", halls), shown)
+        self.assertIn(line.format("are", halls), self.browser.words(page))
+        page, _ = self.browser.post(*rehearse, number="0001051", paper="PH-1")
+        self.assertNotIn("Printed papers", self.browser.words(page))
 
     def test_a_picture_is_described_without_tags(self):
         text = self.browser.get("/sessions/MON-AM/halls/PC1")
