@@ -199,7 +199,7 @@ def changes(parser: ArgumentParser) -> None:
     form.add_argument("--csv", action="store_true")
     form.add_argument("--paper", action="store_true", help="a page for a browser, on A4")
     given = command.given(parser, "backup", "session*", "--tell: only who must be told")
-    path = backup_path(command.office(), given.backup)
+    path, since = backup(command.office(), given.backup)
     with command.reading(path) as before, command.reading() as after:
         found = telling.differences(before, after, given.session)
         titles = telling.titles_of(before, after)
@@ -207,28 +207,22 @@ def changes(parser: ArgumentParser) -> None:
     if given.csv:
         command.say(telling.csv_text(told, titles))
     elif given.paper:
-        command.say(papers.changes(command.office(), told, titles, since(path)))
+        command.say(papers.changes(command.office(), told, titles, since))
     else:
         command.say(telling.text(found, given.tell))
 
 
-def backup_path(office: Office, given: str) -> str:
-    """The path of the file that BACKUP means."""
+def backup(office: Office, path: str) -> tuple[str, str]:
+    """The path of the file that BACKUP means; and what the office is compared with, in words."""
     from exam_desk import copies
-    if os.path.isdir(given):
-        return copies.file_in(office, given)
-    if not re.fullmatch("[0-9]{1,9}", given) or os.path.exists(given):
-        return given
-    return copies.file_in(office, copies.chosen(office, int(given)))
-
-
-def since(path: str) -> str:
-    """What the office is compared with, in words."""
-    from exam_desk import copies
+    if not os.path.exists(path) and re.fullmatch("[0-9]{1,9}", path):
+        path = copies.chosen(office, int(path))
+    if os.path.isdir(path):
+        path = copies.file_in(office, path)
     with contextlib.suppress(Trouble):
         when, what = copies.when_and_what(os.path.dirname(path))
-        return f"Since {when}, before {what}"
-    return f"Since {path}"
+        return path, f"Since {when}, before {what}"
+    return path, f"Since {path}"
 
 
 @command.named("""Adds up a printed shortage: check-shortage SHEET

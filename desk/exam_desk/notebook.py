@@ -16,9 +16,8 @@ from collections import Counter
 from collections.abc import Callable, Collection, Iterable, Iterator, Mapping
 from typing import TYPE_CHECKING, NamedTuple, TypeVar
 
-from exam_desk import beside, files, words
+from exam_desk import beside, facts, files, words
 from exam_desk.office import Office
-from exam_desk.snapshot import session_row
 from exam_desk.trouble import NoOffice, Trouble
 
 if TYPE_CHECKING:
@@ -130,15 +129,15 @@ def note_printed(reading: Reading, session: str) -> tuple[int, int]:
 def compared(reading: Reading, session: str) -> Compared | None:
     """The desks that were noted beside those of now; None where none were. Raises `Trouble` where there is no such
     session."""
-    session_row(reading.rows, session)
+    facts.session_row(reading.rows, session)
     before = printed(reading.office, session)
     if not before:
         return None
     members = reading.members(session)
     now, names = desks_of(members), {member.number: member.name for member in members}
     moves = [Move(number, names.get(number, ""), now.get(number), before.get(number)) for number in moved(before, now)]
-    halls = out_of_date(before, now)
-    return Compared(moves, halls, sorted(set(halls) - {desk.hall for desk in now.values()}))
+    halls = {desk.hall for move in moves for desk in (move.now, move.printed) if desk}
+    return Compared(moves, sorted(halls), sorted(halls - {desk.hall for desk in now.values()}))
 
 
 def desk_of(sitting: Sitting | None) -> Desk | None:
@@ -152,12 +151,6 @@ def desks_of(members: Iterable[Member]) -> dict[str, Desk]:
 def moved(before: Mapping[str, Desk], now: Mapping[str, Desk]) -> list[str]:
     """The numbers of who has another desk than before, or none, or one for the first time; by number."""
     return sorted(number for number in {*before, *now} if before.get(number) != now.get(number))
-
-
-def out_of_date(before: Mapping[str, Desk], now: Mapping[str, Desk]) -> list[str]:
-    """The halls in which somebody has another desk than before, by code."""
-    others = moved(before, now)
-    return sorted({desks[number].hall for desks in (before, now) for number in others if number in desks})
 
 
 def absent(office: Office, session: str) -> set[str] | None:
@@ -186,7 +179,7 @@ def is_to_come(office: Office, day: str) -> bool:
 
 def refuse_to_come(reading: Reading, session: str) -> None:
     """Raises `Trouble` for a session that is yet to come, and where there is no such session."""
-    if is_to_come(reading.office, day := session_row(reading.rows, session)["day"]):
+    if is_to_come(reading.office, day := facts.session_row(reading.rows, session)["day"]):
         raise Trouble(f"{session} is on {day}: nobody can have been present or absent before that day")
 
 

@@ -112,7 +112,7 @@ class Reading:
         """Who sits what in a session, by number, or who of some candidates does. Raises `Trouble` where all are asked
         for and there is no such session."""
         if only is None:
-            snapshot.session_row(self.rows, session)
+            facts.session_row(self.rows, session)
             only = facts.entered(self.rows, session)
         people = [self.person(number) for number in only]
         self.ask(people)

@@ -17,9 +17,9 @@ from exam_desk.reading import Reading, Sitting
 from exam_desk.trouble import Trouble
 from exam_desk.words import few, plain
 
-HEADER = ["tell", "session", "number", "name",
-          "old date", "old start", "old finish", "old paper", "old hall", "old desk",
-          "date", "start", "finish", "paper", "hall", "desk", "paper title", "hall title", "old name"]
+COLUMNS = ["date", "start", "finish", "paper", "hall", "desk"]
+HEADER = ["tell", "session", "number", "name", *(f"old {name}" for name in COLUMNS), *COLUMNS, "paper title",
+          "hall title", "old name"]
 KINDS = {  # the gravest first; what one does and what several do
     "loses": ("loses the desk", "lose their desks"),
     "lacks": ("joins a session without a desk", "join a session without a desk"),
@@ -103,9 +103,7 @@ def place(sitting: Sitting) -> str:
 
 def columns(sitting: Sitting | None) -> list[str]:
     """Those of the CSV."""
-    if sitting is None:
-        return [""] * 6
-    return [sitting.date, sitting.start, sitting.finish, sitting.paper, sitting.hall or "", str(sitting.desk or "")]
+    return [str(getattr(sitting, name, None) or "") for name in COLUMNS]
 
 
 def touched(before: Reading, after: Reading) -> Touched:

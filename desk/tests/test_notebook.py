@@ -6,6 +6,7 @@ import io
 import multiprocessing
 import os
 import pathlib
+import re
 import stat
 import sys
 import tempfile
@@ -100,9 +101,7 @@ class Notebook(unittest.TestCase):
         self.assertEqual((notebook.printed(self.office, "S1"), notebook.printed(self.office, "S2")), (desks, {}))
         now = {"0000002": Desk("A", 1), "0000003": Desk("B", 1), "0000004": Desk("C", 1)}
         self.assertEqual(notebook.moved(desks, now), ["0000001", "0000002", "0000004"])
-        self.assertEqual(notebook.out_of_date(desks, now), ["A", "C"])
-        self.assertEqual((notebook.moved(desks, desks), notebook.out_of_date(desks, desks)), ([], []))
-        self.assertEqual(notebook.out_of_date({"0000001": Desk("A", 1)}, {"0000001": Desk("B", 1)}), ["A", "B"])
+        self.assertEqual(notebook.moved(desks, desks), [])
 
     def test_rows(self):
         notebook.keep_rows(self.office, "A", Rows(100, "down"))
@@ -264,10 +263,13 @@ class Commands(sample.SampleSchool):
         self.assertIn(hall, lines[-1].removeprefix("to print again: ").split(", "))
         self.assertRegex(self.office("printed", "MON-AM"), r"^\d+ desks noted, [1-9]\d* other than before\n$")
         self.assertEqual(self.office("printed", "MON-AM", "--look"), "the papers are up to date\n")
-        self.office("close-hall", "MON-AM", hall)
-        *_, again, last = self.office("printed", "MON-AM", "--look").splitlines()
-        self.assertEqual(last, f"to take away, as nobody sits there now: {hall}")
-        self.assertNotIn(hall, again.removeprefix("to print again: ").split(", "))
+        self.office("close-hall", "MON-AM", "GYM")
+        self.office("withdraw", "0001119", "CS-1")  # so that somebody in another hall has another desk
+        *moves, again, last = self.office("printed", "MON-AM", "--look").splitlines()
+        self.assertEqual(last, "to take away, as nobody sits there now: GYM")
+        halls = {place for line in moves for place in re.findall(r"(?:: |, was )(\w+) \d+(?=,|$)", line)}
+        self.assertEqual(again, f"to print again: {', '.join(sorted(halls - {'GYM'}))}")
+        self.assertIn("PC1", again)
 
     def test_back_leaves_it_and_says_so(self):
         self.office("school", "Hill")

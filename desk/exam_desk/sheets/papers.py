@@ -16,7 +16,6 @@ from exam_desk.notebook import Desk, Rows
 from exam_desk.office import Office
 from exam_desk.reading import Member, Reading, Sitting
 from exam_desk.sheets.pages import document, html, joined, safe, school, table, text, titled
-from exam_desk.snapshot import session_row
 from exam_desk.telling import Change
 from exam_desk.trouble import Trouble
 from exam_desk.words import clock, long_day, short_day
@@ -54,7 +53,7 @@ class NotDrawn(Trouble):
 
 
 def when(reading: Reading, session: str) -> Markup:
-    head = session_row(reading.rows, session)
+    head = facts.session_row(reading.rows, session)
     return html("{}, {} ({})", long_day(head["day"]), clock(head["start"]), session)
 
 

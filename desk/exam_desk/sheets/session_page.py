@@ -6,12 +6,11 @@ from collections.abc import Sequence
 from markupsafe import Markup
 
 from exam_desk import appeals, lists, reasons
-from exam_desk.facts import Opening
+from exam_desk.facts import Opening, session_row
 from exam_desk.lists import count
 from exam_desk.reading import Member, Reading
 from exam_desk.sheets import pages
 from exam_desk.sheets.pages import html, joined, table, text
-from exam_desk.snapshot import session_row
 from exam_desk.words import clock, features, few, long_day
 
 MOST_EXPLAINED = 30  # of those without a desk
