@@ -25,9 +25,6 @@ beside the name. Print it after the last change.
 """),
     "cards": ("session hall*", """Prints cards for the desks of a session: cards SESSION [HALL ..] >cards.html
 
-    office cards MON-AM >cards.html
-    office cards MON-AM GYM >gym.html
-
 A page for a browser, ten cards on a sheet of A4, by hall and desk: desk, name, number, paper, start and hall.
 """),
     "chart": ("session hall*", """Draws the seating charts of a session: chart SESSION [HALL ..] >chart.html
@@ -45,9 +42,6 @@ of their own at the end.
 """),
     "doors": ("session hall*", """\
 Prints the invigilators' sheets of a session, each hall on a page of its own: doors SESSION [HALL ..] >doors.html
-
-    office doors MON-AM >doors.html
-    office doors MON-AM GYM >gym.html
 
 A page for a browser, on A4: by desk the number, name, paper, finish, arrangement and note of each candidate, and a box
 to sign. The heading stands on each page again. A hall in which nobody sits has no sheet. It is for invigilators: who has
@@ -165,10 +159,9 @@ def slips(parser: ArgumentParser) -> None:
 
 
 @command.named("""\
-Lists the open appeals of all sessions, the most urgent first, with names, reasons and the last day to decide.
+Lists the open appeals of all sessions, or of some, the most urgent first: appeals-open [SESSION ..]
 
-    office appeals-open
-    office appeals-open MON-AM      one session
+Each has a name, a reason and the last day to decide.
 """)
 def appeals_open(parser: ArgumentParser) -> None:
     from exam_desk import appeals

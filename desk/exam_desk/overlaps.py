@@ -52,11 +52,13 @@ class Overlap(NamedTuple):
 def of_candidate(reading: Reading, number: str) -> list[Overlap]:
     """The overlaps of the sessions in which a candidate sits, as far as they or their halls are in both."""
     own, doubtful = reading.all_of(number), list[Doubtful]()
+    opened = {(session, hall) for session, hall in reading.rows.execute("SELECT session, hall FROM opening")}
     for pair in pairs(reading, own) if own else []:
         mine = [own[code].hall for code in (pair.early, pair.late) if code in own]
         doubtful += [Doubtful(pair, None, number)] * (len(mine) == 2)
-        there = reading.rows.execute(IN_HALLS, pair._asdict())
-        doubtful += [Doubtful(pair, hall, each) for hall, each in there if hall in mine]
+        if any({(pair.early, hall), (pair.late, hall)} <= opened for hall in mine):
+            there = reading.rows.execute(IN_HALLS, pair._asdict())
+            doubtful += [Doubtful(pair, hall, each) for hall, each in there if hall in mine]
     return certain(reading, doubtful)
 
 

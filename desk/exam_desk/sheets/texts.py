@@ -1,7 +1,6 @@
 """What lists say as text: of a candidate, of two papers at once, of each session, of notes; and the file of titles."""
 from __future__ import annotations
 
-import contextlib
 import itertools
 import json
 import os
@@ -144,13 +143,9 @@ def titles(rows: Rows) -> str:
 
 def put_titles(path: str, content: str) -> None:
     """Writes the file whole, or leaves the one that is there."""
-    handle, making = tempfile.mkstemp(prefix=".titles-", dir=os.path.dirname(os.path.abspath(path)))
-    try:
-        with open(handle, "w", encoding="ascii") as file:
+    with tempfile.TemporaryDirectory(prefix=".titles-", dir=os.path.dirname(os.path.abspath(path))) as folder:
+        making = os.path.join(folder, "titles.json")
+        with open(making, "w", encoding="ascii") as file:
             file.write(content)
         os.chmod(making, READABLE)
         os.replace(making, path)
-    except BaseException:
-        with contextlib.suppress(FileNotFoundError):
-            os.remove(making)
-        raise
