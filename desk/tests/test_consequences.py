@@ -163,8 +163,8 @@ class Told(sample.SampleSchool):
         self.office("printed", "TUE-AM")
         words = ["withdraw", "0001306", "LAT"]  # sits MA-2 instead; both in the same hall, where 13 others move up
         would = self.office("what-if", *words)
-        self.assertIn("1 session has printed papers that are out of date\n  MON-AM for AULA: afterwards `office printed "
-                      "MON-AM --look`\n", would)
+        self.assertIn("1 session has printed papers that are out of date\n  MON-AM for AULA: afterwards "
+                      "`office printed MON-AM --look`\n", would)
         lines = self.told(*words)
         self.assertEqual(lines[0], "1 session has printed papers that are out of date: MON-AM for AULA")
         self.assertEqual(lines[-1], "`office changes 1; office printed MON-AM --look` lists them")

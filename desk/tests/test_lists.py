@@ -43,7 +43,7 @@ class Lists(sample.SampleSchool):
         return folder
 
     def test_sessions_go_by_day_and_start(self):
-        """Whatever their codes are: on slips and in `look`, in what the program said, in appeals, and in the summary."""
+        """Whatever their codes are: on slips, in `look`, in what the program said, in appeals, and in the summary."""
         for kind, row in (("sessions", "session,date,start\nZ-1,2027-06-07,07:30\nA-9,2027-06-09,09:00\n"
                            "A-8,2027-06-07,16:00\n"),
                           ("papers", "paper,title,session,minutes,requires\nZP,Z,Z-1,60,-\n"
@@ -139,14 +139,20 @@ class Lists(sample.SampleSchool):
 
     def test_look(self):
         self.change(APPEAL, [1051, "AR1", "MON-AM", 3, "", 6, 25, "a cast \u009b2J\u202e", 3, "no proof", "2027-05-02"])
+        self.change(APPEAL, [1051, "AR0", "TUE-AM", 3, "", 0, 10, "", 2, "", "2027-05-03"])
+        self.change(APPEAL, [1051, "HA1", "MON-AM", 1, "GYM", 0, 0, "", 4, None, "2027-05-01"])
+        self.change("INSERT INTO standing VALUES (1051, 'AR0')")
         self.assertEqual(self.office("look", "1051").split("\n"), [
             "0001051 Di Berg",
             "  2027-06-07 09:00 MON-AM: CS-1 Computer science: PC1 Computer room, desk 1, until 11:00",
             "  2027-06-07 09:00 MON-AM: LAT Latin: not sat, since they sit CS-1 then",
             "  2027-06-07 13:30 MON-PM: EN-1 English language: AULA Aula, main building, desk 2, until 15:00",
-            "  2027-06-08 09:00 TUE-AM: PH-1 Physics: AULA Aula, main building, desk 11, until 11:00",
+            "  2027-06-08 09:00 TUE-AM: PH-1 Physics: AULA Aula, main building, desk 11, until 11:12, with 10 % extra "
+            "time",
+            "  appeal HA1 of 2027-05-01, MON-AM: hall GYM: retracted",
             "  appeal AR1 of 2027-05-02, MON-AM: arrangement screen+reader 25: refused",
-            "    reason: a cast ?2J?", "    answer: no proof", ""])
+            "    reason: a cast ?2J?", "    answer: no proof",
+            "  appeal AR0 of 2027-05-03, TUE-AM: arrangement - 10: granted, standing", ""])
         self.assertIn("0001051 Di Berg, access code VMGNZGEDP9\n", self.office("look", "0001051", "--codes"))
         names = re.findall(r"^\d{7} (.*)", self.office("look", "SORENSEN"), re.MULTILINE)
         self.assertEqual(names, ["Frida Sørensen", "Jonas Sørensen", "Petra Sørensen"])
