@@ -44,8 +44,8 @@ of their own at the end.
 Prints the invigilators' sheets of a session, each hall on a page of its own: doors SESSION [HALL ..] >doors.html
 
 A page for a browser, on A4: by desk the number, name, paper, finish, arrangement and note of each candidate, and a box
-to sign. The heading stands on each page again. A hall in which nobody sits has no sheet. It is for invigilators: who has
-which arrangement is private. For the door take `office poster`.
+to sign. The heading stands on each page again. A hall in which nobody sits has no sheet. It is for invigilators: who
+has which arrangement is private. For the door take `office poster`.
 """),
     "poster": ("session", """Prints the posters for the doors of a session: poster SESSION >poster.html
 
@@ -129,10 +129,10 @@ Prints a slip of paper for each candidate, to be cut out and handed over: slips 
     office slips --order forms.csv >slips.html        by the groups of a file with the header number,group
     office slips --csv >letters.csv                   the same for a spreadsheet or the merge of letters
 
-Without --desks a slip has no desk number: whoever withdraws or joins gives others in the hall another one, so print them
-late. A page for a browser, five or so slips on a sheet of A4, by name: number, days, times with the own finish, papers
-and halls by title, and the arrangement in force. With --order each group begins a page, in the order in which the file
-has them, and who is in none comes last. The CSV has a row for each candidate and session, and no formula.
+Without --desks a slip has no desk number: whoever withdraws or joins gives others in the hall another one, so print
+them late. A page for a browser, five or so slips on a sheet of A4, by name: number, days, times with the own finish,
+papers and halls by title, and the arrangement in force. With --order each group begins a page, in the order in which
+the file has them, and who is in none comes last. The CSV has a row for each candidate and session, and no formula.
 """)
 def slips(parser: ArgumentParser) -> None:
     from exam_desk import facts, files, lists

@@ -112,8 +112,8 @@ class Page:
         bars: dict[str, list[Part]] = {
             count(people, "candidate"): [("listed", people)], count(desks, "desk"): [("taken", desks)],
             f"{lacking:,} unseated": [("none", desks), ("lacking", lacking)]}
-        drawn = joined(html("<dt>{}</dt><dd>{}</dd>", label, bar(parts, people, label)) for label, parts in bars.items())
-        return html("<p class=sum>{} = {} + {}</p>\n<dl class=balance>{}</dl>", *bars, drawn)
+        drawn = (html("<dt>{}</dt><dd>{}</dd>", label, bar(parts, people, label)) for label, parts in bars.items())
+        return html("<p class=sum>{} = {} + {}</p>\n<dl class=balance>{}</dl>", *bars, joined(drawn))
 
     def drawing(self) -> Markup:
         """Each listed candidate at a desk of a listed hall, or without a desk; then the halls that suit none of
@@ -122,7 +122,7 @@ class Page:
         full = [("in", f"{hall}: {count(len(self.seated[hall]), 'desk')}, all taken", self.seated[hall])
                 for hall in halls]
         cards = [html(CARD, kind, title, html("<ol>{}</ol>", joined(map(chip, members))))
-                 for kind, title, members in [*full, ("lacking", f"No desk: {self.shortage.unseated:,}", self.unseated)]]
+                 for kind, title, members in [*full, ("lacking", f"No desk: {len(self.unseated):,}", self.unseated)]]
         others = joined(html("<li>{}: {} of {} free</li>", each.hall, each.desks - len(self.seated[each.hall]),
                              count(each.desks, "desk")) for each in self.openings if each.hall not in halls)
         if others:
