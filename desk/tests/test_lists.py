@@ -13,7 +13,7 @@ import unittest
 
 import sample
 
-from exam_desk import files  # beside the tests' folder
+from exam_desk import appeals, files  # beside the tests' folder
 from exam_desk.reading import Reading
 from exam_desk.words import UNSHOWN
 
@@ -330,6 +330,18 @@ class Lists(sample.SampleSchool):
                     os.kill(process.pid, number)
                     self.assertEqual(process.communicate(), (b"", b""))
                     self.assertEqual((process.returncode, os.listdir(copies)), (128 + number, []))
+
+
+class Lost(unittest.TestCase):
+    def test_what_becomes_of_an_appeal(self):
+        lodged, who = appeals.Lodged(("MON-AM", 1, "PC1"), "refused", "no"), ("0001051", "HA1")
+        for then, becomes in ((None, "gone"), (lodged._replace(asked=("TUE-AM", 1, "PC1")), "gone"),
+                              (lodged._replace(fate="open", answer=None), "open"),
+                              (lodged._replace(answer="yes"), "refused, with another answer")):
+            self.assertEqual(appeals.lost({who: lodged}, {who: then} if then else {}),
+                             [f"appeal 0001051 HA1 for MON-AM: refused -> {becomes}"])
+        self.assertEqual(appeals.lost({who: lodged}, {who: lodged}), [])
+        self.assertEqual(appeals.lost({}, {who: lodged}), [])
 
 
 class NoOffice(sample.SampleSchool):

@@ -113,6 +113,7 @@ class Papers(sample.SampleSchool):
         self.assertEqual({row[0]: sum(int(each[2]) for each in halls if each[1] == row[0]) for row in papers},
                          {row[0]: int(row[1]) for row in papers})
         self.assertEqual([row for row in halls if row[0] == "no desk"], [["no desk", "Biology (BI-1)", "2", "11:12"]])
+        self.assertEqual(halls[-1][0], "no desk")
         self.assertIn(["Library (LIB)", "Chemistry (CH-1)", "1", "12:00"], halls)
 
     def test_session_page(self):
