@@ -6,7 +6,7 @@ from typing import TYPE_CHECKING
 
 import command
 from exam_desk.trouble import Trouble
-from exam_desk.words import plain
+from exam_desk.words import few, plain
 
 if TYPE_CHECKING:
     from argparse import ArgumentParser
@@ -22,23 +22,30 @@ MOST_BYTES = 1 << 16  # of numbers on standard input
     office absent MON-AM 0001051 0001060    notes two candidates as absent
     office absent MON-AM - <numbers.txt     as many as stand in a file, parted by spaces or lines
     office absent MON-AM --there 0001060    takes one back
+    office absent MON-AM --nobody           notes that nobody was absent
     office absent MON-AM >board.csv         prints number, paper, present or absent, by paper
 
-Who was missing is no fact of the office: no seat changes by it. Where one number is wrong nothing is noted. The paper
-is the one that the candidate was to sit.
+All of it from the day of the session on. Who was missing is no fact of the office: no seat changes by it. Zeros in
+front of a number may be left out; where one number is wrong nothing is noted. The paper is the one that the candidate
+was to sit. Where nobody noted anything of a session, all are listed as present, and a note says so.
 """)
 def absent(parser: ArgumentParser) -> None:
     from exam_desk import lists, notebook
     parser.add_argument("--there", metavar="NUMBER", nargs="+", default=[], help="who is not absent after all")
-    given = command.given(parser, "session", "number*")
-    missing, there = numbers(given.number), numbers(given.there)
+    given = command.given(parser, "session", "number*", "--nobody: nobody was absent")
+    session, missing, there = given.session, numbers(given.number), numbers(given.there)
     with command.reading() as reading:
-        if given.number or given.there:
-            members = reading.members(given.session)
-            missed = notebook.note_absent(reading, given.session, missing, there)
+        if given.number or given.there or given.nobody:
+            missed = notebook.note_absent(reading, session, missing, there, given.nobody)
+            members = reading.members(session)
             command.say(f"{lists.count(len(missed), 'candidate')} absent of {len(members):,}\n")
-        else:
-            command.say(notebook.attendance(reading, given.session))
+            return
+        text, members = notebook.attendance(reading, session), reading.members(session)
+    if notebook.absent(command.office(), session) is None:
+        who = "the only candidate is" if len(members) == 1 else f"all {len(members):,} are"
+        command.warn(f"NOTE nobody has noted who was absent in {session}: {who} listed as present; `office absent "
+                     f"{session} --nobody` notes that nobody was")
+    command.say(text)
 
 
 def numbers(words: list[str]) -> list[str]:
@@ -73,7 +80,7 @@ def notes(parser: ArgumentParser) -> None:
             return
         known = set(facts.candidate_names(rows))
     noted = notebook.take_notes(office, files.texts_by_number(given.file, "text", notebook.MOST_NOTE_BYTES, known))
-    command.say(f"added {noted.added} changed {noted.changed} removed {noted.removed} same {noted.same}\n")
+    command.say(" ".join(f"{word} {noted[word]}" for word in ("added", "changed", "removed", "same")) + "\n")
 
 
 @command.named("""Notes which desks are on paper, and says which are other ones now: printed SESSION [--look]
@@ -132,7 +139,7 @@ def rows(parser: ArgumentParser) -> None:
         titles = facts.hall_titles(connection)
     if given.hall is not None:
         if given.hall not in titles:
-            raise Trouble(f"the office has no hall {given.hall}; it has {', '.join(sorted(titles)[:20])}")
+            raise Trouble(f"the office has no hall {given.hall}; it has {few(sorted(titles), 20)}")
         notebook.keep_rows(office, given.hall, notebook.Rows(given.across or 0, given.running))
     kept = sorted(notebook.rows_of_halls(office).items())
     lines = [f"{hall}: rows of {rows.across}, {rows.running}\n" for hall, rows in kept]

@@ -56,12 +56,13 @@ def print_lines(reading: Reading, everything: bool) -> None:
 
 def made(source: str, new: str, given: Namespace, is_folder: bool, lines_name: str) -> int:
     """Reads a source, prints the lines, and makes the new folder where there is no mistake; gives the status."""
+    from exam_desk import lists
     from exam_desk.workbook.reading import refuse_there, write_folder
     target = os.path.abspath(new)
     refuse_there(target)
     reading = read_source(command.office(), source, given, is_folder)
     print_lines(reading, given.all)
-    counts = ", ".join(f"{reading.report.count(sort)} {sort}s" for sort in ("mistake", "change", "note"))
+    counts = ", ".join(lists.count(reading.report.count(sort), sort) for sort in ("mistake", "change", "note"))
     if reading.report.count("mistake"):
         print(f"{counts}: nothing is written")
         return 1
@@ -83,7 +84,7 @@ Candidates without an access code are no mistake, since `office take FOLDER --co
 The status is 1 if `office import` would refuse a file: for a mistake, or for a code that is empty.
 """)
 def check_files(parser: ArgumentParser) -> bool:
-    from exam_desk import checking
+    from exam_desk import checking, lists
     gc.disable()  # a file can have a million rows, and no row refers to itself
     parser.add_argument("folder")
     folder = parser.parse_args().folder
@@ -91,7 +92,7 @@ def check_files(parser: ArgumentParser) -> bool:
     command.say_lines(lines)
     if not counts["files"]:
         raise Trouble("none of the seven files is there")
-    print("{files} files, {mistakes} mistakes, {notes} notes".format_map(counts))
+    print(", ".join(lists.count(counts[f"{thing}s"], thing) for thing in ("file", "mistake", "note")))
     return bool(counts["mistakes"] or counts["codes"])
 
 

@@ -9,6 +9,7 @@ from typing import TYPE_CHECKING
 
 import command
 from exam_desk.trouble import Trouble
+from exam_desk.words import number
 
 if TYPE_CHECKING:
     from argparse import ArgumentParser
@@ -19,15 +20,10 @@ MOST_BYTES = 1 << 20  # no printed shortage is as long
 PAGES = {  # the words that each takes, as in `command.given`, and what `--help` prints
     "board": ("session", """Prints a notice board of a session, by name: board SESSION >board.html
 
-    office board MON-AM >board.html
-
 A page for a browser, two columns on A4, with the hall and the desk of each candidate. Only namesakes have their numbers
 beside the name. Print it after the last change.
 """),
     "cards": ("session hall*", """Prints cards for the desks of a session: cards SESSION [HALL ..] >cards.html
-
-    office cards MON-AM >cards.html
-    office cards MON-AM GYM >gym.html
 
 A page for a browser, ten cards on a sheet of A4, by hall and desk: desk, name, number, paper, start and hall.
 """),
@@ -41,32 +37,24 @@ A page for a browser, on A4: each hall as rows of desks, with the name, number a
     "counts": ("session", """\
 Prints how many copies of each paper each hall needs, and the last finish: counts SESSION >counts.html
 
-    office counts MON-AM >counts.html
-
 A page for a browser, on A4: a row for each hall and paper, then the sums by paper. Candidates without a desk have rows
 of their own at the end.
 """),
     "doors": ("session hall*", """\
 Prints the invigilators' sheets of a session, each hall on a page of its own: doors SESSION [HALL ..] >doors.html
 
-    office doors MON-AM >doors.html
-    office doors MON-AM GYM >gym.html
-
 A page for a browser, on A4: by desk the number, name, paper, finish, arrangement and note of each candidate, and a box
-to sign. The heading stands on each page again. A hall in which nobody sits has no sheet. It is for invigilators: who has
-which arrangement is private. For the door take `office poster`.
+to sign. The heading stands on each page again. A hall in which nobody sits has no sheet. It is for invigilators: who
+has which arrangement is private. For the door take `office poster`.
 """),
     "poster": ("session", """Prints the posters for the doors of a session: poster SESSION >poster.html
 
-    office poster MON-AM >poster.html
-
 A page for a browser, on A4: each hall from a page of its own on, with a heading that is read from afar, and by name the
-desk of each candidate in three columns. It shows no number, no paper and no arrangement.
+desk of each candidate in three columns. Only namesakes of the session, in whichever halls, have their numbers beside
+the name, so each knows which door is theirs. It shows no paper and no arrangement.
 """),
     "summary": ("session*", """\
 Prints a line for each session: members, seated, short, desks, free, clashes, open appeals: summary [SESSION ..]
-
-    office summary
 
 Clashes are the candidates who miss a paper there, since another one is at the same time: `office clashes SESSION`.
 Free desks beside candidates who are short are in halls that do not suit them: `office why SESSION` says why.
@@ -77,10 +65,10 @@ Free desks beside candidates who are short are in halls that do not suit them: `
 def print_page(name: str, words: str, parser: ArgumentParser) -> None:
     """Prints the page that the function of this name makes."""
     from exam_desk.sheets import papers, texts
-    pages = papers.PAGES | {"summary": texts.summary}
+    make = texts.summary if name == "summary" else getattr(papers, name)
     asked = vars(command.given(parser, *words.split())).values()
     with command.reading() as reading:
-        command.say(pages[name](reading, *asked))
+        command.say(make(reading, *asked))
 
 
 for page, (taken, text) in PAGES.items():
@@ -117,9 +105,7 @@ def print_session(parser: ArgumentParser) -> None:
 
 
 @command.named("""\
-Writes one HTML page of a session: halls, shortage, who sits where, clashes and appeals: session-page SESSION
-
-    office session-page MON-AM >mon-am.html
+Writes one HTML page of a session, with shortage, clashes and appeals: session-page SESSION >mon-am.html
 
 The page needs no other file, and prints on A4. The shortage is the program's sheet; of those without a desk the page
 says why, hall by hall. All is of one state of the office. If the program refuses the sheet, nothing is written.
@@ -137,21 +123,22 @@ def session_page(parser: ArgumentParser) -> bool:
 Prints a slip of paper for each candidate, to be cut out and handed over: slips [SESSION ..] >slips.html
 
     office slips >slips.html                          everybody, all sessions
+    office slips MON-AM --desks >slips.html           one session, with desk numbers
     office slips MON-AM MON-PM --codes >slips.html    the sessions of a day, with the access codes
     office slips --only 0001051 >slip.html            one candidate
     office slips --order forms.csv >slips.html        by the groups of a file with the header number,group
     office slips --csv >letters.csv                   the same for a spreadsheet or the merge of letters
 
-A page for a browser, five or so slips on a sheet of A4, by name: number, days, times with the own finish, papers and
-halls by title, and the arrangement in force. Whoever withdraws or joins gives others in the hall another desk, so desk
-numbers are there only with --desks: print them late. With --order each group begins a page, in the order in which the
-file has them, and who is in none comes last. The CSV has a row for each candidate and session, and no formula.
+Without --desks a slip has no desk number: whoever withdraws or joins gives others in the hall another one, so print
+them late. A page for a browser, five or so slips on a sheet of A4, by name: number, days, times with the own finish,
+papers and halls by title, and the arrangement in force. With --order each group begins a page, in the order in which
+the file has them, and who is in none comes last. The CSV has a row for each candidate and session, and no formula.
 """)
 def slips(parser: ArgumentParser) -> None:
     from exam_desk import facts, files, lists
     from exam_desk.reading import of_few
     from exam_desk.sheets import slips
-    parser.add_argument("--only", action="append", default=[], metavar="NUMBER",
+    parser.add_argument("--only", action="append", default=[], metavar="NUMBER", type=number,
                         help="this candidate; may be given again")
     parser.add_argument("--order", metavar="FILE.csv", help="number,group: by group, each on pages of its own")
     given = command.given(parser, "session*", "--codes: with the access code", "--desks: with desk numbers",
@@ -166,16 +153,15 @@ def slips(parser: ArgumentParser) -> None:
         text, known = make(reading, choice), facts.candidate_names(reading.rows).keys()
     if strangers := len(groups.keys() - known):
         command.warn(f"{lists.count(strangers, 'number')} of the file are no candidates of the office")
-    if groups and (alone := len(known - {number for number, group in groups.items() if group})):
+    if groups and (alone := len(known - {each for each, group in groups.items() if group})):
         command.warn(f"{lists.count(alone, 'candidate')} in no group: their slips come last")
     command.say(text)
 
 
 @command.named("""\
-Lists the open appeals of all sessions, the most urgent first, with names, reasons and the last day to decide.
+Lists the open appeals of all sessions, or of some, the most urgent first: appeals-open [SESSION ..]
 
-    office appeals-open
-    office appeals-open MON-AM      one session
+Each has a name, a reason and the last day to decide.
 """)
 def appeals_open(parser: ArgumentParser) -> None:
     from exam_desk import appeals
@@ -206,7 +192,7 @@ def changes(parser: ArgumentParser) -> None:
     form.add_argument("--csv", action="store_true")
     form.add_argument("--paper", action="store_true", help="a page for a browser, on A4")
     given = command.given(parser, "backup", "session*", "--tell: only who must be told")
-    path = backup_path(command.office(), given.backup)
+    path, since = backup(command.office(), given.backup)
     with command.reading(path) as before, command.reading() as after:
         found = telling.differences(before, after, given.session)
         titles = telling.titles_of(before, after)
@@ -214,28 +200,22 @@ def changes(parser: ArgumentParser) -> None:
     if given.csv:
         command.say(telling.csv_text(told, titles))
     elif given.paper:
-        command.say(papers.changes(command.office(), told, titles, since(path)))
+        command.say(papers.changes(command.office(), told, titles, since))
     else:
         command.say(telling.text(found, given.tell))
 
 
-def backup_path(office: Office, given: str) -> str:
-    """The path of the file that BACKUP means."""
+def backup(office: Office, path: str) -> tuple[str, str]:
+    """The path of the file that BACKUP means; and what the office is compared with, in words."""
     from exam_desk import copies
-    if os.path.isdir(given):
-        return copies.file_in(office, given)
-    if not re.fullmatch("[0-9]{1,9}", given) or os.path.exists(given):
-        return given
-    return copies.file_in(office, copies.chosen(office, int(given)))
-
-
-def since(path: str) -> str:
-    """What the office is compared with, in words."""
-    from exam_desk import copies
+    if not os.path.exists(path) and re.fullmatch("[0-9]{1,9}", path):
+        path = copies.chosen(office, int(path))
+    if os.path.isdir(path):
+        path = copies.file_in(office, path)
     with contextlib.suppress(Trouble):
         when, what = copies.when_and_what(os.path.dirname(path))
-        return f"Since {when}, before {what}"
-    return f"Since {path}"
+        return path, f"Since {when}, before {what}"
+    return path, f"Since {path}"
 
 
 @command.named("""Adds up a printed shortage: check-shortage SHEET
@@ -245,10 +225,9 @@ def since(path: str) -> str:
 
 It prints `right` with the sum, or a line for each fault, and then ends with status 1.
 
-The halls are read from the office's file; what each candidate needs, and until when, is what the program says to that
-candidate. Why the sheet proves that desks are short: its candidates can sit only in its halls.
-These have fewer desks than there are candidates, so every plan leaves some of them without one. The sheet counts how
-many, and no more are without one now. `examples/check-office` in the repository trusts nothing that the program says.
+Halls are rows of the office's file; what each candidate needs, and until when, is what the program says. Why the sheet
+proves that desks are short: its candidates can sit only in its halls, which have fewer desks than they are. So every
+plan leaves as many without one as the sheet counts. `examples/check-office` trusts nothing that the program says.
 """)
 def check_shortage(parser: ArgumentParser) -> bool:
     from exam_desk import lists, reasons
@@ -291,7 +270,6 @@ def look(parser: ArgumentParser) -> None:
 @command.named("""\
 Writes the titles of papers and halls and the days of sessions, for the candidates' page: titles [FILE].
 
-    office titles                                     prints them
     office titles /var/www/examoffice/titles.json     puts them where the web server finds them, as one step
 
 Give it again after an import of sessions, papers or halls. Until then the page shows the codes of what is new. Whoever
@@ -322,5 +300,5 @@ def why(parser: ArgumentParser) -> bool:
     with command.reading() as reading:
         found, printed = reasons.compared(reading, given.session)
         faults = list(found.faults(printed))
-    command.say(found.text(given.number and given.number.zfill(7)))
+    command.say(found.text(given.number and number(given.number)))
     return warned(faults)

@@ -17,6 +17,7 @@ KINDS = {1: "hall", 2: "clash", 3: "arrangement"}
 STATES = {1: "open", 2: "granted", 3: "refused", 4: "retracted", 5: "superseded"}
 DAYS_TO_LODGE = {"hall": 2, "clash": 5, "arrangement": 10}  # before the day of the session, by kind
 DAYS_TO_DECIDE = 1
+IS_STANDING = "(number, ref) IN (SELECT number, ref FROM standing)"  # of an appeal
 OPEN = ("SELECT appeal.*, day, name FROM appeal JOIN session ON session.code = session "
         "JOIN candidate ON candidate.number = appeal.number WHERE state = 1 "
         "ORDER BY day, session.start, session, appeal.number, ref")
@@ -24,14 +25,13 @@ OPEN = ("SELECT appeal.*, day, name FROM appeal JOIN session ON session.code = s
 
 class Lodged(NamedTuple):
     """An appeal as `back` compares it."""
-    session: str
-    asked: tuple[object, ...]  # what the candidate lodged, and when
-    state: int
+    asked: tuple[object, ...]  # the session, what the candidate lodged, and when
+    fate: str
     answer: str | None  # of the office
-    standing: bool
 
-    def fate(self) -> str:
-        return STATES.get(self.state, "?") + (", standing" if self.standing else "")
+
+def fate(state: int, is_standing: bool) -> str:
+    return STATES.get(state, "?") + (", standing" if is_standing else "")
 
 
 def to_lodge(kind: str, session_day: str) -> str:
@@ -71,26 +71,21 @@ def read(office: Office, path: str) -> dict[tuple[str, str], Lodged] | None:
             file.execute("PRAGMA locking_mode = EXCLUSIVE")  # no third file
             file.text_factory = lambda text: text.decode("utf-8", "replace")
             marked = file.execute("SELECT name FROM sqlite_schema WHERE name = 'standing'").fetchone()
-            standing = set(file.execute("SELECT number, ref FROM standing")) if marked else set()
-            rows = file.execute("SELECT number, ref, session, state, answer, "
-                                "kind, target, needs, extra, reason, lodged FROM appeal")
-            return {(str(number).zfill(7), str(ref)):
-                    Lodged(session, tuple(asked), state, answer, (number, ref) in standing)
-                    for number, ref, session, state, answer, *asked in rows}
+            rows = file.execute(f"SELECT number, ref, state, answer, {IS_STANDING if marked else 0}, "
+                                "session, kind, target, needs, extra, reason, lodged FROM appeal")
+            return {(str(number).zfill(7), str(ref)): Lodged(tuple(asked), fate(state, standing), answer)
+                    for number, ref, state, answer, standing, *asked in rows}
     except (OSError, sqlite3.Error):
         return None
 
 
 def lost(now: dict[tuple[str, str], Lodged], then: dict[tuple[str, str], Lodged]) -> list[str]:
     """A line for each appeal, decision and retraction of one state of the office that another has not."""
-    return [f"appeal {number} {ref} for {appeal.session}: {loss}" for (number, ref), appeal in sorted(now.items())
-            if (loss := difference(appeal, then.get((number, ref))))]
-
-
-def difference(now: Lodged, then: Lodged | None) -> str:
-    """What becomes of an appeal; nothing where it stays as it is."""
-    if then is None or then.asked != now.asked or then.session != now.session:
-        return f"{now.fate()} -> gone"
-    if now == then:
-        return ""
-    return f"{now.fate()} -> {then.fate()}" + (", with another answer" if now.fate() == then.fate() else "")
+    lines = []
+    for (number, ref), appeal in sorted(now.items()):
+        was = then.get((number, ref))
+        becomes = was.fate if was and was.asked == appeal.asked else "gone"
+        if was != appeal:
+            another = ", with another answer" if becomes == appeal.fate else ""
+            lines.append(f"appeal {number} {ref} for {appeal.asked[0]}: {appeal.fate} -> {becomes}{another}")
+    return lines

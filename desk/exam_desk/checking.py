@@ -9,7 +9,7 @@ from collections import Counter
 from collections.abc import Iterator, Mapping
 from dataclasses import replace
 
-from exam_desk import changing, coding, consequences, files, mistakes, overlaps, private, running, snapshot
+from exam_desk import changing, coding, consequences, files, lists, mistakes, overlaps, private, running, snapshot
 from exam_desk.asking import Progress
 from exam_desk.changing import Step, Tell
 from exam_desk.office import Office
@@ -30,7 +30,7 @@ def lines_on(name: str, found: mistakes.Found, word: str) -> Iterator[str]:
         if column == mistakes.NO_CODE:
             yield f"{name}: {mistakes.no_codes(count)}; without them an import refuses the file"
         elif count > found.most:
-            yield f"{name}: .. and {count - found.most} more lines on {column}"
+            yield f"{name}: .. and {lists.count(count - found.most, 'more line')} on {column}"
 
 
 def office_knows(office: Office) -> mistakes.Known:

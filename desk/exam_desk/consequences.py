@@ -6,24 +6,26 @@ from collections import Counter
 from collections.abc import Collection, Iterable
 from typing import NamedTuple
 
-from exam_desk import copies, facts, lists, overlaps, telling
+from exam_desk import copies, facts, lists, notebook, overlaps, telling
 from exam_desk.asking import Progress
 from exam_desk.changing import Rehearsal
+from exam_desk.notebook import Desk, desk_of
 from exam_desk.office import Office
 from exam_desk.reading import Person, Reading
 from exam_desk.telling import Change, counted
 from exam_desk.trouble import Trouble
 from exam_desk.words import plain
 
-CLASHES, TWICE, HALLS = "clashes", "twice", "halls"
-KINDS = {  # those of changes, and behind who has no desk what no rule of the office forbids
+CLASHES, TWICE, HALLS, PRINTED = "clashes", "twice", "halls", "printed"
+KINDS = {  # those of changes, and behind who has no desk what no rule of the office forbids, and what is on paper
     **{kind: telling.KINDS[kind] for kind in ("loses", "lacks")}, CLASHES: ("has a new clash", "have new clashes"),
     TWICE: ("is in two sessions at one time", "are in two sessions at one time"),
     HALLS: ("hall has candidates of two sessions at one time", "halls have candidates of two sessions at one time"),
+    PRINTED: ("session has printed papers that are out of date", "sessions have printed papers that are out of date"),
     **telling.KINDS,
 }
 CODES = ("has another access code", "have other access codes")
-LISTED_BY = {CLASHES: "clashes", TWICE: "summary", HALLS: "summary"}  # all others by `changes`
+LISTED_BY = {CLASHES: "clashes {}", TWICE: "summary {}", HALLS: "summary {}", PRINTED: "printed {} --look"}
 GRAVEST = 4  # groups that have a line of their own in a short answer
 MOST_NAMED = 3  # candidates in such a line, or sessions
 DESK_ALONE = "desk"  # candidates of this kind are counted, and never named
@@ -38,7 +40,7 @@ FIGURES = ("SELECT code, coalesce(entered, 0), coalesce(seated, 0) FROM session 
 class Met(NamedTuple):
     """Whom a change meets, and how, in words."""
     session: str
-    person: str  # in words
+    person: str  # in words; or which halls of the session
     what: str
 
     @property
@@ -52,8 +54,11 @@ class Group(NamedTuple):
     people: list[Met]  # by session and name
 
     def title(self) -> str:
-        """How many people there are, and in how many sittings; of halls how many there are."""
-        return counted(KINDS[self.kind], [each.who if self.kind == HALLS else each.person for each in self.people])
+        """How many people there are, and in how many sittings; of halls, or of sessions, how many there are."""
+        return counted(KINDS[self.kind], [each.person if self.is_of_people() else each.who for each in self.people])
+
+    def is_of_people(self) -> bool:
+        return self.kind not in (HALLS, PRINTED)
 
 
 def of(rehearsal: Rehearsal, at_most: int | None, progress: Progress) -> list[str]:
@@ -104,7 +109,22 @@ def groups(before: Reading, after: Reading) -> list[Group]:
         TWICE: [Met(each.late, person.shown(), f"sits in {each.early} then")
                 for each in twice for person in by_name(after, each.candidates)],
         HALLS: [Met(each.early, f"and {each.late} in {hall}", "both number their desks from 1")
-                for each in twice for hall in each.halls]})
+                for each in twice for hall in each.halls],
+        PRINTED: [Met(code, f"for {', '.join(halls)}", f"afterwards `office {LISTED_BY[PRINTED].format(code)}`")
+                  for code, halls in out_of_date(after.office, different).items()]})
+
+
+def out_of_date(office: Office, changes: Iterable[Change]) -> dict[str, list[str]]:
+    """By session the halls whose papers are noted as printed and hold no longer: by these changes somebody there has
+    another desk than on paper, or none."""
+    printed: dict[str, dict[str, Desk]] = {}
+    halls: dict[str, set[str]] = {}
+    for session, number, _, old, new, _ in changes:
+        papers = printed.setdefault(session, notebook.printed(office, session))
+        on_paper, now = papers.get(number), desk_of(new)
+        if papers and now != on_paper and now != desk_of(old):
+            halls.setdefault(session, set()).update(desk.hall for desk in (on_paper, now) if desk)
+    return {session: sorted(found) for session, found in halls.items()}
 
 
 def new_clashes(before: Reading, after: Reading, session: str, people: Collection[int] | None) -> list[Met]:
@@ -171,7 +191,7 @@ def brief(met: list[Group]) -> list[str]:
 def listing(met: list[Group], copy: int) -> str:
     """What lists them: the changes since a copy where somebody sits otherwise, and the clashes and the overlaps."""
     words = dict.fromkeys([f"changes {copy}"] if any(each.kind not in LISTED_BY for each in met) else [])
-    words |= dict.fromkeys(f"{LISTED_BY[group.kind]} {each.session}"
+    words |= dict.fromkeys(LISTED_BY[group.kind].format(each.session)
                            for group in met if group.kind in LISTED_BY for each in group.people)
     return "; office ".join([*words][:MOST_NAMED])
 
@@ -181,10 +201,11 @@ def headline(met: Group) -> str:
     desk alone."""
     if met.kind == DESK_ALONE:
         return met.title()
-    if met.kind != HALLS and len({each.person for each in met.people}) == 1 < len(met.people):
+    if met.is_of_people() and len({each.person for each in met.people}) == 1 < len(met.people):
         return f"{counted(KINDS[met.kind], ['one'])}: {met.people[0].person} in {len(met.people)} sessions"
-    if len(met.people) <= MOST_NAMED:
-        return f"{met.title()}: " + "; ".join(each.who for each in met.people)
+    if len(met.people) <= MOST_NAMED or met.kind == PRINTED:
+        named = [*(each.who for each in met.people[:MOST_NAMED]), *[".."] * (len(met.people) > MOST_NAMED)]
+        return f"{met.title()}: {'; '.join(named)}"
     return f"{met.title()}: {most(Counter(each.session for each in met.people))}"
 
 

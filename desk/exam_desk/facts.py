@@ -5,7 +5,9 @@ import sqlite3
 from collections.abc import Collection
 from typing import NamedTuple
 
-from exam_desk.snapshot import Rows, session_row
+from exam_desk.snapshot import Rows
+from exam_desk.trouble import Trouble
+from exam_desk.words import few
 
 
 class Opening(NamedTuple):
@@ -26,11 +28,17 @@ def openings(rows: Rows, session: str) -> list[Opening]:
 
 
 def sessions(rows: Rows, asked: Collection[str] = ()) -> list[sqlite3.Row]:
-    """The sessions asked for, otherwise all, by day and start. Raises `Trouble` where there is no such session."""
-    for code in asked:
-        session_row(rows, code)
+    """The code, the day and the start of the sessions asked for, otherwise of all, in the order of time. Raises
+    `Trouble` where the office has no such session."""
     found = rows.execute("SELECT code, day, start FROM session ORDER BY day, start, code").fetchall()
+    codes = [code for code, *_ in found]
+    if unknown := [code for code in asked if code not in codes]:
+        raise Trouble(f"there is no session {unknown[0]}; the office has {few(codes, 20) or 'none'}")
     return [head for head in found if not asked or head["code"] in asked]
+
+
+def session_row(rows: Rows, session: str) -> sqlite3.Row:
+    return sessions(rows, [session])[0]
 
 
 def paper_titles(rows: Rows) -> dict[str, str]:

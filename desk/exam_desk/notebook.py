@@ -16,13 +16,12 @@ from collections import Counter
 from collections.abc import Callable, Collection, Iterable, Iterator, Mapping
 from typing import TYPE_CHECKING, NamedTuple, TypeVar
 
-from exam_desk import beside, files
+from exam_desk import beside, facts, files, words
 from exam_desk.office import Office
-from exam_desk.snapshot import session_row
 from exam_desk.trouble import NoOffice, Trouble
 
 if TYPE_CHECKING:
-    from exam_desk.reading import Member, Reading
+    from exam_desk.reading import Member, Reading, Sitting
 
 PLACE = "notebook"
 WORDS = {  # what a file holds, by the beginning of its name; {} is a session
@@ -48,14 +47,6 @@ class Rows(NamedTuple):
     """How the desks of a hall stand."""
     across: int  # desks in a row
     running: str  # one of RUNNING
-
-
-class Noted(NamedTuple):
-    """What became of the rows of a file of notes."""
-    added: int
-    changed: int
-    removed: int
-    same: int
 
 
 class Move(NamedTuple):
@@ -89,14 +80,13 @@ def notes(office: Office) -> dict[str, str]:
     return read(office, "notes", dict[str, str](), is_text)
 
 
-def take_notes(office: Office, new: Mapping[str, str]) -> Noted:
-    """Keeps notes by number; an empty text takes a note away."""
+def take_notes(office: Office, new: Mapping[str, str]) -> Counter[str]:
+    """Keeps notes by number; an empty text takes a note away. How many are added, changed, removed, and the same."""
     with alone(office) as folder:
         before = notes(office)
-        after = {number: text for number, text in sorted({**before, **new}.items()) if text}
-        write(office, folder, "notes", after)
-    others = Counter((was != "", text != "") for number, text in new.items() if (was := before.get(number, "")) != text)
-    return Noted(others[False, True], others[True, True], others[True, False], len(new) - others.total())
+        write(office, folder, "notes", {number: text for number, text in sorted({**before, **new}.items()) if text})
+    return Counter("same" if text == before.get(number, "") else "added" if number not in before else
+                   "changed" if text else "removed" for number, text in new.items())
 
 
 def is_note(text: bytes) -> bool:
@@ -126,37 +116,36 @@ def printed(office: Office, session: str) -> dict[str, Desk]:
     return {number: Desk(*desk) for number, desk in found.items()}
 
 
-def keep_printed(office: Office, session: str, desks: Mapping[str, Desk]) -> None:
-    with alone(office) as folder:
-        write(office, folder, f"printed.{session}", desks)
-
-
 def note_printed(reading: Reading, session: str) -> tuple[int, int]:
     """Notes that the desks of a session are printed as they are; how many, and how many are other ones than those that
     were noted before. Raises `Trouble` where there is no such session."""
     desks = desks_of(reading.members(session))
     before = printed(reading.office, session)
-    keep_printed(reading.office, session, desks)
+    with alone(reading.office) as folder:
+        write(reading.office, folder, f"printed.{session}", desks)
     return len(desks), len(moved(before, desks)) if before else 0
 
 
 def compared(reading: Reading, session: str) -> Compared | None:
     """The desks that were noted beside those of now; None where none were. Raises `Trouble` where there is no such
     session."""
-    session_row(reading.rows, session)
+    facts.session_row(reading.rows, session)
     before = printed(reading.office, session)
     if not before:
         return None
     members = reading.members(session)
     now, names = desks_of(members), {member.number: member.name for member in members}
     moves = [Move(number, names.get(number, ""), now.get(number), before.get(number)) for number in moved(before, now)]
-    halls = out_of_date(before, now)
-    return Compared(moves, halls, sorted(set(halls) - {desk.hall for desk in now.values()}))
+    halls = {desk.hall for move in moves for desk in (move.now, move.printed) if desk}
+    return Compared(moves, sorted(halls), sorted(halls - {desk.hall for desk in now.values()}))
+
+
+def desk_of(sitting: Sitting | None) -> Desk | None:
+    return Desk(sitting.hall, sitting.desk or 0) if sitting and sitting.hall else None
 
 
 def desks_of(members: Iterable[Member]) -> dict[str, Desk]:
-    return {member.number: Desk(member.sitting.hall, member.sitting.desk) for member in members
-            if member.sitting.hall is not None and member.sitting.desk is not None}
+    return {member.number: desk for member in members if (desk := desk_of(member.sitting))}
 
 
 def moved(before: Mapping[str, Desk], now: Mapping[str, Desk]) -> list[str]:
@@ -164,40 +153,57 @@ def moved(before: Mapping[str, Desk], now: Mapping[str, Desk]) -> list[str]:
     return sorted(number for number in {*before, *now} if before.get(number) != now.get(number))
 
 
-def out_of_date(before: Mapping[str, Desk], now: Mapping[str, Desk]) -> list[str]:
-    """The halls in which somebody has another desk than before, by code."""
-    others = moved(before, now)
-    return sorted({desks[number].hall for desks in (before, now) for number in others if number in desks})
+def absent(office: Office, session: str) -> set[str] | None:
+    """The numbers of who was missing in a session; None where nobody noted who was, nor that nobody was."""
+    nothing = list[str]()
+    found = read(office, f"absent.{session}", nothing, is_text)
+    return None if found is nothing else {*found}
 
 
-def absent(office: Office, session: str) -> set[str]:
-    """The numbers of who was missing in a session."""
-    return {*read(office, f"absent.{session}", list[str](), is_text)}
-
-
-def keep_absent(office: Office, session: str, missing: Iterable[str], there: Iterable[str]) -> set[str]:
-    """Adds some to the absent of a session and takes others away; who was missing then."""
+def keep_absent(office: Office, session: str, missing: Iterable[str], there: Iterable[str],
+                nobody: bool = False) -> set[str]:
+    """Adds some to the absent of a session and takes others away; who is absent then. Where that is nobody it is kept
+    if somebody says so. Raises `Trouble` where somebody is absent, and nobody too."""
     with alone(office) as folder:
-        found = absent(office, session).union(missing).difference(there)
-        write(office, folder, f"absent.{session}", sorted(found))
+        found = (absent(office, session) or set()).union(missing).difference(there)
+        if found and nobody:
+            raise Trouble(f"nothing is noted, since these are absent: {words.few(sorted(found), MOST_NAMED)}")
+        write(office, folder, f"absent.{session}", sorted(found) if found or nobody else None)
     return found
 
 
-def note_absent(reading: Reading, session: str, missing: Collection[str], there: Collection[str]) -> set[str]:
-    """Notes some as absent and others as there; who is absent then. Raises `Trouble`, and notes nothing, where a number
-    is not that of a member of the session."""
+def is_to_come(office: Office, day: str) -> bool:
+    """Whether a session of this day is yet to come: nobody can have been present in it, or absent."""
+    return office.today().isoformat() < day
+
+
+def refuse_to_come(reading: Reading, session: str) -> None:
+    """Raises `Trouble` for a session that is yet to come, and where there is no such session."""
+    if is_to_come(reading.office, day := facts.session_row(reading.rows, session)["day"]):
+        raise Trouble(f"{session} is on {day}: nobody can have been present or absent before that day")
+
+
+def note_absent(reading: Reading, session: str, missing: Iterable[str], there: Iterable[str] = (),
+                nobody: bool = False) -> set[str]:
+    """Notes some as absent and others as there, or that nobody was absent; who is absent then. Raises `Trouble`, and
+    notes nothing, before the day of the session, where nobody is named, where a number is not that of a member, and as
+    `keep_absent`."""
+    refuse_to_come(reading, session)
+    missing, there = [*map(words.number, missing)], [*map(words.number, there)]
     asked = [*missing, *there]
+    if not (asked or nobody):
+        raise Trouble("nothing is noted: no number is given")
     reading.ask(reading.person(int(number)) for number in asked if reading.knows(number))
     if wrong := [number for number in asked if not (reading.knows(number) and reading.member(session, number))]:
-        more = f" and {len(wrong) - MOST_NAMED} more" if len(wrong) > MOST_NAMED else ""
-        raise Trouble(f"nothing is noted: {', '.join(wrong[:MOST_NAMED])}{more}: no candidate of {session}; a number "
-                      "has seven digits")
-    return keep_absent(reading.office, session, missing, there)
+        raise Trouble(f"nothing is noted: {words.few(wrong, MOST_NAMED)}: no candidate of {session}")
+    return keep_absent(reading.office, session, missing, there, nobody)
 
 
 def attendance(reading: Reading, session: str) -> str:
-    """A line for each member, by paper, as CSV. The paper is the one that the candidate was to sit."""
-    missing = absent(reading.office, session)
+    """A line for each member, by paper, as CSV. The paper is the one that the candidate was to sit. Raises `Trouble`
+    before the day of the session."""
+    refuse_to_come(reading, session)
+    missing = absent(reading.office, session) or set()
     members = sorted(reading.members(session), key=lambda member: (member.sitting.paper, member.number))
     return files.written([ATTENDANCE, *([member.number, member.sitting.paper, "absent" if member.number in missing
                                          else "present"] for member in members)])
@@ -253,10 +259,13 @@ def read(office: Office, name: str, empty: Held, right: Callable[[object], bool]
 
 
 def write(office: Office, folder: int, name: str, value: object) -> None:
-    """Writes a file whole and onto the disk, or not at all."""
+    """Writes a file whole and onto the disk, or not at all; for None it takes the file away."""
     final, new = f"{name}.json", f"{name}.json{NEW}"
-    with contextlib.suppress(FileNotFoundError):  # of a command that was killed
-        os.unlink(new, dir_fd=folder)
+    for old in [new] if value is not None else [new, final]:  # `new` of a command that was killed
+        with contextlib.suppress(FileNotFoundError):
+            os.unlink(old, dir_fd=folder)
+    if value is None:
+        return
     file = beside.open_file(office.path, PLACE, new, flags=os.O_WRONLY | os.O_CREAT | os.O_EXCL)
     with open(file, "wb") as opened:
         opened.write(json.dumps(value, indent=0).encode("ascii"))

@@ -11,9 +11,9 @@ from typing import NamedTuple
 
 from exam_desk.lists import count
 from exam_desk.reading import Reading
+from exam_desk.words import few
 
 LONGEST = 1200  # minutes that somebody without a desk may sit: those of the longest paper, and as many more
-MOST_NAMED = 3  # candidates, or halls, in a line
 MOST_LINES = 20
 SESSIONS = "SELECT code, CAST(julianday(day) * 1440 AS INTEGER) + start AS begins FROM session ORDER BY begins, code"
 IN_BOTH = ("SELECT DISTINCT NULL, printf('%07d', entry.number) FROM session JOIN paper ON paper.session = session.code "
@@ -127,10 +127,5 @@ def line(reading: Reading, each: Overlap) -> str:
 
 def lines(reading: Reading, found: Collection[Overlap]) -> list[str]:
     """A line for each, and one for those that are too many."""
-    rest = [f".. and {len(found) - MOST_LINES:,} more overlaps"] if len(found) > MOST_LINES else []
+    rest = [f".. and {count(len(found) - MOST_LINES, 'more overlap')}"] if len(found) > MOST_LINES else []
     return [*(line(reading, each) for each in itertools.islice(found, MOST_LINES)), *rest]
-
-
-def few(names: list[str]) -> str:
-    rest = len(names) - MOST_NAMED
-    return ", ".join(names[:MOST_NAMED]) + (f" and {rest:,} more" if rest > 0 else "")

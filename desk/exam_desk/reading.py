@@ -10,6 +10,7 @@ from __future__ import annotations
 
 import contextlib
 import json
+import operator
 import os
 import re
 import threading
@@ -26,15 +27,12 @@ from exam_desk.words import plain
 Found = TypeVar("Found")
 Objects = list[dict[str, Any]]  # of an answer
 REQUEST = "GET /candidates/{}/{} HTTP/1.1\r\nHost: office\r\nexam-code: {}\r\n\r\n"
-CODE, ANY, WHOLE = '"[A-Z0-9-]+"', r'"([^"\\]|\\.)*"', "[0-9]+"
+CODE, WHOLE = '"[A-Z0-9-]+"', "[0-9]+"
 DATE, CLOCK = '"[0-9]{4}-[0-9]{2}-[0-9]{2}"', '"[0-9]{2}:[0-9]{2}"'
 FORMS = {  # of each answer the members of its objects by name, each with the form of its value in JSON
     "seats": {"date": DATE, "desk": f"{WHOLE}|null", "extra": WHOLE, "finish": CLOCK, "hall": f"{CODE}|null",
               "needs": r'"(-|[a-z-]+(\+[a-z-]+)*)"', "paper": CODE, "session": CODE, "start": CLOCK},
     "clashes": {"paper": CODE, "session": CODE, "sitting": CODE},
-    "appeals": {"answer": f"{ANY}|null", "kind": '"(hall|clash|arrangement)"', "lodged": DATE, "reason": ANY,
-                "ref": CODE, "session": CODE, "standing": "true|false",
-                "state": '"(open|granted|refused|retracted|superseded)"', "subject": ANY},
 }
 FORMED = {what: re.compile("{%s}" % ", ".join(f'"{name}": ({form})' for name, form in forms.items()))
           for what, forms in FORMS.items()}
@@ -52,19 +50,6 @@ class Sitting(NamedTuple):
     extra: int  # percent
     hall: str | None
     desk: int | None
-
-
-class Appeal(NamedTuple):
-    """An appeal as its candidate sees it."""
-    ref: str
-    session: str
-    kind: str
-    subject: str  # a hall, a paper, or needs and extra time
-    lodged: str  # a date
-    reason: str
-    state: str
-    standing: bool
-    answer: str | None
 
 
 class Member(NamedTuple):
@@ -127,7 +112,7 @@ class Reading:
         """Who sits what in a session, by number, or who of some candidates does. Raises `Trouble` where all are asked
         for and there is no such session."""
         if only is None:
-            snapshot.session_row(self.rows, session)
+            facts.session_row(self.rows, session)
             only = facts.entered(self.rows, session)
         people = [self.person(number) for number in only]
         self.ask(people)
@@ -150,12 +135,6 @@ class Reading:
         several = [self.person(number) for number in (asked if only is None else map(int, only))]
         self.learn(several, "clashes", self.missed, clashes)
         return {person.number: papers for person in several if (papers := self.missed[person.number].get(session))}
-
-    def appeals(self, number: str) -> list[Appeal]:
-        """The appeals of a candidate, by reference."""
-        found: dict[str, list[Appeal]] = {}
-        self.learn([self.person(int(number))], "appeals", found, lambda answered: [Appeal(**row) for row in answered])
-        return found.popitem()[1]
 
     def knows(self, number: str) -> bool:
         """Whether the office has a candidate with this number of seven digits."""
@@ -250,9 +229,9 @@ def state_of(path: str) -> list[tuple[int, ...]]:
 
 
 def sittings(answered: Objects) -> dict[str, Sitting]:
-    """What is sat, by session."""
+    """What is sat, by session, in the order of their days and starts."""
     found: dict[str, Sitting] = {}
-    for row in answered:
+    for row in sorted(answered, key=operator.itemgetter("date", "start", "session")):
         needs = () if row["needs"] == "-" else tuple(row["needs"].split("+"))
         found[row["session"]] = Sitting(**row)._replace(needs=needs)
     return found

@@ -12,10 +12,9 @@ from collections.abc import Iterator
 from typing import NamedTuple
 
 from exam_desk import facts
-from exam_desk.facts import Opening
+from exam_desk.facts import Opening, session_row
 from exam_desk.lists import count
 from exam_desk.reading import Member, Reading
-from exam_desk.snapshot import session_row
 from exam_desk.trouble import Trouble
 from exam_desk.words import FEATURES, clock, features, plain
 

@@ -73,14 +73,3 @@ def check_tables(file: sqlite3.Connection, path: str) -> None:
         raise Trouble(f"an earlier version of the program made {path}; `office migrate` carries it over")
     if version != (VERSION,) or not found.issuperset(TABLES):
         raise Trouble(f"{path} holds no office that this program reads; `office check` says more")
-
-
-def session_row(connection: sqlite3.Connection, session: str) -> sqlite3.Row:
-    """The code, the day and the start of a session. Raises `Trouble` where the office has no such session."""
-    found: sqlite3.Row | None = connection.execute("SELECT code, day, start FROM session WHERE code = ?",
-                                                   [session]).fetchone()
-    if found is None:
-        codes = [code for code, in connection.execute("SELECT code FROM session ORDER BY day, start, code")]
-        raise Trouble(f"there is no session {session}; the office has {', '.join(codes[:20]) or 'none'}"
-                      + (" .." if len(codes) > 20 else ""))
-    return found

@@ -15,11 +15,11 @@ from exam_desk import facts, files
 from exam_desk.names import name_order
 from exam_desk.reading import Reading, Sitting
 from exam_desk.trouble import Trouble
-from exam_desk.words import plain
+from exam_desk.words import few, plain
 
-HEADER = ["tell", "session", "number", "name",
-          "old date", "old start", "old finish", "old paper", "old hall", "old desk",
-          "date", "start", "finish", "paper", "hall", "desk", "paper title", "hall title", "old name"]
+COLUMNS = ["date", "start", "finish", "paper", "hall", "desk"]
+HEADER = ["tell", "session", "number", "name", *(f"old {name}" for name in COLUMNS), *COLUMNS, "paper title",
+          "hall title", "old name"]
 KINDS = {  # the gravest first; what one does and what several do
     "loses": ("loses the desk", "lose their desks"),
     "lacks": ("joins a session without a desk", "join a session without a desk"),
@@ -103,9 +103,7 @@ def place(sitting: Sitting) -> str:
 
 def columns(sitting: Sitting | None) -> list[str]:
     """Those of the CSV."""
-    if sitting is None:
-        return [""] * 6
-    return [sitting.date, sitting.start, sitting.finish, sitting.paper, sitting.hall or "", str(sitting.desk or "")]
+    return [str(getattr(sitting, name, None) or "") for name in COLUMNS]
 
 
 def touched(before: Reading, after: Reading) -> Touched:
@@ -149,7 +147,7 @@ def differences(before: Reading, after: Reading, asked: Collection[str] = ()) ->
     sessions = all_sessions(before, after)
     for code in asked:
         if code not in sessions:
-            raise Trouble(f"there is no session {code}; the office has {', '.join(sessions[:20])}")
+            raise Trouble(f"there is no session {code}; the office has {few(sessions, 20)}")
     found = touched(before, after)
     return of_touched(before, after, {code: found[code] for code in found if not asked or code in asked})
 

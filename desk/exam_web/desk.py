@@ -119,10 +119,11 @@ def sums(view: View) -> dict[str, Sums]:
 
 @once
 def two_papers(view: View) -> dict[str, dict[int, str]]:
-    """By session the numbers of those who have two live entries in it, each with these papers."""
-    found: dict[str, dict[int, str]] = {}
+    """By session, in the order of their days, the numbers of those who have two live entries in it, each with these
+    papers."""
+    found: dict[str, dict[int, str]] = {code: {} for code, *_ in facts.sessions(view.reading.rows)}
     for code, number, papers in view.rows(AT_ONCE):
-        found.setdefault(code, {})[number] = papers
+        found[code][number] = papers
     return found
 
 

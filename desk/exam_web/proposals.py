@@ -80,6 +80,7 @@ class Effects:
                          if code not in was or NUMBERS(was[code]) != NUMBERS(each)]
         self.short = sum(max(0, each.short - (old.short if old else 0)) for old, each in self.sessions)
         self.clashes, self.overlaps = new_clashes(before, after), named(now, overlaps.new(then, now, [*met]))
+        self.out_of_date = consequences.out_of_date(now.office, changes)
         self.titles = telling.titles_of(then, now)
 
     def csv(self, name: str) -> Response:

@@ -90,7 +90,7 @@ def broken_off() -> Iterator[Attention]:
 def open_appeals() -> list[Attention]:
     kinds: dict[tuple[str, str], Counter[str]] = {}
     for kind, code, day in view().rows("SELECT kind, session, day FROM appeal JOIN session ON session.code = session "
-                                       "WHERE state = 1"):
+                                       "WHERE state = 1 ORDER BY day, start, session"):
         kinds.setdefault((appeals.to_decide(day), code), Counter())[appeals.KINDS[kind]] += 1
     return [Attention("late" if days_until(last) < 0 else "now" if days_until(last) <= URGENT else "soon", last,
                       "appeals", url_for("appeals.page", _anchor=code),

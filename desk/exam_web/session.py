@@ -46,7 +46,7 @@ SHEETS = {
     "doors": Sheet("Invigilators' sheets to sign", papers.doors, True),
     "poster": Sheet("Posters for doors", papers.poster),
     "cards": Sheet("Desk cards", papers.cards, True), "chart": Sheet("Seating charts", papers.chart, True),
-    "slips": Sheet("Slips for candidates", lambda reading, session: slips.page(
+    "slips": Sheet("Slips for candidates, with desk numbers", lambda reading, session: slips.page(
         reading, slips.Choice(sessions=[session], desks=True))),
     "board": Sheet("Notice board by name", papers.board), "counts": Sheet("Copies of each paper", papers.counts),
 }
@@ -99,10 +99,14 @@ class Session:
         """What the program says of some members."""
         return view().reading.members(self.code, numbers)
 
-    def absent(self) -> list[Member]:
-        """Who is noted as absent; a copy from before somebody came may have been put back."""
-        noted = notebook.absent(desk().office, self.code) & facts.candidate_names(view().reading.rows).keys()
-        return self.members(sorted(map(int, noted)))
+    def is_to_come(self) -> bool:
+        return notebook.is_to_come(desk().office, self.sums.day)
+
+    def absent(self) -> list[Member] | None:
+        """Who is noted as absent, if anything is; a copy from before somebody came may have been put back."""
+        noted = notebook.absent(desk().office, self.code)
+        known = facts.candidate_names(view().reading.rows).keys()
+        return None if noted is None else self.members(sorted(map(int, noted & known)))
 
 
 @pages.get("/sessions/<code>")
@@ -112,7 +116,8 @@ def page(code: str) -> str:
     lodged = view().rows("SELECT appeal.*, name FROM appeal JOIN candidate ON candidate.number = appeal.number "
                          "WHERE session = ? ORDER BY state, appeal.number, ref LIMIT ?", [code, MOST_PEOPLE + 1])
     return render_template("session.html", shown=shown, s=shown.sums, lodged=lodged, previous=before, next=after,
-                           shortage=shortage(view(), code) if shown.sums.short else None, most=MOST_PEOPLE)
+                           shortage=shortage(view(), code) if shown.sums.short else None, most=MOST_PEOPLE,
+                           to_come=shown.is_to_come())
 
 
 @once
@@ -163,7 +168,7 @@ def hall_page(code: str, hall: str) -> str:
     return render_template("hall.html", s=shown.sums, opening=opening, rows=rows, desks=desks, members=members,
                            by_desk={member.sitting.desk: member for member in members}, desk_width=WIDTH,
                            desk_height=HEIGHT, codes=[row["code"] for row in shown.papers()],
-                           absent=notebook.absent(desk().office, code))
+                           absent=notebook.absent(desk().office, code) or (), to_come=shown.is_to_come())
 
 
 def standing(found: Opening) -> Rows:
@@ -199,7 +204,7 @@ def note_absent(code: str) -> Response:
     typed = request.form.get("numbers", "").replace(",", " ").split()
     there = set(request.form.getlist("listed")).difference(ticked)
     try:
-        found = notebook.note_absent(view().reading, code, [*ticked, *typed], there)
+        found = notebook.note_absent(view().reading, code, [*ticked, *typed], there, "nobody" in request.form)
     except Trouble as trouble:
         raise Wrong(shown.page, "absent", numbers=said(trouble.sentence)) from None
     told = many(len(found), "{count} candidate is noted as absent in {session}.",

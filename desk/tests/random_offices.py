@@ -22,12 +22,12 @@ from cells import Cells
 from moments import at_one_time, of_candidate
 
 from exam_desk import overlaps, reasons, telling  # beside the tests' folder
+from exam_desk.facts import session_row
 from exam_desk.names import fold, name_order
 from exam_desk.office import Office
 from exam_desk.reading import Reading
 from exam_desk.sheets import papers, printing, slips, texts
 from exam_desk.sheets.session_page import Page
-from exam_desk.snapshot import session_row
 from exam_desk.words import FEATURES, plain
 
 TODAY = datetime.date(2027, 5, 1)
@@ -205,7 +205,7 @@ class RandomOffice:
         with Reading(self.office) as reading, Reading(self.office, os.path.join(self.before, "office.db")) as before:
             self.titles = telling.titles_of(reading)
             for session in self.sessions:
-                for look in (self.doors, self.board, self.counts, self.session_page, self.printed, self.reasons):
+                for look in (self.doors, self.by_name, self.counts, self.session_page, self.printed, self.reasons):
                     look(reading, session)
             self.slips(reading)
             self.summary(reading)
@@ -242,13 +242,20 @@ class RandomOffice:
                               f"|{hall}, page {place} of {len(parts)}|{counted}"):
                     assert words in table[0][0], (words, table[0])
 
-    def board(self, reading, session):
+    def by_name(self, reading, session):
+        """The notice board, and the posters of the halls: namesakes of the session have their numbers on both."""
         seats = sorted(self.now[session].items(), key=lambda each: name_order(each[1].name, each[0]))
         names = collections.Counter(fold(seat.name) for _, seat in seats)
-        wanted = [[plain(seat.name) + (f" {number}" if names[fold(seat.name)] > 1 else ""),
-                   *(["ask the office", ""] if seat.hall == "-" else [seat.hall, seat.desk])]
-                  for number, seat in seats]
+        shown = [(plain(seat.name) + (f" {number}" if names[fold(seat.name)] > 1 else ""), seat)
+                 for number, seat in seats]
+        wanted = [[name, *(["ask the office", ""] if seat.hall == "-" else [seat.hall, seat.desk])]
+                  for name, seat in shown]
         equal(Cells(page := papers.board(reading, session)).rows[2:], wanted, "board", page)
+        posters = [[[name, seat.desk] for name, seat in shown if seat.hall == hall]
+                   for hall in sorted({seat.hall for _, seat in seats} - {"-"})]
+        sheets = (page := papers.poster(reading, session)).split("<div class=sheet>")[1:]
+        equal([Cells(sheet).rows[1:] for sheet in sheets], posters, "poster", page)
+        self.compared["namesakes"] += sum(names[fold(seat.name)] > 1 for _, seat in seats)
 
     def counts(self, reading, session):
         copies, total = collections.Counter(), collections.Counter()

@@ -164,7 +164,7 @@ class Verdicts(sample.SampleSchool):
         said = self.run_office("check-files", "facts", OFFICE=os.path.join(self.folder, "no.db")).stdout
         self.assertIn("candidates.csv line 5: number '1051': leading zeros lost? 0001051 (seven", said)
         self.assertIn(line, said)
-        self.assertRegex(said, "\n7 files, [1-9][0-9]* mistakes, 0 notes\n$")
+        self.assertRegex(said, "\n7 files, [1-9][0-9]* mistakes?, 0 notes\n$")
 
     def test_files_at_random(self):
         with tempfile.TemporaryDirectory() as folder, random_files.schools(folder, SEED) as schools:
@@ -298,7 +298,7 @@ class Big(unittest.TestCase):
                 big_files.write(os.path.join(folder, f"{big_files.BIG[name][0]}.csv"), name, "with a header", 1 << 20)
                 took = big_files.took(["office", "check-files", folder], OFFICE=os.path.join(folder, "none.db"))
                 self.assertFalse(took.is_bad(), took)
-                self.assertRegex(took.said, "\n1 files, [0-9]+ mistakes, [0-9]+ notes\n$")
+                self.assertRegex(took.said, "\n1 file, [0-9,]+ mistakes?, [0-9,]+ notes?\n$")
 
 
 if __name__ == "__main__":

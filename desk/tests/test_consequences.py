@@ -155,6 +155,31 @@ class Told(sample.SampleSchool):
         self.assertIn(f"NOTE: once imported: 5 have other access codes{lost}\n", self.office("check-files", "."))
         self.assertEqual(self.told("import", "candidates", several), [f"5 have other access codes{lost}"])
 
+    def test_printed_papers_are_out_of_date(self):
+        """Where a desk is another by the change than on paper; in no other hall, and only if somebody noted them."""
+        self.assertNotIn("printed", "\n".join(self.told("withdraw", "0001000", "MA-1")))
+        self.told("reinstate", "0001000", "MA-1")
+        self.office("printed", "MON-AM")
+        self.office("printed", "TUE-AM")
+        words = ["withdraw", "0001306", "LAT"]  # sits MA-2 instead; both in the same hall, where 13 others move up
+        would = self.office("what-if", *words)
+        self.assertIn("1 session has printed papers that are out of date\n  MON-AM for AULA: afterwards "
+                      "`office printed MON-AM --look`\n", would)
+        lines = self.told(*words)
+        self.assertEqual(lines[0], "1 session has printed papers that are out of date: MON-AM for AULA")
+        self.assertEqual(lines[-1], "`office changes 1; office printed MON-AM --look` lists them")
+        self.assertIn("to print again: AULA\n", self.office("printed", "MON-AM", "--look"))
+        self.assertNotIn("printed", "\n".join(self.told("name", "0001306", "Another Name")))
+        self.assertNotIn("printed", "\n".join(self.told("back", "2", "--yes")))  # all desks are as on paper again
+        lines = self.told("close-hall", "MON-AM", "GYM")
+        [line] = [line for line in lines if "printed papers" in line]
+        halls = line.removeprefix("1 session has printed papers that are out of date: MON-AM for ").split(", ")
+        self.assertIn("GYM", halls)
+        shown = self.office("printed", "MON-AM", "--look").splitlines()
+        listed = [part for line in shown if line.startswith("to ") for part in line.partition(": ")[2].split(", ")]
+        self.assertEqual(sorted(listed), halls)
+        self.assertLess([line.partition(" ")[2][:4] for line in lines].index("lose"), lines.index(line))
+
     def test_what_if_says_the_same_before(self):
         words = ["close-hall", "MON-AM", "GYM"]
         would = [line for line in self.office("what-if", *words).split("\n") if re.match("[0-9]", line)]

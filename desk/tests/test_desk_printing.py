@@ -1,6 +1,8 @@
 """Papers at the desk in a browser, and what it keeps beside the office: each is that of the commands."""
+import contextlib
 import html
 import re
+import sqlite3
 import unittest
 
 import sample
@@ -62,12 +64,48 @@ class TestPrinting(DeskSchool):
         found = self.browser.words(self.PRINTED + "?piece")
         self.assertIn("out of date: " + halls.removeprefix("to print again: ") + " ", found)
         self.assertIn("PC1", halls)
-        self.assertIn("And of the whole session: Posters for doors , Slips for candidates , Notice board by name ,",
-                      found)
+        self.assertIn("And of the whole session: Posters for doors , Slips for candidates, with desk numbers , "
+                      "Notice board by name ,", found)
         self.assertIn(f"{len(moves)} candidates have another desk", found)
         for move in moves:
             number, _, was = re.match(r"(\d{7}) (.*): .*, was (.*)", move).groups()
             self.assertRegex(found, rf"{number} {was.replace(' ', ' desk ')} ")
+
+    def test_sessions_go_by_day_and_start(self):
+        """In what a change did, in the form that lodges an appeal, and in what the season asks for."""
+        for kind, rows in (("sessions", "session,date,start\nZ-1,2027-06-07,07:30\nA-9,2027-06-09,09:00\n"),
+                           ("papers", "paper,title,session,minutes,requires\nZA,Z,Z-1,60,-\nZB,Z,Z-1,60,-\n"
+                            "AA,A,A-9,60,-\nAB,A,A-9,60,-\n"),
+                           ("entries", "number,paper\n0001051,ZA\n0001051,ZB\n0001051,AA\n0001051,AB\n")):
+            self.run_office("import", kind, self.write("new.csv", rows))
+        with contextlib.closing(sqlite3.connect(self.path)) as file:
+            file.executemany("INSERT INTO appeal VALUES (?, 'R', ?, 3, '', 4, 0, '', 1, NULL, '2027-04-01')",
+                             [(1000, "MON-AM"), (1051, "Z-1")])
+            file.commit()
+        copy = re.search(r"/office/copies/\w+", self.browser.get("/office"))[0]
+        clashes = self.browser.get(copy).partition("Two papers at once anew")[2].partition("</table>")[0]
+        self.assertEqual(re.findall(r'<td class="w">([ZA]-\d)</td>', clashes), ["Z-1", "A-9"])
+        form = self.browser.get("/candidates/1051").partition('<select name="session"')[2].partition("</select>")[0]
+        self.assertEqual(re.findall(r"<option[^>]*>([^<]*)", form), ["Z-1", "MON-AM", "MON-PM", "TUE-AM", "A-9"])
+        self.assertEqual(re.findall(r'href="[^"]*/appeals#([^"]*)"', self.browser.get("/")), ["Z-1", "MON-AM"])
+
+    def test_a_rehearsal_says_which_printed_papers_would_be_out_of_date(self):
+        """The halls that `office printed --look` names once it is done; nothing where nobody noted what is printed."""
+        line = "Printed papers {} out of date: MON-AM ({})"
+        rehearse = "/propose/withdraw", "/candidates/1051"
+        page, _ = self.browser.post(*rehearse, number="0001051", paper="CS-1")
+        self.assertNotIn("Printed papers", self.browser.words(page))
+        self.office("printed", "MON-AM")
+        page, _ = self.browser.post(*rehearse, number="0001051", paper="CS-1")
+        shown = self.browser.words(page)
+        self.browser.post(page + "/do", page)
+        *_, again = self.office("printed", "MON-AM", "--look").splitlines()
+        halls = again.removeprefix("to print again: ")
+        self.assertIn("PC1", halls.split(", "))
+        self.assertIn(line.format("would be", halls), shown)
+        self.assertIn(line.format("are", halls), self.browser.words(page))
+        page, _ = self.browser.post(*rehearse, number="0001051", paper="PH-1")
+        self.assertNotIn("Printed papers", self.browser.words(page))
 
     def test_a_picture_is_described_without_tags(self):
         text = self.browser.get("/sessions/MON-AM/halls/PC1")
@@ -104,35 +142,20 @@ class TestPrinting(DeskSchool):
         self.assertEqual((self.office("notes"), self.browser.get("/candidates/notes")), ("", ""))
         self.browser.post("/candidates/9999999/note", "/candidates/1051", 404, note="x")
 
-    def test_who_was_absent(self):
+    def test_who_was_absent_before_the_day(self):
         page = "/sessions/MON-AM"
-        before = self.seats()
-        self.browser.post(page + "/absent", page, numbers="0001051, 0001119 ")
-        self.assertIn("2 candidates are noted as absent in MON-AM", self.browser.words(page))
-        self.browser.post(page + "/absent", page + "/halls/PC1", absent=["0001051"], listed=["0001051", "0001119"])
-        text = self.browser.get(page + "/halls/PC1")
-        self.assertEqual(re.findall(r'value="(\d{7})"[^>]*checked', text), ["0001051"])
-        self.assertEqual(self.browser.ask("GET", page + "/attendance.csv")[1], self.office("absent", "MON-AM"))
-        self.assertIn('"0001051","CS-1","absent"', self.office("absent", "MON-AM"))
-        for wrong in ("1051", "9999999", "0001051 x"):
-            _, text = self.browser.post(page + "/absent", page, 422, numbers=wrong)
-            self.assertRegex(text, 'name="numbers"[^>]*aria-invalid="true"')
-        self.browser.post("/sessions/NONE/absent", page, 404, numbers="0001051")
-        self.browser.post(page + "/absent", page, listed=["0001051"])
-        self.assertNotIn('"absent"', self.office("absent", "MON-AM"))
-        self.assertEqual(self.seats(), before)
-
-    def test_who_was_absent_and_is_gone(self):
-        page = "/sessions/MON-AM"
-        self.office("absent", "MON-AM", "0001051")
-        self.office("withdraw", "0001051", "CS-1")
-        self.office("withdraw", "0001051", "LAT")
-        self.assertIn("0001051", notebook.absent(self.value, "MON-AM"))
-        self.assertNotIn('name="listed"', self.browser.get(page))
-        self.browser.post(page + "/absent", page, numbers="0001119")
-        self.assertIn("0001119", notebook.absent(self.value, "MON-AM"))
-        notebook.keep_absent(self.value, "MON-AM", ["9999999"], [])
-        self.assertNotIn("9999999", self.browser.words(page))
+        self.assertIn("It can be noted from Mon 7 Jun 2027 on.", self.browser.words(page))
+        for text in (self.browser.get(page), self.browser.get(page + "/halls/PC1")):
+            self.assertNotIn("Note who was absent", text)
+            self.assertNotIn("attendance.csv", text)
+            self.assertNotIn('name="absent"', text)
+        for values in ({"numbers": "0001051"}, {"nobody": "1"}, {"listed": ["0001051"]}):
+            _, text = self.browser.post(page + "/absent", page, 422, **values)
+            self.assertIn("nobody can have been present or absent before that day", text)
+        answer, text = self.browser.ask("GET", page + "/attendance.csv")
+        self.assertNotEqual(answer.status, 200)
+        self.assertIn("nobody can have been present or absent before that day", text)
+        self.assertIsNone(notebook.absent(self.value, "MON-AM"))
 
     def test_how_a_hall_is_drawn(self):
         page = "/sessions/MON-AM/halls/GYM"
@@ -169,6 +192,51 @@ class TestPrinting(DeskSchool):
         """Where a desk stands whose numbers run across and back, 83 by 43 from one to the next."""
         row, column = divmod(number - 1, across)
         return 2 + 83 * (across - 1 - column if row % 2 else column), 2 + 43 * row
+
+
+class TestTheDay(DeskSchool):
+    """Who did not come, on the day of the session."""
+    NOTHING_NOTED = "Nobody has noted who was absent: the list has all as present."
+
+    def start(self):
+        self.environment["TODAY"] = "2027-06-07"
+        super().start()
+
+    def test_who_was_absent(self):
+        page = "/sessions/MON-AM"
+        before = self.seats()
+        self.assertIn(self.NOTHING_NOTED, self.browser.words(page))
+        self.browser.post(page + "/absent", page, numbers="1051, 0001119 ")
+        said = self.browser.words(page)
+        self.assertIn("2 candidates are noted as absent in MON-AM", said)
+        self.assertNotIn(self.NOTHING_NOTED, said)
+        self.browser.post(page + "/absent", page + "/halls/PC1", absent=["0001051"], listed=["0001051", "0001119"])
+        text = self.browser.get(page + "/halls/PC1")
+        self.assertEqual(re.findall(r'value="(\d{7})"[^>]*checked', text), ["0001051"])
+        self.assertEqual(self.browser.ask("GET", page + "/attendance.csv")[1], self.office("absent", "MON-AM"))
+        self.assertIn('"0001051","CS-1","absent"', self.office("absent", "MON-AM"))
+        for wrong in ("x1051", "9999999", "0001051 x", ""):
+            _, text = self.browser.post(page + "/absent", page, 422, numbers=wrong)
+            self.assertRegex(text, 'name="numbers"[^>]*aria-invalid="true"')
+        self.browser.post("/sessions/NONE/absent", page, 404, numbers="0001051")
+        self.browser.post(page + "/absent", page, listed=["0001051"])
+        self.assertIn(self.NOTHING_NOTED, self.browser.words(page))
+        self.browser.post(page + "/absent", page, nobody="1")
+        self.assertNotIn(self.NOTHING_NOTED, self.browser.words(page))
+        self.assertNotIn('"absent"', self.office("absent", "MON-AM"))
+        self.assertEqual(self.seats(), before)
+
+    def test_who_was_absent_and_is_gone(self):
+        page = "/sessions/MON-AM"
+        self.office("absent", "MON-AM", "0001051")
+        self.office("withdraw", "0001051", "CS-1")
+        self.office("withdraw", "0001051", "LAT")
+        self.assertIn("0001051", notebook.absent(self.value, "MON-AM"))
+        self.assertNotIn('name="listed"', self.browser.get(page))
+        self.browser.post(page + "/absent", page, numbers="0001119")
+        self.assertIn("0001119", notebook.absent(self.value, "MON-AM"))
+        notebook.keep_absent(self.value, "MON-AM", ["9999999"], [])
+        self.assertNotIn("9999999", self.browser.words(page))
 
 
 if __name__ == "__main__":

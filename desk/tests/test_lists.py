@@ -13,7 +13,7 @@ import unittest
 
 import sample
 
-from exam_desk import files  # beside the tests' folder
+from exam_desk import appeals, files  # beside the tests' folder
 from exam_desk.reading import Reading
 from exam_desk.words import UNSHOWN
 
@@ -41,6 +41,26 @@ class Lists(sample.SampleSchool):
             with contextlib.suppress(FileNotFoundError):
                 shutil.copy2(os.path.join(self.folder, name), folder)
         return folder
+
+    def test_sessions_go_by_day_and_start(self):
+        """Whatever their codes are: on slips, in `look`, in what the program said, in appeals, and in the summary."""
+        for kind, row in (("sessions", "session,date,start\nZ-1,2027-06-07,07:30\nA-9,2027-06-09,09:00\n"
+                           "A-8,2027-06-07,16:00\n"),
+                          ("papers", "paper,title,session,minutes,requires\nZP,Z,Z-1,60,-\n"
+                           "AP,A,A-9,60,-\nBP,B,A-8,60,-\n"),
+                          ("entries", "number,paper\n0001051,ZP\n0001051,AP\n0001051,BP\n")):
+            self.run_office("import", kind, self.write("new.csv", row))
+        by_time = ["Z-1", "MON-AM", "MON-PM", "A-8", "TUE-AM", "A-9"]
+        for place, session in enumerate(sorted(by_time)):
+            self.change(APPEAL, [1051, f"R{place}", session, 3, "", 4, 0, "", 1, None, "2027-04-01"])
+        with Reading(self.value) as reading:
+            self.assertEqual([*reading.all_of("0001051")], by_time)
+        rows = csv.DictReader(self.office("slips", "--csv", "--only", "0001051").removeprefix("\ufeff").split("\n"))
+        self.assertEqual([row["session"] for row in rows], by_time)
+        shown = re.findall(r"^  2027-\S+ \S+ (\S+): (?!LAT)", self.office("look", "0001051"), re.M)
+        self.assertEqual(shown, by_time)
+        self.assertEqual(re.findall(r": (\S+) 0001051 ", self.office("appeals-open")), by_time)
+        self.assertEqual([line.split()[0] for line in self.office("summary").splitlines()[1:]], by_time)
 
     def test_changes(self):
         before = self.copy()
@@ -119,14 +139,20 @@ class Lists(sample.SampleSchool):
 
     def test_look(self):
         self.change(APPEAL, [1051, "AR1", "MON-AM", 3, "", 6, 25, "a cast \u009b2J\u202e", 3, "no proof", "2027-05-02"])
+        self.change(APPEAL, [1051, "AR0", "TUE-AM", 3, "", 0, 10, "", 2, "", "2027-05-03"])
+        self.change(APPEAL, [1051, "HA1", "MON-AM", 1, "GYM", 0, 0, "", 4, None, "2027-05-01"])
+        self.change("INSERT INTO standing VALUES (1051, 'AR0')")
         self.assertEqual(self.office("look", "1051").split("\n"), [
             "0001051 Di Berg",
             "  2027-06-07 09:00 MON-AM: CS-1 Computer science: PC1 Computer room, desk 1, until 11:00",
             "  2027-06-07 09:00 MON-AM: LAT Latin: not sat, since they sit CS-1 then",
             "  2027-06-07 13:30 MON-PM: EN-1 English language: AULA Aula, main building, desk 2, until 15:00",
-            "  2027-06-08 09:00 TUE-AM: PH-1 Physics: AULA Aula, main building, desk 11, until 11:00",
+            "  2027-06-08 09:00 TUE-AM: PH-1 Physics: AULA Aula, main building, desk 11, until 11:12, with 10 % extra "
+            "time",
+            "  appeal HA1 of 2027-05-01, MON-AM: hall GYM: retracted",
             "  appeal AR1 of 2027-05-02, MON-AM: arrangement screen+reader 25: refused",
-            "    reason: a cast ?2J?", "    answer: no proof", ""])
+            "    reason: a cast ?2J?", "    answer: no proof",
+            "  appeal AR0 of 2027-05-03, TUE-AM: arrangement - 10: granted, standing", ""])
         self.assertIn("0001051 Di Berg, access code VMGNZGEDP9\n", self.office("look", "0001051", "--codes"))
         names = re.findall(r"^\d{7} (.*)", self.office("look", "SORENSEN"), re.MULTILINE)
         self.assertEqual(names, ["Frida Sørensen", "Jonas Sørensen", "Petra Sørensen"])
@@ -304,6 +330,18 @@ class Lists(sample.SampleSchool):
                     os.kill(process.pid, number)
                     self.assertEqual(process.communicate(), (b"", b""))
                     self.assertEqual((process.returncode, os.listdir(copies)), (128 + number, []))
+
+
+class Lost(unittest.TestCase):
+    def test_what_becomes_of_an_appeal(self):
+        lodged, who = appeals.Lodged(("MON-AM", 1, "PC1"), "refused", "no"), ("0001051", "HA1")
+        for then, becomes in ((None, "gone"), (lodged._replace(asked=("TUE-AM", 1, "PC1")), "gone"),
+                              (lodged._replace(fate="open", answer=None), "open"),
+                              (lodged._replace(answer="yes"), "refused, with another answer")):
+            self.assertEqual(appeals.lost({who: lodged}, {who: then} if then else {}),
+                             [f"appeal 0001051 HA1 for MON-AM: refused -> {becomes}"])
+        self.assertEqual(appeals.lost({who: lodged}, {who: lodged}), [])
+        self.assertEqual(appeals.lost({}, {who: lodged}), [])
 
 
 class NoOffice(sample.SampleSchool):

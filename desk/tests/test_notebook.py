@@ -1,9 +1,12 @@
 """What the school keeps beside its office, and the commands for it."""
 import csv
+import dataclasses
+import datetime
 import io
 import multiprocessing
 import os
 import pathlib
+import re
 import stat
 import sys
 import tempfile
@@ -61,17 +64,17 @@ class Notebook(unittest.TestCase):
 
     def test_nothing_is_there_at_first(self):
         self.assertEqual((notebook.school_name(self.office), notebook.notes(self.office)), ("", {}))
-        self.assertEqual((notebook.printed(self.office, "S1"), notebook.absent(self.office, "S1")), ({}, set()))
+        self.assertEqual((notebook.printed(self.office, "S1"), notebook.absent(self.office, "S1")), ({}, None))
         self.assertFalse(self.place.exists())
 
     def test_notes(self):
         text = f'\ufeffnumber,text\r\n0000001,"{HOSTILE.replace(chr(34), chr(34) * 2)}"\r\n\r\n0000002,rest breaks\r\n'
         took = notebook.take_notes(self.office, self.texts(text))
-        self.assertEqual(took, (2, 0, 0, 0))
+        self.assertEqual(took, {"added": 2})
         self.assertEqual(notebook.notes(self.office), {"0000001": HOSTILE, "0000002": "rest breaks"})
         took = notebook.take_notes(self.office, {"0000001": "scribe", "0000002": "rest breaks", "0000003": ""})
-        self.assertEqual(took, (0, 1, 0, 2))
-        self.assertEqual(notebook.take_notes(self.office, {"0000001": ""}), (0, 0, 1, 0))
+        self.assertEqual(took, {"changed": 1, "same": 2})
+        self.assertEqual(notebook.take_notes(self.office, {"0000001": ""}), {"removed": 1})
         self.assertEqual(notebook.notes(self.office), {"0000002": "rest breaks"})
 
     def test_wrong_files(self):
@@ -93,13 +96,12 @@ class Notebook(unittest.TestCase):
 
     def test_printed(self):
         desks = {"0000001": Desk("A", 1), "0000002": Desk("A", 2), "0000003": Desk("B", 1)}
-        notebook.keep_printed(self.office, "S1", desks)
+        with notebook.alone(self.office) as folder:
+            notebook.write(self.office, folder, "printed.S1", desks)
         self.assertEqual((notebook.printed(self.office, "S1"), notebook.printed(self.office, "S2")), (desks, {}))
         now = {"0000002": Desk("A", 1), "0000003": Desk("B", 1), "0000004": Desk("C", 1)}
         self.assertEqual(notebook.moved(desks, now), ["0000001", "0000002", "0000004"])
-        self.assertEqual(notebook.out_of_date(desks, now), ["A", "C"])
-        self.assertEqual((notebook.moved(desks, desks), notebook.out_of_date(desks, desks)), ([], []))
-        self.assertEqual(notebook.out_of_date({"0000001": Desk("A", 1)}, {"0000001": Desk("B", 1)}), ["A", "B"])
+        self.assertEqual(notebook.moved(desks, desks), [])
 
     def test_rows(self):
         notebook.keep_rows(self.office, "A", Rows(100, "down"))
@@ -111,7 +113,24 @@ class Notebook(unittest.TestCase):
         self.assertEqual(notebook.keep_absent(self.office, "S1", ["0000002", "0000001"], []), {"0000001", "0000002"})
         self.assertEqual(notebook.keep_absent(self.office, "S1", ["0000003"], ["0000001"]), {"0000002", "0000003"})
         self.assertEqual((notebook.absent(self.office, "S1"), notebook.absent(self.office, "S2")),
-                         ({"0000002", "0000003"}, set()))
+                         ({"0000002", "0000003"}, None))
+
+    def test_nobody_is_absent_where_somebody_says_so(self):
+        notebook.keep_absent(self.office, "S1", ["0000001"], [])
+        self.assertRaisesRegex(Trouble, "since these are absent: 0000001", notebook.keep_absent, self.office, "S1", [],
+                               [], True)
+        self.assertEqual(notebook.keep_absent(self.office, "S1", [], ["0000001"]), set())
+        self.assertIsNone(notebook.absent(self.office, "S1"))
+        self.assertEqual(os.listdir(self.place), [])
+        notebook.keep_absent(self.office, "S1", [], [], True)
+        self.assertEqual(notebook.absent(self.office, "S1"), set())
+        notebook.keep_absent(self.office, "S1", ["0000002"], [])
+        self.assertEqual(notebook.absent(self.office, "S1"), {"0000002"})
+
+    def test_a_session_is_to_come_until_its_day(self):
+        office = dataclasses.replace(self.office, today=lambda: datetime.date(2027, 5, 1))
+        self.assertEqual([notebook.is_to_come(office, day) for day in ("2027-04-30", "2027-05-01", "2027-05-02")],
+                         [False, False, True])
 
     def test_for_the_user_of_the_office_alone(self):
         notebook.take_notes(self.office, {"0000001": "a"})
@@ -184,22 +203,51 @@ class Commands(sample.SampleSchool):
         self.assertEqual((self.office("school"), self.office("school", "Hill"), self.office("school")),
                          ("no name\n", "Hill\n", "Hill\n"))
 
-    def board(self):
-        return list(csv.reader(io.StringIO(self.office("absent", "MON-AM"))))
+    def board(self, note=""):
+        """The list for the exam board; and what it says on standard error begins like this."""
+        done = self.run_office("absent", "MON-AM")
+        self.assertEqual((done.returncode, done.stderr.startswith(note), bool(done.stderr)), (0, True, bool(note)))
+        return list(csv.reader(io.StringIO(done.stdout)))
+
+    def test_before_the_day_nobody_was_there(self):
+        self.environment["TODAY"] = "2027-06-06"  # a day before the session
+        for words in ([], ["0001051"], ["--there", "0001051"], ["--nobody"]):
+            self.assertEqual(self.refused("absent", "MON-AM", *words), "office: MON-AM is on 2027-06-07: nobody can "
+                             "have been present or absent before that day\n")
+        self.assertFalse(os.path.exists(os.path.join(self.desk, "notebook")))
+
+    def test_who_noted_nothing(self):
+        note = ("office: NOTE nobody has noted who was absent in MON-AM: all 60 are listed as present; `office absent "
+                "MON-AM --nobody` notes")
+        for self.environment["TODAY"] in ("2027-06-07", "2027-07-01"):
+            self.assertEqual({line[2] for line in self.board(note)[1:]}, {"present"})
+        self.assertIn("no number is given", self.refused("absent", "MON-AM", "-", stdin="\n"))
+        self.office("absent", "MON-AM", "1051")
+        self.assertEqual(self.office("absent", "MON-AM", "--there", "1051"), "0 candidates absent of 60\n")
+        self.board(note)
+        self.assertEqual(self.office("absent", "MON-AM", "--nobody"), "0 candidates absent of 60\n")
+        self.assertEqual({line[2] for line in self.board()[1:]}, {"present"})
+        self.office("absent", "MON-AM", "0001051")
+        self.assertIn("these are absent: 0001051\n", self.refused("absent", "MON-AM", "--nobody"))
+        self.assertEqual([line[0] for line in self.board() if line[2] == "absent"], ["0001051"])
 
     def test_absent(self):
-        lines = self.board()
+        self.environment["TODAY"] = "2027-06-07"
+        lines = self.board("office: NOTE")
         self.assertEqual(lines[0], ["number", "paper", "attendance"])
         self.assertEqual({line[2] for line in lines[1:]}, {"present"})
         members = [line for line in self.office("export", "MON-AM").splitlines()[1:]]
         self.assertEqual(sorted((line.split(",")[1], line.split(",")[2]) for line in members),
                          sorted((line[0], line[1]) for line in lines[1:]))
         self.assertEqual(self.office("absent", "MON-AM", "0001051"), f"1 candidate absent of {len(members)}\n")
-        self.assertEqual(self.office("absent", "MON-AM", "-", stdin="0001000\n0001017, 0001051\n"),
+        self.assertEqual(self.office("absent", "MON-AM", "-", stdin="0001000\n1017, 0001051\n"),
                          f"3 candidates absent of {len(members)}\n")
         self.office("absent", "MON-AM", "--there", "0001000")
         self.assertEqual({line[0] for line in self.board() if line[2] == "absent"}, {"0001017", "0001051"})
-        self.assertIn("nothing is noted: 1051: no candidate of MON-AM", self.refused("absent", "MON-AM", "0001000", "1051"))
+        self.assertIn("nothing is noted: 0001052: no candidate of MON-AM",
+                      self.refused("absent", "MON-AM", "0001000", "1052"))
+        for wrong in ("x1051", "00001051", "0", "١٠٥١", "10 51", "a" * 99):
+            self.assertIn(f"'{wrong[:40]}' is no candidate number", self.refused("absent", "MON-AM", "1034", wrong))
         self.assertEqual(len([line for line in self.board() if line[2] == "absent"]), 2)
         self.assertIn("there is no session MON", self.refused("absent", "MON"))
 
@@ -215,10 +263,13 @@ class Commands(sample.SampleSchool):
         self.assertIn(hall, lines[-1].removeprefix("to print again: ").split(", "))
         self.assertRegex(self.office("printed", "MON-AM"), r"^\d+ desks noted, [1-9]\d* other than before\n$")
         self.assertEqual(self.office("printed", "MON-AM", "--look"), "the papers are up to date\n")
-        self.office("close-hall", "MON-AM", hall)
-        *_, again, last = self.office("printed", "MON-AM", "--look").splitlines()
-        self.assertEqual(last, f"to take away, as nobody sits there now: {hall}")
-        self.assertNotIn(hall, again.removeprefix("to print again: ").split(", "))
+        self.office("close-hall", "MON-AM", "GYM")
+        self.office("withdraw", "0001119", "CS-1")  # so that somebody in another hall has another desk
+        *moves, again, last = self.office("printed", "MON-AM", "--look").splitlines()
+        self.assertEqual(last, "to take away, as nobody sits there now: GYM")
+        halls = {place for line in moves for place in re.findall(r"(?:: |, was )(\w+) \d+(?=,|$)", line)}
+        self.assertEqual(again, f"to print again: {', '.join(sorted(halls - {'GYM'}))}")
+        self.assertIn("PC1", again)
 
     def test_back_leaves_it_and_says_so(self):
         self.office("school", "Hill")
@@ -227,7 +278,7 @@ class Commands(sample.SampleSchool):
         self.assertNotIn("left as they are now", self.office("back", "1", "--yes"))
         self.write("notes.csv", "number,text\n0001051,scribe\n")
         self.office("notes", "notes.csv")
-        self.office("absent", "MON-AM", "0001051")
+        self.office("absent", "MON-AM", "0001051", TODAY="2027-06-07")
         self.office("school", "Dale")
         self.assertIn("left as they are now, and otherwise in the copy: absences of MON-AM, notes, the name of the "
                       "school\n", self.office("back", "2", "--yes"))

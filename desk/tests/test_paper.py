@@ -35,7 +35,10 @@ class Papers(sample.SampleSchool):
         self.assertIn("with 50 % extra time, reader", text)
         self.assertIn("<b>no desk yet: ask the office</b>", text)
         self.assertIn("desk&nbsp;1<", self.office("slips", "--desks", "MON-AM"))
-        self.assertIn("sits nothing there", self.refused("slips", "--only", "1051"))
+        self.assertEqual(self.office("slips", "--only", "1051"), self.office("slips", "--only", "0001051"))
+        self.assertIn("9999999 sits nothing there", self.refused("slips", "--only", "9999999"))
+        for wrong in ("x1051", "00001051", "000", ""):
+            self.assertIn(f"'{wrong}' is no candidate number", self.refused("slips", "--only", wrong))
         self.assertIn("no session S9", self.refused("slips", "S9"))
 
     def test_slips_by_group(self):
@@ -110,6 +113,7 @@ class Papers(sample.SampleSchool):
         self.assertEqual({row[0]: sum(int(each[2]) for each in halls if each[1] == row[0]) for row in papers},
                          {row[0]: int(row[1]) for row in papers})
         self.assertEqual([row for row in halls if row[0] == "no desk"], [["no desk", "Biology (BI-1)", "2", "11:12"]])
+        self.assertEqual(halls[-1][0], "no desk")
         self.assertIn(["Library (LIB)", "Chemistry (CH-1)", "1", "12:00"], halls)
 
     def test_session_page(self):

@@ -76,6 +76,20 @@ class Posters(sample.SampleSchool):
         self.assertIn("Hill &lt;School&gt;", text)
         self.assertIn("there is no session S9", self.refused("poster", "S9"))
 
+    def test_namesakes_of_the_session_have_their_numbers(self):
+        """In another hall, too, and where one has no desk; however they write their name."""
+        seats = self.seats()
+        one, other, lone = (next(number for number, (hall, _) in sorted(seats.items()) if hall == code)
+                            for code in ("AULA", "GYM", "LIB"))
+        [without] = [line.split(",")[1] for line in self.office("export", "MON-AM").splitlines()[1:]
+                     if line.split(",")[3] == "-"][:1]
+        for number, name in ((one, "Zoe Quist"), (other, "zoé QUIST"), (lone, "Yves Lone"), (without, "Yves Lone")):
+            self.change("UPDATE candidate SET name = ? WHERE number = ?", (name, int(number)))
+        text, rows = self.page("poster", "MON-AM")
+        names = [name for name, *_ in rows if "quist" in name.lower() or "Lone" in name]
+        self.assertEqual(names, [f"Zoe Quist {one}", f"zoé QUIST {other}", f"Yves Lone {lone}"])
+        self.assertEqual(sorted(re.findall(r"\b0001\d{3}\b", text)), sorted([one, other, lone]))
+
     def test_cards(self):
         text, _ = self.page("cards", "MON-AM")
         seats, names = self.seats(), self.names()

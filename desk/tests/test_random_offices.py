@@ -17,7 +17,7 @@ class RandomOffices(unittest.TestCase):
             with self.subTest(seed=seed), tempfile.TemporaryDirectory(prefix="office-test-") as folder:
                 counts += random_offices.look_at(folder, seed)
         for what in ("members", "without a desk", "arrangements", "clashes", "appeals", "granted", "standing",
-                     "changes", "overlaps"):
+                     "changes", "overlaps", "namesakes"):
             self.assertGreater(counts[what], 10 if what != "overlaps" else 0, what)
 
 

@@ -13,10 +13,10 @@ import sample
 from cells import Cells
 
 from exam_desk import reasons, telling  # beside the tests' folder
+from exam_desk.facts import session_row
 from exam_desk.reading import Reading
 from exam_desk.sheets import papers, printing, slips, texts
 from exam_desk.sheets.session_page import Page
-from exam_desk.snapshot import session_row
 from exam_desk.trouble import Trouble
 
 SESSION, NUMBER, NAME = "MON-AM", "0001153", "Jana Roe"

@@ -15,14 +15,15 @@ from exam_desk.office import Office
 from exam_desk.words import plain
 
 STYLES = os.path.join(os.path.dirname(__file__), "styles")
-DOCUMENT = ('<!doctype html>\n<html lang="en"><head><meta charset="utf-8"><title>{}</title>\n<style>{}</style></head>\n'
+DOCUMENT = ('<!doctype html>\n<html lang="en"><head><meta charset="utf-8">'
+            '<meta name="viewport" content="width=device-width"><title>{}</title>\n<style>{}</style></head>\n'
             "<body>\n{}</body></html>\n")
 HEAD = re.compile("(?:([a-z]+):)?(.*)")  # of a column: its kind, if it has one, and its words
 
 
 def html(form: str, *values: object) -> Markup:
     """A form of HTML with each value put in at a `{}`."""
-    return Markup(form.format(*map(safe, values)))
+    return Markup(form.format(*(value if isinstance(value, int) else safe(value) for value in values)))
 
 
 def safe(value: object) -> Markup:
@@ -71,9 +72,9 @@ def style(*names: str) -> Markup:
     return Markup(found)
 
 
-def document(title: str, body: Markup, name: str) -> str:
-    """A page of A4 with the style of this name, besides that of all paper."""
-    return str(html(DOCUMENT, title, style("page", "paper", name), body))
+def document(title: str, body: Markup, *names: str) -> str:
+    """A page of A4 with the styles of these names."""
+    return str(html(DOCUMENT, title, style("page", *names), body))
 
 
 def school(office: Office, behind: str = "") -> Markup:

@@ -5,9 +5,8 @@ Who asks for halls gets their sheets alone, as `lists.halls` has them. Besides, 
 from __future__ import annotations
 
 import unicodedata
-from collections import Counter
-from collections.abc import Callable, Collection, Iterable, Iterator, Mapping, Sequence
-from typing import NamedTuple
+from collections import Counter, defaultdict
+from collections.abc import Collection, Iterable, Iterator, Mapping, Sequence
 
 from markupsafe import Markup
 
@@ -17,7 +16,6 @@ from exam_desk.notebook import Desk, Rows
 from exam_desk.office import Office
 from exam_desk.reading import Member, Reading, Sitting
 from exam_desk.sheets.pages import document, html, joined, safe, school, table, text, titled
-from exam_desk.snapshot import session_row
 from exam_desk.telling import Change
 from exam_desk.trouble import Trouble
 from exam_desk.words import clock, long_day, short_day
@@ -43,9 +41,7 @@ ROW, HEADING, LAST = 9.05, 16.0, 11.5  # heights of a row, of a heading without 
 NAME, ARRANGEMENT, TITLES = 50.0, 34.0, 90.0  # widths of these texts
 WIDE = "WFA"  # letters that are as wide as high, or may be
 MARKS = {"Mn", "Me", "Cf"}  # stand over other letters, or nowhere
-
-Copies = tuple[bool, str, str]  # whether there is no desk, the hall, the paper
-
+Row = tuple[list[object], float]  # the cells of a candidate, and how high they are
 
 class NotDrawn(Trouble):
     """Nobody has said how the desks of halls stand."""
@@ -57,14 +53,14 @@ class NotDrawn(Trouble):
 
 
 def when(reading: Reading, session: str) -> Markup:
-    head = session_row(reading.rows, session)
+    head = facts.session_row(reading.rows, session)
     return html("{}, {} ({})", long_day(head["day"]), clock(head["start"]), session)
 
 
 def of_desks(title: str, sheets: Iterable[Markup], name: str) -> str:
     """A document of sheets on who has a desk, each on pages of its own."""
     found = joined(html("<div class=sheet>{}</div>\n", sheet) for sheet in sheets)
-    return document(title, found or Markup("<p>Nobody has a desk.</p>\n"), name)
+    return document(title, found or Markup("<p>Nobody has a desk.</p>\n"), "paper", name)
 
 
 def desk(member: Member, before: Mapping[str, Desk]) -> Markup:
@@ -76,31 +72,36 @@ def desk(member: Member, before: Mapping[str, Desk]) -> Markup:
     return html("{} <small>{}</small>", now.desk, words)
 
 
-def board(reading: Reading, session: str) -> str:
-    """A notice board, by name, with the numbers of namesakes alone."""
-    members = lists.by_name(reading.members(session))
+def named(members: Collection[Member]) -> dict[str, Markup]:
+    """The names of all members of a session by their numbers, which stand beside the names of namesakes alone."""
     names = Counter(fold(member.name) for member in members)
+    return {number: text(name) + (html(" <small class=w>{}</small>", number) if names[fold(name)] > 1 else "")
+            for number, name, _ in members}
+
+
+def board(reading: Reading, session: str) -> str:
+    """A notice board, by name."""
+    members = lists.by_name(reading.members(session))
+    names = named(members)
     titles, printed = facts.hall_titles(reading.rows), notebook.printed(reading.office, session)
     used = sorted({member.sitting.hall for member in members if member.sitting.hall})
     legend = joined((html("<b>{}</b> {}", code, text(titles[code])) for code in used), "<br>")
     moment = when(reading, session)
     rows = []
     for member in members:
-        number = html(" <small class=w>{}</small>", member.number) if names[fold(member.name)] > 1 else ""
         hall: list[object] = [member.sitting.hall, desk(member, printed)]
-        rows.append([text(member.name) + number,
-                     *(hall if member.sitting.hall else [Markup("<b>ask the office</b>"), ""])])
+        rows.append([names[member.number], *(hall if member.sitting.hall else [Markup("<b>ask the office</b>"), ""])])
     body = html(BOARD, school(reading.office, "<br>"), moment, legend,
                 table(["Name", "w:Hall", "n:Desk"], rows, moment))
-    return document(f"Notice board {session}", body, "board")
+    return document(f"Notice board {session}", body, "paper", "board")
 
 
 def poster(reading: Reading, session: str) -> str:
     """Posters for the doors: each hall from a page of its own on, names with desks and nothing private."""
-    moment, name = when(reading, session), school(reading.office, " &middot; ")
+    moment, name, names = when(reading, session), school(reading.office, " &middot; "), named(reading.members(session))
     return of_desks(f"Posters {session}", (
         html(POSTER, text(opening.title), moment, name, opening.hall, lists.count(len(there), "candidate"),
-             table(["Name", "n:Desk"], [[text(each.name), each.sitting.desk] for each in lists.by_name(there)]))
+             table(["Name", "n:Desk"], [[names[each.number], each.sitting.desk] for each in lists.by_name(there)]))
         for opening, there in lists.halls(reading, session)), "poster")
 
 
@@ -153,62 +154,51 @@ def numbered(desks: int, rows: Rows) -> list[list[int | None]]:
 
 def counts(reading: Reading, session: str) -> str:
     """How many copies of each paper each hall needs, and the last finish, with boxes for spare ones and to tick."""
-    sat = [member.sitting for member in reading.members(session)]
     papers = titled(facts.paper_titles(reading.rows))
     halls = {"": Markup("<b>no desk</b>"), **titled(facts.hall_titles(reading.rows))}
-    rows = [[halls[hall], papers[code], *found, "", ""] for (_, hall, code), found in
-            copies(sat, lambda each: (each.hall is None, each.hall or "", each.paper))]
-    total = [[papers[code], *found] for (*_, code), found in copies(sat, lambda each: (False, "", each.paper))]
+    in_halls: dict[tuple[bool, str, str], list[str]] = defaultdict(list)  # the finishes; last of who has no desk
+    in_all: dict[str, list[str]] = defaultdict(list)
+    for _, _, sits in reading.members(session):
+        in_halls[sits.hall is None, sits.hall or "", sits.paper].append(sits.finish)
+        in_all[sits.paper].append(sits.finish)
+    rows = [[halls[hall], papers[code], len(found), max(found), "", ""]
+            for (_, hall, code), found in sorted(in_halls.items())]
+    total = [[papers[code], len(found), max(found)] for code, found in sorted(in_all.items())]
     above = html("{}<b>Copies</b> &emsp; {}", school(reading.office, "<br>"), when(reading, session))
-    return document(f"Copies {session}", table(COPIES, rows, above) + table(ALL_COPIES, total), "counts")
-
-
-def copies(sittings: Iterable[Sitting], key: Callable[[Sitting], Copies]) -> list[tuple[Copies, tuple[int, str]]]:
-    """For each key the copies and the last finish."""
-    finishes: dict[Copies, list[str]] = {}
-    for sitting in sittings:
-        finishes.setdefault(key(sitting), []).append(sitting.finish)
-    return [(each, (len(found), max(found))) for each, found in sorted(finishes.items())]
-
-
-class Beside(NamedTuple):
-    """What else stands on invigilators' sheets."""
-    heading: Markup
-    papers: dict[str, str]  # their titles
-    notes: dict[str, str]
-    printed: dict[str, Desk]
+    return document(f"Copies {session}", table(COPIES, rows, above) + table(ALL_COPIES, total), "paper", "counts")
 
 
 def doors(reading: Reading, session: str, asked: Collection[str] = ()) -> str:
     """Invigilators' sheets: each hall from a page of its own on, by desk."""
-    also = Beside(school(reading.office, "<br>") + when(reading, session), facts.paper_titles(reading.rows),
-                  notebook.notes(reading.office), notebook.printed(reading.office, session))
+    heading, titles = school(reading.office, "<br>") + when(reading, session), facts.paper_titles(reading.rows)
+    notes, printed = notebook.notes(reading.office), notebook.printed(reading.office, session)
     return of_desks(f"Invigilators' sheets {session}", (
-        sheet for opening, there in lists.halls(reading, session, asked) for sheet in of_door(also, opening, there)),
+        page for opening, there in lists.halls(reading, session, asked)
+        for page in of_door(heading, titles, opening, there, [row_of(member, notes, printed) for member in there])),
         "doors")
 
 
-def of_door(also: Beside, opening: facts.Opening, members: list[Member]) -> Iterator[Markup]:
+def of_door(heading: Markup, paper_titles: Mapping[str, str], opening: facts.Opening, members: list[Member],
+            found: list[Row]) -> Iterator[Markup]:
     """The pages of a hall: each is a table, whose heading says which it is."""
     counted = sorted(Counter(member.sitting.paper for member in members).items())
-    papers = joined((html("{} {}: {}", code, text(also.papers[code]), count) for code, count in counted), "<br>")
-    titles = [opening.title, *(f"{code} {also.papers[code]}" for code, _ in counted)]
-    rows, heights = zip(*(row_of(also, member) for member in members))
+    papers = joined((html("{} {}: {}", code, text(paper_titles[code]), count) for code, count in counted), "<br>")
+    titles = [opening.title, *(f"{code} {paper_titles[code]}" for code, _ in counted)]
+    rows, heights = zip(*found)
     parts = parted(heights, HEIGHT - HEADING - LINE * max(3, lines(titles, TITLES)))
     last = max(member.sitting.finish for member in members)
     for place, part in enumerate(parts, 1):
-        above = html(ABOVE, also.heading, clock(opening.until), last, lists.count(opening.desks, "desk"),
+        above = html(ABOVE, heading, clock(opening.until), last, lists.count(opening.desks, "desk"),
                      lists.count(len(members), "candidate"), text(opening.title), opening.hall, place, len(parts),
                      papers)
         yield table(DOORS, rows[part], above, BELOW if place == len(parts) else Markup())
 
 
-def row_of(also: Beside, member: Member) -> tuple[list[object], float]:
-    """The cells of a candidate, and how high they are."""
+def row_of(member: Member, notes: Mapping[str, str], printed: Mapping[str, Desk]) -> Row:
     sits = member.sitting
-    arranged = [*filter(None, (lists.allowance(sits), also.notes.get(member.number)))]
+    arranged = [*filter(None, (lists.allowance(sits), notes.get(member.number)))]
     height = 1 + LINE * max(lines([member.name], NAME), lines(arranged, ARRANGEMENT))
-    return [desk(member, also.printed), member.number, text(member.name), sits.paper, sits.finish,
+    return [desk(member, printed), member.number, text(member.name), sits.paper, sits.finish,
             joined(map(text, arranged), "<br>"), ""], max(ROW, height)
 
 
@@ -244,7 +234,7 @@ def changes(office: Office, found: Iterable[Change], titles: Mapping[str, str], 
                     html("<b>{}</b>", telling.counted(telling.KINDS[kind], [each.number for each in part])))
               for kind, part in telling.by_kind(found).items()]
     above = html("<h1>Who must be told</h1>\n<p>{}{}</p>\n", school(office, " &middot; "), since)
-    return document("Changes", above + (joined(tables) or Markup("<p>Nobody.</p>\n")), "changes")
+    return document("Changes", above + (joined(tables) or Markup("<p>Nobody.</p>\n")), "paper", "changes")
 
 
 def told(change: Change, titles: Mapping[str, str]) -> list[object]:
@@ -260,7 +250,3 @@ def sat(sits: Sitting | None, titles: Mapping[str, str]) -> Markup:
     if sits.hall:
         place = html("{} ({}), desk {}", text(titles.get(sits.hall, "")), sits.hall, sits.desk)
     return html(SAT, place, text(titles.get(sits.paper, "")), sits.paper, short_day(sits.date), sits.start, sits.finish)
-
-
-PAGES: dict[str, Callable[..., str]] = {"board": board, "cards": cards, "chart": chart, "counts": counts,
-                                        "doors": doors, "poster": poster}

@@ -13,7 +13,6 @@ from collections.abc import Callable, Iterator
 from exam_desk import facts
 from exam_desk.lists import by_desk
 from exam_desk.reading import Reading
-from exam_desk.snapshot import session_row
 from exam_desk.trouble import Trouble
 from exam_desk.words import clock, plain
 
@@ -27,7 +26,7 @@ def text(reading: Reading, session: str, lines: int, columns: int,
          progress: Callable[[str, float], None]) -> str:
     """All sheets, each page of at most so many lines of so many letters; a form feed stands between two pages. Raises
     `Trouble` where a sheet is not as the program prints it."""
-    sheets = written(reading, session_row(reading.rows, session))
+    sheets = written(reading, facts.session_row(reading.rows, session))
     compared = list(sheets)[::-math.ceil(len(sheets) / COMPARED)]
     for done, name in enumerate(compared):
         progress("sheets are compared with the program's", done / len(compared))

@@ -28,17 +28,14 @@ class Choice(NamedTuple):
     groups: Mapping[str, str] = {}  # by number: each group begins a page, in the order in which they stand here
 
 
-class Sat(NamedTuple):
-    """What a candidate sits in a session, and the papers that they miss there."""
-    sitting: Sitting
-    missed: list[str]
+Sat = tuple[Sitting, list[str]]  # what a candidate sits in a session, and the papers that they miss there
 
 
 class Slip(NamedTuple):
     person: Person
     group: str  # "" where they are in none
     note: str
-    sittings: list[Sat]
+    sat: list[Sat]
 
 
 def page(reading: Reading, choice: Choice) -> str:
@@ -48,12 +45,12 @@ def page(reading: Reading, choice: Choice) -> str:
     school = pages.school(reading.office, "<br>")
     by_group: dict[str, list[Markup]] = {}
     for each in slips_of(reading, choice):
-        rows = [row(choice, sat, papers, halls) for sat in each.sittings]
+        rows = [row(choice, *sat, papers, halls) for sat in each.sat]
         above = html("{}{}", school, heading(choice, each))
         by_group.setdefault(each.group, []).append(html("<div class=slip>{}</div>\n", pages.table(HEADS, rows, above)))
     form = "<div class=sheet><h2>{}</h2>\n{}</div>\n" if choice.groups else "{1}"
     return pages.document("Slips", joined(html(form, text(group or "in no group"), joined(found))
-                                          for group, found in by_group.items()), "slips")
+                                          for group, found in by_group.items()), "paper", "slips")
 
 
 def heading(choice: Choice, each: Slip) -> Markup:
@@ -64,11 +61,12 @@ def heading(choice: Choice, each: Slip) -> Markup:
     return html("{}{}<span>{}</span><b>{}</b>{}", code, group, each.person.number, text(each.person.name), note)
 
 
-def row(choice: Choice, sat: Sat, papers: Mapping[str, Markup], halls: Mapping[str, Markup]) -> list[object]:
+def row(choice: Choice, sits: Sitting, missed: list[str], papers: Mapping[str, Markup],
+        halls: Mapping[str, Markup]) -> list[object]:
     """When, what and where; below the paper what else holds there in small lines."""
-    sits, allowance = sat.sitting, lists.allowance(sat.sitting)
+    allowance = lists.allowance(sits)
     notes: list[object] = [f"with {allowance}"] if allowance else []
-    notes += [html("not {}, at the same time: ask the exams office", papers[code]) for code in sat.missed]
+    notes += [html("not {}, at the same time: ask the exams office", papers[code]) for code in missed]
     where = Markup("<b>no desk yet: ask the office</b>")
     if sits.hall:
         where = html("{}, desk&nbsp;{}" if choice.desks else "{}", halls[sits.hall], sits.desk)
@@ -79,15 +77,16 @@ def row(choice: Choice, sat: Sat, papers: Mapping[str, Markup], halls: Mapping[s
 def csv_text(reading: Reading, choice: Choice) -> str:
     """A row for each candidate and session, in the order of the slips. No spreadsheet finds a formula in it."""
     papers, halls = facts.paper_titles(reading.rows), facts.hall_titles(reading.rows)
-    rows = [csv_row(choice, each, sat, papers, halls) for each in slips_of(reading, choice) for sat in each.sittings]
+    rows = [csv_row(choice, each, *sat, papers, halls) for each in slips_of(reading, choice) for sat in each.sat]
     return files.BOM.decode() + files.written([HEADER, *rows])
 
 
-def csv_row(choice: Choice, each: Slip, sat: Sat, papers: Mapping[str, str], halls: Mapping[str, str]) -> list[str]:
-    person, sits = each.person, sat.sitting
+def csv_row(choice: Choice, each: Slip, sits: Sitting, missed: list[str], papers: Mapping[str, str],
+            halls: Mapping[str, str]) -> list[str]:
+    person = each.person
     values = [person.number, person.name, sits.session, sits.date, sits.start, sits.finish, sits.paper,
               papers[sits.paper], sits.hall or "", halls.get(sits.hall or "", ""), lists.allowance(sits),
-              " ".join(sat.missed), each.note, each.group, str(sits.desk or "") if choice.desks else "",
+              " ".join(missed), each.note, each.group, str(sits.desk or "") if choice.desks else "",
               person.code if choice.codes else ""]
     return [files.guarded(value) for value in values]
 
@@ -103,12 +102,12 @@ def slips_of(reading: Reading, choice: Choice) -> list[Slip]:
     slips = []
     for person in people:
         sittings = reading.all_of(person.number)
-        sat = [Sat(sittings[code], clashes[code].get(person.number, [])) for code in codes if code in sittings]
+        sat = [(sits, clashes[code].get(person.number, [])) for code, sits in sittings.items() if code in codes]
         if sat:
             slips.append(Slip(person, choice.groups.get(person.number, ""), notes.get(person.number, ""), sat))
     numbers = {each.person.number for each in slips}
     if missing := [number for number in choice.only if number not in numbers]:
-        raise Trouble(f"{missing[0]} sits nothing there; a number has seven digits")
+        raise Trouble(f"{missing[0]} sits nothing there")
     groups = [*dict.fromkeys(filter(None, choice.groups.values())), ""]
     places = {group: place for place, group in enumerate(groups)}
     return sorted(slips, key=lambda each: places[each.group])

@@ -1,7 +1,6 @@
 """What lists say as text: of a candidate, of two papers at once, of each session, of notes; and the file of titles."""
 from __future__ import annotations
 
-import contextlib
 import itertools
 import json
 import os
@@ -11,7 +10,7 @@ import tempfile
 from collections import Counter
 from collections.abc import Collection, Iterator
 
-from exam_desk import facts, lists, overlaps
+from exam_desk import appeals, facts, lists, overlaps
 from exam_desk.names import has_words, letters
 from exam_desk.office import Office
 from exam_desk.reading import Person, Reading, Sitting
@@ -24,6 +23,7 @@ CANDIDATES = "SELECT printf('%07d', number), name, code FROM candidate"
 ENTRIES = ("SELECT session.code AS session, day, start, paper.code AS paper, title, live = 1 AS live FROM entry "
            "JOIN paper ON paper.code = paper JOIN session ON session.code = session WHERE number = ? "
            "ORDER BY day, start, session.code, paper.code")
+LODGED = f"SELECT *, {appeals.IS_STANDING} AS standing FROM appeal WHERE number = ? ORDER BY lodged, ref"
 SUMMARY = "{:12} {:10} {:5} {:>7} {:>6} {:>5} {:>6} {:>6} {:>7} {:>8} {:>12}\n"
 HEADS = ["session", "date", "start", "members", "seated", "short", "desks", "free", "clashes", "overlaps",
          "open appeals"]
@@ -51,7 +51,7 @@ def asked_lines(reading: Reading, asked: str, codes: bool) -> list[str]:
             arranged = reading.rows.execute("SELECT needs, extra FROM arrangement WHERE number = ?", [number])
             said += [*entries(reading, person), *(f"  NOTE: {overlaps.line(reading, each)}" for each in twice),
                      *(f"  imported arrangement: needs {feature_text(needs)}, extra {extra}"
-                       for needs, extra in arranged), *lodged(reading, person)]
+                       for needs, extra in arranged), *lodged(reading.rows, number)]
     if len(found) > MOST_SHOWN:
         said.append(f"{len(found)} candidates; say more of the name, or the number")
     return said
@@ -75,13 +75,12 @@ def fate(row: sqlite3.Row, sitting: Sitting | None, halls: dict[str, str]) -> st
     return f"{place}, until {sitting.finish}" + (f", with {allowance}" if allowance else "")
 
 
-def lodged(reading: Reading, person: Person) -> Iterator[str]:
+def lodged(rows: Rows, number: int) -> Iterator[str]:
     """Lines on each appeal, by the day on which it was lodged."""
-    for appeal in sorted(reading.appeals(person.number), key=lambda appeal: (appeal.lodged, appeal.ref)):
-        state = appeal.state + (", standing" if appeal.standing else "")
-        yield f"  appeal {appeal.ref} of {appeal.lodged}, {appeal.session}: {appeal.kind} {appeal.subject}: {state}"
-        said = {"reason": appeal.reason, "answer": appeal.answer}
-        yield from (f"    {word}: {text}" for word, text in said.items() if text)
+    for row in rows.execute(LODGED, [number]):
+        yield (f"  appeal {row['ref']} of {row['lodged']}, {row['session']}: {appeals.KINDS[row['kind']]} "
+               f"{appeals.subject(row)}: {appeals.fate(row['state'], row['standing'])}")
+        yield from (f"    {word}: {row[word]}" for word in ("reason", "answer") if row[word])
 
 
 def papers_at_once(reading: Reading, asked: Collection[str] = ()) -> list[str]:
@@ -144,13 +143,9 @@ def titles(rows: Rows) -> str:
 
 def put_titles(path: str, content: str) -> None:
     """Writes the file whole, or leaves the one that is there."""
-    handle, making = tempfile.mkstemp(prefix=".titles-", dir=os.path.dirname(os.path.abspath(path)))
-    try:
-        with open(handle, "w", encoding="ascii") as file:
+    with tempfile.TemporaryDirectory(prefix=".titles-", dir=os.path.dirname(os.path.abspath(path))) as folder:
+        making = os.path.join(folder, "titles.json")
+        with open(making, "w", encoding="ascii") as file:
             file.write(content)
         os.chmod(making, READABLE)
         os.replace(making, path)
-    except BaseException:
-        with contextlib.suppress(FileNotFoundError):
-            os.remove(making)
-        raise
