@@ -12,7 +12,7 @@ import signal
 import sys
 from typing import TYPE_CHECKING, NamedTuple
 
-from exam_desk import beside
+from exam_desk import beside, typed
 from exam_desk.office import Office
 from exam_desk.trouble import Trouble
 from exam_desk.words import plain
@@ -20,13 +20,15 @@ from exam_desk.words import plain
 if TYPE_CHECKING:
     import argparse
     import datetime
-    from collections.abc import Callable, Iterable
+    from collections.abc import Callable, Iterable, Sequence
     from types import FrameType, TracebackType
 
+    from commands.plans import Plan
     from exam_desk.reading import Reading
     from exam_desk.snapshot import Rows
 
     Run = Callable[[argparse.ArgumentParser], int | None]
+    Make = Callable[[argparse.ArgumentParser], Plan]
 
 DESK = os.path.dirname(os.path.realpath(__file__))
 OFFICE = os.path.join(DESK, "office")
@@ -39,6 +41,7 @@ class Command(NamedTuple):
     """A command of the desk."""
     text: str  # what `--help` prints; its first line stands in the list of commands
     run: Run  # takes the words from the command line, and gives a status, or nothing where all is done
+    make: Make | None = None  # where it changes the office: takes the words, and gives what is to be done
 
 
 COMMANDS: dict[str, Command] = {}  # by name
@@ -52,18 +55,43 @@ def named(text: str) -> Callable[[Run], Run]:
     return put
 
 
+def changing(text: str) -> Callable[[Make], Make]:
+    """Makes the function below it the command of its name, which carries out the plan that it gives."""
+    def put(make: Make) -> Make:
+        COMMANDS[make.__name__.replace("_", "-")] = Command(text, lambda parser: make(parser).carry_out(), make)
+        return make
+    return put
+
+
+def parser_of(name: str, words: Sequence[str]) -> argparse.ArgumentParser:
+    """The parser of a command of the desk, which takes these words."""
+    import argparse  # here, since the program has its own
+    sys.argv = [OFFICE, *words]  # where a parser looks for them
+    return argparse.ArgumentParser(prog=f"office {name}", description=COMMANDS[name].text,
+                                   formatter_class=argparse.RawDescriptionHelpFormatter)
+
+
+def given_as_typed(parser: argparse.ArgumentParser) -> list[str]:
+    """The words of a command as they are, since a reason may look like an option; unless they ask for help alone."""
+    if sys.argv[1:2] in (["--help"], ["-h"]):
+        parser.parse_args()
+    return sys.argv[1:]
+
+
 def given(parser: argparse.ArgumentParser, *words: str) -> argparse.Namespace:
     """The words of a command, asked for as `name`, as `name?` which may be missing, as `name*` which may be several, or
     as a flag `--name`; what one is for stands behind a colon."""
     for word in words:
         name, _, meaning = word.partition(": ")
+        bare = name.rstrip("?*")
+        kind: Callable[[str], str] = typed.number if bare == "number" else str
         if name.startswith("--"):
             parser.add_argument(name, action="store_true", help=meaning)
-        elif name[-1] in "?*":
-            lacking: list[str] | None = [] if name[-1] == "*" else None
-            parser.add_argument(name[:-1], metavar=name[:-1].upper(), nargs=name[-1], default=lacking, help=meaning)
+        elif name == bare:
+            parser.add_argument(name, metavar=name.upper(), type=kind, help=meaning)
         else:
-            parser.add_argument(name, metavar=name.upper(), help=meaning)
+            parser.add_argument(bare, metavar=bare.upper(), nargs=name[-1], default=[] if name[-1] == "*" else None,
+                                type=kind, help=meaning)
     return parser.parse_intermixed_args()
 
 
@@ -130,6 +158,15 @@ def progress(text: str, part: float | None = None) -> None:
         bar = "" if part is None else f"[{'#' * full}{' ' * (BAR - full)}] "
         sys.stderr.write(f"{CLEAR}{bar}{plain(text)}" if text else CLEAR)
         sys.stderr.flush()
+
+
+def tell_broken_off() -> None:
+    """Says on standard error what the next change would say of a change that was broken off, from the end of the log."""
+    from exam_desk import logbook
+    with contextlib.suppress(OSError, Trouble):
+        if found := logbook.broken_off(office()):
+            from exam_desk import changing
+            warn(changing.way_on(office(), found))
 
 
 def tell_consequences(copy: str | None) -> None:

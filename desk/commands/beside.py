@@ -5,6 +5,7 @@ import sys
 from typing import TYPE_CHECKING
 
 import command
+from exam_desk import typed
 from exam_desk.trouble import Trouble
 from exam_desk.words import plain
 
@@ -29,7 +30,8 @@ is the one that the candidate was to sit.
 """)
 def absent(parser: ArgumentParser) -> None:
     from exam_desk import lists, notebook
-    parser.add_argument("--there", metavar="NUMBER", nargs="+", default=[], help="who is not absent after all")
+    parser.add_argument("--there", metavar="NUMBER", type=typed.number, nargs="+", default=[],
+                        help="who is not absent after all")
     given = command.given(parser, "session", "number*")
     missing, there = numbers(given.number), numbers(given.there)
     with command.reading() as reading:

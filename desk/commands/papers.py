@@ -8,6 +8,7 @@ import re
 from typing import TYPE_CHECKING
 
 import command
+from exam_desk import typed
 from exam_desk.trouble import Trouble
 
 if TYPE_CHECKING:
@@ -151,7 +152,7 @@ def slips(parser: ArgumentParser) -> None:
     from exam_desk import facts, files, lists
     from exam_desk.reading import of_few
     from exam_desk.sheets import slips
-    parser.add_argument("--only", action="append", default=[], metavar="NUMBER",
+    parser.add_argument("--only", action="append", default=[], metavar="NUMBER", type=typed.number,
                         help="this candidate; may be given again")
     parser.add_argument("--order", metavar="FILE.csv", help="number,group: by group, each on pages of its own")
     given = command.given(parser, "session*", "--codes: with the access code", "--desks: with desk numbers",
@@ -322,5 +323,5 @@ def why(parser: ArgumentParser) -> bool:
     with command.reading() as reading:
         found, printed = reasons.compared(reading, given.session)
         faults = list(found.faults(printed))
-    command.say(found.text(given.number and given.number.zfill(7)))
+    command.say(found.text(given.number))
     return warned(faults)

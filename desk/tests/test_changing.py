@@ -334,6 +334,52 @@ class Killed(Changing):
             self.assertEqual(self.state(), before)
             self.assertNotIn("broken off", self.run_office("reinstate", "0001000", "MA-1").stderr)
 
+    def test_who_looks_first_is_told(self):
+        """What reads says what the next change says, each time, and leaves the log as it is."""
+        looks = ["summary"], ["check"], ["look", "Ada"], ["changes", "1"]
+        self.office("withdraw", "0001000", "MA-1")
+        for words in looks:
+            self.office(*words)  # complains of nothing
+        self.broken_off("take", self.facts(), "--yes", before="import openings")
+        log = self.log()
+        said = {words[0]: self.run_office(*words) for words in looks}
+        self.assertEqual({done.returncode for done in said.values()}, {0})
+        self.assertEqual((self.log(), len(self.kept())), (log, 2))
+        after = self.run_office("reinstate", "0001000", "MA-2").stderr.split("\n")[0]
+        self.assertRegex(after, "^office: `take facts` of .* was broken off behind `import halls .*`: `office back` lists "
+                                "the copy of .*, before take facts, and puts it back$")
+        self.assertEqual({done.stderr for done in said.values()}, {f"{after}\n"})
+        for words in looks:
+            self.office(*words)
+
+    def test_a_change_that_is_under_way_is_not_broken_off(self):
+        going, may_end = (os.path.join(self.folder, name) for name in ("going", "may_end"))
+        program = self.program(f'[ "$2 $5" = "{self.path} close-hall" ] && touch {going} && '
+                               f'for _ in $(seq 600); do [ -e {may_end} ] && break; sleep 0.1; done')
+        line = [sample.DESK / "office", "close-hall", "MON-AM", "GYM"]
+        with subprocess.Popen(line, env={**self.environment, "EXAMOFFICE": program}, stdout=subprocess.DEVNULL,
+                              stderr=subprocess.DEVNULL) as process:
+            sample.until(lambda: os.path.exists(going))
+            self.assertEqual(self.log()[-1], ["close-hall MON-AM GYM", "begins", ""])
+            self.office("look", "Ada")
+            self.write("may_end", "")
+        self.assertEqual(process.returncode, 0)
+
+    def broken_off(self, *words, before):
+        """A command that is killed as this step begins."""
+        program = self.program(f'[ "$2 $5 $6" = "{self.path} {before}" ] && kill -9 $PPID && exit 9')
+        self.assertEqual(self.run_office(*words, EXAMOFFICE=program).returncode, -signal.SIGKILL)
+
+    def test_the_end_of_the_log_of_a_list_that_was_broken_off(self):
+        """It has the steps that have an end, and the one that has none, but no end of the list."""
+        self.broken_off("take", self.facts(), "--yes", before="import openings")
+        log = self.log()
+        self.assertEqual([line[:2] for line in log if line[0] == "take facts"], [["take facts", "begins"]])
+        self.assertEqual(log[0][2], os.path.basename(self.kept()[0]))
+        self.assertEqual([(what.split()[1], status) for what, status, _ in log[1:]], [
+            (kind, status) for kind in ("sessions", "papers", "halls") for status in ("step", "0")] + [("openings", "step")])
+        self.assertEqual(log[-1][2], "")
+
     def test_a_program_that_goes_on_after_its_command_is_waited_for(self):
         """It begins its work long after the next command has begun to wait."""
         waits = f"grep -q reinstate {self.desk}/want.lock"
@@ -379,8 +425,11 @@ class WhatIf(Changing):
     def test_back_of_a_bad_copy_and_of_none(self):
         self.office("withdraw", "0001000", "MA-1")
         self.assertIn("there is no copy 2", self.refused("what-if", "back", "2"))
-        for words in (["back"], ["back", "x"], ["back", "1", "--yes"]):
-            self.assertIn("name a copy by its number", self.refused("what-if", *words))
+        self.assertIn("`office back` changes nothing in the office", self.refused("what-if", "back"))
+        done = self.run_office("what-if", "back", "x")
+        self.assertEqual((done.returncode, done.stdout), (2, ""))
+        self.assertIn("argument NUMBER: invalid int value: 'x'", done.stderr)
+        self.assertEqual(self.office("what-if", "back", "1", "--yes"), self.office("what-if", "back", "1"))
         [copy] = self.kept()
         with contextlib.closing(sqlite3.connect(os.path.join(copy, "office.db"))) as file:
             file.execute("DELETE FROM seat WHERE number = 1017")
@@ -394,6 +443,52 @@ class WhatIf(Changing):
         self.office("migrate")
         self.office("withdraw", "0001000", "MA-1")
         self.assertIn("1 joins a session\n", self.office("what-if", "back", "2"))
+
+    def test_every_command_that_changes_the_office(self):
+        """What each says on a copy is what it says over the office then, and nobody is asked."""
+        facts = self.facts()
+        codes = self.write("new.csv", "number,name,code\n0009005,Eva,\n")
+        leave = self.write("leave.csv", "number,paper\n0001017,MA-1\n0001000,XX\n".replace("0001000,XX\n", "0001017,CS-1\n"))
+        before = self.state()
+        for words, line in ((["name", "1000", "Ada Lovelace"], r"1 has another name\n  \S+ 0001000 .*Ada Lovelace"),
+                            (["codes", codes, "--import"], "added 1 changed 0 same 0\n"),
+                            (["codes", "--new", "1051", "--import"], "1 has another access code: 0001051"),
+                            (["take", facts], "entries.csv: added 2 changed 0 same 172\n"),
+                            (["lodge", "1051", "MON-AM", "hall", "PC1", "a draught"], r"\A0001051 D1 open\n\Z"),
+                            (["migrate"], r"\A")):
+            self.assertRegex(self.office("what-if", *words), line)
+            self.assertEqual((self.state(), self.kept(), self.log()), (before, [], []), words)
+        done = self.run_office("what-if", "withdraw", "--list", leave)
+        self.assertEqual((done.returncode, done.stdout.split("\n")[:2]), (
+            1, ["line 2: withdraw 0001017 MA-1: withdrawn", "1 of 2 rows would be done"]))
+        self.assertIn("line 3: withdraw 0001017 CS-1: refused 8\n  the candidate is not entered", done.stderr)
+        self.assertIn("\n1 leaves a session\n", done.stdout)
+        self.assertEqual((self.state(), self.kept(), self.log()), (before, [], []))
+
+    def test_a_list_with_a_mistake_and_one_that_is_refused_whole(self):
+        path = self.write("leave.csv", "number,paper\n0001017,MA-1\n9999999,MA-1\n")
+        said = self.refused("what-if", "withdraw", "--list", path)
+        self.assertRegex(said, "line 3: number '9999999': .*\noffice: nothing is changed\n\\Z")
+        path = self.write("leave.csv", "number,paper\n0001017,MA-1\n")
+        done = self.run_office("what-if", "reinstate", "--list", path)
+        self.assertEqual((done.returncode, done.stdout), (1, "0 of 1 rows would be done\n"))
+        self.assertIn("line 2: reinstate 0001017 MA-1: refused 10\n", done.stderr)
+
+    def test_take_is_its_rehearsal_without_the_question(self):
+        facts = self.facts()
+        self.assertEqual(self.run_office("take", facts, stdin="n\n").stdout,
+                         self.office("what-if", "take", facts) + "import all this? [y/N] ")
+
+    def test_what_changes_nothing_is_refused_and_not_done(self):
+        self.write("candidates.csv", "number,name,code\n0009005,Eva,\n")
+        self.assertIn("`office codes` changes nothing in the office", self.refused("what-if", "codes"))
+        self.assertFalse(os.path.exists(os.path.join(self.folder, "candidates-with-codes.csv")))
+        for word in ("summary", "keep", "init", "what-if", "nothing"):
+            self.assertIn("name a command that changes the office: back, close-hall, codes, decide, import, lodge, migrate, "
+                          "name, reinstate, second-sitting, take, withdraw\n", self.refused("what-if", word))
+        self.assertIn("refused 11\n", self.refused("what-if", "lodge", "0001051", "TUE-AM", "hall", "PC1", "x"))
+        self.assertEqual(self.run_office("what-if", "take").returncode, 2)
+        self.assertIn("office name", self.office("what-if", "name", "--help"))
 
     def test_refusals(self):
         self.assertIn("refused 9\n  the entry is withdrawn already",
