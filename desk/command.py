@@ -23,43 +23,35 @@ if TYPE_CHECKING:
     from collections.abc import Callable, Iterable, Sequence
     from types import FrameType, TracebackType
 
-    from commands.plans import Plan
     from exam_desk.reading import Reading
     from exam_desk.snapshot import Rows
 
-    Run = Callable[[argparse.ArgumentParser], int | None]
-    Make = Callable[[argparse.ArgumentParser], Plan]
+    Plan = Callable[[], int | None]  # does what a command is to do, and gives its status, or nothing where all is done
+    Run = Callable[[argparse.ArgumentParser], Plan | int | None]  # takes the words, and does it, or gives the plan
 
 DESK = os.path.dirname(os.path.realpath(__file__))
 OFFICE = os.path.join(DESK, "office")
 BAR = 24  # letters of a bar that is full
 MANY, FEW = 500, 100  # of so many questions, the progress is shown after each few
+READ_AS: dict[str, Callable[[str], str]] = {"number": typed.number}  # by the name of an argument
 CLEAR = "\r\x1b[K"  # a terminal takes away the line on which it writes
 
 
 class Command(NamedTuple):
     """A command of the desk."""
     text: str  # what `--help` prints; its first line stands in the list of commands
-    run: Run  # takes the words from the command line, and gives a status, or nothing where all is done
-    make: Make | None = None  # where it changes the office: takes the words, and gives what is to be done
+    run: Run
+    changes: bool = False  # whether it can change the office
 
 
 COMMANDS: dict[str, Command] = {}  # by name
 
 
-def named(text: str) -> Callable[[Run], Run]:
+def named(text: str, changes: bool = False) -> Callable[[Run], Run]:
     """Makes the function below it the command of its name."""
     def put(run: Run) -> Run:
-        COMMANDS[run.__name__.replace("_", "-")] = Command(text, run)
+        COMMANDS[run.__name__.replace("_", "-")] = Command(text, run, changes)
         return run
-    return put
-
-
-def changing(text: str) -> Callable[[Make], Make]:
-    """Makes the function below it the command of its name, which carries out the plan that it gives."""
-    def put(make: Make) -> Make:
-        COMMANDS[make.__name__.replace("_", "-")] = Command(text, lambda parser: make(parser).carry_out(), make)
-        return make
     return put
 
 
@@ -84,7 +76,7 @@ def given(parser: argparse.ArgumentParser, *words: str) -> argparse.Namespace:
     for word in words:
         name, _, meaning = word.partition(": ")
         bare = name.rstrip("?*")
-        kind: Callable[[str], str] = typed.number if bare == "number" else str
+        kind = READ_AS.get(bare, str)
         if name.startswith("--"):
             parser.add_argument(name, action="store_true", help=meaning)
         elif name == bare:

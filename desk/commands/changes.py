@@ -11,11 +11,11 @@ from exam_desk.words import plain
 if TYPE_CHECKING:
     from argparse import ArgumentParser
 
-    from commands.plans import Plan
+    from command import Plan
     from exam_desk.office import Office
 
 
-@command.changing("""Lists the copies from before each change, or puts one back: back [NUMBER [--yes]].
+@command.named("""Lists the copies from before each change, or puts one back: back [NUMBER [--yes]].
 
     office back            the copies, the last one first: number, when, before which command
     office back 1          takes back the last change, after a question
@@ -25,7 +25,7 @@ It names each appeal and each decision that is taken away: in the question, in t
 while the question stood, it asks again. A copy of the office as it is now is kept first, so that can be taken back too.
 Notes, the name of the school, rows of desks, printed desks and absences stay as they are: it names those that were
 others in the copy.
-""")
+""", changes=True)
 def back(parser: ArgumentParser) -> Plan:
     from commands import plans
     from exam_desk import copies
@@ -33,7 +33,7 @@ def back(parser: ArgumentParser) -> Plan:
     given = command.given(parser, "--yes: do not ask")
     office = command.office()
     if given.copy is None:
-        return plans.Other(partial(list_copies, office))
+        return partial(list_copies, office)
     return plans.Back(title=f"back {given.copy}", copy=copies.chosen(office, given.copy), is_agreed=given.yes)
 
 
@@ -47,7 +47,7 @@ def list_copies(office: Office) -> None:
         print(f"{number:3}  {when}  before {plain(what)}")
 
 
-@command.changing("""\
+@command.named("""\
 Lodges an appeal at the counter, for a candidate who is there: lodge NUMBER SESSION KIND VALUE .. REASON.
 
     office lodge 0001051 MON-AM hall PC1 'a draught'               not in this hall
@@ -56,7 +56,7 @@ Lodges an appeal at the counter, for a candidate who is there: lodge NUMBER SESS
 
 It goes the candidates' way, over HTTP, with the candidate's code from the file, through `keep` where that serves. It
 makes the reference, D1, D2 and so on, and prints it with the state. Then decide it: `office decide 0001051 D1 ..`.
-""")
+""", changes=True)
 def lodge(parser: ArgumentParser) -> Plan:
     from commands import plans
     from exam_desk import typed
@@ -68,13 +68,13 @@ def lodge(parser: ArgumentParser) -> Plan:
     return plans.Lodging(words=words)
 
 
-@command.changing("""Gives a candidate another name: name NUMBER NAME
+@command.named("""Gives a candidate another name: name NUMBER NAME
 
     office name 0001051 "Ferrari, Luísa"
 
 The access code stays as it is, so a slip that is out still opens the web page. Print another one with the new name by
 `office slips --only NUMBER`.
-""")
+""", changes=True)
 def name(parser: ArgumentParser) -> Plan:
     from commands import plans
     from exam_desk import coding
@@ -82,7 +82,7 @@ def name(parser: ArgumentParser) -> Plan:
     return plans.Change([coding.renamed(command.office(), given.number, given.name)], f"name {given.number}")
 
 
-@command.changing("""Lets a candidate with two papers at once sit one of them later: second-sitting NUMBER PAPER START HALL
+@command.named("""Lets a candidate with two papers at once sit one of them later: second-sitting NUMBER PAPER START HALL
 
     office second-sitting 0000003 SP-1 10:30 C          says what would change, asks, and does it
     office second-sitting 0000003 SP-1 10:30 C --yes    without a question, for scripts
@@ -92,7 +92,7 @@ It makes a session of the same day at this start (as S1-2), a paper in it (SP-1-
 an entry, and withdraws the entry for PAPER: all of it or nothing. A second candidate with the same start and hall joins
 the session, and the paper if it is the same one. It refuses a start before the finish of the other paper, one at which
 the candidate sits something else, and a hall that does not suit. --undo leaves the session and the paper, empty.
-""")
+""", changes=True)
 def second_sitting(parser: ArgumentParser) -> Plan:
     from commands import plans
     from exam_desk import second_sitting, states
@@ -124,11 +124,13 @@ then who would lose a desk, move, get one, join or leave. The status is that of 
 def what_if(parser: ArgumentParser) -> int:
     from commands import plans
     words = command.given_as_typed(parser)
-    makes = {name: each.make for name, each in command.COMMANDS.items() if each.make}
-    if not words or words[0] not in [*makes, *plans.CHANGES]:
-        raise Trouble(f"name a command that changes the office: {', '.join(sorted([*makes, *plans.CHANGES]))}")
-    make = makes.get(words[0])
-    plan = make(command.parser_of(words[0], words[1:])) if make else plans.of_program(words)
+    own = [name for name, each in command.COMMANDS.items() if each.changes]
+    if not words or words[0] not in [*own, *plans.CHANGES]:
+        raise Trouble(f"name a command that changes the office: {', '.join(sorted([*own, *plans.CHANGES]))}")
+    if words[0] in own:
+        plan = command.COMMANDS[words[0]].run(command.parser_of(words[0], words[1:]))
+    else:
+        plan = plans.of_program(words)
     if not isinstance(plan, plans.Change):
         raise Trouble(f"`office {' '.join(words)}` changes nothing in the office")
     with plans.rehearsed(plan) as (status, _):

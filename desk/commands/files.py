@@ -14,7 +14,7 @@ from exam_desk.words import plain
 if TYPE_CHECKING:
     from argparse import ArgumentParser, Namespace
 
-    from commands.plans import Plan
+    from command import Plan
     from exam_desk.coding import Coded
     from exam_desk.office import Office
     from exam_desk.workbook.reading import Reading
@@ -98,7 +98,7 @@ def check_files(parser: ArgumentParser) -> bool:
     return bool(counts["mistakes"] or counts["codes"])
 
 
-@command.changing("""\
+@command.named("""\
 Makes access codes at random for those who have none: codes [CANDIDATES.csv] [--new NUMBER ..] [--import]
 
     office codes                                   reads candidates.csv, writes candidates-with-codes.csv
@@ -113,7 +113,7 @@ without CANDIDATES.csv their rows alone are written, as the office has them.
 It writes a new file that only its owner can read, never over one that is there; look at it, and import it. With
 --import it writes none. A code has ten letters and digits, without vowels and what looks alike, and begins with a letter,
 so that no spreadsheet takes it for a number.
-""")
+""", changes=True)
 def codes(parser: ArgumentParser) -> Plan:
     from commands import plans
     from exam_desk import coding
@@ -131,7 +131,7 @@ def codes(parser: ArgumentParser) -> Plan:
         step = Step(("import", "candidates", "rows with new codes"), coding.file_of(found.rows))
         return plans.Change([step], " ".join(["codes", *(["--new", *given.new] if given.new else [])]))
     output = given.output or f"{os.path.splitext(path)[0]}-with-codes.csv"
-    return plans.Other(partial(write_codes, output, found))
+    return partial(write_codes, output, found)
 
 
 def write_codes(path: str, found: Coded) -> None:
@@ -211,7 +211,7 @@ def read(parser: ArgumentParser) -> int:
     return made(given.workbook, new, given, False, "read.txt")
 
 
-@command.changing("""Brings a workbook, or a folder of import files, into the office: take WORKBOOK|FOLDER
+@command.named("""Brings a workbook, or a folder of import files, into the office: take WORKBOOK|FOLDER
 
     office take school.xlsx         says what would change, asks, and imports
     office take school.xlsx --codes gives each candidate who has no access code one, as `office codes` does
@@ -221,7 +221,7 @@ It reads a workbook as `office read` does, and a folder as `office mend` does; w
 changed, and the status is 1. It tries all imports on a private copy of the office, and says what each would do and who
 would lose a desk, move, get one, join or leave. Then it imports in order, whole or not at all; `office back 1` takes
 all of it back.
-""")
+""", changes=True)
 def take(parser: ArgumentParser) -> Plan:
     from commands import plans
     from exam_desk import coding

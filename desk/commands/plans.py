@@ -6,7 +6,6 @@ import os
 import sys
 from collections.abc import Callable, Iterator, Sequence
 from dataclasses import dataclass, replace
-from typing import Protocol
 
 import command
 from exam_desk import changing, consequences, copies, listed, lodging, notebook, refusals, running, typed
@@ -22,25 +21,9 @@ LISTED = ["withdraw", "reinstate"]  # take a list too
 MOST_NAMED = 20  # of those who lose a desk, move or sit otherwise, where a question follows
 
 
-class Plan(Protocol):
-    """What is to be done."""
-    def carry_out(self) -> int:
-        """Does it; the status."""
-
-
-@dataclass
-class Other:
-    """What a command does that could change the office, where its words ask for something else."""
-    run: Callable[[], object]
-
-    def carry_out(self) -> int:
-        self.run()
-        return 0
-
-
 @dataclass
 class Change:
-    """A step of the program, at once."""
+    """A step of the program, at once. It is carried out by a call, which gives the status."""
     steps: Sequence[Step] = ()
     title: str = ""  # in the log and the list of copies; where it is empty that of the steps
     copy: str | None = None  # which is in the place of the office before the steps
@@ -52,11 +35,7 @@ class Change:
         """Prints what came of the steps in a rehearsal; the status."""
         return said(rehearsal.answers[0])
 
-    def is_seen(self, rehearsal: Rehearsal) -> bool:
-        """Whether there is more to be said of a rehearsal. Of the office before `migrate` nobody can read the tables."""
-        return any(each.ran.status == 0 and each.step.words[0] != MIGRATE for each in rehearsal.answers)
-
-    def carry_out(self) -> int:
+    def __call__(self) -> int:
         carried = changing.carry_out(command.office(), self.steps, title=self.title)
         status = said(carried.answers[0])
         if self.steps[0].words[0] != MIGRATE:
@@ -81,7 +60,7 @@ class Asked(Change):
         refuse(rehearsal)
         return 0
 
-    def carry_out(self) -> int:
+    def __call__(self) -> int:
         with rehearsed(self) as (_, rehearsal):
             if rehearsal.made_from == rehearsal.promised:
                 print("the office has all this already: nothing is changed")
@@ -109,7 +88,7 @@ class List(Change):
         print(f"{statuses.count(0)} of {len(self.rows)} rows would be done")
         return int(statuses.count(0) < len(self.rows))
 
-    def carry_out(self) -> int:
+    def __call__(self) -> int:
         statuses: list[int] = []
         try:
             carried = listed.carry_out(command.office(), self.title, self.rows,
@@ -138,10 +117,7 @@ class Back(Change):
         print_left(notebook.others_than_in(rehearsal.office, self.copy))
         return 0
 
-    def is_seen(self, rehearsal: Rehearsal) -> bool:
-        return True
-
-    def carry_out(self) -> int:
+    def __call__(self) -> int:
         """It asks again where more appeals and decisions would be taken away than it asked about."""
         office = command.office()
         when, what = copies.when_and_what(self.copy)
@@ -167,7 +143,7 @@ class Lodging(Change):
     def said(self, rehearsal: Rehearsal) -> int:
         return self.lodged(replace(rehearsal.office, path=rehearsal.after))
 
-    def carry_out(self) -> int:
+    def __call__(self) -> int:
         return self.lodged(command.office())
 
     def lodged(self, office: Office) -> int:
@@ -179,11 +155,13 @@ class Lodging(Change):
 
 @contextlib.contextmanager
 def rehearsed(change: Change) -> Iterator[tuple[int, Rehearsal]]:
-    """Carries a change out on a private copy, and prints what would come of it; the status."""
+    """Carries a change out on a private copy, and prints what would come of it; the status. Of the office before
+    `migrate` nobody here can read the tables."""
     with changing.rehearse(command.office(), change.steps, command.progress, change.copy, change.is_over) as rehearsal:
         command.progress("")
         status = change.said(rehearsal)
-        if change.is_seen(rehearsal):
+        done = {each.step.words[0] for each in rehearsal.answers if each.ran.status == 0}
+        if change.copy or done - {MIGRATE}:
             with command.reading(rehearsal.before) as before, command.reading(rehearsal.after) as after:
                 command.say_lines([*(change.own(before, after) if change.own else []),
                                    *consequences.between(before, after, change.most)])
@@ -192,10 +170,14 @@ def rehearsed(change: Change) -> Iterator[tuple[int, Rehearsal]]:
 
 def of_program(words: Sequence[str]) -> Change | None:
     """The change that a command of the program makes; None where it makes none. Raises `Trouble` where it is a list with
-    a mistake."""
+    a mistake. The program says which word is a number."""
     if words[0] in LISTED and len(words) == 3 and words[1] == "--list":
         return of_list(words[0], words[2])
-    return Change([Step(tuple(typed.completed(words)))]) if words[0] in CHANGES else None
+    if words[0] not in CHANGES:
+        return None
+    if any(word != typed.number(word) for word in words):
+        words = typed.completed(running.takes(running.help_text(command.office(), words[0])), words)
+    return Change([Step(tuple(words))])
 
 
 def of_list(name: str, path: str) -> List:
@@ -252,8 +234,9 @@ def outcome(words: Sequence[str], ran: Ran, data: bytes | None = None) -> int:
     if ran.status == 1:
         lines = refusals.explained(command.office(), words, ran.complaint, data)
     elif ran.status == 2:
-        usage = [line for line in running.help_text(command.office(), words[0]).split("\n") if line][1:]
-        lines = [f"  {line}" for line in [*typed.wrong_of_program(words), *usage]]
+        text = running.help_text(command.office(), words[0])
+        usage = [line for line in text.split("\n") if line][1:]
+        lines = [f"  {line}" for line in [*typed.wrong_of_program(running.takes(text), words), *usage] if usage]
         lines = lines or [f"  `office --help` lists the commands{meant(words[0])}"]
     sys.stderr.write(ran.complaint + "".join(f"{line}\n" for line in lines))
     return ran.status
@@ -262,7 +245,7 @@ def outcome(words: Sequence[str], ran: Ran, data: bytes | None = None) -> int:
 def meant(name: str) -> str:
     """What a word that is no command may stand for."""
     import difflib  # here, since a slip alone needs it
-    found = difflib.get_close_matches(name, [*command.COMMANDS, *typed.TAKES], 1)
+    found = difflib.get_close_matches(name, [*command.COMMANDS, *CHANGES, *running.SHEETS, "init", "check", "serve"], 1)
     return f"; is `office {found[0]}` meant?" if found else ""
 
 

@@ -43,7 +43,7 @@ def run(office: Office, words: list[str]) -> int:
         with running.starting(office):
             os.execv(office.program, office.line(*words))
     if change := plans.of_program(words):
-        return change.carry_out()
+        return change()
     return plans.outcome(words, plans.printed(dispatch(office, words)))
 
 
