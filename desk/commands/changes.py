@@ -27,14 +27,14 @@ Notes, the name of the school, rows of desks, printed desks and absences stay as
 others in the copy.
 """, changes=True)
 def back(parser: ArgumentParser) -> Plan:
-    from commands import plans
+    from commands import programs
     from exam_desk import copies
     parser.add_argument("copy", metavar="NUMBER", type=int, nargs="?", help="a number of the list")
     given = command.given(parser, "--yes: do not ask")
     office = command.office()
     if given.copy is None:
         return partial(list_copies, office)
-    return plans.Back(title=f"back {given.copy}", copy=copies.chosen(office, given.copy), is_agreed=given.yes)
+    return programs.Back(title=f"back {given.copy}", copy=copies.chosen(office, given.copy), is_agreed=given.yes)
 
 
 def list_copies(office: Office) -> None:
@@ -58,14 +58,14 @@ It goes the candidates' way, over HTTP, with the candidate's code from the file,
 makes the reference, D1, D2 and so on, and prints it with the state. Then decide it: `office decide 0001051 D1 ..`.
 """, changes=True)
 def lodge(parser: ArgumentParser) -> Plan:
-    from commands import plans
+    from commands import programs
     from exam_desk import typed
     parser.usage = "office lodge NUMBER SESSION KIND VALUE .. REASON"
     words = command.given_as_typed(parser)
     words[:1] = map(typed.number, words[:1])
     if wrong := typed.wrong_of_lodging(words):
         parser.error("; ".join(wrong))
-    return plans.Lodging(words=words)
+    return programs.Lodging(words=words)
 
 
 @command.named("""Gives a candidate another name: name NUMBER NAME
@@ -76,10 +76,10 @@ The access code stays as it is, so a slip that is out still opens the web page. 
 `office slips --only NUMBER`.
 """, changes=True)
 def name(parser: ArgumentParser) -> Plan:
-    from commands import plans
+    from commands import programs
     from exam_desk import coding
     given = command.given(parser, "number", "name")
-    return plans.Change([coding.renamed(command.office(), given.number, given.name)], f"name {given.number}")
+    return programs.Change([coding.renamed(command.office(), given.number, given.name)], f"name {given.number}")
 
 
 @command.named("""Lets a candidate with two papers at once sit one of them later: second-sitting NUMBER PAPER START HALL
@@ -94,7 +94,7 @@ the session, and the paper if it is the same one. It refuses a start before the 
 the candidate sits something else, and a hall that does not suit. --undo leaves the session and the paper, empty.
 """, changes=True)
 def second_sitting(parser: ArgumentParser) -> Plan:
-    from commands import plans
+    from commands import programs
     from exam_desk import second_sitting, states
     given = command.given(parser, "number", "paper", "start?", "hall?", "--yes: do not ask",
                           "--undo: withdraw the second entry, and reinstate the first")
@@ -105,8 +105,9 @@ def second_sitting(parser: ArgumentParser) -> Plan:
     with command.reading() as now:
         plan = (second_sitting.plan_back(now, given.number, given.paper) if given.undo else second_sitting.plan(
             now, second_sitting.Asked(given.number, given.paper, given.start, given.hall)))
-        return plans.Asked(plan.steps, plan.title, most=plans.MOST_NAMED, own=partial(second_sitting.lines, plan),
-                           question="do this?", done="done", is_agreed=given.yes, made_for=states.name_of(now.rows))
+        return programs.Asked(plan.steps, plan.title, most=programs.MOST_NAMED, own=partial(second_sitting.lines, plan),
+                              question="do this?", done="done", is_agreed=given.yes,
+                              made_for=states.name_of(now.rows))
 
 
 @command.named("""Says what a change would do, and does not do it: what-if COMMAND ..
@@ -122,16 +123,13 @@ It takes each command that changes the office, carries it out on a private copy,
 then who would lose a desk, move, get one, join or leave. The status is that of the command.
 """)
 def what_if(parser: ArgumentParser) -> int:
-    from commands import plans
+    from commands import programs
     words = command.given_as_typed(parser)
-    own = [name for name, each in command.COMMANDS.items() if each.changes]
-    if not words or words[0] not in [*own, *plans.CHANGES]:
-        raise Trouble(f"name a command that changes the office: {', '.join(sorted([*own, *plans.CHANGES]))}")
-    if words[0] in own:
-        plan = command.COMMANDS[words[0]].run(command.parser_of(words[0], words[1:]))
-    else:
-        plan = plans.of_program(words)
-    if not isinstance(plan, plans.Change):
-        raise Trouble(f"`office {' '.join(words)}` changes nothing in the office")
-    with plans.rehearsed(plan) as (status, _):
+    own = {name: each for name, each in command.COMMANDS.items() if each.changes}
+    name = "".join(words[:1])
+    plan = own[name].run(command.parser_of(name, words[1:])) if name in own else programs.of_program([name, *words[1:]])
+    if not isinstance(plan, programs.Change):
+        raise Trouble(f"`{' '.join(['office', *words])}` does not change the office; name a command that does: "
+                      f"{', '.join(sorted([*own, *programs.CHANGES]))}")
+    with programs.rehearsed(plan) as (status, _):
         return status

@@ -115,7 +115,7 @@ It writes a new file that only its owner can read, never over one that is there;
 so that no spreadsheet takes it for a number.
 """, changes=True)
 def codes(parser: ArgumentParser) -> Plan:
-    from commands import plans
+    from commands import programs
     from exam_desk import coding
     from exam_desk.changing import Step
     parser.add_argument("candidates", metavar="CANDIDATES.csv", nargs="?", help="candidates.csv if not given")
@@ -129,7 +129,7 @@ def codes(parser: ArgumentParser) -> Plan:
     found = coding.coded(command.office(), None if given.new and not given.candidates else path, given.new)
     if given.at_once:
         step = Step(("import", "candidates", "rows with new codes"), coding.file_of(found.rows))
-        return plans.Change([step], " ".join(["codes", *(["--new", *given.new] if given.new else [])]))
+        return programs.Change([step], " ".join(["codes", *(["--new", *given.new] if given.new else [])]))
     output = given.output or f"{os.path.splitext(path)[0]}-with-codes.csv"
     return partial(write_codes, output, found)
 
@@ -223,7 +223,7 @@ would lose a desk, move, get one, join or leave. Then it imports in order, whole
 all of it back.
 """, changes=True)
 def take(parser: ArgumentParser) -> Plan:
-    from commands import plans
+    from commands import programs
     from exam_desk import coding
     add_reading(parser)
     parser.add_argument("source", metavar="WORKBOOK|FOLDER")
@@ -235,8 +235,8 @@ def take(parser: ArgumentParser) -> Plan:
     if given.codes:
         coding.add_codes(command.office(), reading)
     print_lines(reading, given.all)
-    return plans.Asked(coding.steps_of(reading), f"take {os.path.basename(os.path.abspath(given.source))}",
-                       most=None if given.all else plans.MOST_NAMED, question="import all this?", done="imported",
+    return programs.Asked(coding.steps_of(reading), f"take {os.path.basename(os.path.abspath(given.source))}",
+                       most=None if given.all else programs.MOST_NAMED, question="import all this?", done="imported",
                        is_agreed=given.yes)
 
 

@@ -225,29 +225,31 @@ def is_in_state(office: Office, name: str) -> bool:
 
 
 def kept_copy(office: Office, title: str) -> str:
-    try:
+    with beginning(office):
         return copies.keep_copy(office, title)
+
+
+@contextlib.contextmanager
+def beginning(office: Office) -> Iterator[None]:
+    """What comes before the first step. Raises `NotBegun` where it fails."""
+    try:
+        yield
     except OSError as fault:
-        raise no_copy(office, fault) from fault
-
-
-def no_copy(office: Office, fault: OSError) -> NotBegun:
-    place, days = fault.filename or beside.folder(office.path), beside.folder(office.path, copies.DAYS)
-    room = f"; make room, for example in {days}" if fault.errno == errno.ENOSPC else ""
-    return NotBegun(f"no copy of the office can be kept, so nothing is changed: {place}: {fault.strerror}{room}")
+        place, days = fault.filename or beside.folder(office.path), beside.folder(office.path, copies.DAYS)
+        room = f"; make room, for example in {days}" if fault.errno == errno.ENOSPC else ""
+        raise NotBegun(f"no copy of the office can be kept, so nothing is changed: {place}: {fault.strerror}{room}"
+                       ) from fault
+    except sqlite3.Error as fault:
+        raise NotBegun(f"{office.path} cannot be read, so nothing is changed: {fault}; `office check` says more"
+                       ) from fault
 
 
 @contextlib.contextmanager
 def begun(office: Office, context: contextlib.AbstractContextManager[Value]) -> Iterator[Value]:
     """A context of a change. Raises `NotBegun` where it does not begin."""
     with contextlib.ExitStack() as stack:
-        try:
+        with beginning(office):
             value = stack.enter_context(context)
-        except OSError as fault:
-            raise no_copy(office, fault) from fault
-        except sqlite3.Error as fault:
-            raise NotBegun(f"{office.path} cannot be read, so nothing is changed: {fault}; `office check` says more"
-                           ) from fault
         yield value
 
 

@@ -2,7 +2,6 @@
 from __future__ import annotations
 
 from collections.abc import Sequence
-from itertools import zip_longest
 
 from exam_desk import files
 
@@ -22,14 +21,6 @@ def number(word: str) -> str:
     return word.zfill(7) if word.isascii() and word.isdigit() else word
 
 
-def completed(names: Sequence[str], words: Sequence[str]) -> list[str]:
-    """A command that takes words of these names, with whole numbers; `--` has no name."""
-    all_names = ["", *names]
-    if "--" in words:
-        all_names.insert(words.index("--"), "")
-    return [number(word) if name == "number" else word for word, name in zip_longest(words, all_names[:len(words)])]
-
-
 def is_right(name: str, word: str) -> bool:
     return name not in FORMS or bool(FORMS[name](word.encode("utf-8", "surrogateescape")))
 
@@ -40,14 +31,6 @@ def wrong(names: Sequence[str], words: Sequence[str]) -> list[str]:
               if not is_right(name, word)),
             *(f"{name} is missing" for name in names[len(words):]),
             *(f"{shown(word)} is one word too many" for word in words[len(names):])]
-
-
-def wrong_of_program(names: Sequence[str], words: Sequence[str]) -> list[str]:
-    """As `wrong`, of a command that takes words of these names."""
-    values = list(words[1:])
-    if "--" in values:
-        values.remove("--")
-    return wrong(names, values)
 
 
 def wrong_of_lodging(words: Sequence[str]) -> list[str]:

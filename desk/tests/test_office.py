@@ -12,7 +12,7 @@ from unittest import mock
 
 import sample
 import command
-from exam_desk import copies, typed
+from exam_desk import copies
 
 
 class Faults(unittest.TestCase):
@@ -119,11 +119,6 @@ class Words(sample.SampleSchool):
             self.assertEqual((done.returncode, done.stdout), (2, ""), words)
             self.assertTrue(done.stderr.startswith("usage: office lodge NUMBER SESSION KIND VALUE .. REASON\n"
                                                    f"office lodge: error: {said}"), done.stderr)
-
-    def test_the_words_of_each_command_are_those_of_its_usage(self):
-        for name, words in typed.TAKES.items():
-            usage = re.search("(?m)^Usage: (.*)$", self.office(name, "--help"))[1]
-            self.assertEqual(usage, " ".join(["office", name, *(f"<{word}>" for word in words)]))
 
     def test_numbers_without_zeros(self):
         """They are taken in each command in which a person types one, and the log has them whole."""
