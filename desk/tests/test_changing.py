@@ -448,7 +448,7 @@ class WhatIf(Changing):
         """What each says on a copy is what it says over the office then, and nobody is asked."""
         facts = self.facts()
         codes = self.write("new.csv", "number,name,code\n0009005,Eva,\n")
-        leave = self.write("leave.csv", "number,paper\n0001017,MA-1\n0001017,CS-1\n")
+        leave = self.write("leave.csv", "number,paper\n0001017,CS-1\n0001017,MA-1\n")
         before = self.state()
         for words, line in ((["name", "1000", "Ada Lovelace"], r"1 has another name\n  \S+ 0001000 .*Ada Lovelace"),
                             (["codes", codes, "--import"], "added 1 changed 0 same 0\n"),
@@ -460,8 +460,8 @@ class WhatIf(Changing):
             self.assertEqual((self.state(), self.kept(), self.log()), (before, [], []), words)
         done = self.run_office("what-if", "withdraw", "--list", leave)
         self.assertEqual((done.returncode, done.stdout.split("\n")[:2]), (
-            1, ["line 2: withdraw 0001017 MA-1: withdrawn", "1 of 2 rows would be done"]))
-        self.assertIn("line 3: withdraw 0001017 CS-1: refused 8\n  the candidate is not entered", done.stderr)
+            1, ["line 3: withdraw 0001017 MA-1: withdrawn", "1 of 2 rows would be done"]))
+        self.assertIn("line 2: withdraw 0001017 CS-1: refused 8\n  the candidate is not entered", done.stderr)
         self.assertIn("\n1 leaves a session\n", done.stdout)
         self.assertEqual((self.state(), self.kept(), self.log()), (before, [], []))
 
