@@ -491,6 +491,20 @@ class WhatIf(Changing):
         self.assertEqual(self.run_office("what-if", "take").returncode, 2)
         self.assertIn("office name", self.office("what-if", "name", "--help"))
 
+    def test_a_paper_that_gets_another_session(self):
+        """Who sits it as before, in the other session, is said once, and not to leave one and to join another."""
+        path = self.write("p.csv", "paper,title,session,minutes,requires\nCS-1,Computer science,TUE-AM,120,computer\n")
+        text = self.office("what-if", "import", "papers", path)
+        self.assertRegex(text, r"(?m)^  TUE-AM 0001595 Jonas Sørensen: MON-AM -> TUE-AM, PC1 desk \d+ -> PC1 desk \d+, "
+                               "2027-06-07 09:00 to 11:00 -> 2027-06-08 09:00 to 11:00$")
+        self.assertIn("\n2 sit at other times\n", text)  # all others of CS-1 have another paper of TUE-AM
+        self.office("import", "papers", path)
+        text = self.office("changes", "1")
+        self.assertNotRegex(text, "joined: CS-1|0001595 .*left: ")
+        self.assertRegex(text, "(?m)^! TUE-AM 0001595 Jonas Sørensen: MON-AM -> TUE-AM, ")
+        self.assertRegex(self.office("changes", "1", "--csv"), '"yes","TUE-AM","0001595","Jonas Sørensen","2027-06-07",'
+                         '"09:00","11:00","CS-1","PC1",".*","2027-06-08","09:00","11:00","CS-1","PC1"')
+
     def test_refusals(self):
         self.assertIn("refused 9\n  the entry is withdrawn already",
                       self.refused_after(["withdraw", "0001000", "MA-1"], "what-if", "withdraw", "0001000", "MA-1"))
