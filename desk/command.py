@@ -153,7 +153,7 @@ def progress(text: str, part: float | None = None) -> None:
 
 
 def tell_broken_off() -> None:
-    """Says on standard error what the next change would say of a change that was broken off, from the end of the log."""
+    """Says on standard error what the next change would say of one that was broken off, from the end of the log."""
     from exam_desk import logbook
     with contextlib.suppress(OSError, Trouble):
         if found := logbook.broken_off(office()):

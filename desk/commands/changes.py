@@ -119,8 +119,8 @@ def second_sitting(parser: ArgumentParser) -> Plan:
     office what-if take school.xlsx
     office what-if back 1         what `office back 1` would do, and which appeals and decisions it would take away
 
-It takes each command that changes the office, carries it out on a private copy, asks nothing, and prints what that said;
-then who would lose a desk, move, get one, join or leave. The status is that of the command.
+It takes each command that changes the office, carries it out on a private copy, asks nothing, and prints what came of
+it; then who would lose a desk, move, get one, join or leave. The status is that of the command.
 """)
 def what_if(parser: ArgumentParser) -> int:
     from commands import programs

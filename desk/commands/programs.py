@@ -1,5 +1,5 @@
-"""What `office` does for a command of the program, and for each command that changes the office: such a one gives a plan,
-which `what-if` rehearses, and `office` carries out."""
+"""What `office` does for a command of the program, and for each command that changes the office: that gives a plan, which
+`what-if` rehearses, and `office` carries out."""
 from __future__ import annotations
 
 import contextlib
@@ -106,8 +106,8 @@ class List(Change):
             carried = listed.carry_out(command.office(), self.title, self.rows,
                                        lambda line, answered: statuses.append(said_of_row(line, answered)))
         except SystemExit:  # a signal
-            command.warn(f"stopped after {len(statuses)} of {len(self.rows)} rows: those before it that were not refused "
-                         "are done, and look whether the next one is; `office back 1` takes all of them back")
+            command.warn(f"stopped after {len(statuses)} of {len(self.rows)} rows: those before it that were not "
+                         "refused are done, and look whether the next one is; `office back 1` takes all of them back")
             raise
         done = sum(answered.ran.status == 0 for answered in carried.answers)
         back = "; `office back 1` takes them back" if done else ""
@@ -123,11 +123,17 @@ class Back(Change):
     is_agreed: bool = False
 
     def said(self, rehearsal: Rehearsal) -> int:
-        when, what = copies.when_and_what(self.copy)
-        print(f"the office would be as it was on {when}, before {plain(what)}")
-        print_taken(copies.taken_away(rehearsal.office, self.copy))
-        print_left(notebook.others_than_in(rehearsal.office, self.copy))
+        office = rehearsal.office
+        self.tell("would be", copies.taken_away(office, self.copy), notebook.others_than_in(office, self.copy))
         return 0
+
+    def tell(self, verb: str, taken: list[str], others: list[str]) -> None:
+        """Says what is taken away, and what is left as it is beside the office though the copy has it otherwise."""
+        when, what = copies.when_and_what(self.copy)
+        print(f"the office {verb} as it was on {when}, before {plain(what)}")
+        print_taken(taken)
+        if others:
+            print(f"left as they are now, and otherwise in the copy: {', '.join(map(plain, others))}")
 
     def __call__(self) -> int:
         """It asks again where more appeals and decisions would be taken away than it asked about."""
@@ -139,9 +145,7 @@ class Back(Change):
         while not (done := changing.go_back(office, self.title.split(), self.copy,
                                             lambda lines: asked in (None, lines))).is_done:
             asked = agreed(f"this has changed since the question, and nothing is done yet: {question}", done.lines)
-        print(f"the office is as it was on {when}, before {plain(what)}")
-        print_taken(done.lines)
-        print_left(others)
+        self.tell("is", done.lines, others)
         sys.stdout.flush()
         command.tell_consequences(done.copy)
         return 0
@@ -225,8 +229,8 @@ def if_possible(context: contextlib.AbstractContextManager[Value], instead: Valu
 
 
 def of_program(words: list[str]) -> Change | None:
-    """The change that a command of the program makes; None where it makes none. Raises `Trouble` where it is a list with
-    a mistake. A number comes first, where the program takes one; it says so."""
+    """The change that a command of the program makes; None where it makes none. Raises `Trouble` where it is a list
+    with a mistake. A number comes first, where the program takes one; it says so."""
     if words[0] in LISTED and len(words) == 3 and words[1] == "--list":
         return of_list(words[0], words[2])
     if words[0] not in CHANGES:
@@ -294,8 +298,9 @@ def outcome(words: Sequence[str], ran: Ran, data: bytes | None = None) -> int:
     elif ran.status == 2:
         text = running.help_text(command.office(), words[0])
         wrong = typed.wrong(running.takes(text), [word for word in words[1:] if word != "--"]) if text else []
-        usage = [line for line in text.split("\n") if line][1:] or [f"`office --help` lists the commands{meant(words[0])}"]
-        lines = [f"  {line}" for line in [*wrong, *usage]]
+        usage = [line for line in text.split("\n") if line][1:]
+        lines = [f"  {line}" for line in
+                 [*wrong, *usage] or [f"`office --help` lists the commands{meant(words[0])}"]]
     sys.stderr.write(ran.complaint + "".join(f"{line}\n" for line in lines))
     return ran.status
 
@@ -316,8 +321,3 @@ def agreed(question: str, lines: list[str]) -> list[str]:
 
 def print_taken(lines: list[str]) -> None:
     command.say_lines(f"taken away: {line}" for line in lines)
-
-
-def print_left(others: list[str]) -> None:
-    if others:
-        print(f"left as they are now, and otherwise in the copy: {', '.join(map(plain, others))}")

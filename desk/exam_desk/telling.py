@@ -169,7 +169,8 @@ def of_touched(before: Reading, after: Reading, sessions: Touched) -> list[Chang
         if columns(then) != columns(now) or old_name != name:
             found.append(Change(session, number, name or old_name, then, now, old_name or name))
     places = {session: place for place, session in enumerate(sessions)}
-    return sorted(with_moves(found), key=lambda change: (places[change.session], name_order(change.name, change.number)))
+    return sorted(with_moves(found),
+                  key=lambda change: (places[change.session], name_order(change.name, change.number)))
 
 
 def with_moves(changes: Iterable[Change]) -> list[Change]:

@@ -454,8 +454,7 @@ class WhatIf(Changing):
                             (["codes", codes, "--import"], "added 1 changed 0 same 0\n"),
                             (["codes", "--new", "1051", "--import"], "1 has another access code: 0001051"),
                             (["take", facts], "entries.csv: added 2 changed 0 same 172\n"),
-                            (["lodge", "1051", "MON-AM", "hall", "PC1", "a draught"], r"\A0001051 D1 open\n\Z"),
-                            (["migrate"], r"\A")):
+                            (["lodge", "1051", "MON-AM", "hall", "PC1", "a draught"], r"\A0001051 D1 open\n\Z")):
             self.assertRegex(self.office("what-if", *words), line)
             self.assertEqual((self.state(), self.kept(), self.log()), (before, [], []), words)
         done = self.run_office("what-if", "withdraw", "--list", leave)
@@ -464,6 +463,14 @@ class WhatIf(Changing):
         self.assertIn("line 2: withdraw 0001017 CS-1: refused 8\n  the candidate is not entered", done.stderr)
         self.assertIn("\n1 leaves a session\n", done.stdout)
         self.assertEqual((self.state(), self.kept(), self.log()), (before, [], []))
+
+    def test_an_office_of_an_earlier_version(self):
+        with contextlib.closing(sqlite3.connect(self.path)) as file:
+            file.execute("UPDATE office SET version = 2")
+            file.commit()
+        self.assertEqual(self.office("what-if", "migrate"), "migrated 2 to 3\n")
+        self.assertEqual((self.kept(), self.log()), ([], []))
+        self.assertEqual(self.office("migrate"), "migrated 2 to 3\n")
 
     def test_a_list_with_a_mistake_and_one_that_is_refused_whole(self):
         path = self.write("leave.csv", "number,paper\n0001017,MA-1\n9999999,MA-1\n")
@@ -497,7 +504,7 @@ class WhatIf(Changing):
         text = self.office("what-if", "import", "papers", path)
         self.assertRegex(text, r"(?m)^  TUE-AM 0001595 Jonas Sørensen: MON-AM -> TUE-AM, PC1 desk \d+ -> PC1 desk \d+, "
                                "2027-06-07 09:00 to 11:00 -> 2027-06-08 09:00 to 11:00$")
-        self.assertIn("\n2 sit at other times\n", text)  # all others of CS-1 have another paper of TUE-AM
+        self.assertIn("\n2 sit at other times\n", text)  # a third has no desk before; all others sit something else then
         self.office("import", "papers", path)
         text = self.office("changes", "1")
         self.assertNotRegex(text, "joined: CS-1|0001595 .*left: ")
