@@ -5,13 +5,14 @@ from collections.abc import Sequence
 
 from exam_desk import files
 
-KIND, MOST_REASON = "kind of appeal", 200  # bytes
+KIND = "kind of appeal"
+REASON, MOST_REASON = "reason", 200  # bytes; it is private, and so is not shown
 APPEALS = {"hall": ["hall"], "clash": ["paper"], "arrangement": ["needs", "extra"]}  # the values of each kind
 CHOICES = {"kind": [*files.HEADERS], "outcome": ["granted", "refused", "standing"], KIND: [*APPEALS]}
 FORMS: dict[str, files.Form] = {  # of the words that a command takes, by their names; any text is right for others
     **files.RIGHT, **{name: [word.encode() for word in offered].__contains__ for name, offered in CHOICES.items()},
-    "ref": files.is_code, "reason": lambda text: files.is_short(text, MOST_REASON)}
-NEEDED = {"ref": "1 to 12 of A-Z, 0-9 and -", "reason": f"at most {MOST_REASON} bytes and no control characters",
+    "ref": files.is_code, REASON: lambda text: files.is_short(text, MOST_REASON)}
+NEEDED = {"ref": "1 to 12 of A-Z, 0-9 and -", REASON: f"at most {MOST_REASON} bytes of UTF-8 and no control characters",
           **{name: f"one of {', '.join(offered)}" for name, offered in CHOICES.items()}}
 OF_A_SHEET = "; format the column as text"  # what is said of a value in a file
 
@@ -27,10 +28,13 @@ def is_right(name: str, word: str) -> bool:
 
 def wrong(names: Sequence[str], words: Sequence[str]) -> list[str]:
     """A line for each word that has not the form of what stands in its place, is missing, or is one too many."""
-    return [*(f"{name} {shown(word)}: {cure(name, word)}" for name, word in zip(names, words)
-              if not is_right(name, word)),
+    more = words[len(names):]
+    if more and names[-1:] == [REASON]:
+        return ["the reason has several words: put it in quotes"]
+    return [*(f"{name if name == REASON else f'{name} {shown(word)}'}: {cure(name, word)}"
+              for name, word in zip(names, words) if not is_right(name, word)),
             *(f"{name} is missing" for name in names[len(words):]),
-            *(f"{shown(word)} is one word too many" for word in words[len(names):])]
+            *(f"{shown(word)} is one word too many" for word in more)]
 
 
 def wrong_of_lodging(words: Sequence[str]) -> list[str]:
@@ -38,7 +42,7 @@ def wrong_of_lodging(words: Sequence[str]) -> list[str]:
     kind = "".join(words[2:3])
     if kind not in APPEALS:
         return wrong(["number", "session", KIND], words[:3])
-    return wrong(["number", "session", KIND, *APPEALS[kind], "reason"], words)
+    return wrong(["number", "session", KIND, *APPEALS[kind], REASON], words)
 
 
 def shown(word: str) -> str:

@@ -101,9 +101,11 @@ class Words(sample.SampleSchool):
                              (["import", "entires", "x.csv"], "kind 'entires': one of sessions, papers, "),
                              (["door-list", "MON-AM"], "hall is missing"),
                              (["decide", "0001051", "d1", "granted", "x" * 201],
-                              "ref 'd1': ", "reason 'xxx")):
+                              "ref 'd1': ", "reason: at most 200 bytes of UTF-8"),
+                             (["decide", "0001051", "D1", "granted", "xxx", "yyy"], "the reason has several words: put it")):
             done = self.run_office(*words)
             self.assertEqual((done.returncode, done.stdout), (2, ""), words)
+            self.assertNotRegex(done.stderr, "xxx|yyy")  # a reason is private
             lines = done.stderr.split("\n")
             self.assertEqual(lines[0], "line not understood")
             for line, start in zip(lines[1:], said):
