@@ -129,7 +129,7 @@ def what_if(parser: ArgumentParser) -> int:
     name = "".join(words[:1])
     plan = own[name].run(command.parser_of(name, words[1:])) if name in own else programs.of_program([name, *words[1:]])
     if not isinstance(plan, programs.Change):
-        raise Trouble(f"`{' '.join(['office', *words])}` does not change the office; name a command that does: "
+        raise Trouble(f"`{f'office {name}'.strip()}` does not change the office; name a command that does: "
                       f"{', '.join(sorted([*own, *programs.CHANGES]))}")
     with programs.rehearsed(plan) as (status, _):
         return status
