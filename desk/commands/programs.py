@@ -92,11 +92,11 @@ class Asked(Change):
 @dataclass(kw_only=True)
 class List(Change):
     """Steps of the program, each by itself: one that is refused leaves the others."""
-    rows: list[listed.Row]
+    rows: listed.Rows
     is_over: Callable[[list[Answered]], object] = listed.is_hopeless
 
     def said(self, rehearsal: Rehearsal) -> int:
-        statuses = [said_of_row(row.line, answered) for row, answered in zip(self.rows, rehearsal.answers)]
+        statuses = [*map(said_of_row, self.rows, rehearsal.answers)]
         print(f"{statuses.count(0)} of {len(self.rows)} rows would be done")
         return int(statuses.count(0) < len(self.rows))
 
@@ -248,9 +248,9 @@ def of_list(name: str, path: str) -> List:
     sys.stderr.write("".join(f"{plain(line)}\n" for line in wrong))
     if wrong:
         raise Trouble("nothing is changed")
-    about = changing.named("entries", (tuple(map(str.encode, row.step.words[1:])) for row in rows))
+    about = changing.named("entries", (tuple(map(str.encode, step.words[1:])) for step in rows.values()))
     title = " ".join([name, "--list", os.path.basename(path), *about])
-    return List([row.step for row in rows], title, rows=rows)
+    return List([*rows.values()], title, rows=rows)
 
 
 def said(answered: Answered) -> int:

@@ -175,8 +175,7 @@ def waits(process):
 
 class Served(sample.KeptSchool):
     def test_keep_has_the_office_between_two_turns(self):
-        rows = [listed.Row(line, listed.Step(("withdraw" if line % 2 else "reinstate", "0001000", "MA-1")))
-                for line in range(1, 5)]
+        rows = {line: listed.Step(("withdraw" if line % 2 else "reinstate", "0001000", "MA-1")) for line in range(1, 5)}
         asked = []
 
         def tell(line, _):
