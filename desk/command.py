@@ -63,8 +63,9 @@ def parser_of(name: str, words: Sequence[str]) -> argparse.ArgumentParser:
                                    formatter_class=argparse.RawDescriptionHelpFormatter)
 
 
-def given_as_typed(parser: argparse.ArgumentParser) -> list[str]:
+def given_as_typed(parser: argparse.ArgumentParser, usage: str) -> list[str]:
     """The words of a command as they are, since a reason may look like an option; unless they ask for help alone."""
+    parser.usage = f"{parser.prog} {usage}"
     if sys.argv[1:2] in (["--help"], ["-h"]):
         parser.parse_args()
     return sys.argv[1:]

@@ -60,8 +60,7 @@ makes the reference, D1, D2 and so on, and prints it with the state. Then decide
 def lodge(parser: ArgumentParser) -> Plan:
     from commands import programs
     from exam_desk import typed
-    parser.usage = "office lodge NUMBER SESSION KIND VALUE .. REASON"
-    words = command.given_as_typed(parser)
+    words = command.given_as_typed(parser, "NUMBER SESSION KIND VALUE .. REASON")
     words[:1] = map(typed.number, words[:1])
     if wrong := typed.wrong_of_lodging(words):
         parser.error("; ".join(wrong))
@@ -124,7 +123,7 @@ it; then who would lose a desk, move, get one, join or leave. The status is that
 """)
 def what_if(parser: ArgumentParser) -> int:
     from commands import programs
-    words = command.given_as_typed(parser)
+    words = command.given_as_typed(parser, "COMMAND ..")
     own = {name: each for name, each in command.COMMANDS.items() if each.changes}
     name = "".join(words[:1])
     plan = own[name].run(command.parser_of(name, words[1:])) if name in own else programs.of_program([name, *words[1:]])

@@ -1,7 +1,6 @@
 """Changes of several steps: tried on a copy, carried out whole or not at all, and what is said after a kill."""
 import contextlib
 import os
-import re
 import shutil
 import signal
 import sqlite3
