@@ -131,7 +131,7 @@ class Listed(test_changing.Changing):
 
     def test_ctrl_c_says_how_far_it_came(self):
         """It comes in the second row: the first is done, the log says so, and one step back takes it back."""
-        program = self.program('[ "$5 $6" = "withdraw 0001017" ] && kill -INT $PPID && sleep 60')
+        program = self.program('[ "$5 $6" = "withdraw 0001017" ] && sleep 2 && kill -INT $PPID && exec sleep 60')
         done = self.run_list(GOOD, EXAMOFFICE=program)
         self.assertEqual(done.returncode, 128 + signal.SIGINT)
         self.assertEqual(done.stdout, "line 2: withdraw 0001000 MA-1: withdrawn\n")
