@@ -12,7 +12,7 @@ import signal
 import sys
 from typing import TYPE_CHECKING, NamedTuple
 
-from exam_desk import beside
+from exam_desk import beside, typed
 from exam_desk.office import Office
 from exam_desk.trouble import Trouble
 from exam_desk.words import plain
@@ -20,36 +20,55 @@ from exam_desk.words import plain
 if TYPE_CHECKING:
     import argparse
     import datetime
-    from collections.abc import Callable, Iterable
+    from collections.abc import Callable, Iterable, Sequence
     from types import FrameType, TracebackType
 
     from exam_desk.reading import Reading
     from exam_desk.snapshot import Rows
 
-    Run = Callable[[argparse.ArgumentParser], int | None]
+    Plan = Callable[[], int | None]  # does what a command is to do, and gives its status, or nothing where all is done
+    Run = Callable[[argparse.ArgumentParser], Plan | int | None]  # takes the words, and does it, or gives the plan
 
 DESK = os.path.dirname(os.path.realpath(__file__))
 OFFICE = os.path.join(DESK, "office")
 BAR = 24  # letters of a bar that is full
 MANY, FEW = 500, 100  # of so many questions, the progress is shown after each few
+READ_AS: dict[str, Callable[[str], str]] = {"number": typed.number}  # by the name of an argument
 CLEAR = "\r\x1b[K"  # a terminal takes away the line on which it writes
 
 
 class Command(NamedTuple):
     """A command of the desk."""
     text: str  # what `--help` prints; its first line stands in the list of commands
-    run: Run  # takes the words from the command line, and gives a status, or nothing where all is done
+    run: Run
+    changes: bool = False  # whether it can change the office
 
 
 COMMANDS: dict[str, Command] = {}  # by name
 
 
-def named(text: str) -> Callable[[Run], Run]:
+def named(text: str, changes: bool = False) -> Callable[[Run], Run]:
     """Makes the function below it the command of its name."""
     def put(run: Run) -> Run:
-        COMMANDS[run.__name__.replace("_", "-")] = Command(text, run)
+        COMMANDS[run.__name__.replace("_", "-")] = Command(text, run, changes)
         return run
     return put
+
+
+def parser_of(name: str, words: Sequence[str]) -> argparse.ArgumentParser:
+    """The parser of a command of the desk, which takes these words."""
+    import argparse  # here, since the program has its own
+    sys.argv = [OFFICE, *words]  # where a parser looks for them
+    return argparse.ArgumentParser(prog=f"office {name}", description=COMMANDS[name].text,
+                                   formatter_class=argparse.RawDescriptionHelpFormatter)
+
+
+def given_as_typed(parser: argparse.ArgumentParser, usage: str) -> list[str]:
+    """The words of a command as they are, since a reason may look like an option; unless they ask for help alone."""
+    parser.usage = f"{parser.prog} {usage}"
+    if sys.argv[1:2] in (["--help"], ["-h"]):
+        parser.parse_args()
+    return sys.argv[1:]
 
 
 def given(parser: argparse.ArgumentParser, *words: str) -> argparse.Namespace:
@@ -57,13 +76,15 @@ def given(parser: argparse.ArgumentParser, *words: str) -> argparse.Namespace:
     as a flag `--name`; what one is for stands behind a colon."""
     for word in words:
         name, _, meaning = word.partition(": ")
+        bare = name.rstrip("?*")
+        kind = READ_AS.get(bare, str)
         if name.startswith("--"):
             parser.add_argument(name, action="store_true", help=meaning)
-        elif name[-1] in "?*":
-            lacking: list[str] | None = [] if name[-1] == "*" else None
-            parser.add_argument(name[:-1], metavar=name[:-1].upper(), nargs=name[-1], default=lacking, help=meaning)
+        elif name == bare:
+            parser.add_argument(name, metavar=name.upper(), type=kind, help=meaning)
         else:
-            parser.add_argument(name, metavar=name.upper(), help=meaning)
+            parser.add_argument(bare, metavar=bare.upper(), nargs=name[-1], default=[] if name[-1] == "*" else None,
+                                type=kind, help=meaning)
     return parser.parse_intermixed_args()
 
 
@@ -130,6 +151,15 @@ def progress(text: str, part: float | None = None) -> None:
         bar = "" if part is None else f"[{'#' * full}{' ' * (BAR - full)}] "
         sys.stderr.write(f"{CLEAR}{bar}{plain(text)}" if text else CLEAR)
         sys.stderr.flush()
+
+
+def tell_broken_off() -> None:
+    """Says on standard error what the next change would say of one that was broken off, from the end of the log."""
+    from exam_desk import logbook
+    with contextlib.suppress(OSError, Trouble):
+        if found := logbook.broken_off(office()):
+            from exam_desk import changing
+            warn(changing.way_on(office(), found))
 
 
 def tell_consequences(copy: str | None) -> None:

@@ -110,6 +110,7 @@ _examoffice() {{
     COMPREPLY=()
     if [ "${{1##*/}}" = office ]; then
         commands="$commands {' '.join(desk)}"
+        [[ ${{COMP_WORDS[1]}} != what-if ]] || at=2  # a command with its words stands behind it
     else
         while [[ ${{COMP_WORDS[at]}} == --db || ${{COMP_WORDS[at]}} == --today ]]; do at=$((at + 2)); done
         case $before in

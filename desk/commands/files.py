@@ -3,16 +3,19 @@ from __future__ import annotations
 
 import gc
 import os
+from functools import partial
 from typing import TYPE_CHECKING
 
 import command
-from commands import changes
+from exam_desk import typed
 from exam_desk.trouble import Trouble
 from exam_desk.words import plain
 
 if TYPE_CHECKING:
     from argparse import ArgumentParser, Namespace
 
+    from command import Plan
+    from exam_desk.coding import Coded
     from exam_desk.office import Office
     from exam_desk.workbook.reading import Reading
 
@@ -111,11 +114,14 @@ without CANDIDATES.csv their rows alone are written, as the office has them.
 It writes a new file that only its owner can read, never over one that is there; look at it, and import it. With
 --import it writes none. A code has ten letters and digits, without vowels and what looks alike, and begins with a letter,
 so that no spreadsheet takes it for a number.
-""")
-def codes(parser: ArgumentParser) -> int:
-    from exam_desk import coding, lists
+""", changes=True)
+def codes(parser: ArgumentParser) -> Plan:
+    from commands import programs
+    from exam_desk import coding
+    from exam_desk.changing import Step
     parser.add_argument("candidates", metavar="CANDIDATES.csv", nargs="?", help="candidates.csv if not given")
-    parser.add_argument("--new", metavar="NUMBER", nargs="+", default=[], help="who gets another code")
+    parser.add_argument("--new", metavar="NUMBER", type=typed.number, nargs="+", default=[],
+                        help="who gets another code")
     form = parser.add_mutually_exclusive_group()
     form.add_argument("--output", metavar="FILE", help="the new file, CANDIDATES-with-codes.csv if not given")
     form.add_argument("--import", action="store_true", dest="at_once", help="imports the rows, and writes no file")
@@ -123,17 +129,18 @@ def codes(parser: ArgumentParser) -> int:
     path = given.candidates or "candidates.csv"
     found = coding.coded(command.office(), None if given.new and not given.candidates else path, given.new)
     if given.at_once:
-        from commands import programs
-        from exam_desk.changing import Step
         step = Step(("import", "candidates", "rows with new codes"), coding.file_of(found.rows))
-        title = " ".join(["codes", *(["--new", *given.new] if given.new else [])])
-        return programs.carry_out(command.office(), step, title)
+        return programs.Change([step], " ".join(["codes", *(["--new", *given.new] if given.new else [])]))
     output = given.output or f"{os.path.splitext(path)[0]}-with-codes.csv"
-    coding.write(output, found.rows)
+    return partial(write_codes, output, found)
+
+
+def write_codes(path: str, found: Coded) -> None:
+    from exam_desk import coding, lists
+    coding.write(path, found.rows)
     kept = f", {found.kept} filled from the office" if found.kept else ""
     made, rows = lists.count(found.made, "code"), lists.count(len(found.rows), "row")
-    command.say(f"{plain(output)}: {made} made for {rows}{kept}\n")
-    return 0
+    command.say(f"{plain(path)}: {made} made for {rows}{kept}\n")
 
 
 @command.named("""\
@@ -215,40 +222,23 @@ It reads a workbook as `office read` does, and a folder as `office mend` does; w
 changed, and the status is 1. It tries all imports on a private copy of the office, and says what each would do and who
 would lose a desk, move, get one, join or leave. Then it imports in order, whole or not at all; `office back 1` takes
 all of it back.
-""")
-def take(parser: ArgumentParser) -> None:
-    from exam_desk import changing, coding, consequences
+""", changes=True)
+def take(parser: ArgumentParser) -> Plan:
+    from commands import programs
+    from exam_desk import coding
     add_reading(parser)
     parser.add_argument("source", metavar="WORKBOOK|FOLDER")
     parser.add_argument("--yes", action="store_true", help="do not ask")
     parser.add_argument("--codes", action="store_true", help="make access codes for candidates who have none")
     add_choices(parser)
     given = parser.parse_args()
-    office = command.existing_office()
-    reading = read_source(office, given.source, given, os.path.isdir(given.source))
+    reading = read_source(command.existing_office(), given.source, given, os.path.isdir(given.source))
     if given.codes:
-        coding.add_codes(office, reading)
+        coding.add_codes(command.office(), reading)
     print_lines(reading, given.all)
-    steps = coding.steps_of(reading)
-    with changing.rehearse(office, steps, command.progress) as rehearsal:
-        command.progress("")
-        for answered in rehearsal.answers:
-            if answered.ran.status:
-                changes.refuse(office, answered, answered.step.words[-1])
-            print(f"{answered.step.words[-1]}: {answered.first_line()}")
-        if rehearsal.made_from == rehearsal.promised:
-            print("the office has all this already: nothing is changed")
-            return
-        for line in consequences.of(rehearsal, None if given.all else changes.MOST_NAMED, command.show_asked):
-            print(line)
-        if not given.yes:
-            command.ask("import all this?")
-        carried = changing.carry_out(office, steps, rehearsal.made_from, rehearsal.promised,
-                                     f"take {os.path.basename(os.path.abspath(given.source))}", command.progress)
-    command.progress("")
-    if refused := carried.refused:
-        changes.refuse(office, refused, refused.step.words[-1])
-    changes.say_carried(carried, "imported")
+    return programs.Asked(coding.steps_of(reading), f"take {os.path.basename(os.path.abspath(given.source))}",
+                       most=None if given.all else programs.MOST_NAMED, question="import all this?", done="imported",
+                       is_agreed=given.yes)
 
 
 @command.named("""Makes an empty workbook for the facts of the office, with a sheet for each kind: template FILE.xlsx

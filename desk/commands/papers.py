@@ -8,8 +8,8 @@ import re
 from typing import TYPE_CHECKING
 
 import command
+from exam_desk import typed
 from exam_desk.trouble import Trouble
-from exam_desk.words import number
 
 if TYPE_CHECKING:
     from argparse import ArgumentParser
@@ -138,7 +138,7 @@ def slips(parser: ArgumentParser) -> None:
     from exam_desk import facts, files, lists
     from exam_desk.reading import of_few
     from exam_desk.sheets import slips
-    parser.add_argument("--only", action="append", default=[], metavar="NUMBER", type=number,
+    parser.add_argument("--only", action="append", default=[], metavar="NUMBER", type=typed.candidate_number,
                         help="this candidate; may be given again")
     parser.add_argument("--order", metavar="FILE.csv", help="number,group: by group, each on pages of its own")
     given = command.given(parser, "session*", "--codes: with the access code", "--desks: with desk numbers",
@@ -300,5 +300,5 @@ def why(parser: ArgumentParser) -> bool:
     with command.reading() as reading:
         found, printed = reasons.compared(reading, given.session)
         faults = list(found.faults(printed))
-    command.say(found.text(given.number and number(given.number)))
+    command.say(found.text(given.number))
     return warned(faults)

@@ -1,5 +1,5 @@
-"""What `office` does for a command of the program: it hands the words on, keeps a copy before a change, and says what
-came of it."""
+"""What `office` does for a command of the program, and for each command that changes the office: that gives a plan, which
+`what-if` rehearses, and `office` carries out."""
 from __future__ import annotations
 
 import contextlib
@@ -7,25 +7,181 @@ import itertools
 import os
 import subprocess
 import sys
-from collections.abc import Iterator, Sequence
+from collections.abc import Callable, Iterator, Sequence
+from dataclasses import dataclass, replace
 from typing import TypeVar
 
 import command
-from exam_desk import beside, changing, private, refusals, running, turns
+from exam_desk import (beside, changing, consequences, copies, listed, lodging, notebook, private, refusals, running,
+                       turns, typed)
+from exam_desk.changing import Answered, Rehearsal, Step, Tried
 from exam_desk.office import Office
+from exam_desk.reading import Reading
 from exam_desk.running import Ran
-from exam_desk.trouble import Trouble
+from exam_desk.trouble import Stale, Trouble
 from exam_desk.words import plain
 
 CHECKING = ["init", "check"]  # change no facts, but need the office for themselves
-MIGRATE = "migrate"
+CHANGES, MIGRATE = changing.CHANGES, "migrate"
 LISTED = ["withdraw", "reinstate"]  # take a list too
 LIST_HELP = """
 With the entries of a file, whose header is number,paper: office {0} --list FILE.csv
   One copy of the office is kept, and each row has a line in the log. Where a number or a paper is not known nothing is
   changed. A row that is refused is printed, and the others are carried out; `office back 1` takes all of it back.
 """
+MOST_NAMED = 20  # of those who lose a desk, move or sit otherwise, where a question follows
 Value = TypeVar("Value")
+
+
+@dataclass
+class Change:
+    """A step of the program, at once. It is carried out by a call, which gives the status."""
+    steps: Sequence[Step] = ()
+    title: str = ""  # in the log and the list of copies; where it is empty that of the steps
+    copy: str | None = None  # which is in the place of the office before the steps
+    most: int | None = None  # of those whom it meets in one way, who are named behind a rehearsal
+    is_over: Callable[[list[Answered]], object] = changing.refused_of  # whether a rehearsal ends behind these answers
+    own: Callable[[Reading, Reading], list[str]] | None = None  # what it says itself of the office before and after it
+
+    def said(self, rehearsal: Rehearsal) -> int:
+        """Prints what came of the steps in a rehearsal; the status."""
+        return said(rehearsal.answers[0])
+
+    def __call__(self) -> int:
+        carried = changing.carry_out(command.office(), self.steps, title=self.title)
+        status = said(carried.answers[0])
+        if self.steps[0].words[0] != MIGRATE:
+            command.tell_consequences(carried.copy)
+        return status
+
+
+@dataclass(kw_only=True)
+class Asked(Change):
+    """Steps of the program, whole or not at all, behind a rehearsal and a question."""
+    question: str
+    done: str
+    is_agreed: bool  # so that nobody is asked
+    made_for: str = ""  # the name of the state that the steps were made for, where they are for no other
+
+    def said(self, rehearsal: Rehearsal) -> int:
+        if self.made_for not in ("", rehearsal.made_from):
+            raise Stale("the office changed meanwhile, so nothing is changed: give the command again")
+        if not self.own:
+            command.say_lines(f"{each.step.words[-1]}: {each.first_line()}" for each in rehearsal.answers
+                              if each != rehearsal.refused)
+        refuse(rehearsal)
+        return 0
+
+    def __call__(self) -> int:
+        with rehearsed(self) as (_, rehearsal):
+            if rehearsal.made_from == rehearsal.promised:
+                print("the office has all this already: nothing is changed")
+                return 0
+            if not self.is_agreed:
+                command.ask(self.question)
+            carried = changing.carry_out(command.office(), self.steps, rehearsal.made_from, rehearsal.promised,
+                                         self.title, command.progress)
+        command.progress("")
+        refuse(carried)
+        print(f"{self.done}; `office changes 1` says who must be told, `office back 1` takes it back")
+        if carried.as_promised is False:
+            command.warn("the office is not as the trial said: look with `office changes 1`")
+        return 0
+
+
+@dataclass(kw_only=True)
+class List(Change):
+    """Steps of the program, each by itself: one that is refused leaves the others."""
+    rows: listed.Rows
+    is_over: Callable[[list[Answered]], object] = listed.is_hopeless
+
+    def said(self, rehearsal: Rehearsal) -> int:
+        statuses = [*map(said_of_row, self.rows, rehearsal.answers)]
+        print(f"{statuses.count(0)} of {len(self.rows)} rows would be done")
+        return int(statuses.count(0) < len(self.rows))
+
+    def __call__(self) -> int:
+        statuses: list[int] = []
+        try:
+            carried = listed.carry_out(command.office(), self.title, self.rows,
+                                       lambda line, answered: statuses.append(said_of_row(line, answered)))
+        except SystemExit:  # a signal
+            command.warn(f"stopped after {len(statuses)} of {len(self.rows)} rows: those before it that were not "
+                         "refused are done, and look whether the next one is; `office back 1` takes all of them back")
+            raise
+        done = sum(answered.ran.status == 0 for answered in carried.answers)
+        back = "; `office back 1` takes them back" if done else ""
+        printed(Ran(0, f"{done} of {len(self.rows)} rows are done{back}\n", ""))
+        command.tell_consequences(carried.copy)
+        return int(any(statuses) or len(carried.answers) < len(self.rows))
+
+
+@dataclass
+class Back(Change):
+    """A copy in the place of the office."""
+    copy: str = ""
+    is_agreed: bool = False
+
+    def said(self, rehearsal: Rehearsal) -> int:
+        office = rehearsal.office
+        self.tell("would be", copies.taken_away(office, self.copy), notebook.others_than_in(office, self.copy))
+        return 0
+
+    def tell(self, verb: str, taken: list[str], others: list[str]) -> None:
+        """Says what is taken away, and what is left as it is beside the office though the copy has it otherwise."""
+        when, what = copies.when_and_what(self.copy)
+        print(f"the office {verb} as it was on {when}, before {plain(what)}")
+        print_taken(taken)
+        if others:
+            print(f"left as they are now, and otherwise in the copy: {', '.join(map(plain, others))}")
+
+    def __call__(self) -> int:
+        """It asks again where more appeals and decisions would be taken away than it asked about."""
+        office = command.office()
+        when, what = copies.when_and_what(self.copy)
+        others = notebook.others_than_in(office, self.copy)
+        question = f"put back the office of {when}, before `{plain(what)}`? What was done since then is undone."
+        asked = None if self.is_agreed else agreed(question, copies.taken_away(office, self.copy))
+        while not (done := changing.go_back(office, self.title.split(), self.copy,
+                                            lambda lines: asked in (None, lines))).is_done:
+            asked = agreed(f"this has changed since the question, and nothing is done yet: {question}", done.lines)
+        self.tell("is", done.lines, others)
+        sys.stdout.flush()
+        command.tell_consequences(done.copy)
+        return 0
+
+
+@dataclass
+class Lodging(Change):
+    """An appeal, over HTTP."""
+    words: Sequence[str] = ()
+
+    def said(self, rehearsal: Rehearsal) -> int:
+        return self.lodged(replace(rehearsal.office, path=rehearsal.after))
+
+    def __call__(self) -> int:
+        return self.lodged(command.office())
+
+    def lodged(self, office: Office) -> int:
+        found = lodging.lodge(office, self.words)
+        lines = "".join(f"{plain(line)}\n" for line in [found.line, *found.explained])
+        (sys.stderr if found.status else sys.stdout).write(lines)
+        return found.status
+
+
+@contextlib.contextmanager
+def rehearsed(change: Change) -> Iterator[tuple[int, Rehearsal]]:
+    """Carries a change out on a private copy, and prints what would come of it; the status. Of the office before
+    `migrate` nobody here can read the tables."""
+    with changing.rehearse(command.office(), change.steps, command.progress, change.copy, change.is_over) as rehearsal:
+        command.progress("")
+        status = change.said(rehearsal)
+        done = {each.step.words[0] for each in rehearsal.answers if each.ran.status == 0}
+        if change.copy or done - {MIGRATE}:
+            with command.reading(rehearsal.before) as before, command.reading(rehearsal.after) as after:
+                command.say_lines([*(change.own(before, after) if change.own else []),
+                                   *consequences.between(before, after, change.most)])
+        yield status, rehearsal
 
 
 def run(office: Office, words: list[str]) -> int:
@@ -36,27 +192,16 @@ def run(office: Office, words: list[str]) -> int:
     if not {"-h", "--help"}.isdisjoint(itertools.takewhile(lambda word: word != "--", words)):
         found = running.help_text(office, words[0])
         command.say(found + (LIST_HELP.format(words[0]) if words[0] in LISTED else ""))
-        return 0 if found else outcome(office, words, Ran(2, "", "line not understood\n"))
-    if words[0] in LISTED and len(words) == 3 and words[1] == "--list":
-        return run_list(office, words[0], words[2])
+        return 0 if found else outcome(words, Ran(2, "", "line not understood\n"))
     if words[0] == "serve" and len(words) > 1:
         beside.refuse_stranger(office.path)
         if turns.keep_state(office) is not None:
             raise Trouble("`keep` serves this office already; `office keep stop` ends it")
         with running.starting(office):
             os.execv(office.program, office.line(*words))
-    if words[0] in changing.CHANGES:
-        return carry_out(office, changing.Step(tuple(words)))
-    return outcome(office, words, printed(dispatch(office, words)))
-
-
-def carry_out(office: Office, step: changing.Step, title: str = "") -> int:
-    """Carries out a change of one step; its status, whatever can be said of what it did."""
-    carried = changing.carry_out(office, [step], title=title)
-    status = outcome(office, step.words, printed(carried.answers[0].ran), step.data)
-    if step.words[0] != MIGRATE:  # of the office before it nobody here can read the tables
-        command.tell_consequences(carried.copy)
-    return status
+    if change := of_program(words):
+        return change()
+    return outcome(words, printed(dispatch(office, words)))
 
 
 def dispatch(office: Office, words: list[str]) -> Ran:
@@ -83,6 +228,58 @@ def if_possible(context: contextlib.AbstractContextManager[Value], instead: Valu
         yield value
 
 
+def of_program(words: list[str]) -> Change | None:
+    """The change that a command of the program makes; None where it makes none. Raises `Trouble` where it is a list
+    with a mistake. A number comes first, where the program takes one; it says so."""
+    if words[0] in LISTED and len(words) == 3 and words[1] == "--list":
+        return of_list(words[0], words[2])
+    if words[0] not in CHANGES:
+        return None
+    first = 2 if words[1:2] == ["--"] else 1
+    whole = [*words[:first], *map(typed.number, words[first:first + 1]), *words[first + 1:]]
+    if whole != words and running.takes(running.help_text(command.office(), words[0]))[:1] == ["number"]:
+        words = whole
+    return Change([Step(tuple(words))])
+
+
+def of_list(name: str, path: str) -> List:
+    """Withdraws or reinstates the entries of a file."""
+    rows, wrong = listed.rows_of(command.office(), name, path)
+    sys.stderr.write("".join(f"{plain(line)}\n" for line in wrong))
+    if wrong:
+        raise Trouble("nothing is changed")
+    about = changing.named("entries", (tuple(map(str.encode, step.words[1:])) for step in rows.values()))
+    title = " ".join([name, "--list", os.path.basename(path), *about])
+    return List([*rows.values()], title, rows=rows)
+
+
+def said(answered: Answered) -> int:
+    """Prints what the program said of a step, and what it means; the status."""
+    return outcome(answered.step.words, printed(answered.ran), answered.step.data)
+
+
+def said_of_row(line: int, answered: Answered) -> int:
+    """Prints what became of the row of a list; the status."""
+    words = plain(f"line {line}: {answered.step.title()}: {answered.first_line()}")
+    if not answered.ran.status:
+        return printed(Ran(0, f"{words}\n", "")).status
+    complain(words, answered)
+    return answered.ran.status
+
+
+def refuse(tried: Tried) -> None:
+    """Raises `Trouble`, after what the program says of it, where a step is refused."""
+    if refused := tried.refused:
+        complain(f"{refused.step.title()}: {refused.first_line()}", refused)
+        raise Trouble("nothing is changed")
+
+
+def complain(line: str, refused: Answered) -> None:
+    """Prints a line on a step that is refused, and what the refusal means."""
+    lines = refusals.explained(command.office(), refused.step.words, refused.ran.complaint, refused.step.data)
+    sys.stderr.write("".join(f"{each}\n" for each in [line, *lines]))
+
+
 def printed(ran: Ran) -> Ran:
     """Prints the answer. Where it cannot be written the command is done all the same."""
     try:
@@ -93,55 +290,34 @@ def printed(ran: Ran) -> Ran:
     return ran
 
 
-def run_list(office: Office, name: str, path: str) -> int:
-    """Withdraws or reinstates the entries of a file; the status is 1 where one is refused."""
-    from exam_desk import listed  # here, since half the time of a command without it would be this import
-    rows, wrong = listed.rows_of(office, name, path)
-    sys.stderr.write("".join(f"{plain(line)}\n" for line in wrong))
-    if wrong:
-        raise Trouble("nothing is changed")
-    statuses: list[int] = []
-    about = changing.named("entries", (tuple(map(str.encode, row.step.words[1:])) for row in rows))
-    try:
-        carried = listed.carry_out(office, " ".join([name, "--list", os.path.basename(path), *about]), rows,
-                                   lambda line, answered: statuses.append(tell_row(office, line, answered)))
-    except SystemExit:  # a signal
-        command.warn(f"stopped after {len(statuses)} of {len(rows)} rows: those before it that were not refused are done, "
-                     "and look whether the next one is; `office back 1` takes all of them back")
-        raise
-    done = sum(answered.ran.status == 0 for answered in carried.answers)
-    back = "; `office back 1` takes them back" if done else ""
-    printed(Ran(0, f"{done} of {len(rows)} rows are done{back}\n", ""))
-    command.tell_consequences(carried.copy)
-    return int(any(statuses) or len(carried.answers) < len(rows))
-
-
-def tell_row(office: Office, line: int, answered: changing.Answered) -> int:
-    """Prints what became of the row of a list, and gives a status."""
-    said = plain(f"line {line}: {answered.step.title()}: {answered.first_line()}")
-    if not answered.ran.status:
-        return printed(Ran(0, f"{said}\n", "")).status
-    lines = [said, *refusals.explained(office, answered.step.words, answered.ran.complaint)]
-    sys.stderr.write("".join(f"{line}\n" for line in lines))
-    return answered.ran.status
+def outcome(words: Sequence[str], ran: Ran, data: bytes | None = None) -> int:
+    """Says what a refusal of a command, or of an import of these bytes, means; the status."""
+    lines = []
+    if ran.status == 1:
+        lines = refusals.explained(command.office(), words, ran.complaint, data)
+    elif ran.status == 2:
+        text = running.help_text(command.office(), words[0])
+        wrong = typed.wrong(running.takes(text), [word for word in words[1:] if word != "--"]) if text else []
+        usage = [line for line in text.split("\n") if line][1:]
+        lines = [f"  {line}" for line in
+                 [*wrong, *usage] or [f"`office --help` lists the commands{meant(words[0])}"]]
+    sys.stderr.write(ran.complaint + "".join(f"{line}\n" for line in lines))
+    return ran.status
 
 
 def meant(name: str) -> str:
     """What a word that is no command may stand for."""
     import difflib  # here, since a slip alone needs it
-    from commands import COMMANDS
-    known = [*COMMANDS, *CHECKING, *changing.CHANGES, *running.SHEETS, "serve"]
-    found = difflib.get_close_matches(name, known, 1)
+    found = difflib.get_close_matches(name, [*command.COMMANDS, *CHANGES, *running.SHEETS, "init", "check", "serve"], 1)
     return f"; is `office {found[0]}` meant?" if found else ""
 
 
-def outcome(office: Office, words: Sequence[str], ran: Ran, data: bytes | None = None) -> int:
-    """Says what a refusal of a command, or of an import of these bytes, means; the status."""
-    lines = []
-    if ran.status == 1:
-        lines = refusals.explained(office, words, ran.complaint, data)
-    elif ran.status == 2:
-        usage = [f"  {line}" for line in running.help_text(office, words[0]).split("\n") if line][1:]
-        lines = usage or [f"  `office --help` lists the commands{meant(words[0])}"]
-    sys.stderr.write(ran.complaint + "".join(f"{line}\n" for line in lines))
-    return ran.status
+def agreed(question: str, lines: list[str]) -> list[str]:
+    """Raises `Trouble` unless the answer is yes; gives the lines of what was asked about."""
+    print_taken(lines)
+    command.ask(question)
+    return lines
+
+
+def print_taken(lines: list[str]) -> None:
+    command.say_lines(f"taken away: {line}" for line in lines)

@@ -144,11 +144,11 @@ def refused_of(answers: list[Answered]) -> Answered | None:
 
 
 @contextlib.contextmanager
-def rehearse(office: Office, steps: Sequence[Step], tell: Tell = lambda title: None, copy: str | None = None
-             ) -> Iterator[Rehearsal]:
-    """Carries steps out on a private copy, up to the first that is refused: of the office, or of what would be in its
-    place if a copy were put back, carried over where it is of an earlier version. Raises `Trouble` where there is no
-    office, or the copy is no good one."""
+def rehearse(office: Office, steps: Sequence[Step], tell: Tell = lambda title: None, copy: str | None = None,
+             is_over: Callable[[list[Answered]], object] = refused_of) -> Iterator[Rehearsal]:
+    """Carries steps out on a private copy until it is over, which is behind one that is refused unless others say: of
+    the office, or of what would be in its place if a copy were put back, carried over where it is of an earlier
+    version. Raises `Trouble` where there is no office, or the copy is no good one."""
     with contextlib.ExitStack() as stack:
         try:
             before = stack.enter_context(private.private_copy(office.path, office.path))
@@ -163,7 +163,7 @@ def rehearse(office: Office, steps: Sequence[Step], tell: Tell = lambda title: N
         for step in steps:
             tell(step.title())
             rehearsal.answers.append(Answered(step, running.run_over(office, after, *step.words, data=step.data)))
-            if rehearsal.refused:
+            if is_over(rehearsal.answers):
                 break
         yield rehearsal
 
@@ -213,7 +213,7 @@ def turn(office: Office, title: str, made_from: str | None = None, tell: Tell = 
         if made_from is not None and not is_in_state(office, made_from):
             raise Stale("the office has changed since you looked at it, so nothing is changed: look again")
         if found := logbook.unfinished(office):
-            office.warn(broken_off(office, found))
+            office.warn(way_on(office, found))
         yield Turn(office, lock, tell)
 
 
@@ -225,29 +225,31 @@ def is_in_state(office: Office, name: str) -> bool:
 
 
 def kept_copy(office: Office, title: str) -> str:
-    try:
+    with beginning(office):
         return copies.keep_copy(office, title)
+
+
+@contextlib.contextmanager
+def beginning(office: Office) -> Iterator[None]:
+    """What comes before the first step. Raises `NotBegun` where it fails."""
+    try:
+        yield
     except OSError as fault:
-        raise no_copy(office, fault) from fault
-
-
-def no_copy(office: Office, fault: OSError) -> NotBegun:
-    place, days = fault.filename or beside.folder(office.path), beside.folder(office.path, copies.DAYS)
-    room = f"; make room, for example in {days}" if fault.errno == errno.ENOSPC else ""
-    return NotBegun(f"no copy of the office can be kept, so nothing is changed: {place}: {fault.strerror}{room}")
+        place, days = fault.filename or beside.folder(office.path), beside.folder(office.path, copies.DAYS)
+        room = f"; make room, for example in {days}" if fault.errno == errno.ENOSPC else ""
+        raise NotBegun(f"no copy of the office can be kept, so nothing is changed: {place}: {fault.strerror}{room}"
+                       ) from fault
+    except sqlite3.Error as fault:
+        raise NotBegun(f"{office.path} cannot be read, so nothing is changed: {fault}; `office check` says more"
+                       ) from fault
 
 
 @contextlib.contextmanager
 def begun(office: Office, context: contextlib.AbstractContextManager[Value]) -> Iterator[Value]:
     """A context of a change. Raises `NotBegun` where it does not begin."""
     with contextlib.ExitStack() as stack:
-        try:
+        with beginning(office):
             value = stack.enter_context(context)
-        except OSError as fault:
-            raise no_copy(office, fault) from fault
-        except sqlite3.Error as fault:
-            raise NotBegun(f"{office.path} cannot be read, so nothing is changed: {fault}; `office check` says more"
-                           ) from fault
         yield value
 
 
@@ -317,7 +319,8 @@ def way_back(copy: str) -> str:
     return f"`office back` lists the copy of {when}, before {what}, and puts it back"
 
 
-def broken_off(office: Office, found: logbook.Unfinished) -> str:
+def way_on(office: Office, found: logbook.Unfinished) -> str:
+    """What is said of a change without an end in the log."""
     what = f"`{found.command}` of {found.when}"
     if not found.copy:
         return f"{what} has no end in the log: it is there whole or not at all; look"

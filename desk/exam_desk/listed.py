@@ -4,7 +4,6 @@ from __future__ import annotations
 import os
 import time
 from collections.abc import Callable
-from typing import NamedTuple
 
 from exam_desk import changing, checking, copies, files, logbook, mistakes, refusals
 from exam_desk.changing import Answered, Step
@@ -14,18 +13,11 @@ from exam_desk.trouble import NoOffice, Trouble
 OF_THE_OFFICE = [22, 23, 24, 27]  # refusals
 TURN = 8  # seconds after which `keep`, and whoever waits, has the office before the next row
 BETWEEN = 0.1  # seconds between two turns, in which another command that waits looks several times
-
-
-class Row(NamedTuple):
-    """A row of the file, and the command that it means."""
-    line: int
-    step: Step
-
-
+Rows = dict[int, Step]  # by the line in which each begins, the command that it means
 Tell = Callable[[int, Answered], None]  # hears what became of the row that begins in a line
 
 
-def rows_of(office: Office, command: str, path: str) -> tuple[list[Row], list[str]]:
+def rows_of(office: Office, command: str, path: str) -> tuple[Rows, list[str]]:
     """The rows of a file with the header of entries, and a line for each mistake in it, an unknown number or paper
     among them. Raises `Trouble` where there is no office or no such file, or no row in it."""
     if not os.path.isfile(office.path):
@@ -36,29 +28,29 @@ def rows_of(office: Office, command: str, path: str) -> tuple[list[Row], list[st
         raise Trouble(f"{fault.strerror}; nothing is changed", path) from fault
     wrong, _ = mistakes.looked_through("entries", text, checking.office_knows(office))
     if wrong:
-        return [], list(checking.lines_on(os.path.basename(path), wrong, ""))
-    rows = [Row(record.line, Step((command, *(field.decode() for field in record.fields))))
-            for record in files.below_header(text, path, files.HEADERS["entries"])]
+        return {}, list(checking.lines_on(os.path.basename(path), wrong, ""))
+    rows = {record.line: Step((command, *(field.decode() for field in record.fields)))
+            for record in files.below_header(text, path, files.HEADERS["entries"])}
     if not rows:
         raise Trouble("there is no row; nothing is changed", path)
     return rows, []
 
 
-def carry_out(office: Office, title: str, rows: list[Row], tell: Tell) -> changing.Carried:
+def carry_out(office: Office, title: str, rows: Rows, tell: Tell) -> changing.Carried:
     """Carries out each row by itself, so that one that is refused leaves the others. It stops where the office itself
     cannot be used. The copy from before stays where something may be done. Raises `Trouble` where a turn, the disk or
     the program is not to be had; the rows before are done then."""
     answers: list[Answered] = []
     copy = ""
-    left = iter(rows)
+    left = iter(rows.items())
     try:
         while len(answers) < len(rows) and not is_hopeless(answers):
             with changing.turn(office, title) as taken:
                 copy = copy or changing.kept_copy(office, title)
                 until = time.monotonic() + TURN
-                for row in left:
-                    answers.append(taken.carried(row.step, logbook.BEGINS))
-                    tell(row.line, answers[-1])
+                for line, step in left:
+                    answers.append(taken.carried(step, logbook.BEGINS))
+                    tell(line, answers[-1])
                     if time.monotonic() >= until or is_hopeless(answers):
                         break
             time.sleep(BETWEEN)
@@ -66,7 +58,7 @@ def carry_out(office: Office, title: str, rows: list[Row], tell: Tell) -> changi
         kept(office, answers, copy)
         if not answers:
             raise
-        raise Trouble(f"the rows from line {rows[len(answers)].line} on are not carried out: {fault}") from fault
+        raise Trouble(f"the rows from line {[*rows][len(answers)]} on are not carried out: {fault}") from fault
     return changing.Carried(answers, kept(office, answers, copy), None)
 
 

@@ -8,14 +8,13 @@ import json
 from collections.abc import Iterator, Sequence
 from typing import NamedTuple, NoReturn
 
-from exam_desk import asking, beside, files, logbook, refusals, snapshot, turns
+from exam_desk import asking, beside, logbook, refusals, snapshot, turns, typed
 from exam_desk.asking import Serve
 from exam_desk.office import Office
 from exam_desk.trouble import Trouble
 
 TRIES, SECONDS = 3, 60
-KINDS = {"hall": ["hall"], "clash": ["paper"], "arrangement": ["needs", "extra"]}  # the values of each
-FORMS: dict[str, files.Form] = {**files.RIGHT, "reason": lambda text: files.is_short(text, 200)}
+KINDS = typed.APPEALS
 
 
 class Lodged(NamedTuple):
@@ -25,16 +24,13 @@ class Lodged(NamedTuple):
     explained: list[str]
 
 
-def asked(words: Sequence[str]) -> dict[str, str | int] | None:
-    """The body of the request that the words NUMBER SESSION KIND VALUE .. REASON ask for, without the reference; None
-    where their count does not fit. Raises `Trouble` where one has a wrong form."""
-    if len(words) < 3 or words[2] not in KINDS or len(words) != 4 + len(KINDS[words[2]]):
-        return None
-    named = dict(zip(["number", "session", "kind", *KINDS[words[2]], "reason"], words))
-    for name, word in named.items():
-        if name in FORMS and not FORMS[name](word.encode("utf-8", "surrogateescape")):
-            raise Trouble(f"{name} is {word}: that has the wrong form; nothing is changed")
-    return {name: int(word) if name == "extra" else word for name, word in named.items() if name != "number"}
+def asked(words: Sequence[str]) -> dict[str, str | int]:
+    """The body of the request that the words NUMBER SESSION KIND VALUE .. REASON ask for, without the reference. Raises
+    `Trouble` where one is wrong."""
+    if wrong := typed.wrong_of_lodging(words):
+        raise Trouble(f"{'; '.join(wrong)}; nothing is changed")
+    named = dict(zip(["session", "kind", *KINDS[words[2]], "reason"], words[1:]))
+    return {name: int(word) if name == "extra" else word for name, word in named.items()}
 
 
 def candidate(office: Office, number: str) -> tuple[str, str]:
@@ -77,12 +73,10 @@ def post(server: asking.Server, number: str, code: str, body: bytes) -> dict[str
     raise Trouble("no answer: look with `office appeals SESSION` whether it is lodged, or try again")
 
 
-def lodge(office: Office, words: Sequence[str]) -> Lodged | None:
-    """Lodges what the words ask, with a line in the log before and after it. None and `Trouble` as of `asked`; raises
-    `Trouble` also where nothing was answered."""
+def lodge(office: Office, words: Sequence[str]) -> Lodged:
+    """Lodges what the words ask, with a line in the log before and after it. Raises `Trouble` as of `asked`, and where
+    nothing was answered."""
     values = asked(words)
-    if values is None:
-        return None
     beside.refuse_stranger(office.path)
     code, ref = candidate(office, words[0])
     body = json.dumps({**values, "ref": ref}, ensure_ascii=False).encode()

@@ -11,7 +11,7 @@ import os
 from collections.abc import Iterator, Sequence
 from dataclasses import dataclass
 
-from exam_desk import beside
+from exam_desk import beside, turns
 from exam_desk.office import Office
 from exam_desk.words import plain
 
@@ -82,6 +82,12 @@ def unfinished(office: Office) -> Unfinished | None:
         elif found and command == found.begun:
             found.done = command
     return found
+
+
+def broken_off(office: Office) -> Unfinished | None:
+    """The last change of the log where it has no end and nobody has the office, who could still end it."""
+    found = unfinished(office)
+    return found if found and not turns.is_taken(office) and unfinished(office) == found else None
 
 
 def last_lines(office: Office) -> Iterator[list[str]]:

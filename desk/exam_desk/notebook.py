@@ -16,7 +16,7 @@ from collections import Counter
 from collections.abc import Callable, Collection, Iterable, Iterator, Mapping
 from typing import TYPE_CHECKING, NamedTuple, TypeVar
 
-from exam_desk import beside, facts, files, words
+from exam_desk import beside, facts, files, typed, words
 from exam_desk.office import Office
 from exam_desk.trouble import NoOffice, Trouble
 
@@ -189,7 +189,7 @@ def note_absent(reading: Reading, session: str, missing: Iterable[str], there: I
     notes nothing, before the day of the session, where nobody is named, where a number is not that of a member, and as
     `keep_absent`."""
     refuse_to_come(reading, session)
-    missing, there = [*map(words.number, missing)], [*map(words.number, there)]
+    missing, there = [*map(typed.candidate_number, missing)], [*map(typed.candidate_number, there)]
     asked = [*missing, *there]
     if not (asked or nobody):
         raise Trouble("nothing is noted: no number is given")

@@ -72,6 +72,11 @@ def help_text(office: Office, *words: str) -> str:
     return NAMED.sub(r"`office \1`", text)
 
 
+def takes(text: str) -> list[str]:
+    """The names of the words that a command takes, from its help."""
+    return re.findall("<([a-z]+)>", text[text.find("Usage: "):].partition("\n")[0])
+
+
 def begun(office: Office, path: str, port: int, number: int) -> subprocess.Popen[bytes]:
     """`serve` over a file at a port, as a child that a signal ends where this process is killed. The thread that begins
     it must live as long: the system asks for that thread. Raises `NotStarted`."""

@@ -10,7 +10,7 @@ import itertools
 import sqlite3
 from typing import NamedTuple
 
-from exam_desk import files, lists, overlaps
+from exam_desk import files, lists, overlaps, typed
 from exam_desk.changing import Step
 from exam_desk.reading import Member, Reading, Sitting
 from exam_desk.reasons import Reasons
@@ -51,9 +51,8 @@ class Plan(NamedTuple):
 def plan(reading: Reading, asked: Asked) -> Plan:
     """The steps to a second sitting. Raises `Trouble` where a value has a wrong form or is not known, or where the
     candidate has no two papers in the session of the paper."""
-    for name, value in asked._asdict().items():
-        if not files.RIGHT[name](value.encode("utf-8", "surrogateescape")):
-            raise Trouble(f"{name} is {value}: that has the wrong form; nothing is changed")
+    if wrong := typed.wrong(asked._fields, asked):
+        raise Trouble(f"{'; '.join(wrong)}; nothing is changed")
     rows, first = reading.rows, paper_row(reading.rows, asked.paper)
     refuse_without_clash(reading, asked, first["session"])
     if rows.execute("SELECT 1 FROM hall WHERE code = ?", [asked.hall]).fetchone() is None:
@@ -143,7 +142,7 @@ def is_live(rows: Rows, number: str, paper: str) -> bool | None:
 def plan_back(reading: Reading, number: str, paper: str) -> Plan:
     """The steps that take a second sitting back. Raises `Trouble` where the candidate has none of this paper."""
     first = paper_row(reading.rows, paper)
-    if not files.is_number(number.encode("utf-8", "surrogateescape")) or not reading.knows(number):
+    if not typed.is_right("number", number) or not reading.knows(number):
         raise Trouble(f"the office has no candidate {number}; a number has seven digits, `office look NAME` finds it")
     found = [row for row in second_papers(reading.rows, first) if is_live(reading.rows, number, row["code"])]
     if not found or is_live(reading.rows, number, paper) is not False:
@@ -159,17 +158,17 @@ def plan_back(reading: Reading, number: str, paper: str) -> Plan:
 def lines(planned: Plan, before: Reading, after: Reading) -> list[str]:
     """What a rehearsed plan does for the candidate. Raises `Trouble` where they would not sit as was asked."""
     number, name, first = member(after, planned.first, planned.number)
-    said = f"{number} {plain(name)} sits {first.paper}"
+    said, lacks = f"{number} {plain(name)} sits {first.paper}", "" if first.hall else " (has no desk)"
     if not planned.hall:
         missed = after.clashes(planned.first, [planned.number]).get(planned.number, [])
         others = len(after.members(planned.session))
-        return [f"{said} again" + (f", and misses {', '.join(missed)}" if missed else ""),
+        return [f"{said} again{lacks}" + (f", and misses {', '.join(missed)}" if missed else ""),
                 f"session {planned.session} and paper {planned.paper} stay, "
                 + (f"with {lists.count(others, 'candidate')}" if others else "empty")]
     second = member(after, planned.session, planned.number)
     refuse_otherwise(planned, after, first, second)
     then = second.sitting
-    found = [planned.made, f"{said} until {first.finish}, and {then.paper} from {then.start} to {then.finish} "
+    found = [planned.made, f"{said} until {first.finish}{lacks}, and {then.paper} from {then.start} to {then.finish} "
                            f"in {then.hall}, desk {then.desk}"]
     was, now = lists.allowance(member(before, planned.first, planned.number).sitting), lists.allowance(then)
     if was != now:

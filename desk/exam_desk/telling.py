@@ -79,14 +79,16 @@ class Change(NamedTuple):
             return "paper"
         if old.hall != new.hall:
             return "moves" if old.hall else "gets"
-        return "time" if time(old) != time(new) else "name" if self.name != self.old_name else "desk"
+        if old.session != new.session or time(old) != time(new):
+            return "time"
+        return "name" if self.name != self.old_name else "desk"
 
     def person(self) -> str:
         return f"{self.number} {plain(self.name)}"
 
     def what(self) -> str:
         if self.old and self.new:
-            old, new = ([place(each), each.paper, time(each)] for each in (self.old, self.new))
+            old, new = ([each.session, place(each), each.paper, time(each)] for each in (self.old, self.new))
             pairs = zip([*old, plain(self.old_name)], [*new, plain(self.name)])
             return ", ".join(f"{was} -> {now}" for was, now in pairs if was != now)
         word, sitting = ("joined", self.new) if self.old is None else ("left", self.old)
@@ -165,7 +167,21 @@ def of_touched(before: Reading, after: Reading, sessions: Touched) -> list[Chang
         if columns(then) != columns(now) or old_name != name:
             found.append(Change(session, number, name or old_name, then, now, old_name or name))
     places = {session: place for place, session in enumerate(sessions)}
-    return sorted(found, key=lambda change: (places[change.session], name_order(change.name, change.number)))
+    return sorted(with_moves(found),
+                  key=lambda change: (places[change.session], name_order(change.name, change.number)))
+
+
+def with_moves(changes: Iterable[Change]) -> list[Change]:
+    """The changes; of who sits a paper in another session than before one alone, in place of one in each session."""
+    found: dict[tuple[str, str, str], Change] = {}
+    for each in changes:
+        paper = each.old.paper if each.old else each.new.paper if each.new else ""
+        key = each.number, paper, each.session if each.old and each.new else ""
+        if other := found.get(key):
+            left, joined = (each, other) if other.new else (other, each)
+            each = joined._replace(old=left.old, old_name=left.old_name)
+        found[key] = each
+    return [*found.values()]
 
 
 def sat(reading: Reading, sessions: Touched) -> dict[tuple[str, str], tuple[str, Sitting]]:

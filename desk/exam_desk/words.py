@@ -5,7 +5,6 @@ import datetime
 import re
 from collections.abc import Sequence
 
-from exam_desk.trouble import Trouble
 
 FEATURES = ["step-free", "screen", "reader", "small-room", "computer", "quiet"]  # the value of a place is 1, 2, 4 ..
 HIDDEN = {*range(0x20), *range(0x7f, 0xa0), 0x61c, 0x200e, 0x200f, *range(0x2028, 0x202f), *range(0x2066, 0x206a)}
@@ -15,15 +14,6 @@ UNSHOWN = dict.fromkeys(HIDDEN, "?")
 def plain(text: object) -> str:
     """A text for a terminal: control characters, marks of direction and line separators are shown as `?`."""
     return str(text).translate(UNSHOWN)
-
-
-def number(word: str) -> str:
-    """The candidate number that a person means, who may leave out the zeros in front. Raises `Trouble` for any other
-    word."""
-    if not re.fullmatch("0*[1-9][0-9]*", word, re.ASCII) or len(word) > 7:
-        raise Trouble(f"'{plain(word[:40])}' is no candidate number: that has seven digits, and zeros in front may be "
-                      "left out")
-    return word.zfill(7)
 
 
 def few(names: Sequence[str], most: int = 3) -> str:

@@ -1,7 +1,6 @@
 """Changes of several steps: tried on a copy, carried out whole or not at all, and what is said after a kill."""
 import contextlib
 import os
-import re
 import shutil
 import signal
 import sqlite3
@@ -334,6 +333,52 @@ class Killed(Changing):
             self.assertEqual(self.state(), before)
             self.assertNotIn("broken off", self.run_office("reinstate", "0001000", "MA-1").stderr)
 
+    def test_who_looks_first_hears_it(self):
+        """What reads says what the next change says, each time, and leaves the log as it is."""
+        looks = ["summary"], ["check"], ["look", "Ada"], ["changes", "1"]
+        self.office("withdraw", "0001000", "MA-1")
+        for words in looks:
+            self.office(*words)  # complains of nothing
+        self.broken_off("take", self.facts(), "--yes", before="import openings")
+        log = self.log()
+        said = {words[0]: self.run_office(*words) for words in looks}
+        self.assertEqual({done.returncode for done in said.values()}, {0})
+        self.assertEqual((self.log(), len(self.kept())), (log, 2))
+        after = self.run_office("reinstate", "0001000", "MA-2").stderr.split("\n")[0]
+        self.assertRegex(after, "^office: `take facts` of .* was broken off behind `import halls .*`: `office back` lists "
+                                "the copy of .*, before take facts, and puts it back$")
+        self.assertEqual({done.stderr for done in said.values()}, {f"{after}\n"})
+        for words in looks:
+            self.office(*words)
+
+    def test_a_change_that_is_under_way_is_not_broken_off(self):
+        going, may_end = (os.path.join(self.folder, name) for name in ("going", "may_end"))
+        program = self.program(f'[ "$2 $5" = "{self.path} close-hall" ] && touch {going} && '
+                               f'for _ in $(seq 600); do [ -e {may_end} ] && break; sleep 0.1; done')
+        line = [sample.DESK / "office", "close-hall", "MON-AM", "GYM"]
+        with subprocess.Popen(line, env={**self.environment, "EXAMOFFICE": program}, stdout=subprocess.DEVNULL,
+                              stderr=subprocess.DEVNULL) as process:
+            sample.until(lambda: os.path.exists(going))
+            self.assertEqual(self.log()[-1], ["close-hall MON-AM GYM", "begins", ""])
+            self.office("look", "Ada")
+            self.write("may_end", "")
+        self.assertEqual(process.returncode, 0)
+
+    def broken_off(self, *words, before):
+        """A command that is killed as this step begins."""
+        program = self.program(f'[ "$2 $5 $6" = "{self.path} {before}" ] && kill -9 $PPID && exit 9')
+        self.assertEqual(self.run_office(*words, EXAMOFFICE=program).returncode, -signal.SIGKILL)
+
+    def test_the_end_of_the_log_of_a_list_that_was_broken_off(self):
+        """It has the steps that have an end, and the one that has none, but no end of the list."""
+        self.broken_off("take", self.facts(), "--yes", before="import openings")
+        log = self.log()
+        self.assertEqual([line[:2] for line in log if line[0] == "take facts"], [["take facts", "begins"]])
+        self.assertEqual(log[0][2], os.path.basename(self.kept()[0]))
+        self.assertEqual([(what.split()[1], status) for what, status, _ in log[1:]], [
+            (kind, status) for kind in ("sessions", "papers", "halls") for status in ("step", "0")] + [("openings", "step")])
+        self.assertEqual(log[-1][2], "")
+
     def test_a_program_that_goes_on_after_its_command_is_waited_for(self):
         """It begins its work long after the next command has begun to wait."""
         waits = f"grep -q reinstate {self.desk}/want.lock"
@@ -348,63 +393,6 @@ class Killed(Changing):
 
     def test_in_a_rehearsal(self):
         self.assertEqual(kill_rehearsals(self, ["take", self.facts()], KILLS, SEED), KILLS)
-
-
-class WhatIf(Changing):
-    def test_it_says_what_would_be_and_changes_nothing(self):
-        before = self.state()
-        text = self.office("what-if", "close-hall", "MON-AM", "GYM")
-        self.assertTrue(text.startswith("closed\n"), text)
-        self.assertRegex(text, r"(?m)^  MON-AM \d{7} .*: GYM desk \d+ -> ")
-        self.assertRegex(text, r"(?m)^session MON-AM: \d+ candidates, \d+ without a desk \(before: \d+ and \d+\)$")
-        self.assertEqual((self.state(), self.kept(), self.log()), (before, [], []))
-        self.office("close-hall", "MON-AM", "GYM")
-        told = {line[2:] for line in self.office("changes", "1").split("\n") if line.startswith("!")}
-        self.assertTrue({line[2:] for line in text.split("\n") if line.startswith("  MON-AM")} <= told)
-
-    def test_back(self):
-        """What `back` would do, with the appeals that it would take away; and it is what `back` does."""
-        self.office("close-hall", "MON-AM", "GYM")
-        self.office("lodge", "0001051", "MON-AM", "hall", "PC1", "a draught")
-        now, log = self.state(), self.log()
-        text = self.office("what-if", "back", "1")
-        self.assertRegex(text, r"\Athe office would be as it was on \S+ \S+, before close-hall MON-AM GYM\n"
-                               r"taken away: appeal 0001051 D1 for MON-AM: open -> gone\n[0-9]+ get desks\n")
-        self.assertRegex(text, r"(?m)^session MON-AM: \d+ candidates, 2 without a desk \(before: \d+ and \d+\)$")
-        self.assertNotIn("a draught", text)
-        self.assertEqual((self.state(), len(self.kept()), self.log()), (now, 1, log))
-        told = re.findall("(?m)^([0-9].*?)(?:$|:)", self.run_office("back", "1", "--yes").stderr)
-        self.assertEqual(told, [line for line in text.split("\n") if re.match("[0-9]", line)])
-
-    def test_back_of_a_bad_copy_and_of_none(self):
-        self.office("withdraw", "0001000", "MA-1")
-        self.assertIn("there is no copy 2", self.refused("what-if", "back", "2"))
-        for words in (["back"], ["back", "x"], ["back", "1", "--yes"]):
-            self.assertIn("name a copy by its number", self.refused("what-if", *words))
-        [copy] = self.kept()
-        with contextlib.closing(sqlite3.connect(os.path.join(copy, "office.db"))) as file:
-            file.execute("DELETE FROM seat WHERE number = 1017")
-            file.commit()
-        self.assertIn("this copy is no good office (bad seat)", self.refused("what-if", "back", "1"))
-
-    def test_back_to_a_copy_of_an_earlier_version(self):
-        with contextlib.closing(sqlite3.connect(self.path)) as file:
-            file.execute("UPDATE office SET version = 2")
-            file.commit()
-        self.office("migrate")
-        self.office("withdraw", "0001000", "MA-1")
-        self.assertIn("1 joins a session\n", self.office("what-if", "back", "2"))
-
-    def test_refusals(self):
-        self.assertIn("refused 9\n  the entry is withdrawn already",
-                      self.refused_after(["withdraw", "0001000", "MA-1"], "what-if", "withdraw", "0001000", "MA-1"))
-        self.assertIn("name a command", self.refused("what-if", "serve", "8080"))
-        self.assertIn("name a command", self.refused("what-if"))
-        self.assertEqual(self.run_office("what-if", "close-hall").returncode, 2)
-
-    def refused_after(self, first, *words):
-        self.office(*first)
-        return self.refused(*words)
 
 
 class Taking(Changing):

@@ -2,6 +2,7 @@
 import contextlib
 import os
 import re
+import signal
 import subprocess
 import threading
 import time
@@ -128,6 +129,21 @@ class Listed(test_changing.Changing):
         self.assertNotIn("line 4", done.stdout + done.stderr)
         self.assertEqual(len(self.kept()), 1)
 
+    def test_ctrl_c_says_how_far_it_came(self):
+        """It comes in the second row: the first is done, the log says so, and one step back takes it back."""
+        program = self.program('[ "$5 $6" = "withdraw 0001017" ] && sleep 2 && kill -INT $PPID && exec sleep 60')
+        done = self.run_list(GOOD, EXAMOFFICE=program)
+        self.assertEqual(done.returncode, 128 + signal.SIGINT)
+        self.assertEqual(done.stdout, "line 2: withdraw 0001000 MA-1: withdrawn\n")
+        self.assertEqual(done.stderr, "office: stopped after 1 of 2 rows: those before it that were not refused are done, and "
+                                      "look whether the next one is; `office back 1` takes all of them back\n")
+        self.assertEqual(self.log(), [
+            ["withdraw 0001000 MA-1", "begins", ""], ["withdraw 0001000 MA-1", "0", "withdrawn"],
+            ["withdraw 0001017 MA-1", "begins", ""], ["withdraw 0001017 MA-1", "1", "stopped: look whether it is done"]])
+        self.assertNotEqual(self.state(), self.before)
+        self.office("back", "1", "--yes")
+        self.assertEqual(self.state(), self.before)
+
     def test_a_program_that_does_not_start_in_the_middle(self):
         program = self.program("")
         value = Office(self.path, program, self.value.today, "tester")
@@ -159,8 +175,7 @@ def waits(process):
 
 class Served(sample.KeptSchool):
     def test_keep_has_the_office_between_two_turns(self):
-        rows = [listed.Row(line, listed.Step(("withdraw" if line % 2 else "reinstate", "0001000", "MA-1")))
-                for line in range(1, 5)]
+        rows = {line: listed.Step(("withdraw" if line % 2 else "reinstate", "0001000", "MA-1")) for line in range(1, 5)}
         asked = []
 
         def tell(line, _):

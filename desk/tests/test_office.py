@@ -1,6 +1,7 @@
 """The front script over the sample school: refusals in words, copies and `back`, the log."""
 import io
 import os
+import re
 import sqlite3
 import stat
 import subprocess
@@ -78,9 +79,10 @@ class Words(sample.SampleSchool):
                       self.refused("import", "halls", path))
 
     def test_a_line_that_is_not_understood_is_followed_by_the_usage(self):
-        done = self.run_office("decide", "1051", "AR1", "granted", "ok")
+        done = self.run_office("decide", "10x51", "AR1", "grant", "ok")
         self.assertEqual(done.returncode, 2)
-        self.assertTrue(done.stderr.startswith("line not understood\n"))
+        self.assertTrue(done.stderr.startswith("line not understood\n  number '10x51': seven digits\n"
+                                               "  outcome 'grant': one of granted, refused, standing\n"), done.stderr)
         for word in ("decide", "<number>", "<outcome>"):
             self.assertIn(word, done.stderr.lower())
         self.assertIn("\n  Usage: office decide <number>", done.stderr)
@@ -90,6 +92,60 @@ class Words(sample.SampleSchool):
         self.assertEqual(done.returncode, 2)
         self.assertEqual(self.run_office("sumary").stderr, "line not understood\n  `office --help` lists the commands; "
                                                            "is `office summary` meant?\n")
+
+    def test_which_word_is_wrong(self):
+        for words, *said in ((["withdraw", "0001051", "math1"], "paper 'math1': write MATH1 (1 to 12 of A-Z, 0-9 and -)"),
+                             (["withdraw"], "number is missing", "paper is missing"),
+                             (["withdraw", "1051", "MA-1", "x\u202e"], "'x?' is one word too many"),
+                             (["close-hall", "--", "MON-AM", "-"], "hall '-': 1 to 8 of A-Z and 0-9"),
+                             (["import", "entires", "x.csv"], "kind 'entires': one of sessions, papers, "),
+                             (["door-list", "MON-AM"], "hall is missing"),
+                             (["decide", "0001051", "d1", "granted", "x" * 201],
+                              "ref 'd1': ", "reason: at most 200 bytes of UTF-8"),
+                             (["decide", "0001051", "D1", "granted", "xxx", "yyy"], "the reason has several words: put it")):
+            done = self.run_office(*words)
+            self.assertEqual((done.returncode, done.stdout), (2, ""), words)
+            self.assertNotRegex(done.stderr, "xxx|yyy")  # a reason is private
+            lines = done.stderr.split("\n")
+            self.assertEqual(lines[0], "line not understood")
+            for line, start in zip(lines[1:], said):
+                self.assertTrue(line.startswith(f"  {start}"), (line, start))
+            self.assertEqual(lines[1 + len(said)][:15], "  Usage: office", done.stderr)
+        for words, said in ((["lodge", "0001051", "MON-AM", "hal", "PC1", "x"],
+                             "kind of appeal 'hal': one of hall, clash, arrangement"),
+                            (["lodge", "1051x", "mon-am"], "number '1051x': seven digits; session 'mon-am': write MON-AM (1 "
+                             "to 12 of A-Z, 0-9 and -); kind of appeal is missing"),
+                            (["lodge", "0001051", "MON-AM", "hall", "PC1"], "reason is missing"),
+                            (["lodge", "0001051", "MON-AM", "arrangement", "-", "30%", "x"], "extra '30%': write 30")):
+            done = self.run_office(*words)
+            self.assertEqual((done.returncode, done.stdout), (2, ""), words)
+            self.assertTrue(done.stderr.startswith("usage: office lodge NUMBER SESSION KIND VALUE .. REASON\n"
+                                                   f"office lodge: error: {said}"), done.stderr)
+
+    def test_numbers_without_zeros(self):
+        """They are taken in each command in which a person types one, and the log has them whole."""
+        self.assertEqual(self.office("withdraw", "1000", "MA-1"), "withdrawn\n")
+        self.assertEqual(self.office("reinstate", "--", "1000", "MA-1"), "reinstated\n")
+        self.assertEqual(self.office("lodge", "1051", "MON-AM", "hall", "PC1", "1051"), "0001051 D1 open\n")
+        self.assertEqual(self.office("decide", "1051", "D1", "refused", "1051"), "decided refused hall PC1 moved 0\n")
+        self.assertIn("hall PC1: refused", self.office("look", "1051"))
+        self.assertIn("1051", self.office("look", "1051").partition("refused")[2])
+        self.office("name", "1051", "Ada")
+        self.assertEqual(self.office("slips", "--only", "1051", "--csv"), self.office("slips", "--only", "0001051", "--csv"))
+        self.assertEqual(self.office("absent", "MON-AM", "1051", "1000"), "2 candidates absent of 60\n")
+        with open(os.path.join(self.desk, "log"), encoding="utf-8") as log:
+            self.assertFalse([line for line in log if re.search(r"\b10\d\d\b", line.split("\t")[2])])
+        for words in (["withdraw", "0", "MA-1"], ["withdraw", "\u0661\u0660\u0660\u0660", "MA-1"], ["withdraw", "-1000", "MA-1"]):
+            self.assertEqual(self.run_office(*words).returncode, 2, words)
+
+    def test_options_between_names(self):
+        self.office("withdraw", "0001000", "MA-1")
+        text = self.office("changes", "1", "MON-AM", "--tell")
+        self.assertIn("1 leaves a session:\n! MON-AM 0001000", text)
+        self.assertEqual(self.office("changes", "1", "--tell", "MON-AM"), text)
+        self.assertEqual(self.office("changes", "--tell", "1", "MON-AM"), text)
+        self.assertEqual(self.office("changes", "1", "--tell", "TUE-AM"), "nothing changed\n")
+        self.assertEqual(self.office("look", "ada", "--codes", "lin"), self.office("look", "ada", "lin", "--codes"))
 
     def test_help_is_in_the_words_that_can_be_typed(self):
         for words in (["decide", "--help"], ["decide", "-h"], ["decide", "0001000", "-h"], ["withdraw", "--help"], []):
@@ -101,7 +157,7 @@ class Words(sample.SampleSchool):
         self.assertFalse(os.path.exists(self.desk))
         self.assertIn("office reinstate --list FILE.csv\n", self.office("reinstate", "--help"))
         self.assertEqual(self.run_office("nothing-like-it", "--help").returncode, 2)
-        self.assertRegex(self.run_office("serve").stderr, r"\Aline not understood\n  Usage: office serve <port>\n")
+        self.assertRegex(self.run_office("serve").stderr, r"\Aline not understood\n  port is missing\n  Usage: office serve <port>\n")
 
     def test_a_missing_program_is_named(self):
         self.assertIn("there is no program /nowhere", self.refused("init", EXAMOFFICE="/nowhere"))

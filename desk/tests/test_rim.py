@@ -174,7 +174,9 @@ class Strangers(sample.SampleSchool):
         self.assertEqual(os.listdir(self.desk), [])
 
     def test_a_lodging_that_is_no_text(self):
-        self.assertIn("reason is", self.refused("lodge", "0001051", "MON-AM", "hall", "PC1", b"\xff"))
+        done = self.run_office("lodge", "0001051", "MON-AM", "hall", "PC1", b"\xff")
+        self.assertEqual((done.stdout, done.returncode), ("", 2))
+        self.assertIn("error: reason: at most 200 bytes of UTF-8 and no control characters\n", done.stderr)
 
 
 class Elsewhere(sample.SampleSchool):

@@ -57,7 +57,7 @@ class There(SecondSitting):
         said = self.second(*ONE)
         self.assertEqual(said.split("\n")[:4], [
             "session MON-AM-2 (new) at 10:30, paper MA-1-2 (new), hall R14 with 1 desk",
-            "0000003 ?Bo, =1+1 sits LAT until 10:30, and MA-1-2 from 10:30 to 12:30 in R14, desk 1",
+            "0000003 ?Bo, =1+1 sits LAT until 10:30 (has no desk), and MA-1-2 from 10:30 to 12:30 in R14, desk 1",
             "1 joins a session", "session MON-AM-2: 1 candidate, 0 without a desk"])
         self.assertEqual(self.seats("MON-AM-2"), {"0000003": ("MA-1-2", "R14", "1")})
         self.assertEqual(self.seats("MON-AM")["0000003"][0], "LAT")
@@ -69,7 +69,7 @@ class There(SecondSitting):
 
     def test_the_paper_that_was_sat_so_far(self):
         said = self.second("0000003", "LAT", "11:00", "R14")
-        self.assertIn("sits MA-1 until 11:00, and LAT-2 from 11:00 to 12:30 in R14, desk 1\n", said)
+        self.assertIn("sits MA-1 until 11:00 (has no desk), and LAT-2 from 11:00 to 12:30 in R14, desk 1\n", said)
         self.assertIn("1 sits another paper\n", said)
 
     def test_a_second_candidate_joins(self):
@@ -109,6 +109,26 @@ class There(SecondSitting):
                                     ("ABCDEFGHIJ-2", "ABCDEFGHIJKL", True), ("-2", "-", False)):
             self.assertIs(second_sitting.is_numbered(code, first), is_one, code)
 
+    def test_a_number_without_its_zeros(self):
+        self.second("3", *ONE[1:])
+        self.assertEqual(self.seats("MON-AM-2"), {"0000003": ("MA-1-2", "R14", "1")})
+        self.assertIn(["second-sitting 0000003 MA-1 10:30 R14", "0", "5 steps"], self.log())
+
+    def test_what_if(self):
+        """It is the rehearsal of the command without its question."""
+        text = self.office("what-if", "second-sitting", *ONE)
+        self.assertEqual((self.state(), len(self.kept())), (self.before, self.copies_before))
+        asked = self.run_office("second-sitting", *ONE, stdin="n\n").stdout
+        self.assertEqual(asked, f"{text}do this? [y/N] ")
+        self.assertIn("0000003 has no second sitting of MA-1", self.refused("what-if", "second-sitting", "3", "MA-1",
+                                                                            "--undo"))
+
+    def test_who_has_a_desk_in_the_first_session(self):
+        self.enter("openings", "session,hall,desks,until,reserved\nMON-AM,GYM,99,12:30,no\n")
+        self.assertIn("0000003 ?Bo, =1+1 sits LAT until 10:30, and MA-1-2 from 10:30 to 12:30 in R14, desk 1\n",
+                      self.second(*ONE))
+        self.assertIn("0000003 ?Bo, =1+1 sits LAT again, and misses MA-1\n", self.second("0000003", "MA-1", "--undo"))
+
     def test_it_asks(self):
         done = self.run_office("second-sitting", *ONE, stdin="n\n")
         self.assertEqual((done.returncode, done.stderr), (1, "office: nothing is changed\n"))
@@ -132,11 +152,12 @@ class There(SecondSitting):
 
 class Refused(SecondSitting):
     def test_values(self):
-        self.refuses("number is 3: that has the wrong form", "3", *ONE[1:])
-        self.refuses(r"start is 9:30: that has the wrong form", *ONE[:2], "9:30", "R14")
-        self.refuses(r"start is 24:00: ", *ONE[:2], "24:00", "R14")
-        self.refuses(r"hall is \?r: that has the wrong form", *ONE[:3], "\u202er")
-        self.refuses("paper is <b>: that has the wrong form", "0000003", "<b>", *ONE[2:])
+        self.refuses("number '3x': seven digits; nothing is changed", "3x", *ONE[1:])
+        self.refuses(r"start '9:30': write 09:30 \(a time as 09:00\); nothing is changed", *ONE[:2], "9:30", "R14")
+        self.refuses(r"start '24:00': a time as 09:00", *ONE[:2], "24:00", "R14")
+        self.refuses(r"hall '\?r': ", *ONE[:3], "\u202er")
+        self.refuses("paper '<b>': 1 to 12 of A-Z, 0-9 and -; nothing", "0000003", "<b>", *ONE[2:])
+        self.refuses("paper 'x': .*; hall 'y z': ", "0000003", "x", "10:30", "y z")
         self.refuses("the office has no candidate 0000009", "0000009", *ONE[1:])
         self.refuses("the office has no paper XX-1", "0000003", "XX-1", *ONE[2:])
         self.refuses("the office has no hall R99", *ONE[:3], "R99")
@@ -202,7 +223,7 @@ class Back(SecondSitting):
         self.second(*ONE)
         self.second("0000002", *ONE[1:])
         said = self.second("0000003", "MA-1", "--undo")
-        self.assertIn("0000003 ?Bo, =1+1 sits LAT again, and misses MA-1\nsession MON-AM-2 and paper MA-1-2 stay, "
+        self.assertIn("0000003 ?Bo, =1+1 sits LAT again (has no desk), and misses MA-1\nsession MON-AM-2 and paper MA-1-2 stay, "
                       "with 1 candidate\n", said)
         self.assertIn("stay, empty\n", self.second("0000002", "MA-1", "--undo"))
         self.assertEqual(self.seats("MON-AM-2"), {})

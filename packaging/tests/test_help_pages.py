@@ -94,6 +94,8 @@ class HelpPages(unittest.TestCase):
             (["examoffice", "--db", "a", "--today", "b", "import", "pap"], "papers"),
             (["office", ""], "import init why"), (["office", "import", ""], "sessions papers halls"),
             (["office", "import", "halls", "a"], "a file"), (["office", "init", ""], "a file"),
+            (["office", "what-if", "im"], "import"), (["office", "what-if", "import", "pap"], "papers"),
+            (["office", "what-if", "import", "halls", "a"], "a file"), (["examoffice", "what-if", "im"], ""),
         ):
             with self.subTest(words):
                 self.assertEqual(self.complete(*words), offered)
