@@ -2,9 +2,7 @@
 from __future__ import annotations
 
 import datetime
-import re
 from collections.abc import Sequence
-
 
 FEATURES = ["step-free", "screen", "reader", "small-room", "computer", "quiet"]  # the value of a place is 1, 2, 4 ..
 HIDDEN = {*range(0x20), *range(0x7f, 0xa0), 0x61c, 0x200e, 0x200f, *range(0x2028, 0x202f), *range(0x2066, 0x206a)}
