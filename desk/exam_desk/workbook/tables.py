@@ -204,11 +204,12 @@ class Headed:
         if above:
             rows = f"rows {above[0]} to {above[-1]} above it are" if len(above) > 1 else f"row {above[0]} above it is"
             self.note(row, None, f"is taken as the header; {rows} not read")
-        for name, places in self.header.columns.items():
-            shown = [self.head[place].text.strip() for place in places]
-            if shown != [name]:
-                verb = "are" if len(shown) > 1 else "is"
-                self.note(row, places[0], f"{' and '.join(map(repr, shown))} {verb} read as {name}")
+        read = {name: " with ".join(repr(self.head[place].text.strip()) for place in places)
+                for name, places in self.header.columns.items()}
+        others = {name: shown for name, shown in read.items() if shown.lower() != repr(name)}
+        if others:
+            verb = "columns {} are" if len(others) > 1 else "the column {} is"
+            self.note(row, None, f"{verb.format(', '.join(others))} read from {', '.join(others.values())}")
 
     def find_features(self) -> None:
         """Columns of crosses below features are read in place of the column of features."""
