@@ -33,7 +33,7 @@ CURES = {
 }
 COMMAS = [(b",", ""), (b";", "semicolons part the columns: save it with commas"),
           (b"\t", "tabs part the columns: save it with commas")]
-NO_CODE = "code ''"  # the mistakes on empty codes, which are counted apart
+NO_CODE = "code ''"  # the mistakes on empty codes, which are counted and not shown
 EMPTY_ROW = "an empty row of the spreadsheet: delete it"
 RIGHT = files.RIGHT
 LOST_ZEROS = re.compile(rb"([0-9]{1,7})(\.0+)?").fullmatch
@@ -55,10 +55,11 @@ class Mistake(NamedTuple):
 
 
 class Found:
-    """The mistakes of a file, or the notes on it: of each column so many as are to be shown, and how many there are."""
+    """The mistakes of a file, or the notes on it: of each column so many as are to be shown, and how many there are.
+    Empty access codes are counted alone, since they can be made."""
 
     def __init__(self, most: int) -> None:
-        self.most, self.count = most, 0
+        self.most, self.count = most, 0  # without empty codes
         self.shown: list[Mistake] = []
         self.counts: Counter[str] = Counter()
 
@@ -67,16 +68,18 @@ class Found:
         return iter(sorted(self.shown))
 
     def __bool__(self) -> bool:
-        return bool(self.shown)
+        return bool(self.counts)
 
     def add(self, line: int, column: str, cure: str | Callable[[str, bytes], Cure],
             field: bytes | None = None) -> None:
         """Counts one more on a column, and names the field if one is given. A cure that is long to make is made only
         where it is shown."""
-        kind = NO_CODE if column == "code" and field == b"" else column
+        if column == "code" and field == b"":
+            self.counts[NO_CODE] += 1
+            return
         self.count += 1
-        self.counts[kind] += 1
-        if self.counts[kind] <= self.most:
+        self.counts[column] += 1
+        if self.counts[column] <= self.most:
             found = Cure(cure) if isinstance(cure, str) else cure(column, field or b"")
             what = column if field is None else f"{column} {files.shown(field)}"
             self.shown.append(Mistake(line, what, found.text, found.write))
@@ -138,11 +141,11 @@ def cure(column: str, field: bytes) -> Cure:
         return Cure(needed(column, field))
     text = field.decode("utf-8", "replace").strip(" '")
     try:
-        better = values.read_value(column, cells.Cell("text", text, text), values.Way())
+        better = values.read_value(column, cells.Cell("text", text, text), values.Way(is_command=False))
     except values.Wrong as fault:
-        return Cure(words.plain(fault).removesuffix(values.SAY_DATES))
+        return Cure(words.plain(fault))
     if column == "code" and not better.text:
-        return Cure("it is empty; `office take .. --codes` makes one")
+        return Cure("it holds nothing that can be seen: empty it, and a code can be made")
     if better.day:  # nobody has looked whether it is that of the session
         return Cure(needed(column, field))
     return Cure(f"write {better.text} ({CURES[column]})", better.text)
@@ -320,7 +323,7 @@ class File:
             if len(sharing) > 1:
                 self.notes.add(record.line, "number", sharers, record.fields[0])
             elif record.fields in self.known.withdrawn:
-                self.notes.add(record.line, "row", "is withdrawn in the office and stays so; `office reinstate`")
+                self.notes.add(record.line, "row", "is withdrawn in the office and stays so until it is reinstated")
             elif self.kind == "arrangements" and record.fields[0] in self.known.standing:
                 self.notes.add(record.line, "row", "a standing grant is in force for this candidate in its place")
 

@@ -33,8 +33,8 @@ def tell_hidden(job: Job, hidden: list[Sheet], usable: list[Sheet]) -> None:
     shown = {kind for sheet in usable for kind in kinds_of(job, sheet)} if hidden else set()
     for sheet in hidden:
         if alone := set(kinds_of(job, sheet)) - shown:
-            job.report.mistake(f"is hidden: show it if it has the {' or '.join(sorted(alone))}, or name the sheets to "
-                               "read with --sheet", sheet)
+            job.report.mistake(f"is hidden: show it if it has the {' or '.join(sorted(alone))}"
+                               + job.way.or_say("which sheets are to be read with --sheet"), sheet)
         else:
             job.report.note("is hidden, so it is not read", sheet)
 
@@ -120,8 +120,8 @@ def tell_both(tables: list[Table], place: int) -> bool:
     if len(tables) < 2 or kind in job.together:
         return False
     names = " and ".join(place_name(table.sheet) for table in tables)
-    job.report.mistake(f"{names} could both be the {kind}: keep one, or say --together {kind} to read them as one "
-                       "list, or --leave NAME", tables[place].sheet)
+    options = job.way.or_say(f"--together {kind} to read them as one list, or --leave NAME")
+    job.report.mistake(f"{names} could both be the {kind}: keep one{options}", tables[place].sheet)
     return True
 
 

@@ -25,16 +25,21 @@ ALSO = {"xlsx": ("xlsx", "xlsm", "xltx", "xltm"), "ods": ("ods", "ots"), "csv": 
 
 
 def open_book(path: str, encoding: str | None = None) -> Book:
-    """The workbook at a path; raises `Trouble` where it cannot be read whole. The encoding is that of a CSV file."""
+    """The workbook at a path; raises `Trouble` as `book_of`."""
     if not stat.S_ISREG(os.stat(path).st_mode):
         raise Trouble("it is no file")
     with open(path, "rb") as file:
-        data = file.read(MOST_FILE + 1)
+        return book_of(file.read(MOST_FILE + 1), os.path.basename(path), encoding)
+
+
+def book_of(data: bytes, name: str, encoding: str | None = None) -> Book:
+    """The workbook of these bytes; raises `Trouble` where it cannot be read whole. The encoding is that of a CSV file,
+    whose sheet has the name of the file."""
     if len(data) > MOST_FILE:
         raise Trouble(f"it is larger than {MOST_FILE >> 20} MB")
-    name = pathlib.PurePath(path)
-    book = read_zip(data) if is_zip(data) else read_csv(data, name.stem, encoding)
-    suffix = name.suffix[1:].lower()
+    stem, suffix = os.path.splitext(name)
+    book = read_zip(data) if is_zip(data) else read_csv(data, stem, encoding)
+    suffix = suffix[1:].lower()
     if suffix not in ALSO[book.form]:
         book.notes.append(f"the name ends in .{suffix}, but it is a file .{book.form}; it is read as that")
     return book

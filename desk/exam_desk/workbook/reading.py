@@ -66,7 +66,8 @@ def read_book(book: Book, job: Job, progress: Progress = lambda text: None) -> R
         job.report.note(text, what=text.rpartition(": ")[2])
     records = read_sheets(job, usable_sheets(job, book), progress)
     if not records and not job.report.count("mistake"):
-        job.report.mistake("no sheet has rows of one of the seven kinds: see `office template`")
+        where = ": see `office template`" if job.way.is_command else ""
+        job.report.mistake(f"no sheet has rows of one of the seven kinds{where}")
     keep_codes(job, records.get("candidates", []))
     check_files(job, records, progress)
     return Reading(records, job.report)
@@ -128,8 +129,7 @@ def put_back(job: Job, kind: str, sort: str, found: Iterable[mistakes.Mistake], 
             continue
         record = rows[mistake.line - FIRST]
         column = record.columns[header.index(what)] if what in header else None
-        is_empty = what in header and not record.fields[header.index(what)]
-        is_told = is_empty and (column is None or what == "code")  # of the header, or of all candidates
+        is_told = column is None and what in header and not record.fields[header.index(what)]  # of the header
         if sort == "note" or not (is_told or place_name(record.sheet, record.row, column) in said):
             text = f"{mistake.what}: {mistake.text}"
             if what == "row":  # it speaks of another line of the file

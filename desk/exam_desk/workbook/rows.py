@@ -66,8 +66,8 @@ class Table(Headed):
                 self.note(row, None, "is hidden, so it is not read, as you said")
                 del rows[row]
             else:
-                text = "is hidden, perhaps by a filter: show it, or say --hidden take or --hidden leave"
-                self.mistake(row, None, text)
+                options = self.job.way.or_say("--hidden take or --hidden leave")
+                self.mistake(row, None, f"is hidden, perhaps by a filter: show it{options}")
 
     def look_at_mixed_dates(self) -> None:
         """True dates beside texts such as 13/06/2027: a spreadsheet of the other order of day and month has turned

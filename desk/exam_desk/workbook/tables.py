@@ -18,7 +18,6 @@ MOST_PLACES = 5  # of lines that stand together
 MOST_TEXTS = 3  # of one kind that have a line each
 MOST_VALUES = 50_000  # that are kept, lest they are read again
 PARTICULAR = re.compile(r"[0-9]|\b[A-Z][A-Z-]+\b")  # in words that are numbers, dates or codes
-CURE_TWICE = "keep one header, or say which in a file of columns"
 Progress = Callable[[str], None]
 
 
@@ -193,8 +192,8 @@ class Headed:
             self.note(None, None, f"bears the name of a paper: whom it lists is entered for {self.paper}")
         self.tell_crosses("entries")
         for name, places in self.header.twice.items():
-            columns = ", ".join(map(letters_of, places))
-            self.mistake(self.header.row, places[1], f"columns {columns} could all be {name}: {CURE_TWICE}")
+            columns, options = ", ".join(map(letters_of, places)), self.job.way.or_say("which in a file of columns")
+            self.mistake(self.header.row, places[1], f"columns {columns} could all be {name}: keep one header{options}")
         for tell in (self.tell_names, self.find_features, self.tell_columns, self.tell_lacking, self.tell_unread):
             tell()
 

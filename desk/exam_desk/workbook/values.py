@@ -50,7 +50,7 @@ DATES = [re.compile(form) for form in (  # the first form that a text has counts
     r"(?:(?P<weekday>[^\W\d]+),? )?(?P<name>[^\W\d]+)\.? (?P<day>[0-9]{1,2})(?:st|nd|rd|th)?,? (?P<year>[0-9]{4})",
     r"[0-9]{1,2}[/.-][0-9]{1,2}[/.-](?P<short>[0-9]{2})")]
 AS_TEXT = re.compile(r"([0-9]{1,2})([/.-])([0-9]{1,2})\2([0-9]{2}|[0-9]{4})")  # however a spreadsheet shows a date
-SAY_DATES = ", or say --dates day-first or --dates month-first"
+BOTH_DATES = "? Write it so"
 NO_DAY = ("1899-12-30", "1899-12-31", "1900-01-01", "1904-01-01")  # what stands in front of a time alone
 HOURS = re.compile(r"([0-9]{1,2})(?::([0-5][0-9])(?::00)?|"
                    r" ?(?:h|hrs?|hours?|Std\.?) ?(?:([0-5]?[0-9]) ?(?:min|mins|minutes|m)?)?)", re.I)
@@ -83,6 +83,10 @@ class Way(NamedTuple):
 
     dates: str = ""  # day-first or month-first: what 01/06/2027 means
     words: Mapping[str, Mapping[str, str]] = MappingProxyType({})  # of a column what a word stands for
+    is_command: bool = True  # whether a cure names the options of a command; a page has fields in their place
+
+    def or_say(self, options: str) -> str:
+        return f", or say {options}" if self.is_command else ""
 
 
 class Value(NamedTuple):
@@ -312,7 +316,7 @@ def slashed(first: int, second: int, year: str, way: Way) -> Value:
         raise Wrong(f"is no date with the {way.dates.replace('-', ' ')}" if way.dates else mistakes.CURES["date"])
     if way.dates:
         return day_value(dates[way.dates], f", {way.dates}")
-    raise Wrong(f"{' or '.join(dates.values())}? Write it so{SAY_DATES}")
+    raise Wrong(f"{' or '.join(dates.values())}{BOTH_DATES}{way.or_say('--dates day-first or --dates month-first')}")
 
 
 # -- times of day, minutes, desks and percent
