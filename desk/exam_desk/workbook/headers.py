@@ -51,6 +51,7 @@ HEADER_WORDS = {(kind, column): {column, *WORDS.get(column, "").split(), *OF_KIN
                 for kind, header in files.HEADERS.items() for column in header}
 FIRST_NAME = "firstname firstnames givenname forename vorname".split()
 LAST_NAME = "lastname surname familyname nachname".split()
+LISTS = re.compile("withdr|reinstat|abmeld|rücktritt")  # begin the names of lists of entries that do not bring them in
 OF_PEOPLE = {"name", *WORDS["name"].split(), *FIRST_NAME, *LAST_NAME}
 MARKED = {"papers": "requires", "halls": "features", "arrangements": "needs"}  # may be columns of crosses
 
@@ -89,6 +90,11 @@ def text_cells(cells: Mapping[int, Cell]) -> dict[int, str]:
 
 def named_kind(sheet: Sheet) -> str | None:
     return next((kind for kind, names in SHEET_NAMES.items() if folded(sheet.name) in names.split()), None)
+
+
+def is_called_list(name: str) -> bool:
+    """Whether a file or a sheet is called withdrawals, reinstatements or the like."""
+    return LISTS.match(folded(name)) is not None
 
 
 def match_header(kind: str, row: int, cells: Mapping[int, Cell], given: Given, names: Sequence[str] = ()) -> Header:

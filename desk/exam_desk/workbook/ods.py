@@ -6,8 +6,8 @@ from collections.abc import Iterator
 from xml.etree.ElementTree import Element
 
 from exam_desk.trouble import Trouble
-from exam_desk.workbook.cells import (MOST_COLUMN, MOST_ROW, MOST_SHEETS, OPEN_AND_SAVE, Book, Budget, Cell, Parts,
-                                      Sheet, local)
+from exam_desk.workbook.cells import (MOST_COLUMN, MOST_ROW, MOST_SHEETS, OPEN_AND_SAVE, PASSWORD, Book, Budget, Cell,
+                                      Parts, Sheet, local)
 from exam_desk.workbook.numberformats import number_cell, whole_seconds
 
 ASIDE = ("tracked-changes", "shapes", "dde-links", "forms")  # what stands among sheets and rows, and has no cells
@@ -26,7 +26,7 @@ def read_ods(archive: zipfile.ZipFile) -> Book:
     for name in names:
         parts.look(name)
         if any(found == "encryption-data" for _, found, _ in parts.elements(name, "start")):
-            raise Trouble("it has a password: save it without one")
+            raise Trouble(PASSWORD)
     reader = OdsReader()
     try:
         for name in names[-2:]:

@@ -12,13 +12,16 @@ from collections import Counter
 from exam_desk import files
 from exam_desk.trouble import Trouble
 from exam_desk.workbook.child import MISSING
-from exam_desk.workbook.cells import MOST_FILE, OPEN_AND_SAVE, Book, Budget, Cell, Sheet, unpacked
+from exam_desk.workbook.cells import MOST_FILE, OPEN_AND_SAVE, PASSWORD, Book, Budget, Cell, Sheet, unpacked
 
 CHILD = pathlib.Path(__file__).resolve().parent / "child.py"
 PYTHON = "/usr/bin/python3"  # the one for which Debian installs its libraries
 MOST_SECONDS = 600  # of the clock, for the process that reads; of the processor it has fewer
 OLD = b"\xd0\xcf\x11\xe0\xa1\xb1\x1a\xe1"  # of Microsoft's compound files
 NO_WORKBOOK = "it is no workbook, whatever its name: open it in a spreadsheet and save it as .xlsx or .ods"
+OLD_FORM = "it is of the old form .xls: open it in a spreadsheet and save it as .xlsx or .ods"
+NO_UTF_8 = "its letters are no UTF-8: save it as CSV UTF-8, or say --encoding cp1252 if a Windows program of Western " \
+    "Europe wrote it"
 OTHERS = (b"<html", b"<!doctype", b"<table", b"<?xml", b"<meta", b"%pdf", b"{\\rtf")
 NAMES = {"\t": "tabs"}  # of what parts columns
 ALSO = {"xlsx": ("xlsx", "xlsm", "xltx", "xltm"), "ods": ("ods", "ots"), "csv": ("csv", "txt", "tsv")}
@@ -49,8 +52,8 @@ def is_zip(data: bytes) -> bool:
     """Whether a file is a zip or else a text; raises `Trouble` where it is neither."""
     if data.startswith(OLD):
         if "EncryptedPackage".encode("utf-16-le") in data:
-            raise Trouble("it has a password: save it without one")
-        raise Trouble("it is of the old form .xls: open it in a spreadsheet and save it as .xlsx or .ods")
+            raise Trouble(PASSWORD)
+        raise Trouble(OLD_FORM)
     if data.startswith((b"PK\3\4", b"PK\5\6")):
         return True
     start = data[:1000].lstrip(b"\xef\xbb\xbf \r\n\t").lower()
@@ -90,8 +93,7 @@ def decoded(data: bytes, encoding: str | None) -> str:
         text.encode()
         return text
     except UnicodeError:
-        raise Trouble("its letters are no UTF-8: save it as CSV UTF-8, or say --encoding cp1252 if a Windows program "
-                      "of Western Europe wrote it") from None
+        raise Trouble(NO_UTF_8) from None
     except LookupError:
         raise Trouble(f"there is no encoding {encoding}") from None
 

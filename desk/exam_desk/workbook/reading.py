@@ -142,7 +142,7 @@ def put_back(job: Job, kind: str, sort: str, found: Iterable[mistakes.Mistake], 
 
 def file_parts(kind: str, rows: Iterable[list[str]]) -> Iterator[tuple[bytes, int]]:
     """The rows in files of a length that an import takes, each with its header and the count of its rows."""
-    header = files.BOM + encoded(files.written([files.HEADERS[kind]]))
+    header = files.file_of(kind, [])
     part, size = [header], len(header)
     for line in (encoded(files.written([row])) for row in rows):
         if size + len(line) > files.MOST_BYTES:

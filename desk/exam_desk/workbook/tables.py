@@ -10,7 +10,8 @@ from typing import NamedTuple
 
 from exam_desk import files, mistakes
 from exam_desk.workbook.cells import Cell, Sheet, letters_of, place_name
-from exam_desk.workbook.headers import MARKED, OF_PEOPLE, Given, Header, folded, seen, text_cells
+from exam_desk.workbook.headers import (MARKED, OF_PEOPLE, Given, Header, folded, is_called_list, seen,
+                                        text_cells)
 from exam_desk.workbook.values import SHORT_FEATURES, Value, Way, Wrong, is_mark, read_value, shown_of
 
 WORDS = {"change": "", "note": "NOTE: ", "mistake": "MISTAKE: "}  # in the order in which they are printed
@@ -190,6 +191,9 @@ class Headed:
     def tell_header(self) -> None:
         if self.paper:
             self.note(None, None, f"bears the name of a paper: whom it lists is entered for {self.paper}")
+        elif self.kind == "entries" and self.job.way.is_command and is_called_list(self.sheet.name):
+            self.mistake(None, None, "is called a list of entries to be withdrawn or reinstated: save it as CSV for `office "
+                         "withdraw --list FILE.csv`, or call it Entries if they are to be entered")
         self.tell_crosses("entries")
         for name, places in self.header.twice.items():
             columns, options = ", ".join(map(letters_of, places)), self.job.way.or_say("which in a file of columns")
