@@ -290,8 +290,9 @@ class File:
         return record._replace(fields=(with_zeros(record.fields[0]), *record.fields[1:]))
 
     def is_new(self, record: files.Record) -> bool:
-        """Compares a row with the first one of its key; false where it is the same again."""
-        first = self.first.setdefault(files.key_of(self.kind, record.fields), record)
+        """Compares a row with the first one of its key, if it has one; false where it is the same again."""
+        key = files.key_of(self.kind, record.fields)
+        first = self.first.setdefault(key, record) if all(key) else record
         if first is record:
             return True
         if first.fields == record.fields:

@@ -149,6 +149,8 @@ def find_entries(job: Job, rest: list[Sheet], tables: list[Table]) -> list[Table
             cure = "" if job.papers else "; no papers are known: put them into the workbook, or import them first"
             text = f"neither a header number, paper nor one of number and the codes of papers is found{cure}"
             job.report.mistake(text, sheet, min(sheet.rows))
+        elif job.paper(sheet.name):
+            job.report.mistake("bears the name of a paper, but no row is a header with the column number", sheet, min(sheet.rows))
         else:
             job.report.note("is not read: no row is the header of one of the seven kinds", sheet)
     crossed = [table for table in lists if table.marks]

@@ -110,11 +110,22 @@ def match_header(kind: str, row: int, cells: Mapping[int, Cell], given: Given, n
         if all(places):
             header.columns[name] = [columns[0] for columns in places]
         header.twice.update({name: columns for columns in places if len(columns) > 1})
-    if kind == "candidates" and "name" not in {*header.columns, *given.headers, *given.fixed}:
-        first, last = ([column for column, head in heads.items() if head in words] for words in (FIRST_NAME, LAST_NAME))
-        if len(first) == len(last) == 1:
-            header.columns["name"] = first + last
+    if kind == "candidates" and "name" not in {*given.headers, *given.fixed}:
+        join_names(header, heads)
     return header
+
+
+def join_names(header: Header, heads: Mapping[int, str]) -> None:
+    """Takes first and last names in two columns as one. Beside `Vorname`, `Name` is the last name; beside other such
+    columns nobody can say what it is."""
+    first, last = ([column for column, head in heads.items() if head in words] for words in (FIRST_NAME, LAST_NAME))
+    whole = header.columns.get("name", [])
+    if [heads[column] for column in first + whole] == ["vorname", "name"] and not last:
+        last, whole = whole, []
+    if whole and first + last:
+        header.twice["name"] = sorted(header.twice.get("name", whole) + first + last)
+    elif not whole and len(first) == len(last) == 1:
+        header.columns["name"] = first + last
 
 
 def find_header(kind: str, sheet: Sheet, given: Given, whole: bool = False) -> Header | None:

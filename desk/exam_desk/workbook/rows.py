@@ -8,7 +8,7 @@ from exam_desk.trouble import Trouble
 from exam_desk.workbook.cells import MOST_MERGED, Cell, Sheet, letters_of, place_name
 from exam_desk.workbook.headers import HEADER_WORDS, MARKED, Given, folded, match_header, seen, text_cells
 from exam_desk.workbook.tables import Headed, Progress
-from exam_desk.workbook.values import AS_TEXT, NO_DAY, Wrong, bare, is_mark, shown_of
+from exam_desk.workbook.values import AS_TEXT, MAY_BE_EMPTY, NO_DAY, STRUCK, Wrong, bare, is_mark, shown_of
 from exam_desk.words import FEATURES
 
 TOTALS = {"total", "totals", "sum", "summe", "gesamt", "count", "anzahl", "grand total", "subtotal"}
@@ -170,7 +170,8 @@ class Table(Headed):
         key_is_word = any(totals(cell) is not None for cell in keys)
         if not (key_is_word or word and not all(keys) or computed and not any(keys)):
             return False
-        whole = all(any(here.get(place) for place in columns.get(name, [])) for name in header)
+        whole = all(any(here.get(place) for place in columns.get(name, [])) for name in header if name not in MAY_BE_EMPTY
+                    ) and all(map(self.job.said, header, keys))
         if whole or not (is_last or word or key_is_word):
             self.mistake(row, None, "is this a total? Delete the row, or give it another code")
         else:
@@ -198,8 +199,9 @@ class Table(Headed):
     def read_marks(self, row: int, here: Row) -> list[int]:
         marks = {place: is_mark(here[place]) for place in self.marks}
         for place in [place for place, mark in marks.items() if mark is None]:
-            text = f"{shown_of(here[place])!r} is neither a cross nor empty (below {self.marks[place]})"
-            self.mistake(row, place, text, "cross")
+            cell = here[place]
+            what = STRUCK if cell and cell.struck else f"is neither a cross nor empty (below {self.marks[place]})"
+            self.mistake(row, place, f"{shown_of(cell)!r} {what}", "cross")
         return [place for place, mark in marks.items() if mark]
 
     def read_field(self, row: int, name: str, here: Row) -> Field:

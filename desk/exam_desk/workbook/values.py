@@ -23,6 +23,7 @@ OTHER_LETTERS: dict[str, Callable[[str], str]] = {  # what is done to letters be
     "hard spaces made plain": lambda text: SPACES.sub(" ", text)}
 DASHES = dict.fromkeys(map(ord, "\u2010\u2011\u2012\u2013\u2014\u2212"), "-")
 GROUPS = re.compile(r"(?<=[0-9])[ ,.'\u00a0\u202f](?=[0-9]{3}(?![0-9]))")
+NUMBER = re.compile(r"-?[0-9]+(\.[0-9]+)?")
 QUOTES = tuple("'\u2018\u2019`\u00b4")
 YES = {"yes", "y", "true", "1", "x", "✓", "✔", "ja", "j", "wahr", "oui", "vrai", "si", "sí"}
 NO = {"no", "n", "false", "0", "-", "nein", "falsch", "non", "faux", ""}
@@ -51,7 +52,8 @@ DATES = [re.compile(form) for form in (  # the first form that a text has counts
     r"[0-9]{1,2}[/.-][0-9]{1,2}[/.-](?P<short>[0-9]{2})")]
 AS_TEXT = re.compile(r"([0-9]{1,2})([/.-])([0-9]{1,2})\2([0-9]{2}|[0-9]{4})")  # however a spreadsheet shows a date
 BOTH_DATES = "? Write it so"
-NO_DAY = ("1899-12-30", "1899-12-31", "1900-01-01", "1904-01-01")  # what stands in front of a time alone
+NEXT_DAYS = ("1899-12-31", "1900-01-01")  # of a time of more than 24 hours
+NO_DAY = ("1899-12-30", "1904-01-01", *NEXT_DAYS)  # what stands in front of a time alone
 HOURS = re.compile(r"([0-9]{1,2})(?::([0-5][0-9])(?::00)?|"
                    r" ?(?:h|hrs?|hours?|Std\.?) ?(?:([0-5]?[0-9]) ?(?:min|mins|minutes|m)?)?)", re.I)
 MINUTES = re.compile(r"([0-9]{1,3}) ?(min|mins|minutes|Minuten|')\.?", re.I)
@@ -72,6 +74,8 @@ MADE = {  # the kinds that a spreadsheet makes of what is typed
     "bool": f"a spreadsheet made TRUE or FALSE of it: {AGAIN}", "percent": f"it is a percentage: {AGAIN}",
     "number": "it is a number: type it as text"}
 EMPTY = Cell("text", "", "")
+MAY_BE_EMPTY = {"requires", "features", "needs", "extra", "reserved", "code"}  # columns in which that is a value
+STRUCK = "is struck out: delete the row, or take the line away if it counts"
 
 
 class Wrong(Exception):
@@ -106,7 +110,7 @@ def read_value(column: str, cell: Cell | None, way: Way) -> Value:
     if len(found.text) > MOST_LETTERS:
         raise Wrong(f"has {len(found.text):,} letters; at most {MOST_LETTERS} are looked at")
     if found.struck:
-        raise Wrong("is struck out: delete the row, or take the line away if it counts")
+        raise Wrong(STRUCK)
     if found.unseen:
         raise Wrong("is in the cell, but its number format shows nothing: delete it, or give it another format")
     text, done = cleaned(found.text)
@@ -127,9 +131,8 @@ def refuse_other_digits(cell: Cell) -> None:
     """Raises `Wrong` where a number is shown as other digits: 17 under the format "2027"000 is shown as 2027017."""
     if cell.kind != "number":
         return
-    shown = re.sub(r"[^0-9.,-]", "", GROUPS.sub("", cell.shown)).strip(".,")
-    same = re.sub(r"[.,]0+$", "", shown).lstrip("0") == re.sub(r"\.0+$", "", cell.text).lstrip("0")
-    if not shown or not same:
+    shown = re.sub(r"[^0-9.,-]", "", GROUPS.sub("", cell.shown)).strip(".,").replace(",", ".")
+    if not NUMBER.fullmatch(shown) or decimal.Decimal(shown) != decimal.Decimal(cell.text):
         how = f"shown as {cell.shown}" if cell.shown else "shown by a format of its own"
         raise Wrong(f"is the number {cell.text}, but {how}: type what counts as text")
 
@@ -182,8 +185,7 @@ def is_mark(cell: Cell | None) -> bool | None:
 # -- numbers of candidates, codes and names
 
 def read_number(column: str, cell: Cell, text: str, way: Way) -> Value:
-    if "." not in text:
-        refuse_other_digits(cell)
+    refuse_other_digits(cell)
     quoted = cell.kind == "text" and text.startswith(QUOTES)
     digits = padded = text[1:] if quoted else text
     if re.fullmatch(r"[0-9]{1,7}(\.0+)?", digits):
@@ -271,8 +273,7 @@ def read_date(column: str, cell: Cell, text: str, way: Way) -> Value:
     if cell.kind == "number" and re.fullmatch("[0-9]{5}", text):  # nobody sees which day a count of days is
         day = datetime.date(1899, 12, 30) + datetime.timedelta(days=int(text))
         raise Wrong(f"a number without the format of a date: if {day} is meant, give the column the format date")
-    if "." not in text:
-        refuse_other_digits(cell)
+    refuse_other_digits(cell)
     match = first_match(DATES, text)
     if not match or cell.shown == text and LIKE_A_DATE.fullmatch(text):
         return Value(text)
@@ -311,7 +312,7 @@ def slashed(first: int, second: int, year: str, way: Way) -> Value:
     if first == second:
         return day_value(dates["month-first"])
     if len(possible) == 1 and way.dates in ("", *possible):
-        return day_value(dates[possible[0]], ", there is no such month")
+        return day_value(dates[possible[0]], f", as there is no month {max(first, second)}")
     if len(possible) < 2:
         raise Wrong(f"is no date with the {way.dates.replace('-', ' ')}" if way.dates else mistakes.CURES["date"])
     if way.dates:
@@ -346,16 +347,18 @@ def read_time(column: str, cell: Cell, text: str, way: Way) -> Value:
     if column == "until" and (hour == 0 if "half" in said else time == "00:00" and cell.kind != "text"):
         raise Wrong("midnight? Write 24:00 as text if the hall is open until then")
     if "day" in said:
-        return Value(time, "the time of the cell", "", said["day"])
+        return Value(time, "the time of the cell", "has more than 24 hours in its cell" * (said["day"] in NEXT_DAYS),
+                     said["day"])
     is_never = column == "until" and time == "00:00" and ":" in text
     return Value(time, "", "a hall that is open until 00:00 suits nobody; midnight is 24:00" * is_never)
 
 
 def read_whole(column: str, cell: Cell, text: str, way: Way) -> Value:
     """Minutes, desks, or percent of extra time."""
-    if "." not in text:
-        refuse_other_digits(cell)
-    if cell.kind == "percent":
+    refuse_other_digits(cell)
+    if cell.kind == "number" and re.search("[^0-9.,' -]", cell.shown):
+        text = bare(cell.shown)  # with its unit
+    elif cell.kind == "percent":
         text = f"{text}%"
     elif cell.kind == "time":
         text = clock_text(decimal.Decimal(text)).removeprefix("0")

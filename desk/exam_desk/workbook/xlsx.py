@@ -25,6 +25,7 @@ from exam_desk.workbook.numberformats import BUILT_IN, MACINTOSH, WINDOWS, numbe
 
 STYLES = "xl/styles.xml"  # the only place where openpyxl looks for them
 sheets_reader: Any = _reader
+PENDING = Cell("pending", "", "", True)  # a formula that nobody has computed
 Style = tuple[str, bool]  # a number format, and whether the font is struck out
 
 
@@ -148,11 +149,14 @@ class Reader:
             element.set("t", "n")  # the parser would make a tree of objects of it
         try:
             found = parse(element)
-        except Trouble as trouble:
+            formula = element.find(sheets_reader.FORMULA_TAG) is not None
+            is_pending = formula and element.find(sheets_reader.VALUE_TAG) is None
+            cell = PENDING if is_pending else self.cell(found, text or found["value"], formula)
+        except (Trouble, ValueError, ArithmeticError) as fault:
             place = place_name(sheet, parser.row_counter, parser.col_counter)
-            raise Trouble(f"{place} {trouble.sentence}: {OPEN_AND_SAVE}") from trouble
+            why = fault.sentence if isinstance(fault, Trouble) else "holds what is no value"
+            raise Trouble(f"{place} {why}: {OPEN_AND_SAVE}") from fault
         row, column = found["row"], found["column"]
-        cell = self.cell(found, text or found["value"], element.find(sheets_reader.FORMULA_TAG) is not None)
         if cell is None:
             return
         if not (0 < row <= MOST_ROW and 0 < column <= MOST_COLUMN):
@@ -165,7 +169,7 @@ class Reader:
     def cell(self, found: dict[str, Any], value: Any, formula: bool) -> Cell | None:
         kind = found["data_type"]
         if value is None or value == "":
-            return Cell("pending", "", "", True) if formula and kind not in ("s", "str") else None
+            return PENDING if formula and kind not in ("s", "str") else None
         form, struck = self.style(found["style_id"])
         if kind == "n" and not isinstance(value, SharedText):
             made = number_cell(value, form, self.epoch)
@@ -182,7 +186,7 @@ class Reader:
         elif isinstance(value, datetime.time):
             made = Cell("time", str(value.hour * 3600 + value.minute * 60 + value.second), "")
         else:
-            raise Trouble(f"openpyxl reads a {type(value).__name__} in it, which is not known here: {OPEN_AND_SAVE}")
+            raise Trouble(f"is read as a {type(value).__name__}, which is not known here")
         return made and made._replace(formula=formula, struck=struck or getattr(value, "struck", False))
 
     def style(self, number: int) -> Style:
