@@ -36,7 +36,7 @@ COMMAS = [(b",", ""), (b";", "semicolons part the columns: save it with commas")
 NO_CODE = "code ''"  # the mistakes on empty codes, which are counted and not shown
 EMPTY_ROW = "an empty row of the spreadsheet: delete it"
 RIGHT = files.RIGHT
-LOST_ZEROS = re.compile(rb"([0-9]{1,7})(\.0+)?").fullmatch
+LOST_ZEROS = re.compile(rb"([0-9]{1,7})(\.(?!000$)0+)?").fullmatch  # 1.000 is a thousand, too
 WRONG_LETTERS = re.compile("Ã.|Â.|â€|Å[\x80-\xbf¡-ÿ€-™]|\ufffd").search  # of another encoding
 LIKE_A_NUMBER = re.compile(rb"[0-9]+E[0-9]+|[1-9][0-9]?0{4,}").fullmatch
 

@@ -32,6 +32,11 @@ class Uploads(DeskSchool):
     def propose(self, page, status=303, **fields):
         return self.browser.post("/propose/files", page, status, upload=page.rsplit("/", 1)[1], **fields)[0]
 
+    def carry_out(self, proposal):
+        """Does what was rehearsed, and waits until it is done; gives what the page says then."""
+        self.browser.post(proposal + "/do", proposal)
+        return self.browser.words(proposal)
+
 
 class TestFiles(Uploads):
     def test_mistakes_are_corrected_and_the_import_is_rehearsed(self):
@@ -68,7 +73,7 @@ class TestFiles(Uploads):
         self.assertEqual(dict(self.rows("SELECT printf('%07d', number), code FROM candidate")), kept)
         proposal = self.propose(page, codes="1")
         self.assertNotIn("access code", self.browser.words(proposal))
-        self.browser.post(proposal + "/do", proposal)
+        self.carry_out(proposal)
         now = dict(self.rows("SELECT printf('%07d', number), code FROM candidate"))
         self.assertRegex(made := now.pop("0012001"), "^[A-Z0-9]{8,16}$")
         self.assertEqual(now, kept)
@@ -88,7 +93,7 @@ class TestFiles(Uploads):
             self.assertIn("make access codes for 200 candidates who have none", words)
             self.assertNotIn("office take", words)
         proposal = self.propose(page, codes="1")
-        self.browser.post(proposal + "/do", proposal)
+        self.carry_out(proposal)
         self.assertEqual(self.rows("SELECT count(DISTINCT code) FROM candidate WHERE number >= 10000"), [(200,)])
 
     def test_other_codes_are_told_before_the_import(self):
@@ -238,12 +243,12 @@ class TestFiles(Uploads):
         self.assertIn("Withdraw 3 entries of a list", words)
         self.assertIn("would leave a session", words)
         self.assertEqual(self.live(), before)
-        self.browser.post(proposal + "/do", proposal)
+        self.carry_out(proposal)
         self.assertEqual(self.live(), before - {*numbers})
         page = self.upload(("back.csv", "number,paper\n{},EN-1\n{},EN-1\n".format(*numbers).encode()))
         proposal = self.propose(page, choice="reinstate")
         self.assertIn("Reinstate 2 entries of a list", self.browser.words(proposal))
-        self.browser.post(proposal + "/do", proposal)
+        self.carry_out(proposal)
         self.assertEqual(self.live(), before - {numbers[2]})
         self.assertIn("withdraw --list", self.office("back"))
 
@@ -255,7 +260,7 @@ class TestFiles(Uploads):
         words = self.browser.words(proposal)
         self.assertIn("Withdraw 1 entry of a list", words)
         self.assertRegex(words, f"line 3 ?, {other} EN-1 ?, is left out: it is no entry that counts")
-        self.browser.post(proposal + "/do", proposal)
+        self.carry_out(proposal)
         self.assertNotIn(number, self.live())
         page = self.upload(("l.csv", f"{text}{number},EN-1\n".encode()))
         self.assertIn("this can be done to 0 of the rows", self.browser.post("/propose/files", page, 422,

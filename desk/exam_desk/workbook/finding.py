@@ -61,8 +61,10 @@ def kinds_of(job: Job, sheet: Sheet) -> list[str]:
         return kinds  # the officer has named their headers
     if job.paper(sheet.name):
         return []  # a list of those who sit it
-    kinds = [kind for kind in files.HEADERS
-             if may_be(job, kind, sheet) and find_header(kind, sheet, job.of_kind(kind), True)]
+    headers = {kind: header for kind in files.HEADERS if may_be(job, kind, sheet)
+               and (header := find_header(kind, sheet, job.of_kind(kind), True))}
+    read = {kind: {place for places in header.columns.values() for place in places} for kind, header in headers.items()}
+    kinds = [kind for kind in read if not any(read[kind] < read[other] for other in read)]  # that leave out least
     exact = [kind for kind in kinds if is_exact(kind, sheet)]
     return exact if len(exact) == 1 else kinds
 
@@ -95,7 +97,7 @@ def find_tables(job: Job, sheets: list[Sheet]) -> tuple[list[Table], list[Sheet]
         elif not kinds:
             rest.append(sheet)
         elif len(kinds) > 1 and not all(kind in job.given for kind in kinds):
-            job.report.mistake(f"could be {' or '.join(kinds)}: give the sheet that name", sheet)
+            job.report.mistake(f"could be {' or '.join(kinds)}: call the sheet, or the CSV file, so", sheet)
         else:
             headers = {kind: find_header(kind, sheet, job.of_kind(kind)) for kind in kinds}
             for kind, header in headers.items():
@@ -126,14 +128,19 @@ def tell_both(tables: list[Table], place: int) -> bool:
 
 
 def tell_no_header(job: Job, kind: str, sheet: Sheet) -> None:
-    row = min(sheet.rows)
+    headers = [match_header(kind, row, sheet.rows[row], job.of_kind(kind)) for row in sorted(sheet.rows)[:WITHIN]]
+    nearest = max(headers, key=lambda header: len(header.columns))
+    row, columns = min(sheet.rows), files.HEADERS[kind]
     have = {folded(text) for text in text_cells(sheet.rows[row]).values()}
     lacks_session = kind == "openings" and not HEADER_WORDS[kind, "session"] & have
     if lacks_session and len(sheet.rows[row]) > 2:
         cure = "a table of halls by sessions does not say until when, and who for: write a row for each opening, with "
+    elif len(nearest.columns) > 1:
+        row, columns = nearest.row, [name for name in columns if name not in nearest.columns]
+        cure = f"this header of {kind} lacks "
     else:
         cure = f"no row of the first {WITHIN} is a header of {kind}; it needs "
-    job.report.mistake(cure + f"the columns {', '.join(files.HEADERS[kind])}", sheet, row)
+    job.report.mistake(cure + f"the columns {', '.join(columns)}", sheet, row)
 
 
 # -- entries in other forms

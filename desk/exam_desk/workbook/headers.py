@@ -153,14 +153,16 @@ def read_columns(path: str) -> tuple[dict[str, Given], Way]:
     """What a file of columns says; raises `Trouble` where it says something else."""
     import tomllib
     try:
-        with open(path, "rb") as file:
-            found = tomllib.load(file)
+        with open(path, encoding="utf-8-sig", newline="") as file:
+            found = tomllib.loads(file.read())
         words, dates = found.pop("words", {}), found.pop("dates", "")
         given = {kind: given_of(kind, said) for kind, said in found.items()}
         check_words(words)
         if dates not in ("", "day-first", "month-first"):
             raise Trouble("dates is day-first or month-first")
-    except (tomllib.TOMLDecodeError, UnicodeDecodeError, Trouble) as fault:
+    except UnicodeDecodeError as fault:
+        raise Trouble("its letters are no UTF-8: save it as UTF-8", path) from fault
+    except (tomllib.TOMLDecodeError, Trouble) as fault:
         raise Trouble(str(fault), path) from fault
     return given, Way(dates, words)
 

@@ -41,15 +41,16 @@ def book_of(data: bytes, name: str, encoding: str | None = None) -> Book:
     if len(data) > MOST_FILE:
         raise Trouble(f"it is larger than {MOST_FILE >> 20} MB")
     stem, suffix = os.path.splitext(name)
-    book = read_zip(data) if is_zip(data) else read_csv(data, stem, encoding)
+    book = read_zip(data) if is_zip(data, encoding) else read_csv(data, stem, encoding)
     suffix = suffix[1:].lower()
     if suffix not in ALSO[book.form]:
         book.notes.append(f"the name ends in .{suffix}, but it is a file .{book.form}; it is read as that")
     return book
 
 
-def is_zip(data: bytes) -> bool:
-    """Whether a file is a zip or else a text; raises `Trouble` where it is neither."""
+def is_zip(data: bytes, encoding: str | None) -> bool:
+    """Whether a file is a zip or else a text; raises `Trouble` where it is neither. A text that nobody gives an encoding
+    has no zeros but in UTF-16."""
     if data.startswith(OLD):
         if "EncryptedPackage".encode("utf-16-le") in data:
             raise Trouble(PASSWORD)
@@ -57,7 +58,8 @@ def is_zip(data: bytes) -> bool:
     if data.startswith((b"PK\3\4", b"PK\5\6")):
         return True
     start = data[:1000].lstrip(b"\xef\xbb\xbf \r\n\t").lower()
-    if start.startswith(OTHERS) or b"\0" in data[:1000] and data[:2] not in (b"\xff\xfe", b"\xfe\xff"):
+    has_zeros = encoding is None and b"\0" in data[:1000]
+    if start.startswith(OTHERS) or has_zeros and data[:2] not in (b"\xff\xfe", b"\xfe\xff"):
         raise Trouble(NO_WORKBOOK)
     return False
 

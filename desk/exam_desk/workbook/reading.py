@@ -130,7 +130,7 @@ def put_back(job: Job, kind: str, sort: str, found: Iterable[mistakes.Mistake], 
         record = rows[mistake.line - FIRST]
         column = record.columns[header.index(what)] if what in header else None
         is_told = column is None and what in header and not record.fields[header.index(what)]  # of the header
-        if sort == "note" or not (is_told or place_name(record.sheet, record.row, column) in said):
+        if not (is_told or place_name(record.sheet, record.row, column) in said):
             text = f"{mistake.what}: {mistake.text}"
             if what == "row":  # it speaks of another line of the file
                 text = re.sub(r"\bline ([0-9]+)\b", lambda line: place_name(*rows[int(line[1]) - FIRST][:2]),

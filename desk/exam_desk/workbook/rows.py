@@ -8,7 +8,7 @@ from exam_desk.trouble import Trouble
 from exam_desk.workbook.cells import MOST_MERGED, Cell, Sheet, letters_of, place_name
 from exam_desk.workbook.headers import HEADER_WORDS, MARKED, Given, folded, match_header, seen, text_cells
 from exam_desk.workbook.tables import Headed, Progress
-from exam_desk.workbook.values import AS_TEXT, MAY_BE_EMPTY, NO_DAY, STRUCK, Wrong, bare, is_mark, shown_of
+from exam_desk.workbook.values import AS_TEXT, MAY_BE_EMPTY, NO_DAY, STRUCK, UNREAD, Wrong, bare, is_mark, shown_of
 from exam_desk.words import FEATURES
 
 TOTALS = {"total", "totals", "sum", "summe", "gesamt", "count", "anzahl", "grand total", "subtotal"}
@@ -170,9 +170,12 @@ class Table(Headed):
         key_is_word = any(totals(cell) is not None for cell in keys)
         if not (key_is_word or word and not all(keys) or computed and not any(keys)):
             return False
-        whole = all(any(here.get(place) for place in columns.get(name, [])) for name in header if name not in MAY_BE_EMPTY
+        is_whole = all(any(here.get(place) for place in columns.get(name, [])) for name in header if name not in MAY_BE_EMPTY
                     ) and all(map(self.job.said, header, keys))
-        if whole or not (is_last or word or key_is_word):
+        if is_whole and all(cell.kind == "text" and not cell.formula for cell in cells):
+            self.note(row, None, "is read, though it looks like a total", "total")
+            return False
+        if is_whole or not (is_last or word or key_is_word):
             self.mistake(row, None, "is this a total? Delete the row, or give it another code")
         else:
             self.note(row, None, "looks like a total; it is not read", "total")
@@ -200,8 +203,8 @@ class Table(Headed):
         marks = {place: is_mark(here[place]) for place in self.marks}
         for place in [place for place, mark in marks.items() if mark is None]:
             cell = here[place]
-            what = STRUCK if cell and cell.struck else f"is neither a cross nor empty (below {self.marks[place]})"
-            self.mistake(row, place, f"{shown_of(cell)!r} {what}", "cross")
+            why = cell and (STRUCK if cell.struck else UNREAD.get(cell.kind)) or "is neither a cross nor empty"
+            self.mistake(row, place, f"below {self.marks[place]} {shown_of(cell)!r}: {why}", "cross")
         return [place for place, mark in marks.items() if mark]
 
     def read_field(self, row: int, name: str, here: Row) -> Field:

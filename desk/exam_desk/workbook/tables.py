@@ -10,7 +10,7 @@ from typing import NamedTuple
 
 from exam_desk import files, mistakes
 from exam_desk.workbook.cells import Cell, Sheet, letters_of, place_name
-from exam_desk.workbook.headers import (MARKED, OF_PEOPLE, Given, Header, folded, is_called_list, seen,
+from exam_desk.workbook.headers import (HEADER_WORDS, MARKED, OF_PEOPLE, Given, Header, folded, is_called_list, seen,
                                         text_cells)
 from exam_desk.workbook.values import SHORT_FEATURES, Value, Way, Wrong, is_mark, read_value, shown_of
 
@@ -19,6 +19,7 @@ MOST_PLACES = 5  # of lines that stand together
 MOST_TEXTS = 3  # of one kind that have a line each
 MOST_VALUES = 50_000  # that are kept, lest they are read again
 PARTICULAR = re.compile(r"[0-9]|\b[A-Z][A-Z-]+\b")  # in words that are numbers, dates or codes
+NAMES_PAPERS = HEADER_WORDS["entries", "paper"] - {"code"}
 Progress = Callable[[str], None]
 
 
@@ -210,6 +211,9 @@ class Headed:
         read = {name: " with ".join(repr(self.head[place].text.strip()) for place in places)
                 for name, places in self.header.columns.items()}
         others = {name: shown for name, shown in read.items() if shown.lower() != repr(name)}
+        for name in self.fixed.keys() & read.keys():
+            text = f"{name} is read from this column, and is not always {self.fixed[name]} as the file of columns says"
+            self.note(row, self.header.columns[name][0], text)
         if others:
             verb = "columns {} are" if len(others) > 1 else "the column {} is"
             self.note(row, None, f"{verb.format(', '.join(others))} read from {', '.join(others.values())}")
@@ -261,6 +265,10 @@ class Headed:
             if place not in self.head:
                 text = f"column {letters_of(place)} has values but no header; it is not read"
                 self.note(there[place], place, text)
+            elif self.paper and folded(self.head[place].text) in NAMES_PAPERS:
+                text = f"{shown_of(self.head[place])!r} names papers, as the sheet does: delete the column, or call the " \
+                       "sheet Entries"
+                self.mistake(self.header.row, place, text)
             elif self.job.said("paper", self.head[place]) in papers:
                 text = f"{shown_of(self.head[place])} is a paper: put the crosses on a sheet Entries, with the numbers"
                 self.mistake(self.header.row, place, text)

@@ -143,7 +143,7 @@ def shown_of(cell: Cell | None) -> str:
         return "(empty)"
     if not cell.shown and cell.kind == "time":
         return "a true time " + clock_text(decimal.Decimal(cell.text))
-    text = cell.shown or ("a true date" if cell.kind == "date" else cell.text)
+    text = cell.shown or ("a true date " if cell.kind == "date" else "") + cell.text
     return plain(text if len(text) <= 200 else f"{text[:197]}..")
 
 
@@ -187,10 +187,9 @@ def is_mark(cell: Cell | None) -> bool | None:
 def read_number(column: str, cell: Cell, text: str, way: Way) -> Value:
     refuse_other_digits(cell)
     quoted = cell.kind == "text" and text.startswith(QUOTES)
-    digits = padded = text[1:] if quoted else text
-    if re.fullmatch(r"[0-9]{1,7}(\.0+)?", digits):
-        padded = digits.split(".")[0].zfill(7)
-    elif re.fullmatch(r"[0-9]{1,3}([ ,.'’][0-9]{3})+", digits):
+    digits = text[1:] if quoted else text
+    padded = mistakes.with_zeros(digits.encode("utf-8", "surrogatepass")).decode("utf-8", "surrogatepass")
+    if re.fullmatch(r"[0-9]{1,3}([ ,.'’][0-9]{3})+", digits):
         raise Wrong(f"marks between the digits: write {re.sub('[^0-9]', '', digits).zfill(7)} if that is meant")
     elif re.fullmatch(r"[0-9]{8,}", digits):
         raise Wrong(f"{len(digits)} digits; a number has seven")
@@ -366,7 +365,7 @@ def read_whole(column: str, cell: Cell, text: str, way: Way) -> Value:
         return Value("0", "none" if text else "empty is none")
     number = re.sub(r"^0+(?=[0-9])", "", text)
     done = "zeros in front taken away" if number != text else ""
-    number = re.sub(r"^([0-9]+)\.0+$", r"\1", number)
+    number = re.sub(r"^([0-9]+)\.(?!000$)0+$", r"\1", number)
     note = "is 1 percent; 100 percent is 100" if (column, number) == ("extra", "1") else ""
     if column == "extra" and (match := PERCENT.fullmatch(number)):
         number, done = match[1], reason(done, "percent")
