@@ -178,11 +178,13 @@ class Writing(unittest.TestCase):
             with self.assertRaisesRegex(Trouble, "is there already"):
                 write_folder(target, Reading({}, Report()), "read.txt")
             self.assertEqual([], os.listdir(target))
+            with self.assertRaisesRegex(Trouble, "the folder .*/none is not there"):
+                write_folder(os.path.join(folder, "none", "new"), Reading({}, Report()), "read.txt")
 
 
     @needs_openpyxl
     def test_texts_stay_texts_whatever_they_look_like(self) -> None:
-        names = ["=1+1", "#N/A", "A_x0041_", "0017", "2027-06-01", "1E5", "'t Hooft", "=HYPERLINK(\"x\")", "TRUE", "\u05d0 \u00e9"]
+        names = ["=1+1", "#N/A", "A_x0041_", "A\ufffeB\uffff", "0017", "2027-06-01", "1E5", "'t Hooft", "=HYPERLINK(\"x\")", "TRUE", "\u05d0 \u00e9"]
         rows = [[f"{place:07}", name, f"CODE{place:04}"] for place, name in enumerate(names, 1)]
         book = opening.read_zip(workbook_of({"candidates": rows}))
         [sheet] = [sheet for sheet in book.sheets if sheet.name == "Candidates"]

@@ -158,9 +158,11 @@ def encoded(text: str) -> bytes:
 
 
 def refuse_there(target: str) -> None:
-    """Raises `Trouble` where something has the name of the folder."""
+    """Raises `Trouble` where something has the name of the folder, or nothing can be made where it is to be."""
     if os.path.lexists(target):
         raise Trouble(f"{target} is there already; name a new folder")
+    if not os.path.isdir(beside := os.path.dirname(os.path.abspath(target))):
+        raise Trouble(f"the folder {beside} is not there")
 
 
 @contextlib.contextmanager

@@ -142,8 +142,8 @@ def shown_of(cell: Cell | None) -> str:
     if cell is None:
         return "(empty)"
     if not cell.shown and cell.kind == "time":
-        return "a true time " + clock_text(decimal.Decimal(cell.text))
-    text = cell.shown or ("a true date " if cell.kind == "date" else "") + cell.text
+        return f"{clock_text(decimal.Decimal(cell.text))} (a true time)"
+    text = cell.shown or cell.text + " (a true date)" * (cell.kind == "date")
     return plain(text if len(text) <= 200 else f"{text[:197]}..")
 
 

@@ -54,6 +54,8 @@ case("formula-of-text-without-result", xlsx(candidates(["0000001", "Ada Lin", ("
 # times and dates
 case("more-than-a-day", xlsx(sheet("Openings", OPENINGS, ["S1", "A", 10, ("n", "1.375", TIME), "no"])), files={"openings": ["S1,A,10,09:00,no"]},
      told=[["Openings!D2", "until 09:00 has more than 24 hours in its cell"]])
+case("another-calendar", xlsx(sheet("Sessions", SESSIONS, ["S1", ("n", "46539", "[$-107041E]yyyy-mm-dd"), "09:00"])),
+     files={"sessions": ["S1,2027-06-01,09:00"]}, told=[["Sessions!B2", "2027-06-01 (a true date) became", "Tuesday"]])
 case("leap-day", xlsx(sheet("Sessions", SESSIONS, ["S1", "29/02/2028", "09:00"])), files={"sessions": ["S1,2028-02-29,09:00"]},
      told=[["Sessions!B2", "Tuesday", "as there is no month 29"]])
 
