@@ -50,9 +50,14 @@ class Cure(NamedTuple):
 
 class Mistake(NamedTuple):
     line: int
-    what: str  # the column and its value, or `file` or `row`
+    column: str  # or `file` or `row`
+    value: str  # in quotes; "" where none is named
     text: str
     write: str = ""  # as in `Cure`
+
+    @property
+    def what(self) -> str:
+        return f"{self.column} {self.value}".rstrip()
 
 
 class Found:
@@ -82,8 +87,7 @@ class Found:
         self.counts[column] += 1
         if self.counts[column] <= self.most:
             found = Cure(cure) if isinstance(cure, str) else cure(column, field or b"")
-            what = column if field is None else f"{column} {files.shown(field)}"
-            self.shown.append(Mistake(line, what, found.text, found.write))
+            self.shown.append(Mistake(line, column, "" if field is None else files.shown(field), *found))
 
 
 class Known:

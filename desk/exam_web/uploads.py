@@ -22,6 +22,7 @@ from werkzeug.wrappers import Response
 
 from exam_desk import coding, dumping, facts, files, mistakes
 from exam_desk.changing import Step
+from exam_desk.mistakes import Mistake
 from exam_desk.trouble import Trouble
 from exam_desk.workbook.cells import MOST_FILE
 from exam_desk.workbook.headers import is_called_list
@@ -48,21 +49,11 @@ HIDDEN = "hidden"  # stands in the lines of a reading that speak of hidden rows 
 UNREADABLE = (zipfile.BadZipFile, zipfile.LargeZipFile, zlib.error, RuntimeError, EOFError, OSError, ValueError)
 
 
-class Fault(NamedTuple):
-    """A mistake, or what may be one, at its place."""
-    line: int
-    column: str  # or `file` or `row`
-    value: str
-    cure: str
-    write: str  # what to write instead, where the cure is clear
-    fields: list[str]  # of the row
-    place: int | None  # of the column in it
-
-
 class Looked(NamedTuple):
     """A file that was looked through."""
-    faults: list[Fault]
-    notes: list[Fault]
+    faults: list[Mistake]
+    notes: list[Mistake]
+    fields: dict[int, list[str]]  # of the rows of these, by line
     total: int  # of all mistakes
     cures: int  # that are clear
     rows: int
@@ -190,11 +181,10 @@ def looked_through(upload: Upload) -> dict[str, Looked]:
         content = upload.texts[kind]
         wrong, notes = mistakes.looked_through(kind, content, known)
         found = list(wrong)[:MOST_CURED], list(notes)[:MOST_SHOWN]
-        lines = {each.line for part in found for each in part}
+        lines = {each.line for each in found[0]}
         fields = {record.line: [part.decode("utf-8", "replace") for part in record.fields]
                   for record in files.records(content) if record.line in lines}
-        faults, shown = ([fault(kind, each, fields.get(each.line, [])) for each in part] for part in found)
-        looked[kind] = Looked(faults, shown, wrong.count, sum(each.write != "" for each in faults),
+        looked[kind] = Looked(*found, fields, wrong.count, sum(each.write != "" for each in found[0]),
                               sum(1 for _ in below_header(content)), lacking if kind == "candidates" else 0,
                               asks and kind == "entries")
     return looked
@@ -216,13 +206,6 @@ def may_be_list(upload: Upload, known: mistakes.Known) -> bool:
         all(record.fields in rows for record in below_header(content)) for rows in (known.entries, known.withdrawn))
 
 
-def fault(kind: str, mistake: mistakes.Mistake, fields: list[str]) -> Fault:
-    column, _, value = mistake.what.partition(" ")
-    header = files.HEADERS[kind][:len(fields)]
-    place = header.index(column) if column in header else None
-    return Fault(mistake.line, column, value, mistake.text, "" if place is None else mistake.write, fields, place)
-
-
 Corrections = dict[int, dict[int, str]]  # by line and place; an empty dict takes the row out
 
 
@@ -230,14 +213,16 @@ def corrections(kind: str, looked: Looked, form: Mapping[str, str]) -> Correctio
     """What a form corrects in a file: all clear cures, or what was typed."""
     wanted: Corrections = {}
     for each in looked.faults:
-        name = f"{kind}:{each.line}:{'row' if each.place is None else each.place}"
-        if each.place is None:
+        name = f"{kind}:{each.line}:{each.column}"
+        if each.column not in files.HEADERS[kind]:
             if each.column == "row" and form.get(name) == "drop":
                 wanted[each.line] = {}
-        elif "all" in form and each.write:
-            wanted.setdefault(each.line, {})[each.place] = each.write
-        elif "all" not in form and name in form and form[name] != each.fields[each.place]:
-            wanted.setdefault(each.line, {})[each.place] = form[name][:MOST_VALUE]
+            continue
+        place = files.HEADERS[kind].index(each.column)
+        if "all" in form and each.write:
+            wanted.setdefault(each.line, {})[place] = each.write
+        elif "all" not in form and name in form and form[name] != looked.fields[each.line][place]:
+            wanted.setdefault(each.line, {})[place] = form[name][:MOST_VALUE]
     return wanted
 
 

@@ -218,7 +218,7 @@ class Words(unittest.TestCase):
 
     def test_what_to_write_instead(self):
         for column, value, write in (
-                ("number", b"1051", "0001051"), ("number", b"1051.0", "0001051"), ("number", b"12345678", ""),
+                ("number", b"1051", "0001051"), ("number", b"1051.0", "0001051"), ("number", b"1.000", ""), ("number", b"12345678", ""),
                 ("number", b"\xff", ""), ("number", b"0", ""), ("date", b"7. 6. 2027", "2027-06-07"),
                 ("start", b"9:00:00", "09:00"), ("paper", b" ma-1 ", "MA-1"), ("extra", b"25 %", "25"),
                 ("reserved", b"YES", "yes"),

@@ -44,7 +44,7 @@ class TestFiles(Uploads):
         self.assertIn("4 mistakes", self.browser.words(page))
         self.browser.post(page + "/correct", page, all="1")
         self.assertIn("2 mistakes", self.browser.words(page))
-        self.browser.post(page + "/correct", page, **{"entries:3:1": "EN-1", "entries:4:row": "drop"})
+        self.browser.post(page + "/correct", page, **{"entries:3:paper": "EN-1", "entries:4:row": "drop"})
         self.assertIn("No mistake", self.browser.words(page))
         _, text = self.browser.ask("GET", page + "/entries.csv")
         self.assertEqual(text, "number,paper\n0012001,EN-1\n0012008,EN-1\n")

@@ -123,7 +123,7 @@ def put_back(job: Job, kind: str, sort: str, found: Iterable[mistakes.Mistake], 
     """Mistakes of files as lines on the cells from which they come, unless a line on the cell says it."""
     header = files.HEADERS[kind]
     for mistake in found:
-        what = mistake.what.split(" ")[0]
+        what = mistake.column
         if mistake.line < FIRST or what == "file":
             job.report.add(sort, f"{kind}: {mistake.text}")
             continue
