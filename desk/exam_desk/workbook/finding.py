@@ -100,6 +100,8 @@ def find_tables(job: Job, sheets: list[Sheet]) -> tuple[list[Table], list[Sheet]
             job.report.mistake(f"could be {' or '.join(kinds)}: call the sheet, or the CSV file, so", sheet)
         else:
             headers = {kind: find_header(kind, sheet, job.of_kind(kind)) for kind in kinds}
+            if not kinds_by_name(job, sheet) and not set(kinds) & {*job.together, *job.given}:
+                job.report.note(f"is read as {kinds[0]}, by its header", sheet)
             for kind, header in headers.items():
                 if header:
                     found.setdefault(kind, []).append(Table(job, kind, sheet, header))

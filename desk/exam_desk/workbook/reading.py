@@ -177,8 +177,8 @@ def new_folder(target: str) -> Iterator[str]:
         shutil.rmtree(making, ignore_errors=True)
 
 
-def write_folder(target: str, reading: Reading, lines_name: str) -> dict[str, int]:
-    """Makes the folder with the files and all lines of the report; gives the count of rows of each kind. Raises
+def write_folder(target: str, reading: Reading, lines_name: str) -> dict[str, str]:
+    """Makes the folder with the files and all lines of the report; says of each kind how many rows it has. Raises
     `Trouble` where a line is a mistake."""
     if reading.report.count("mistake"):
         raise Trouble("there are mistakes, so nothing is written", target)
@@ -189,13 +189,14 @@ def write_folder(target: str, reading: Reading, lines_name: str) -> dict[str, in
                 for kind in files.HEADERS if reading.records.get(kind)}
 
 
-def write_kind(folder: str, kind: str, rows: Iterable[list[str]]) -> int:
-    """Writes the files of a kind, and gives the count of their rows."""
-    counted = 0
+def write_kind(folder: str, kind: str, rows: Iterable[list[str]]) -> str:
+    """Writes the files of a kind; says how many rows they have, and in which files where these are several."""
+    counted, names = 0, list[str]()
     for place, (text, count) in enumerate(file_parts(kind, rows), 1):
-        files.put(os.path.join(folder, f"{kind}.csv" if place == 1 else f"{kind}-{place}.csv"), text)
+        names.append(f"{kind}.csv" if place == 1 else f"{kind}-{place}.csv")
+        files.put(os.path.join(folder, names[-1]), text)
         counted += count
-    return counted
+    return str(counted) if len(names) == 1 else f"{counted}, in {' and '.join(names)}"
 
 
 def workbook_of(rows: Rows | None) -> bytes:

@@ -89,7 +89,7 @@ class Table(Headed):
         rows, end, covered = self.sheet.rows, max(self.sheet.rows), 0
         for top, left, bottom, right in self.sheet.merged:
             read = [place for place in names if left <= place <= right]
-            if bottom <= self.header.row or not read:
+            if bottom < self.header.row or not read:
                 continue
             last = min(bottom, end)
             covered += max(0, last - top)

@@ -260,7 +260,8 @@ class Headed:
     def tell_unread(self) -> None:
         """Columns with values that are no columns of the office."""
         there = self.first_places(seen)
-        papers = self.job.papers if self.kind == "candidates" else set()
+        of_people = self.kind == "candidates"
+        crosses = self.first_crosses() if of_people else {}
         for place in sorted({*there, *self.head} - self.places()):
             if place not in self.head:
                 text = f"column {letters_of(place)} has values but no header; it is not read"
@@ -269,11 +270,18 @@ class Headed:
                 text = f"{shown_of(self.head[place])!r} names papers, as the sheet does: delete the column, or call the " \
                        "sheet Entries"
                 self.mistake(self.header.row, place, text)
-            elif self.job.said("paper", self.head[place]) in papers:
-                text = f"{shown_of(self.head[place])} is a paper: put the crosses on a sheet Entries, with the numbers"
+            elif of_people and (self.job.said("paper", self.head[place]) in self.job.papers
+                                or place in crosses and is_short(self.head[place].text)):
+                text = f"what stands below {shown_of(self.head[place])} is not read here: put papers on a sheet Entries, and " \
+                       "needs on a sheet Arrangements, with the numbers"
                 self.mistake(self.header.row, place, text)
             else:
                 self.note(self.header.row, place, f"the column {shown_of(self.head[place]).strip()!r} is not read")
+
+
+def is_short(header: str) -> bool:
+    """Whether a header may be the code of a paper, or is a feature."""
+    return bool(files.is_code(header.strip().encode("utf-8", "replace"))) or folded(header) in SHORT_FEATURES
 
 
 def doubled(marks: Mapping[int, str], what: str) -> dict[int, str]:

@@ -111,3 +111,9 @@ case("ods-hidden", ods('<table:table table:name="Candidates"><table:table-column
 case("ods-comment-in-text", ods('<table:table table:name="Candidates">' + ods_row(*CANDIDATES) + ods_row(ADA[0],
      '<table:table-cell office:value-type="string"><text:p>Ada Lin<office:annotation><text:p>left</text:p></office:annotation></text:p></table:table-cell>',
      ADA[2]) + "</table:table>"), files={"candidates": [ADA_LINE]}, suffix="ods", told=[["Candidates!B2", "comment"]])
+
+# what is not named, and what is not read
+case("merged-header", xlsx(candidates(["0000001", "Lin", "CODE0001"], merge=["B1:C1"])), 1, only=True, mistakes=[["Candidates!B1", "merged over columns"]])
+case("sheet-by-header", xlsx(sheet("Plan", CANDIDATES, ADA)), files={"candidates": [ADA_LINE]}, told=[["Plan", "is read as candidates, by its header"]])
+case("crosses-beside-candidates", xlsx(sheet("Candidates", [*CANDIDATES, "MA-1", "step-free", "Consent"], [*ADA, "x", None, "x"], [*BO, None, "x", None])),
+     1, only=True, mistakes=[["Candidates!D1", "a sheet Entries"], ["Candidates!E1", "a sheet Arrangements"]], told=[["Candidates!F1", "not read"]])
