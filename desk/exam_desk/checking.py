@@ -24,8 +24,7 @@ WORKBOOKS = (".xlsx", ".xlsm", ".ods")
 def lines_on(name: str, found: mistakes.Found, word: str) -> Iterator[str]:
     """The lines on a file, of those on one column the first alone, and one on all empty codes."""
     for mistake in found:
-        if mistake.what != mistakes.NO_CODE:
-            yield f"{name} line {mistake.line}: {word}{mistake.what}: {mistake.text}"
+        yield f"{name} line {mistake.line}: {word}{mistake.what}: {mistake.text}"
     for column, count in found.counts.items():
         if column == mistakes.NO_CODE:
             yield f"{name}: {mistakes.no_codes(count)}; without them an import refuses the file"
@@ -59,7 +58,7 @@ def check_folder(office: Office, folder: str, tell: Tell, progress: Progress) ->
     texts, known = texts_in(folder), office_knows(office)
     found = {f"{kind}.csv": mistakes.looked_through(kind, text, known, MOST_SHOWN) for kind, text in texts.items()}
     codes = sum(wrong.counts[mistakes.NO_CODE] for wrong, _ in found.values())
-    counts = Counter(files=len(found), codes=codes, mistakes=sum(wrong.count for wrong, _ in found.values()) - codes)
+    counts = Counter(files=len(found), codes=codes, mistakes=sum(wrong.count for wrong, _ in found.values()))
     tried = []
     if texts and not counts["mistakes"]:
         if codes:

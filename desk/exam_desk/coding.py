@@ -84,7 +84,7 @@ def coded(office: Office, path: str | None, new: list[str]) -> Coded:
 
 def file_of(rows: list[list[str]]) -> bytes:
     """The rows as a file of candidates."""
-    return files.BOM + files.written([files.HEADERS["candidates"], *rows]).encode()
+    return files.file_of("candidates", rows)
 
 
 def write(path: str, rows: list[list[str]]) -> None:

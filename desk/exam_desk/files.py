@@ -148,6 +148,11 @@ def written(rows: Iterable[Iterable[object]]) -> str:
     return text.getvalue()
 
 
+def file_of(kind: str, rows: Iterable[Iterable[object]]) -> bytes:
+    """A file of a kind with these rows."""
+    return BOM + written([HEADERS[kind], *rows]).encode("utf-8", "surrogatepass")
+
+
 Form = Callable[[bytes], object]  # true where a value has the right form
 
 

@@ -33,10 +33,11 @@ CURES = {
 }
 COMMAS = [(b",", ""), (b";", "semicolons part the columns: save it with commas"),
           (b"\t", "tabs part the columns: save it with commas")]
-NO_CODE = "code ''"  # the mistakes on empty codes, which are counted apart
+NO_CODE = "code ''"  # the mistakes on empty codes, which are counted and not shown
 EMPTY_ROW = "an empty row of the spreadsheet: delete it"
 RIGHT = files.RIGHT
-LOST_ZEROS = re.compile(rb"([0-9]{1,7})(\.0+)?").fullmatch
+Places = list[int | None]  # of the columns of a kind in a header
+LOST_ZEROS = re.compile(rb"([0-9]{1,7})(\.(?!000$)0+)?").fullmatch  # 1.000 is a thousand, too
 WRONG_LETTERS = re.compile("Ã.|Â.|â€|Å[\x80-\xbf¡-ÿ€-™]|\ufffd").search  # of another encoding
 LIKE_A_NUMBER = re.compile(rb"[0-9]+E[0-9]+|[1-9][0-9]?0{4,}").fullmatch
 
@@ -49,16 +50,22 @@ class Cure(NamedTuple):
 
 class Mistake(NamedTuple):
     line: int
-    what: str  # the column and its value, or `file` or `row`
+    column: str  # or `file` or `row`
+    value: str  # in quotes; "" where none is named
     text: str
     write: str = ""  # as in `Cure`
 
+    @property
+    def what(self) -> str:
+        return f"{self.column} {self.value}".rstrip()
+
 
 class Found:
-    """The mistakes of a file, or the notes on it: of each column so many as are to be shown, and how many there are."""
+    """The mistakes of a file, or the notes on it: of each column so many as are to be shown, and how many there are.
+    Empty access codes are counted alone, since they can be made."""
 
     def __init__(self, most: int) -> None:
-        self.most, self.count = most, 0
+        self.most, self.count = most, 0  # without empty codes
         self.shown: list[Mistake] = []
         self.counts: Counter[str] = Counter()
 
@@ -67,19 +74,20 @@ class Found:
         return iter(sorted(self.shown))
 
     def __bool__(self) -> bool:
-        return bool(self.shown)
+        return bool(self.counts)
 
     def add(self, line: int, column: str, cure: str | Callable[[str, bytes], Cure],
             field: bytes | None = None) -> None:
         """Counts one more on a column, and names the field if one is given. A cure that is long to make is made only
         where it is shown."""
-        kind = NO_CODE if column == "code" and field == b"" else column
+        if column == "code" and field == b"":
+            self.counts[NO_CODE] += 1
+            return
         self.count += 1
-        self.counts[kind] += 1
-        if self.counts[kind] <= self.most:
+        self.counts[column] += 1
+        if self.counts[column] <= self.most:
             found = Cure(cure) if isinstance(cure, str) else cure(column, field or b"")
-            what = column if field is None else f"{column} {files.shown(field)}"
-            self.shown.append(Mistake(line, what, found.text, found.write))
+            self.shown.append(Mistake(line, column, "" if field is None else files.shown(field), *found))
 
 
 class Known:
@@ -138,11 +146,11 @@ def cure(column: str, field: bytes) -> Cure:
         return Cure(needed(column, field))
     text = field.decode("utf-8", "replace").strip(" '")
     try:
-        better = values.read_value(column, cells.Cell("text", text, text), values.Way())
+        better = values.read_value(column, cells.Cell("text", text, text), values.Way(is_command=False))
     except values.Wrong as fault:
-        return Cure(words.plain(fault).removesuffix(values.SAY_DATES))
+        return Cure(words.plain(fault))
     if column == "code" and not better.text:
-        return Cure("it is empty; `office take .. --codes` makes one")
+        return Cure("it holds nothing that can be seen: empty it, and a code can be made")
     if better.day:  # nobody has looked whether it is that of the session
         return Cure(needed(column, field))
     return Cure(f"write {better.text} ({CURES[column]})", better.text)
@@ -222,39 +230,30 @@ class File:
             text = text.decode("utf-16", "replace").encode()
         for comma, why in COMMAS:
             found = files.records(text, comma)
-            for place, record in enumerate(itertools.islice(found, 4)):
-                missing = missing_columns(self.kind, record.fields)
-                if missing is not None:
-                    self.missing = missing
-                    self.header_mistakes(record, place, why)
-                    empty = len(record.fields) > len(self.header)
-                    return (row._replace(fields=self.filled(row.fields, empty)) for row in found)
+            for place, header in enumerate(itertools.islice(found, 4)):
+                if (places := places_of(self.kind, header.fields)) is None:
+                    continue
+                self.header_mistakes(header, places, place > 0, why)
+                if files.is_header(self.kind, header):
+                    return found
+                return (row._replace(fields=placed(row.fields, places, len(header.fields))) for row in found)
         self.wrong.add(1, "file", f"the first line must be {','.join(self.header)}; {beginning_of(text)}")
         return None
 
-    def header_mistakes(self, record: files.Record, place: int, commas: str) -> None:
+    def header_mistakes(self, header: files.Record, places: Places, is_late: bool, commas: str) -> None:
         """What is wrong with a header that was found."""
-        if place:
-            self.wrong.add(1, "file", f"the header stands in line {record.line}: delete what is before it")
+        self.missing = [name for name, place in zip(self.header, places) if place is None]
+        if is_late:
+            self.wrong.add(1, "file", f"the header stands in line {header.line}: delete what is before it")
         if commas:
-            self.wrong.add(record.line, "file", commas)
+            self.wrong.add(header.line, "file", commas)
         for name in self.missing:
             how = "leave it empty; `office take .. --codes` makes the codes" if name == "code" else CURES[name]
-            self.wrong.add(record.line, "file", f"the column {name} is missing: add it ({how})")
-        if len(record.fields) > len(self.header) - len(self.missing):
-            self.wrong.add(record.line, "file", "empty columns at the end: delete them")
-        wanted = tuple(name.encode() for name in self.header)
-        if not self.missing and trimmed(record.fields, len(wanted)) != wanted:
-            self.wrong.add(record.line, "file", f"the header must be {','.join(self.header)}")
-
-    def filled(self, fields: tuple[bytes, ...], empty: bool) -> tuple[bytes, ...]:
-        """A row without the empty columns of its header, and with an empty field for each column that is missing."""
-        if empty or self.missing:
-            fields = trimmed(fields, len(self.header))
-        if not self.missing or len(fields) != len(self.header) - len(self.missing):
-            return fields
-        rest = iter(fields)
-        return tuple(b"" if name in self.missing else next(rest) for name in self.header)
+            self.wrong.add(header.line, "file", f"the column {name} is missing: add it ({how})")
+        if b"" in header.fields:
+            self.wrong.add(header.line, "file", "columns without a name: delete them")
+        elif not self.missing and not files.is_header(self.kind, header):
+            self.wrong.add(header.line, "file", f"the header must be {','.join(self.header)}")
 
     def look_at(self, rows: Iterator[files.Record]) -> bool:
         """Looks at all rows; false where it gives up, since too many are wrong."""
@@ -287,8 +286,9 @@ class File:
         return record._replace(fields=(with_zeros(record.fields[0]), *record.fields[1:]))
 
     def is_new(self, record: files.Record) -> bool:
-        """Compares a row with the first one of its key; false where it is the same again."""
-        first = self.first.setdefault(files.key_of(self.kind, record.fields), record)
+        """Compares a row with the first one of its key, if it has one; false where it is the same again."""
+        key = files.key_of(self.kind, record.fields)
+        first = self.first.setdefault(key, record) if all(key) else record
         if first is record:
             return True
         if first.fields == record.fields:
@@ -320,7 +320,7 @@ class File:
             if len(sharing) > 1:
                 self.notes.add(record.line, "number", sharers, record.fields[0])
             elif record.fields in self.known.withdrawn:
-                self.notes.add(record.line, "row", "is withdrawn in the office and stays so; `office reinstate`")
+                self.notes.add(record.line, "row", "is withdrawn in the office and stays so until it is reinstated")
             elif self.kind == "arrangements" and record.fields[0] in self.known.standing:
                 self.notes.add(record.line, "row", "a standing grant is in force for this candidate in its place")
 
@@ -333,24 +333,21 @@ def beginning_of(text: bytes) -> str:
     return f"these are {others[0]}" if others else "no such header is found" if first else "the file is empty"
 
 
-def missing_columns(kind: str, fields: tuple[bytes, ...]) -> list[str] | None:
-    """The columns that a header lacks, however it is spelt; None where it is no header. None of them makes the key or
-    refers to another file."""
-    wanted = files.HEADERS[kind]
-    fields = trimmed(fields, len(wanted))
-    if len(fields) > len(wanted):
-        return None
-    head = [field.decode("utf-8", "replace").strip().lower() for field in fields]
-    there = [name for name in wanted if name in head]
-    missing = [name for name in wanted if name not in head]
-    is_in_order = head[:len(there)] == there and not any(head[len(there):])
-    is_one = files.needed_columns(kind).isdisjoint(missing) and len(there) > 1 and is_in_order
-    return missing if is_one else None
+def places_of(kind: str, header: tuple[bytes, ...]) -> Places | None:
+    """Where the columns of a kind stand in a header, however it is spelt; None where it is no header. A column that it
+    lacks is no key and refers to no other file."""
+    head = [field.decode("utf-8", "replace").strip().lower() for field in header]
+    places = {name: head.index(name) if name in head else None for name in files.HEADERS[kind]}
+    missing = {name for name, place in places.items() if place is None}
+    is_one = files.needed_columns(kind).isdisjoint(missing) and len(places) - len(missing) > 1
+    return [*places.values()] if is_one and len({*head} - {""} - {*places}) == 0 else None
 
 
-def trimmed(fields: tuple[bytes, ...], wanted: int) -> tuple[bytes, ...]:
-    """A row without its empty fields beyond the wanted ones."""
-    return fields[:wanted] if not any(fields[wanted:]) else fields
+def placed(fields: tuple[bytes, ...], places: Places, width: int) -> tuple[bytes, ...]:
+    """The fields of a row in the order of the office's columns; as they are where the row is not so wide as its header."""
+    if any(fields[width:]) or len(fields) <= max(place or 0 for place in places):
+        return fields
+    return tuple(b"" if place is None else fields[place] for place in places)
 
 
 def fault_of(record: files.Record, wanted: int) -> str:

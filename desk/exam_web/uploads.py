@@ -6,11 +6,10 @@ No name that a browser sends becomes a path: it is compared and shown. A zip is 
 import csv
 import datetime
 import io
-import os
-import re
+import itertools
 import zipfile
 import zlib
-from collections.abc import Iterable, Mapping
+from collections.abc import Iterable, Iterator, Mapping
 from dataclasses import dataclass, field
 from functools import partial
 from pathlib import PureWindowsPath
@@ -21,15 +20,18 @@ from markupsafe import Markup
 from werkzeug.datastructures import FileStorage
 from werkzeug.wrappers import Response
 
-from exam_desk import checking, coding, dumping, facts, files, mistakes, private
+from exam_desk import coding, dumping, facts, files, mistakes
 from exam_desk.changing import Step
+from exam_desk.mistakes import Mistake
 from exam_desk.trouble import Trouble
-from exam_desk.workbook.opening import open_book
-from exam_desk.workbook.reading import file_parts, read_book
+from exam_desk.workbook.cells import MOST_FILE
+from exam_desk.workbook.headers import is_called_list
+from exam_desk.workbook.opening import book_of
+from exam_desk.workbook.reading import read_book
 from exam_desk.workbook.tables import Job, Line, together
-from exam_desk.workbook.values import Way
-from exam_web.desk import desk, view
-from exam_web.forms import Form, archive, attached, keep, lead
+from exam_desk.workbook.values import BOTH_DATES, Way
+from exam_web.desk import view
+from exam_web.forms import Form, Page, Wrong, archive, attached, keep, lead
 from exam_web.proposals import PLANS, Plan
 from exam_web.wording import many, said, shown, text
 
@@ -41,39 +43,33 @@ MOST_SHOWN = 40  # mistakes of a file on the page
 MOST_CURED = 20_000  # of a file that one press of a button can mend
 MOST_VALUE = 400  # letters of a value that is typed
 MOST_LINES = 300  # of a workbook, on the page
-NEW_CODE = "a new code"  # is made where it is written
+MOST_LISTED = 300  # rows that are withdrawn or reinstated one by one, while nobody else has the office
+CHOICES = ("withdraw", "reinstate")  # what else may become of entries
 HIDDEN = "hidden"  # stands in the lines of a reading that speak of hidden rows and sheets
 UNREADABLE = (zipfile.BadZipFile, zipfile.LargeZipFile, zlib.error, RuntimeError, EOFError, OSError, ValueError)
 
 
-class Fault(NamedTuple):
-    """A mistake, or what may be one, at its place."""
-    line: int
-    column: str  # or `file` or `row`
-    value: str
-    cure: str
-    write: str  # what to write instead, where the cure is clear
-    fields: list[str]  # of the row
-    place: int | None  # of the column in it
-
-
 class Looked(NamedTuple):
     """A file that was looked through."""
-    faults: list[Fault]
-    notes: list[Fault]
+    faults: list[Mistake]
+    notes: list[Mistake]
+    fields: dict[int, list[str]]  # of the rows of these, by line
     total: int  # of all mistakes
     cures: int  # that are clear
     rows: int
+    codes: int = 0  # candidates without an access code, here and in the office
+    asks: bool = False  # all rows are entries that the office has, so they may be a list of withdrawals
 
 
 @dataclass
 class Book:
-    """A workbook, and what was said of it."""
+    """A workbook, or a CSV file that is none of the seven as it is; and what was said of it."""
     name: str
     content: bytes
     way: Way
     hidden: str = ""  # what becomes of hidden rows and sheets: take or leave; "" asks
     has_hidden: bool = False  # something hidden that is spoken of
+    has_dates: bool = False  # dates that may be two days
     lines: list[Line] = field(default_factory=list)  # mistakes first
     mistakes: int = 0
     changes: int = 0
@@ -87,6 +83,7 @@ class Upload:
     notes: list[Markup] = field(default_factory=list)
     workbooks: list[Book] = field(default_factory=list)
     when: str = field(default_factory=lambda: datetime.datetime.now().isoformat(" ", "minutes"))
+    is_called_list: bool = False  # a file or a sheet of entries is called withdrawals or reinstatements
     edits: int = 0
     is_imported: bool = False
 
@@ -97,21 +94,28 @@ class Upload:
     def note(self, name: str, words: Markup) -> None:
         self.notes.append(Markup("{}: {}").format(shown(name[:MOST_NAME]), words))
 
+    def take(self, kind: str, content: bytes, name: str, *sheets: str) -> None:
+        """Takes a file of a kind, and the names of its sheets."""
+        if kind in self.texts:
+            self.note(name, text("there are two files of {kind}; the first is taken", kind=kind))
+        else:
+            self.texts[kind] = content
+            self.is_called_list |= kind == "entries" and any(map(is_called_list, (name, *sheets)))
 
-def taken(storages: Iterable[FileStorage], dates: str) -> Upload:
+
+def taken(storages: Iterable[FileStorage], way: Way) -> Upload:
     upload = Upload()
     for storage in storages:
         name = PureWindowsPath(storage.filename or "").name
         if name.lower().endswith(".zip"):
-            take_zip(upload, name, storage.stream)
-        elif name.lower().endswith(checking.WORKBOOKS):
-            take_book(upload, Book(name[-MOST_NAME:], storage.stream.read(), Way(dates)))
+            take_zip(upload, name, storage.stream, way)
         elif name:
-            take(upload, name, storage.stream.read(files.MOST_BYTES + 1))
+            content = storage.stream.read()
+            take(upload, name, content, way, MOST_FILE if content.startswith(b"PK") else files.MOST_BYTES)
     return upload
 
 
-def take_zip(upload: Upload, name: str, stream: IO[bytes]) -> None:
+def take_zip(upload: Upload, name: str, stream: IO[bytes], way: Way) -> None:
     try:
         with zipfile.ZipFile(stream) as archive:
             members = [each for each in archive.infolist() if not each.is_dir() and "__MACOSX" not in each.filename]
@@ -120,106 +124,105 @@ def take_zip(upload: Upload, name: str, stream: IO[bytes]) -> None:
                 return
             for member in members:
                 with archive.open(member) as file:
-                    take(upload, PureWindowsPath(member.filename).name, file.read(files.MOST_BYTES + 1))
+                    take(upload, PureWindowsPath(member.filename).name, file.read(files.MOST_BYTES + 1), way)
     except UNREADABLE as fault:
         upload.note(name, text("it cannot be read: {why}", why=str(fault)))
 
 
-def take(upload: Upload, name: str, content: bytes) -> None:
-    """Puts a text under its kind: by its header, otherwise by its name."""
-    kind = kind_of(name, content)
-    if kind is None:
-        upload.note(name, text("this is none of the seven files, so nothing is taken of it"))
-    elif kind in upload.texts:
-        upload.note(name, text("there are two files of {kind}; the first is taken", kind=kind))
-    else:
-        upload.texts[kind] = content
-
-
-def kind_of(name: str, content: bytes) -> str | None:
+def take(upload: Upload, name: str, content: bytes, way: Way, most: int = files.MOST_BYTES) -> None:
+    """Puts one of the seven files, as an import takes them, under its kind; reads all else as a workbook."""
     first = next(files.records(content[:1 << 12]), None)
-    found = next((kind for kind in files.HEADERS if files.is_header(kind, first)), None)
-    stem = re.sub(r"(-[0-9]+)?\.csv$", "", name.lower())
-    return found or (stem if stem in files.HEADERS else None)
+    if len(content) > most:
+        upload.note(name, text("it has more than {most} bytes: split it", most=most))
+    elif kind := next((kind for kind in files.HEADERS if files.is_header(kind, first)), None):
+        upload.take(kind, content, name)
+    else:
+        take_book(upload, Book(name[-MOST_NAME:], content, way))
 
 
 def take_book(upload: Upload, book: Book) -> None:
     """Reads a workbook by the rules of `office read`: its sheets are taken where no line is a mistake."""
-    with private.own_folder(desk().office.path) as folder:
-        path = os.path.join(folder, "workbook" + os.path.splitext(book.name.lower())[1])
-        files.put(path, book.content)
-        try:
-            opened = open_book(path)
-            names = [sheet.name for sheet in opened.sheets if sheet.hidden or book.hidden == "take"]
-            reading = read_book(opened, Job(mistakes.Known(view().reading.rows), book.way,
-                                            sheets=names if book.hidden == "take" else None,
-                                            leave=names if book.hidden == "leave" else [], hidden=book.hidden))
-        except Trouble as trouble:
-            upload.note(book.name, said(trouble.sentence))
-            return
-    upload.workbooks.append(book)
+    try:
+        opened = book_of(book.content, book.name)
+        names = [sheet.name for sheet in opened.sheets if sheet.hidden or book.hidden == "take"]
+        reading = read_book(opened, Job(mistakes.Known(view().reading.rows), book.way,
+                                        sheets=names if book.hidden == "take" else None,
+                                        leave=names if book.hidden == "leave" else [], hidden=book.hidden))
+    except Trouble as trouble:
+        upload.note(book.name, said(trouble.sentence))
+        return
     report = reading.report
-    book.lines = sorted(together(report.lines), key=lambda line: line.sort != "mistake")
+    if not any(line.sheet for line in report.lines if line.sort == "mistake") and not reading.records:
+        upload.note(book.name, text("no row is the header of one of the seven files, so nothing is taken of it"))
+        return
+    upload.workbooks.append(book)
+    book.lines = sorted((line for line in together(report.lines) if line.what != mistakes.NO_CODE),
+                        key=lambda line: line.sort != "mistake")
     book.mistakes, book.changes = report.count("mistake"), report.count("change")
     book.has_hidden = any(sheet.hidden or sheet.hidden_rows for sheet in opened.sheets) and (
         book.hidden != "" or any(HIDDEN in line.text for line in report.lines))
+    book.has_dates = book.way.dates != "" or any(BOTH_DATES in line.text for line in report.lines)
     book.kinds = [kind for kind in reading.records if not book.mistakes and kind not in upload.texts]
     for kind, records in reading.records.items() if not book.mistakes else ():
-        for part, _ in file_parts(kind, [record.fields for record in records]):
-            take(upload, f"{kind}.csv", part)
+        upload.take(kind, files.file_of(kind, [record.fields for record in records]), book.name,
+                    *{record.sheet.name for record in records})
 
 
-def looked_through(texts: Mapping[str, bytes]) -> dict[str, Looked]:
+def below_header(content: bytes) -> Iterator[files.Record]:
+    return itertools.islice(files.records(content), 1, None)
+
+
+def looked_through(upload: Upload) -> dict[str, Looked]:
     """The files with their mistakes, each beside the office and the files before it."""
-    rows, looked = view().reading.rows, {}
-    known, coded = mistakes.Known(rows), facts.access_codes(rows)
-    for kind in (kind for kind in files.HEADERS if kind in texts):
-        wrong, notes = mistakes.looked_through(kind, texts[kind], known)
+    known, looked = mistakes.Known(view().reading.rows), {}
+    asks = "entries" in upload.texts and may_be_list(upload, known)
+    lacking = without_codes(upload)
+    for kind in upload.kinds:
+        content = upload.texts[kind]
+        wrong, notes = mistakes.looked_through(kind, content, known)
         found = list(wrong)[:MOST_CURED], list(notes)[:MOST_SHOWN]
-        lines = {each.line for part in found for each in part}
+        lines = {each.line for each in found[0]}
         fields = {record.line: [part.decode("utf-8", "replace") for part in record.fields]
-                  for record in files.records(texts[kind]) if record.line in lines}
-        count = sum(1 for _ in files.records(texts[kind])) - 1
-        faults, shown = ([fault(kind, each, fields.get(each.line, []), coded) for each in part] for part in found)
-        looked[kind] = Looked(faults, shown, wrong.count, sum(each.write != "" for each in faults), max(0, count))
+                  for record in files.records(content) if record.line in lines}
+        looked[kind] = Looked(*found, fields, wrong.count, sum(each.write != "" for each in found[0]),
+                              sum(1 for _ in below_header(content)), lacking if kind == "candidates" else 0,
+                              asks and kind == "entries")
     return looked
 
 
-def fault(kind: str, mistake: mistakes.Mistake, fields: list[str], coded: Mapping[int, str]) -> Fault:
-    column, _, value = mistake.what.partition(" ")
-    header = files.HEADERS[kind][:len(fields)]
-    place = header.index(column) if column in header else None
-    cure, write = mistake.text, "" if place is None else mistake.write
-    if place is not None and column == "code" and not fields[place]:
-        cure, write = for_no_code(fields[0], coded)
-    return Fault(mistake.line, column, value, cure, write, fields, place)
+def without_codes(upload: Upload) -> int:
+    """How many candidates have no access code, in the files and in the office."""
+    codes = facts.access_codes(view().reading.rows)
+    numbers = {mistakes.with_zeros(record.fields[0]) for record in below_header(upload.texts.get("candidates", b""))
+               if len(record.fields) == 3 and not record.fields[2]}
+    return sum(not mistakes.RIGHT["number"](number) or int(number) not in codes for number in numbers)
 
 
-def for_no_code(number: str, coded: Mapping[int, str]) -> tuple[Markup, str]:
-    """The cure of an empty code. A candidate of the office keeps the code, so that slips that are out hold."""
-    if not mistakes.RIGHT["number"](number.encode()):
-        return text("empty: correct the number first"), ""
-    if int(number) in coded:
-        return text("empty: the office has a code for this candidate, which stays"), coded[int(number)]
-    return text("empty: a new code can be made"), NEW_CODE
+def may_be_list(upload: Upload, known: mistakes.Known) -> bool:
+    """Whether a file of entries is perhaps a list of withdrawals or of reinstatements: so it is called, or the office has
+    all its rows, as entries that count or that are withdrawn."""
+    content = upload.texts["entries"]
+    return upload.is_called_list or next(below_header(content), None) is not None and any(
+        all(record.fields in rows for record in below_header(content)) for rows in (known.entries, known.withdrawn))
 
 
 Corrections = dict[int, dict[int, str]]  # by line and place; an empty dict takes the row out
 
 
-def corrections(kind: str, looked: Looked, form: Mapping[str, str], taken: set[str]) -> Corrections:
-    """What a form corrects in a file: all clear cures, or what was typed. `taken` are codes that no new one may be."""
+def corrections(kind: str, looked: Looked, form: Mapping[str, str]) -> Corrections:
+    """What a form corrects in a file: all clear cures, or what was typed."""
     wanted: Corrections = {}
     for each in looked.faults:
-        name = f"{kind}:{each.line}:{'row' if each.place is None else each.place}"
-        if each.place is None:
+        name = f"{kind}:{each.line}:{each.column}"
+        if each.column not in files.HEADERS[kind]:
             if each.column == "row" and form.get(name) == "drop":
                 wanted[each.line] = {}
-        elif "all" in form and each.write:
-            value = coding.new_code(taken) if each.write == NEW_CODE else each.write
-            wanted.setdefault(each.line, {})[each.place] = value
-        elif "all" not in form and name in form and form[name] != each.fields[each.place]:
-            wanted.setdefault(each.line, {})[each.place] = form[name][:MOST_VALUE]
+            continue
+        place = files.HEADERS[kind].index(each.column)
+        if "all" in form and each.write:
+            wanted.setdefault(each.line, {})[place] = each.write
+        elif "all" not in form and name in form and form[name] != looked.fields[each.line][place]:
+            wanted.setdefault(each.line, {})[place] = form[name][:MOST_VALUE]
     return wanted
 
 
@@ -244,19 +247,21 @@ def page() -> str:
 
 @pages.post("/files")
 def upload() -> Response:
-    dates = request.form.get("dates", "")
-    if dates not in ("", "day-first", "month-first"):
-        abort(400)
-    found = taken(request.files.getlist("files"), dates)
+    found = taken(request.files.getlist("files"), way_of(request.form))
     if not (found.texts or found.notes or found.workbooks):
         return lead("files.page", text("Choose the files first."), "bad")
     return lead("files.look", key=keep(g.visit.uploads, MOST_UPLOADS, found))
 
 
+def way_of(form: Form) -> Way:
+    dates = form.get("dates", "")
+    return Way(dates, is_command=False) if dates in ("", "day-first", "month-first") else abort(400)
+
+
 @pages.get("/files/uploaded/<key>")
 def look(key: str) -> str:
     found: Upload = g.visit.uploads.get(key) or abort(404)
-    return render_template("look.html", key=key, upload=found, looked=looked_through(found.texts),
+    return render_template("look.html", key=key, upload=found, looked=looked_through(found),
                            headers=files.HEADERS, most=MOST_SHOWN, most_lines=MOST_LINES)
 
 
@@ -264,9 +269,9 @@ def look(key: str) -> str:
 def correct(key: str) -> Response:
     """Values typed beside mistakes, or all cures that are clear; the officer's own files stay as they are."""
     found: Upload = g.visit.uploads.get(key) or abort(404)
-    rows, codes = 0, set(facts.access_codes(view().reading.rows).values())
-    for kind, looked in looked_through(found.texts).items():
-        if wanted := corrections(kind, looked, request.form, codes):
+    rows = 0
+    for kind, looked in looked_through(found).items():
+        if wanted := corrections(kind, looked, request.form):
             found.texts[kind] = corrected(found.texts[kind], wanted)
             rows += len(wanted)
     found.edits += rows
@@ -275,17 +280,17 @@ def correct(key: str) -> Response:
     return lead("files.look", said, key=key)
 
 
-@pages.post("/files/uploaded/<key>/hidden")
-def hidden(key: str) -> Response:
-    """Reads a workbook once more, with its hidden rows and sheets, or without them."""
+@pages.post("/files/uploaded/<key>/again")
+def again(key: str) -> Response:
+    """Reads a workbook once more, with its hidden rows and sheets or without them, and its dates as the form says."""
     found: Upload = g.visit.uploads.get(key) or abort(404)
     place = request.form.get("book", "")
     if place not in map(str, range(len(found.workbooks))) or found.is_imported:
         abort(404)
     book = found.workbooks.pop(int(place))
     found.texts = {kind: content for kind, content in found.texts.items() if kind not in book.kinds}
-    choice = "take" if request.form.get("take") else "leave"
-    take_book(found, Book(book.name, book.content, book.way, choice))
+    choice = ("take" if request.form.get("take") else "leave") if book.has_hidden else ""
+    take_book(found, Book(book.name, book.content, way_of(request.form), choice))
     return lead("files.look", key=key)
 
 
@@ -303,8 +308,49 @@ def dump() -> Response:
 def import_files(form: Form) -> Plan:
     key = form.get("upload", "")
     upload: Upload = g.visit.uploads.get(key) or abort(404)
-    steps = [Step(("import", kind, f"{kind}.csv"), upload.texts[kind]) for kind in upload.kinds]
-    return Plan({"kinds": ", ".join(upload.kinds)}, steps, ("files.look", {"key": key}),
+    page: Page = ("files.look", {"key": key})
+    choice = form.get("choice", "")
+    if choice in CHOICES:
+        return withdraw_list(upload, choice, page)
+    if "entries" in upload.texts and not choice and may_be_list(upload, mistakes.Known(view().reading.rows)):
+        raise Wrong(page, choice=text("say what is to become of these entries"))
+    texts = upload.texts | with_codes(upload, page, form)
+    steps = [Step(("import", kind, f"{kind}.csv"), texts[kind]) for kind in upload.kinds]
+    return Plan({"kinds": ", ".join(upload.kinds)}, steps, page, done=partial(setattr, upload, "is_imported", True))
+
+
+def with_codes(upload: Upload, page: Page, form: Form) -> dict[str, bytes]:
+    """The file of candidates, if one of them has no access code, with that of the office, or a new one if this is asked."""
+    content = upload.texts.get("candidates", b"")
+    if all(record.fields[-1] for record in below_header(content)):
+        return {}
+    known = {row[0]: row for row in files.rows_of(view().reading.rows, "candidates")}
+    coded = coding.filled(coding.read(content, "candidates.csv"), known, set())
+    if coded.made and not form.get("codes"):
+        raise Wrong(page, codes=text("without an access code no candidate is imported: tick this"))
+    return {"candidates": coding.file_of(coded.rows)}
+
+
+def withdraw_list(upload: Upload, choice: str, page: Page) -> Plan:
+    """Withdraws or reinstates the entries of a list, each by a command of its own; who cannot be is named and left out."""
+    if upload.kinds != ["entries"]:
+        raise Wrong(page, choice=text("upload this list alone: what else is here would not be imported"))
+    known, lines = mistakes.Known(view().reading.rows), dict[tuple[bytes, ...], int]()
+    for record in below_header(upload.texts["entries"]):
+        lines.setdefault(record.fields, record.line)
+    fitting = known.entries if choice == "withdraw" else known.withdrawn
+    steps = [Step((choice, *map(bytes.decode, fields))) for fields in lines if fields in fitting]
+    if not 0 < len(steps) <= MOST_LISTED:
+        raise Wrong(page, choice=text("this can be done to {count} of the rows; a list has 1 to {most} such",
+                                      count=len(steps), most=MOST_LISTED))
+    why = text("it is no entry that counts") if choice == "withdraw" else text("it is no withdrawn entry")
+    left = [text("line {line}, {row}, is left out: {why}", line=line, why=why,
+                 row=b" ".join(fields).decode("utf-8", "replace"))
+            for fields, line in lines.items() if fields not in fitting]
+    more = [text("and {count} more", count=len(left) - MOST_SHOWN)] if len(left) > MOST_SHOWN else []
+    return Plan({"kinds": "entries", "choice": choice, "count": str(len(steps))}, steps, page,
+                command=f"{choice} --list entries.csv", made_for=view().name,
+                look=lambda before, after: [*left[:MOST_SHOWN], *more],
                 done=partial(setattr, upload, "is_imported", True))
 
 

@@ -18,6 +18,7 @@ from jinja2 import nodes
 DESK = pathlib.Path(__file__).resolve().parent.parent
 sys.path.insert(0, str(DESK))
 from exam_desk import appeals, mistakes, refusals  # noqa: E402
+from exam_desk.workbook import cells, opening  # noqa: E402
 from exam_web import application, desk, forms, proposals, session  # noqa: E402
 
 DAYS = [datetime.date(2027, 3, day) for day in range(1, 8)]
@@ -25,6 +26,7 @@ MONTHS = [datetime.date(2027, month, 1) for month in range(1, 13)]
 CHAPTERS = set(re.findall("^## (.+)", (DESK.parent / "docs/HANDBOOK.md").read_text("utf-8"), re.M))
 SAID = [*refusals.SENTENCES.values(), *refusals.OTHER.values()]
 CURES = [cure.removesuffix(forms.SHEET_HINT) for cure in mistakes.CURES.values()]
+OPENED = [cells.PASSWORD, opening.NO_UTF_8, opening.NO_WORKBOOK, opening.OLD_FORM]  # why a file is not read
 OWN = [proposals.OTHER_OFFICE, proposals.WRONG_DESK]
 TABLES = {  # by what stands in the call
     "word": [*(word for _, word in application.PLACES), *session.RUNNING.values()],
@@ -149,7 +151,7 @@ def main():
     found.update(re.findall(r'\btext\("((?:[^"\\]|\\.)*)"', (DESK / "exam_web/wording.py").read_text("utf-8")))
     for table in TABLES.values():
         found.update(table)
-    found.update(SAID, OWN)
+    found.update(SAID, OPENED, OWN)
     print(json.dumps({"found": sorted(found), "lost": lost}))
 
 

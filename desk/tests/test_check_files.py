@@ -8,7 +8,7 @@ import unittest
 import sample
 import big_files
 import random_files
-from exam_desk import files, mistakes, snapshot
+from exam_desk import checking, files, mistakes, snapshot
 
 TRIES, SEED = 150, 20261128
 
@@ -218,7 +218,7 @@ class Words(unittest.TestCase):
 
     def test_what_to_write_instead(self):
         for column, value, write in (
-                ("number", b"1051", "0001051"), ("number", b"1051.0", "0001051"), ("number", b"12345678", ""),
+                ("number", b"1051", "0001051"), ("number", b"1051.0", "0001051"), ("number", b"1.000", ""), ("number", b"12345678", ""),
                 ("number", b"\xff", ""), ("number", b"0", ""), ("date", b"7. 6. 2027", "2027-06-07"),
                 ("start", b"9:00:00", "09:00"), ("paper", b" ma-1 ", "MA-1"), ("extra", b"25 %", "25"),
                 ("reserved", b"YES", "yes"),
@@ -229,12 +229,16 @@ class Words(unittest.TestCase):
                 ("start", b"2027-06-07 09:00", "")):
             self.assertEqual(mistakes.cure(column, value).write, write, (column, value))
 
-    def test_empty_codes_are_named_with_their_cure_and_are_not_compared(self):
+    def test_empty_codes_are_counted_with_their_cure_and_are_not_compared(self):
         text = b"number,name,code\n0001000,Ada Lin,\n0001017,Ada Lin,\n"
-        self.assertEqual(self.mistakes_in("candidates", text),
-                         (["it is empty; `office take .. --codes` makes one"] * 2, []))
+        found, notes = mistakes.looked_through("candidates", text, mistakes.Known())
+        self.assertEqual(([*found], [*notes], found.count, bool(found)), ([], [], 0, True))
+        self.assertEqual([*checking.lines_on("c.csv", found, "")], [
+            "c.csv: 2 candidates have no access code; `office take .. --codes` makes them; without them an import "
+            "refuses the file"])
         for empty in (b" ", "\u00a0\u200b".encode()):
-            self.assertEqual(mistakes.cure("code", empty).text, "it is empty; `office take .. --codes` makes one")
+            cure = mistakes.cure("code", empty)
+            self.assertEqual(cure, ("it holds nothing that can be seen: empty it, and a code can be made", ""))
 
     def test_cures_are_harmless_on_a_terminal(self):
         for column, value, cure in (

@@ -29,18 +29,27 @@ class Uploads(DeskSchool):
         return (answer.headers["Location"] or "").removeprefix(self.browser.prefix)
 
 
+    def propose(self, page, status=303, **fields):
+        return self.browser.post("/propose/files", page, status, upload=page.rsplit("/", 1)[1], **fields)[0]
+
+    def carry_out(self, proposal):
+        """Does what was rehearsed, and waits until it is done; gives what the page says then."""
+        self.browser.post(proposal + "/do", proposal)
+        return self.browser.words(proposal)
+
+
 class TestFiles(Uploads):
     def test_mistakes_are_corrected_and_the_import_is_rehearsed(self):
         page = self.upload(("../../etc/passwd", NEW), ("x.csv", b"number,paper\n12001,EN-1\n0012008,EN1\n,\n"))
-        self.assertIn("5 mistakes", self.browser.words(page))
+        self.assertIn("4 mistakes", self.browser.words(page))
         self.browser.post(page + "/correct", page, all="1")
         self.assertIn("2 mistakes", self.browser.words(page))
-        self.browser.post(page + "/correct", page, **{"entries:3:1": "EN-1", "entries:4:row": "drop"})
+        self.browser.post(page + "/correct", page, **{"entries:3:paper": "EN-1", "entries:4:row": "drop"})
         self.assertIn("No mistake", self.browser.words(page))
         _, text = self.browser.ask("GET", page + "/entries.csv")
         self.assertEqual(text, "number,paper\n0012001,EN-1\n0012008,EN-1\n")
         before = self.seats()
-        proposal, _ = self.browser.post("/propose/files", page, upload=page.rsplit("/", 1)[1])
+        proposal = self.propose(page, codes="1", choice="enter")
         self.assertIn("2 would join a session", self.browser.words(proposal))
         self.assertEqual(self.seats(), before)
         self.browser.post(proposal + "/do", proposal)
@@ -53,26 +62,44 @@ class TestFiles(Uploads):
     def test_a_candidate_of_the_office_keeps_the_code(self):
         (number,), (other,) = self.rows("SELECT printf('%07d', number) FROM candidate ORDER BY number LIMIT 2")
         rows = f"number,name,code\n{number},Ada Marsh,\n{int(other)},Bo,\n0012001,Nadia,\n"
-        page = self.upload(("candidates.csv", rows.encode()))
-        self.assertIn("the office has a code for this candidate", self.browser.words(page))
-        self.assertIn("correct the number first", self.browser.words(page))
-        self.browser.post(page + "/correct", page, all="1")
-        self.browser.post(page + "/correct", page, all="1")
-        self.assertIn("No mistake", self.browser.words(page))
-        _, text = self.browser.ask("GET", page + "/candidates.csv")
         kept = dict(self.rows("SELECT printf('%07d', number), code FROM candidate"))
-        found = [line.split(",") for line in text.splitlines()[1:]]
-        self.assertEqual([line[:2] for line in found], [[number, "Ada Marsh"], [other, "Bo"], ["0012001", "Nadia"]])
-        self.assertEqual([line[2] for line in found[:2]], [kept[number], kept[other]])
-        self.assertRegex(found[2][2], "^[A-Z0-9]{8,16}$")
-        self.assertNotIn(found[2][2], kept.values())
-        proposal, _ = self.browser.post("/propose/files", page, upload=page.rsplit("/", 1)[1])
+        page = self.upload(("candidates.csv", rows.encode()))
+        self.assertIn("1 mistake 1 candidate has no access code", self.browser.words(page))
+        self.browser.post(page + "/correct", page, all="1")
+        words = self.browser.words(page)
+        self.assertIn("No mistake", words)
+        self.assertIn("make an access code for 1 candidate who has none", words)
+        self.propose(page, 422)
+        self.assertEqual(dict(self.rows("SELECT printf('%07d', number), code FROM candidate")), kept)
+        proposal = self.propose(page, codes="1")
         self.assertNotIn("access code", self.browser.words(proposal))
+        self.carry_out(proposal)
+        now = dict(self.rows("SELECT printf('%07d', number), code FROM candidate"))
+        self.assertRegex(made := now.pop("0012001"), "^[A-Z0-9]{8,16}$")
+        self.assertEqual(now, kept)
+        self.assertNotIn(made, kept.values())
+
+    def test_many_empty_codes_are_one_line(self):
+        """In a file of the seven and in a workbook, also where the file lacks the column."""
+        people = [f"001{place:04}" for place in range(200)]
+        for name, head, code in (("candidates.csv", "number,name,code", ","), ("students.csv", "Number,name", ""),
+                                 ("students.csv", "number;name;code", ",")):
+            comma = ";" if ";" in head else ","
+            rows = "".join(f"{number},Ada{code}\n".replace(",", comma) for number in people)
+            page = self.upload((name, f"{head}\n{rows}".encode()))
+            words = self.browser.words(page)
+            self.assertIn("No mistake", words, head)
+            self.assertEqual(words.count("200 candidates have no access code"), 1, head)
+            self.assertIn("make access codes for 200 candidates who have none", words)
+            self.assertNotIn("office take", words)
+        proposal = self.propose(page, codes="1")
+        self.carry_out(proposal)
+        self.assertEqual(self.rows("SELECT count(DISTINCT code) FROM candidate WHERE number >= 10000"), [(200,)])
 
     def test_other_codes_are_told_before_the_import(self):
         (number, name), = self.rows("SELECT printf('%07d', number), name FROM candidate ORDER BY number LIMIT 1")
         page = self.upload(("candidates.csv", f"number,name,code\n{number},{name},XQ7RTWPKLM\n".encode()))
-        proposal, _ = self.browser.post("/propose/files", page, upload=page.rsplit("/", 1)[1])
+        proposal = self.propose(page)
         words = self.browser.words(proposal)
         self.assertIn("1 would have another access code", words)
         self.assertNotIn("Nobody would move", words)
@@ -83,7 +110,7 @@ class TestFiles(Uploads):
                             b"HL-1,Oral,HL,60,-\nT1-1,Oral,T1,30,-\n"),
                            ("openings.csv", b"session,hall,desks,until,reserved\nHL,AULA,5,18:00,no\n"),
                            ("entries.csv", b"number,paper\n0001000,HL-1\n0001000,T1-1\n"))
-        proposal, _ = self.browser.post("/propose/files", page, upload=page.rsplit("/", 1)[1])
+        proposal = self.propose(page)
         words = self.browser.words(proposal)  # 0001000 sits in MON-AM until 11:00
         self.assertRegex(words, "Two sessions at one time would be new Sessions Candidates in both .* both MON-AM, HL "
                                 "Ada Lin 0001000 AULA Who")
@@ -106,7 +133,7 @@ class TestFiles(Uploads):
     def test_a_refused_step_undoes_all(self):
         page = self.upload(("candidates.csv", b"number,name,code\n0012001,Nadia,K4WBN7RTQD\n"),
                            ("openings.csv", b"session,hall,desks,until,reserved\nMON-AM,R14,9,14:00,no\n"))
-        proposal, _ = self.browser.post("/propose/files", page, upload=page.rsplit("/", 1)[1])
+        proposal = self.propose(page)
         program = os.path.join(self.folder, "program")
         with open(program, "w", encoding="utf-8") as file:  # it refuses candidates, whatever they are
             file.write(f'#!/bin/sh\ncase "$*" in *"import candidates"*) echo refused 22 >&2; exit 1;; esac\n'
@@ -118,7 +145,7 @@ class TestFiles(Uploads):
         before = self.rows("SELECT * FROM opening ORDER BY 1, 2")
         page = self.upload(("candidates.csv", b"number,name,code\n0012001,Nadia,K4WBN7RTQD\n"),
                            ("openings.csv", b"session,hall,desks,until,reserved\nMON-AM,R14,9,14:00,no\n"))
-        proposal, _ = self.browser.post("/propose/files", page, upload=page.rsplit("/", 1)[1])
+        proposal = self.propose(page)
         self.assertIn("out of memory", self.browser.words(proposal))
         self.assertEqual(self.rows("SELECT * FROM opening ORDER BY 1, 2"), before)
 
@@ -142,6 +169,117 @@ class TestFiles(Uploads):
                            dates="day-first")
         self.assertIn("X-1,2027-06-01,09:00", self.browser.ask("GET", page + "/sessions.csv")[1].replace('"', ""))
 
+    def test_a_table_of_another_form_is_read_and_what_is_none_says_what_it_is(self):
+        """Other commas, other headers, another name than that of a kind; a picture, and a file of another encoding."""
+        for name, text in (("entries.csv", "number;paper\r\n1051;EN-1\r\n"), ("x.csv", "sep=;\nnumber;paper\n1051;EN-1\n"),
+                           ("x.tsv", "number\tpaper\n1051\tEN-1\n"), ("e.csv", "Paper code,Candidate No.\nEN-1,1051\n")):
+            page = self.upload((name, text.encode()))
+            self.assertIn("No mistake", self.browser.words(page), name)
+            _, found = self.browser.ask("GET", page + "/entries.csv")
+            self.assertEqual(found.removeprefix("\ufeff"), '"number","paper"\n"0001051","EN-1"\n', name)
+        png = b"\x89PNG\r\n\x1a\n" + bytes(range(256))
+        for name, content, said in (
+                ("x.png", png, "x.png : it is no workbook, whatever its name: open it in a spreadsheet and save it as .xlsx"),
+                ("entries.csv", png, "it is no workbook, whatever its name"),
+                ("c.csv", b"number;name;code\n1;Zo\xe9;ABCDEFGH\n", "its letters are no UTF-8: save it as CSV UTF-8"),
+                ("readme.txt", b"hello", "no row is the header of one of the seven files, so nothing is taken of it")):
+            words = self.browser.words(self.upload((name, content)))
+            self.assertIn(said, words)
+            self.assertIn("Nothing could be taken", words)
+            self.assertNotIn("--", words)
+
+    def test_a_file_that_is_read_as_a_workbook_names_its_lines(self):
+        page = self.upload(("entries.csv", b"number;paper\n1051;EN-1\nx;EN-1\n"))
+        words = self.browser.words(page)
+        self.assertRegex(words, "MISTAKE entries!A3 : number 'x'")
+        self.assertNotIn("/propose/files", self.browser.get(page))
+
+    def test_dates_are_chosen_on_the_screen(self):
+        sheets = {"Sessions": [["session", "date", "start"], ["X-1", "01/06/2027", "9:00"]]}
+        page = self.upload(("s.xlsx", workbook(sheets)))
+        self.assertIn("2027-06-01 or 2027-01-06? Write it so", self.browser.words(page))
+        self.assertNotIn("--dates", self.browser.get(page))
+        self.browser.post(page + "/again", page, book="0", dates="month-first")
+        self.assertIn("X-1,2027-01-06,09:00", self.browser.ask("GET", page + "/sessions.csv")[1].replace('"', ""))
+        self.assertIn('value="month-first" selected', self.browser.get(page))
+        self.browser.post(page + "/again", page, 400, book="0", dates="x")
+
+    def test_no_page_names_what_a_command_line_can_say(self):
+        """Hidden rows and sheets, two sheets of a kind, doubled headers, empty codes, withdrawn entries."""
+        (number,), = self.rows("SELECT printf('%07d', number) FROM entry WHERE paper = 'EN-1' LIMIT 1")
+        self.office("withdraw", number, "EN-1")
+        sheets = {"Candidates": [["number", "name", "name"], [12001, "Nadia", "x"], [12002, "Tom", "y"]],
+                  "Halls": [["hall", "title", "features"], ["R20", "Room", "-"]],
+                  "Rooms": [["hall", "title", "features"], ["R20", "Room", "-"]],
+                  "Entries": [["number", "paper"], [number, "EN-1"]]}
+        hidden = workbook(sheets, rows={"Candidates": [3]}, sheets=["Entries"])
+        page = self.upload(("school.xlsx", hidden), ("entries.csv", f"number,paper\n{number},EN-1\n".encode()),
+                           ("candidates.csv", b"number,name,code\n0012001,Nadia, \n"))
+        words = self.browser.words(page)
+        for said in ("is hidden, perhaps by a filter: show it", "is hidden: show it if it has the entries",
+                     "could both be the halls: keep one", "could all be name: keep one header",
+                     "holds nothing that can be seen: empty it", "is withdrawn in the office and stays so until"):
+            self.assertIn(said, words)
+        self.assertNotRegex(words, " --|`")
+
+    def listed(self, name="leave.csv", paper="EN-1"):
+        """The first three who sit a paper, as a list, and its page."""
+        numbers = [number for number, in self.rows("SELECT printf('%07d', number) FROM entry WHERE live AND "
+                                                   f"paper = '{paper}' ORDER BY number LIMIT 3")]
+        rows = "".join(f"{number},{paper}\n" for number in numbers)
+        return numbers, self.upload((name, f"number,paper\n{rows}".encode()))
+
+    def live(self, paper="EN-1"):
+        return {f"{number:07}" for number, in self.rows(f"SELECT number FROM entry WHERE live AND paper = '{paper}'")}
+
+    def test_a_list_of_withdrawals_withdraws(self):
+        numbers, page = self.listed()
+        before = self.live()
+        self.assertIn("The office has all 3 entries already", self.browser.words(page))
+        self.assertNotIn("checked", self.browser.get(page))
+        self.propose(page, 422)
+        proposal = self.propose(page, choice="withdraw")
+        words = self.browser.words(proposal)
+        self.assertIn("Withdraw 3 entries of a list", words)
+        self.assertIn("would leave a session", words)
+        self.assertEqual(self.live(), before)
+        self.carry_out(proposal)
+        self.assertEqual(self.live(), before - {*numbers})
+        page = self.upload(("back.csv", "number,paper\n{},EN-1\n{},EN-1\n".format(*numbers).encode()))
+        proposal = self.propose(page, choice="reinstate")
+        self.assertIn("Reinstate 2 entries of a list", self.browser.words(proposal))
+        self.carry_out(proposal)
+        self.assertEqual(self.live(), before - {numbers[2]})
+        self.assertIn("withdraw --list", self.office("back"))
+
+    def test_rows_that_cannot_be_withdrawn_are_named_and_left_out(self):
+        (number, other), text = self.listed()[0][:2], "number,paper\n"
+        self.office("withdraw", other, "EN-1")
+        page = self.upload(("l.csv", f"{text}{number},EN-1\n{other},EN-1\n{number},EN-1\n".encode()))
+        proposal = self.propose(page, choice="withdraw")
+        words = self.browser.words(proposal)
+        self.assertIn("Withdraw 1 entry of a list", words)
+        self.assertRegex(words, f"line 3 ?, {other} EN-1 ?, is left out: it is no entry that counts")
+        self.carry_out(proposal)
+        self.assertNotIn(number, self.live())
+        page = self.upload(("l.csv", f"{text}{number},EN-1\n".encode()))
+        self.assertIn("this can be done to 0 of the rows", self.browser.post("/propose/files", page, 422,
+                                                                            upload=page[-12:], choice="withdraw")[1])
+
+    def test_what_is_called_withdrawals_is_never_imported_unasked(self):
+        rows = [["number", "paper"], ["0001051", "EN-1"], ["0001085", "LAT"]]
+        text = "".join(",".join(row) + "\n" for row in rows).encode()
+        for found in (("withdrawals-june.csv", text), ("Abmeldungen.xlsx", workbook({"Sheet1": rows})),
+                      ("x.xlsx", workbook({"Reinstatements": rows})), ("Withdrawn.csv", text.replace(b",", b";"))):
+            page = self.upload(found)
+            self.assertIn("called a list of withdrawals or reinstatements", self.browser.words(page), found[0])
+            self.propose(page, 422)
+        page = self.upload(("entries.csv", text))
+        self.assertNotIn("called a list", self.browser.words(page))
+        self.assertIn('value="enter" required checked', self.browser.get(page))
+        page = self.upload(("withdrawals.csv", text), ("halls.csv", b"hall,title,features\nR20,Room 20,-\n"))
+        self.propose(page, 422, choice="withdraw")
+
     def test_equal_lines_on_a_workbook_stand_together(self):
         rows = [[12000 + place, f"N {place}", f"K4WBN7RT{place:02}"] for place in range(1, 31)]
         page = self.upload(("school.xlsx", workbook({"Candidates": [["number", "name", "code"], *rows]})))
@@ -161,21 +299,21 @@ class TestFiles(Uploads):
         self.assertIn("is hidden, perhaps by a filter", words)
         self.assertIn("is hidden: show it if it has the entries", words)
         self.assertNotIn("/candidates.csv", self.browser.get(page))
-        self.browser.post(page + "/hidden", page, book="0", take="1")
+        self.browser.post(page + "/again", page, book="0", take="1")
         self.assertIn("No mistake", self.browser.words(page))
         for name, rows in (("candidates", "0012001,Nadia,K4WBN7RTQD 0012008,Tom,K4WBN7RTQE"),
                            ("entries", "0012001,EN-1 0012008,EN-1"), ("halls", "R20,Room 20,-")):
             _, text = self.browser.ask("GET", f"{page}/{name}.csv")
             self.assertEqual(text.replace('"', "").split("\n")[1:-1], rows.replace(" 00", "\n00").split("\n"))
         self.assertRegex(self.browser.get(page), 'name="take" value="1" checked')
-        self.browser.post(page + "/hidden", page, book="0")
+        self.browser.post(page + "/again", page, book="0")
         self.assertIn("No mistake", self.browser.words(page))
         self.assertEqual(self.browser.ask("GET", page + "/candidates.csv")[1].count("\n"), 2)
         self.browser.get(page + "/entries.csv", 404)
         self.browser.get(page + "/halls.csv")
         self.assertRegex(self.browser.get(page), 'name="take" value="1">')  # it can still be ticked
         for wrong in ("1", "-1", "", "x"):
-            self.browser.post(page + "/hidden", page, 404, book=wrong)
+            self.browser.post(page + "/again", page, 404, book=wrong)
         page = self.upload(("school.xlsx", workbook(sheets)), plain)
         self.assertNotIn('name="take"', self.browser.get(page))
 
@@ -242,7 +380,7 @@ class TestBegin(Uploads):
             self.browser.get(path)
         found = [(f"{kind}.csv", (self.examples / f"{kind}.csv").read_bytes()) for kind in KINDS]
         page = self.upload(*found)
-        proposal, _ = self.browser.post("/propose/files", page, upload=page.rsplit("/", 1)[1])
+        proposal = self.propose(page)
         self.browser.post(proposal + "/do", proposal)
         self.assertIn("What changed", self.browser.words(proposal))
         self.assertIn("60 candidates", self.browser.words("/"))
@@ -251,7 +389,7 @@ class TestBegin(Uploads):
         self.browser.post("/init", "/")
         page = self.upload(*((f"{kind}.csv", (self.examples / "day" / f"{kind}.csv").read_bytes()) for kind in KINDS))
         self.assertIn("Uploaded, not imported", self.browser.words("/files"))
-        proposal, _ = self.browser.post("/propose/files", page, upload=page.rsplit("/", 1)[1])
+        proposal = self.propose(page)
         words = self.browser.words(proposal)  # three candidates and two desks
         self.assertIn("1 would be without a desk", words)
         self.assertNotIn("Nobody would move", words)

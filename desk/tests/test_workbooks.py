@@ -11,6 +11,7 @@ import subprocess
 import sys
 import tempfile
 import unittest
+from unittest import mock
 
 import sample
 
@@ -22,7 +23,7 @@ from exam_desk.mistakes import Known  # noqa: E402
 from exam_desk.trouble import Trouble  # noqa: E402
 from exam_desk.workbook import opening  # noqa: E402
 from exam_desk.workbook.cells import Sheet, packed, unpacked  # noqa: E402
-from exam_desk.workbook.reading import Reading, mend_folder, workbook_of, write_folder  # noqa: E402
+from exam_desk.workbook.reading import Reading, mend_folder, workbook_of, write_folder, write_kind  # noqa: E402
 from exam_desk.workbook.tables import Job, Report, together  # noqa: E402
 
 AT_A_TIME = 4
@@ -178,11 +179,20 @@ class Writing(unittest.TestCase):
             with self.assertRaisesRegex(Trouble, "is there already"):
                 write_folder(target, Reading({}, Report()), "read.txt")
             self.assertEqual([], os.listdir(target))
+            with self.assertRaisesRegex(Trouble, "the folder .*/none is not there"):
+                write_folder(os.path.join(folder, "none", "new"), Reading({}, Report()), "read.txt")
 
+
+    def test_a_second_file_of_a_kind_is_named(self):
+        rows = [[f"{place:07}", "MA-1"] for place in range(5)]
+        with tempfile.TemporaryDirectory() as folder, mock.patch("exam_desk.files.MOST_BYTES", 60):
+            self.assertEqual("5, in entries.csv and entries-2.csv and entries-3.csv", write_kind(folder, "entries", rows))
+            self.assertEqual("1", write_kind(folder, "halls", [["A", "B", "-"]]))
+            self.assertEqual(4, len(os.listdir(folder)))
 
     @needs_openpyxl
     def test_texts_stay_texts_whatever_they_look_like(self) -> None:
-        names = ["=1+1", "#N/A", "A_x0041_", "0017", "2027-06-01", "1E5", "'t Hooft", "=HYPERLINK(\"x\")", "TRUE", "\u05d0 \u00e9"]
+        names = ["=1+1", "#N/A", "A_x0041_", "A\ufffeB\uffff", "0017", "2027-06-01", "1E5", "'t Hooft", "=HYPERLINK(\"x\")", "TRUE", "\u05d0 \u00e9"]
         rows = [[f"{place:07}", name, f"CODE{place:04}"] for place, name in enumerate(names, 1)]
         book = opening.read_zip(workbook_of({"candidates": rows}))
         [sheet] = [sheet for sheet in book.sheets if sheet.name == "Candidates"]

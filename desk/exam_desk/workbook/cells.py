@@ -28,6 +28,7 @@ MOST_TAGS = 6_000_000  # in all parts
 PIECE = 1 << 16  # bytes that are looked at together
 CELL = "http://schemas.openxmlformats.org/spreadsheetml/2006/main c"
 OPEN_AND_SAVE = "open it in a spreadsheet and save it again"
+PASSWORD = "it has a password: save it without one"
 
 
 class Cell(NamedTuple):
@@ -149,7 +150,7 @@ class Parts:
         if sum(part.file_size for part in archive.infolist()) > MOST_UNPACKED:
             raise Trouble(f"more than {MOST_UNPACKED >> 20} MB come out of it: it is no workbook of a school")
         if any(part.flag_bits & 1 for part in archive.infolist()):
-            raise Trouble("it has a password: save it without one")
+            raise Trouble(PASSWORD)
 
     def notes(self, macros: str) -> list[str]:
         """What is said of a workbook whose macros stand in parts with names of this pattern."""

@@ -25,10 +25,12 @@ def limit(most_written: int) -> None:
 
 def read(data: bytes) -> bytes:
     from exam_desk.trouble import Trouble
-    from exam_desk.workbook.cells import packed
+    from exam_desk.workbook.cells import PASSWORD, packed
     try:
         with zipfile.ZipFile(io.BytesIO(data)) as archive:
             names = archive.namelist()
+            if "encrypted-package" in names:
+                raise Trouble(PASSWORD)
             if "content.xml" in names:
                 from exam_desk.workbook.ods import read_ods as reader
             elif "xl/workbook.bin" in names:

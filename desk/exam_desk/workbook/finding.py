@@ -33,8 +33,8 @@ def tell_hidden(job: Job, hidden: list[Sheet], usable: list[Sheet]) -> None:
     shown = {kind for sheet in usable for kind in kinds_of(job, sheet)} if hidden else set()
     for sheet in hidden:
         if alone := set(kinds_of(job, sheet)) - shown:
-            job.report.mistake(f"is hidden: show it if it has the {' or '.join(sorted(alone))}, or name the sheets to "
-                               "read with --sheet", sheet)
+            job.report.mistake(f"is hidden: show it if it has the {' or '.join(sorted(alone))}"
+                               + job.way.or_say("which sheets are to be read with --sheet"), sheet)
         else:
             job.report.note("is hidden, so it is not read", sheet)
 
@@ -61,8 +61,10 @@ def kinds_of(job: Job, sheet: Sheet) -> list[str]:
         return kinds  # the officer has named their headers
     if job.paper(sheet.name):
         return []  # a list of those who sit it
-    kinds = [kind for kind in files.HEADERS
-             if may_be(job, kind, sheet) and find_header(kind, sheet, job.of_kind(kind), True)]
+    headers = {kind: header for kind in files.HEADERS if may_be(job, kind, sheet)
+               and (header := find_header(kind, sheet, job.of_kind(kind), True))}
+    read = {kind: {place for places in header.columns.values() for place in places} for kind, header in headers.items()}
+    kinds = [kind for kind in read if not any(read[kind] < read[other] for other in read)]  # that leave out least
     exact = [kind for kind in kinds if is_exact(kind, sheet)]
     return exact if len(exact) == 1 else kinds
 
@@ -95,9 +97,11 @@ def find_tables(job: Job, sheets: list[Sheet]) -> tuple[list[Table], list[Sheet]
         elif not kinds:
             rest.append(sheet)
         elif len(kinds) > 1 and not all(kind in job.given for kind in kinds):
-            job.report.mistake(f"could be {' or '.join(kinds)}: give the sheet that name", sheet)
+            job.report.mistake(f"could be {' or '.join(kinds)}: call the sheet, or the CSV file, so", sheet)
         else:
             headers = {kind: find_header(kind, sheet, job.of_kind(kind)) for kind in kinds}
+            if not kinds_by_name(job, sheet) and not set(kinds) & {*job.together, *job.given}:
+                job.report.note(f"is read as {kinds[0]}, by its header", sheet)
             for kind, header in headers.items():
                 if header:
                     found.setdefault(kind, []).append(Table(job, kind, sheet, header))
@@ -120,20 +124,25 @@ def tell_both(tables: list[Table], place: int) -> bool:
     if len(tables) < 2 or kind in job.together:
         return False
     names = " and ".join(place_name(table.sheet) for table in tables)
-    job.report.mistake(f"{names} could both be the {kind}: keep one, or say --together {kind} to read them as one "
-                       "list, or --leave NAME", tables[place].sheet)
+    options = job.way.or_say(f"--together {kind} to read them as one list, or --leave NAME")
+    job.report.mistake(f"{names} could both be the {kind}: keep one{options}", tables[place].sheet)
     return True
 
 
 def tell_no_header(job: Job, kind: str, sheet: Sheet) -> None:
-    row = min(sheet.rows)
+    headers = [match_header(kind, row, sheet.rows[row], job.of_kind(kind)) for row in sorted(sheet.rows)[:WITHIN]]
+    nearest = max(headers, key=lambda header: len(header.columns))
+    row, columns = min(sheet.rows), files.HEADERS[kind]
     have = {folded(text) for text in text_cells(sheet.rows[row]).values()}
     lacks_session = kind == "openings" and not HEADER_WORDS[kind, "session"] & have
     if lacks_session and len(sheet.rows[row]) > 2:
         cure = "a table of halls by sessions does not say until when, and who for: write a row for each opening, with "
+    elif len(nearest.columns) > 1:
+        row, columns = nearest.row, [name for name in columns if name not in nearest.columns]
+        cure = f"this header of {kind} lacks "
     else:
         cure = f"no row of the first {WITHIN} is a header of {kind}; it needs "
-    job.report.mistake(cure + f"the columns {', '.join(files.HEADERS[kind])}", sheet, row)
+    job.report.mistake(cure + f"the columns {', '.join(columns)}", sheet, row)
 
 
 # -- entries in other forms
@@ -149,6 +158,8 @@ def find_entries(job: Job, rest: list[Sheet], tables: list[Table]) -> list[Table
             cure = "" if job.papers else "; no papers are known: put them into the workbook, or import them first"
             text = f"neither a header number, paper nor one of number and the codes of papers is found{cure}"
             job.report.mistake(text, sheet, min(sheet.rows))
+        elif job.paper(sheet.name):
+            job.report.mistake("bears the name of a paper, but no row is a header with the column number", sheet, min(sheet.rows))
         else:
             job.report.note("is not read: no row is the header of one of the seven kinds", sheet)
     crossed = [table for table in lists if table.marks]

@@ -51,6 +51,7 @@ HEADER_WORDS = {(kind, column): {column, *WORDS.get(column, "").split(), *OF_KIN
                 for kind, header in files.HEADERS.items() for column in header}
 FIRST_NAME = "firstname firstnames givenname forename vorname".split()
 LAST_NAME = "lastname surname familyname nachname".split()
+LISTS = re.compile("withdr|reinstat|abmeld|rücktritt")  # begin the names of lists of entries that do not bring them in
 OF_PEOPLE = {"name", *WORDS["name"].split(), *FIRST_NAME, *LAST_NAME}
 MARKED = {"papers": "requires", "halls": "features", "arrangements": "needs"}  # may be columns of crosses
 
@@ -91,6 +92,11 @@ def named_kind(sheet: Sheet) -> str | None:
     return next((kind for kind, names in SHEET_NAMES.items() if folded(sheet.name) in names.split()), None)
 
 
+def is_called_list(name: str) -> bool:
+    """Whether a file or a sheet is called withdrawals, reinstatements or the like."""
+    return LISTS.match(folded(name)) is not None
+
+
 def match_header(kind: str, row: int, cells: Mapping[int, Cell], given: Given, names: Sequence[str] = ()) -> Header:
     """A row as the header of a kind, or of some of its columns."""
     heads = {column: folded(text) for column, text in text_cells(cells).items()}
@@ -104,11 +110,22 @@ def match_header(kind: str, row: int, cells: Mapping[int, Cell], given: Given, n
         if all(places):
             header.columns[name] = [columns[0] for columns in places]
         header.twice.update({name: columns for columns in places if len(columns) > 1})
-    if kind == "candidates" and "name" not in {*header.columns, *given.headers, *given.fixed}:
-        first, last = ([column for column, head in heads.items() if head in words] for words in (FIRST_NAME, LAST_NAME))
-        if len(first) == len(last) == 1:
-            header.columns["name"] = first + last
+    if kind == "candidates" and "name" not in {*given.headers, *given.fixed}:
+        join_names(header, heads)
     return header
+
+
+def join_names(header: Header, heads: Mapping[int, str]) -> None:
+    """Takes first and last names in two columns as one. Beside `Vorname`, `Name` is the last name; beside other such
+    columns nobody can say what it is."""
+    first, last = ([column for column, head in heads.items() if head in words] for words in (FIRST_NAME, LAST_NAME))
+    whole = header.columns.get("name", [])
+    if [heads[column] for column in first + whole] == ["vorname", "name"] and not last:
+        last, whole = whole, []
+    if whole and first + last:
+        header.twice["name"] = sorted(header.twice.get("name", whole) + first + last)
+    elif not whole and len(first) == len(last) == 1:
+        header.columns["name"] = first + last
 
 
 def find_header(kind: str, sheet: Sheet, given: Given, whole: bool = False) -> Header | None:
@@ -136,14 +153,16 @@ def read_columns(path: str) -> tuple[dict[str, Given], Way]:
     """What a file of columns says; raises `Trouble` where it says something else."""
     import tomllib
     try:
-        with open(path, "rb") as file:
-            found = tomllib.load(file)
+        with open(path, encoding="utf-8-sig", newline="") as file:
+            found = tomllib.loads(file.read())
         words, dates = found.pop("words", {}), found.pop("dates", "")
         given = {kind: given_of(kind, said) for kind, said in found.items()}
         check_words(words)
         if dates not in ("", "day-first", "month-first"):
             raise Trouble("dates is day-first or month-first")
-    except (tomllib.TOMLDecodeError, UnicodeDecodeError, Trouble) as fault:
+    except UnicodeDecodeError as fault:
+        raise Trouble("its letters are no UTF-8: save it as UTF-8", path) from fault
+    except (tomllib.TOMLDecodeError, Trouble) as fault:
         raise Trouble(str(fault), path) from fault
     return given, Way(dates, words)
 

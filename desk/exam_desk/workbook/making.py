@@ -90,7 +90,8 @@ def put(sheet: Any, row: int, column: int, text: str, like: Any = None, **looks:
     """A text cell, whatever the text looks like: openpyxl would make a formula of =1+1 and an error of #N/A, and a
     spreadsheet would make a letter of _x0041_."""
     cell = sheet.cell(row, column)
-    cell.value = re.sub("_(?=x[0-9A-Fa-f]{4}_)", "_x005F_", text)
+    text = re.sub("_(?=x[0-9A-Fa-f]{4}_)", "_x005F_", text)
+    cell.value = re.sub("[\ufffe\uffff]", lambda match: f"_x{ord(match[0]):04X}_", text)  # no letters of XML
     cell.data_type = "s"
     if like is not None:
         cell._style = like._style  # a look of its own for each cell takes ten times as long

@@ -23,6 +23,7 @@ NUMBER = re.compile(r"\s*[+-]?([0-9]+\.?[0-9]*|\.[0-9]+)([eE][+-]?[0-9]+)?\s*")
 TOKEN = re.compile(r'"[^"]*"|\\.|_.|\*.|\[[^\]]*\]|General|[0#?]+(?:[0#?,.]*[0#?])?,*|.', re.I)
 DATE_TOKEN = re.compile(r'\[[^\]]*\]|yy\?|AM/PM|([ymdhs])\1*|[\\_*].|"[^"]*"|.', re.I)
 LOCALE = re.compile(r"\[\$[^\]-]*-([0-9A-F]+)\]", re.I)  # a language in the last ten bits, digits in the first
+GREGORIAN = (0, 1, 2)  # calendars, in the eight bits between
 OTHER_DIGITS = 2 << 24  # the first number of a language and its digits where these are of another script
 DIGITS = re.compile(r"(?P<group>#,)?#*(?P<zeros>0*)(?:\.(?P<places>0+))?")
 
@@ -165,8 +166,9 @@ def painted(form: str, when: datetime.datetime) -> str:
     """How a date is shown, where the format is plain; '' where that is not known."""
     words = [match[0] if match[0][0] in '"\\_*' else match[0].lower()
              for match in DATE_TOKEN.finditer(sections(form)[0])]
-    foreign = locale_of(form) & 0x3ff not in (0, 9) and {"mmm", "mmmm", "ddd", "dddd"} & set(words)
-    if foreign or locale_of(form) >= OTHER_DIGITS:
+    locale = locale_of(form)
+    foreign = locale & 0x3ff not in (0, 9) and {"mmm", "mmmm", "ddd", "dddd"} & set(words)
+    if foreign or locale >= OTHER_DIGITS or locale >> 16 & 0xff not in GREGORIAN:
         return ""
     known = PAINTED | ({"h": "%-I", "hh": "%I"} if "am/pm" in words else {})
     out, after_hour = "", False

@@ -6,15 +6,16 @@ from collections.abc import Iterator
 from xml.etree.ElementTree import Element
 
 from exam_desk.trouble import Trouble
-from exam_desk.workbook.cells import (MOST_COLUMN, MOST_ROW, MOST_SHEETS, OPEN_AND_SAVE, Book, Budget, Cell, Parts,
-                                      Sheet, local)
+from exam_desk.workbook.cells import (MOST_COLUMN, MOST_ROW, MOST_SHEETS, OPEN_AND_SAVE, PASSWORD, Book, Budget, Cell,
+                                      Parts, Sheet, local)
 from exam_desk.workbook.numberformats import number_cell, whole_seconds
 
 ASIDE = ("tracked-changes", "shapes", "dde-links", "forms")  # what stands among sheets and rows, and has no cells
 IN_LETTERS = ("annotation", "frame", "custom-shape", "control", "ruby-text", "note")  # in letters, and none of them
+GROUPS = ("table-row-group", "table-column-group")
 SPACES = {"s": "\0", "tab": "\1", "line-break": "\2"}  # what stands in letters as an element
 FAMILIES = {"p": "paragraph", "span": "text", "a": "text"}  # of the styles of what stands in a cell
-DURATION = re.compile(r"PT([0-9]+)H([0-9]+)M([0-9]+)(?:[.,]([0-9]+))?S")
+DURATION = re.compile(r"P(?:([0-9]+)D)?T([0-9]+)H(?:([0-9]+)M)?(?:([0-9]+(?:[.,][0-9]+)?)S)?")
 NUMBERS = {"float": "General", "currency": "General", "percentage": "0%"}
 Style = tuple[str, str | None]  # a family and a name, none of what all of the family have
 
@@ -26,7 +27,7 @@ def read_ods(archive: zipfile.ZipFile) -> Book:
     for name in names:
         parts.look(name)
         if any(found == "encryption-data" for _, found, _ in parts.elements(name, "start")):
-            raise Trouble("it has a password: save it without one")
+            raise Trouble(PASSWORD)
     reader = OdsReader()
     try:
         for name in names[-2:]:
@@ -52,11 +53,11 @@ class OdsReader:
         self.sheet: Sheet | None = None
         self.parents: dict[Style, str | None] = {}
         self.struck: dict[Style, bool] = {}  # of the styles that say so whether they strike out
-        self.invisible: set[str | None] = set()  # the styles of hidden sheets
+        self.invisible: set[str | None] = set()  # the styles of hidden sheets and rows
         self.aside = 0  # how deep inside of what has no cells
         self.spreadsheet = False
         self.row = self.columns = 0
-        self.groups: list[bool] = []  # of rows, and whether they are hidden
+        self.groups: list[bool] = []  # of rows or columns, and whether they are hidden
         self.struck_columns: list[tuple[int, int]] = []
 
     def take(self, start: bool, name: str, element: Element) -> None:
@@ -74,7 +75,7 @@ class OdsReader:
         elif name == "table-row":
             self.keep_row(self.sheet, element)
             element.clear()
-        elif name == "table-row-group":
+        elif name in GROUPS:
             self.groups.pop()
         elif name == "table":
             self.sheet = None
@@ -82,7 +83,7 @@ class OdsReader:
     def begin(self, name: str, given: dict[str, str]) -> None:
         if name == "spreadsheet":
             self.spreadsheet = True
-        elif name == "table-row-group":
+        elif name in GROUPS:
             self.groups.append(given.get("display") == "false")
         elif name == "table" and self.spreadsheet:
             if self.sheet is not None:
@@ -102,7 +103,8 @@ class OdsReader:
         text = looks.get("text-properties", {})
         if lines := {text.get("text-line-through-style"), text.get("text-line-through-type")} - {None}:
             self.struck[style] = lines != {"none"}
-        if looks.get("table-properties", {}).get("display") == "false":
+        height = looks.get("table-row-properties", {}).get("row-height", "")
+        if looks.get("table-properties", {}).get("display") == "false" or re.match(r"0(\.0*)?[a-z]", height):
             self.invisible.add(style[1])
 
     def is_struck(self, name: str | None, family: str = "table-cell") -> bool:
@@ -116,7 +118,7 @@ class OdsReader:
     def keep_columns(self, sheet: Sheet, given: dict[str, str]) -> None:
         count = int(given.get("number-columns-repeated", 1))
         reach = (self.columns + 1, self.columns + count)
-        if given.get("visibility") in ("collapse", "filter"):
+        if given.get("visibility") in ("collapse", "filter") or any(self.groups):
             sheet.hidden_columns.append(reach)
         if self.is_struck(given.get("default-cell-style-name")):
             self.struck_columns.append(reach)
@@ -125,7 +127,8 @@ class OdsReader:
     def keep_row(self, sheet: Sheet, element: Element) -> None:
         given = attributes(element)
         repeat = repeated(sheet, given, "row")
-        if given.get("visibility") in ("collapse", "filter") or any(self.groups):
+        is_hidden = given.get("visibility") in ("collapse", "filter") or given.get("style-name") in self.invisible
+        if is_hidden or any(self.groups):
             sheet.hidden_rows.append((self.row + 1, self.row + repeat))
         struck_row = self.is_struck(given.get("default-cell-style-name"))
         column, found = 0, dict[int, Cell]()
@@ -152,18 +155,20 @@ class OdsReader:
         rows, columns = int(given.get("number-rows-spanned", 1)), int(given.get("number-columns-spanned", 1))
         if rows > 1 or columns > 1:
             sheet.merge([(self.row + 1, column + 1, self.row + rows, column + columns)])
-        if any(local(inside) == "annotation" for inside in part):
+        if any(local(inside) == "annotation" for inside in part.iter()):
             self.budget.keep("")
             sheet.comments.append((self.row + 1, column + 1))
 
     def cell(self, part: Element, given: dict[str, str], struck: bool) -> Cell | None:
         paragraphs = [inside for inside in part if local(inside) == "p"]
         shown, formula, kind = "\n".join(map(letters, paragraphs)), "formula" in given, given.get("value-type")
-        value = given.get(f"{kind}-value", "")
+        value = given.get("value" if kind in NUMBERS else f"{kind}-value", "")
         if kind == "error" or formula and re.match(r"Err:[0-9]+$|#[A-Z/0]+[!?]?$", shown):
             return Cell("error", shown or "#VALUE!", shown, formula)
+        if formula and not paragraphs and not value and "string-value" not in given:
+            return Cell("pending", "", "", True)
         if kind in NUMBERS:
-            found = number_cell(given.get("value", ""), NUMBERS[kind])
+            found = number_cell(value, NUMBERS[kind])
             if found and paragraphs:  # a writer that gives no letters leaves them to the reader
                 found = found._replace(shown=shown)
         elif kind == "boolean":
@@ -171,12 +176,13 @@ class OdsReader:
         elif kind == "date":
             found = Cell("date", re.sub(r"T00:00:00(\.0+)?$", "", value), shown)
         elif kind == "time" and (match := DURATION.fullmatch(value)):
-            seconds = int(match[1]) * 3600 + int(match[2]) * 60 + decimal.Decimal(f"{match[3]}.{match[4] or 0}")
+            days, hours, minutes, rest = (decimal.Decimal((part or "0").replace(",", ".")) for part in match.groups())
+            seconds = ((days * 24 + hours) * 60 + minutes) * 60 + rest
             found = Cell("time", str(whole_seconds(seconds)), shown)
         elif kind == "time" or shown or given.get("string-value"):
             found = Cell("text", shown or value or given.get("string-value", ""), shown)
         else:
-            return Cell("pending", "", "", True) if formula and kind is None else None
+            return None
         struck = struck or any(self.is_struck(style, family) for inside in paragraphs
                                for family, style in styles_in(inside))
         return found and found._replace(formula=formula, struck=struck, unseen=bool(paragraphs) and not shown)

@@ -12,44 +12,54 @@ from collections import Counter
 from exam_desk import files
 from exam_desk.trouble import Trouble
 from exam_desk.workbook.child import MISSING
-from exam_desk.workbook.cells import MOST_FILE, OPEN_AND_SAVE, Book, Budget, Cell, Sheet, unpacked
+from exam_desk.workbook.cells import MOST_FILE, OPEN_AND_SAVE, PASSWORD, Book, Budget, Cell, Sheet, unpacked
 
 CHILD = pathlib.Path(__file__).resolve().parent / "child.py"
 PYTHON = "/usr/bin/python3"  # the one for which Debian installs its libraries
 MOST_SECONDS = 600  # of the clock, for the process that reads; of the processor it has fewer
 OLD = b"\xd0\xcf\x11\xe0\xa1\xb1\x1a\xe1"  # of Microsoft's compound files
 NO_WORKBOOK = "it is no workbook, whatever its name: open it in a spreadsheet and save it as .xlsx or .ods"
+OLD_FORM = "it is of the old form .xls: open it in a spreadsheet and save it as .xlsx or .ods"
+NO_UTF_8 = "its letters are no UTF-8: save it as CSV UTF-8, or say --encoding cp1252 if a Windows program of Western " \
+    "Europe wrote it"
 OTHERS = (b"<html", b"<!doctype", b"<table", b"<?xml", b"<meta", b"%pdf", b"{\\rtf")
 NAMES = {"\t": "tabs"}  # of what parts columns
 ALSO = {"xlsx": ("xlsx", "xlsm", "xltx", "xltm"), "ods": ("ods", "ots"), "csv": ("csv", "txt", "tsv")}
 
 
 def open_book(path: str, encoding: str | None = None) -> Book:
-    """The workbook at a path; raises `Trouble` where it cannot be read whole. The encoding is that of a CSV file."""
+    """The workbook at a path; raises `Trouble` as `book_of`."""
     if not stat.S_ISREG(os.stat(path).st_mode):
         raise Trouble("it is no file")
     with open(path, "rb") as file:
-        data = file.read(MOST_FILE + 1)
+        return book_of(file.read(MOST_FILE + 1), os.path.basename(path), encoding)
+
+
+def book_of(data: bytes, name: str, encoding: str | None = None) -> Book:
+    """The workbook of these bytes; raises `Trouble` where it cannot be read whole. The encoding is that of a CSV file,
+    whose sheet has the name of the file."""
     if len(data) > MOST_FILE:
         raise Trouble(f"it is larger than {MOST_FILE >> 20} MB")
-    name = pathlib.PurePath(path)
-    book = read_zip(data) if is_zip(data) else read_csv(data, name.stem, encoding)
-    suffix = name.suffix[1:].lower()
+    stem, suffix = os.path.splitext(name)
+    book = read_zip(data) if is_zip(data, encoding) else read_csv(data, stem, encoding)
+    suffix = suffix[1:].lower()
     if suffix not in ALSO[book.form]:
         book.notes.append(f"the name ends in .{suffix}, but it is a file .{book.form}; it is read as that")
     return book
 
 
-def is_zip(data: bytes) -> bool:
-    """Whether a file is a zip or else a text; raises `Trouble` where it is neither."""
+def is_zip(data: bytes, encoding: str | None = None) -> bool:
+    """Whether a file is a zip or else a text; raises `Trouble` where it is neither. A text that nobody gives an encoding
+    has no zeros but in UTF-16."""
     if data.startswith(OLD):
         if "EncryptedPackage".encode("utf-16-le") in data:
-            raise Trouble("it has a password: save it without one")
-        raise Trouble("it is of the old form .xls: open it in a spreadsheet and save it as .xlsx or .ods")
+            raise Trouble(PASSWORD)
+        raise Trouble(OLD_FORM)
     if data.startswith((b"PK\3\4", b"PK\5\6")):
         return True
     start = data[:1000].lstrip(b"\xef\xbb\xbf \r\n\t").lower()
-    if start.startswith(OTHERS) or b"\0" in data[:1000] and data[:2] not in (b"\xff\xfe", b"\xfe\xff"):
+    has_zeros = encoding is None and b"\0" in data[:1000]
+    if start.startswith(OTHERS) or has_zeros and data[:2] not in (b"\xff\xfe", b"\xfe\xff"):
         raise Trouble(NO_WORKBOOK)
     return False
 
@@ -85,8 +95,7 @@ def decoded(data: bytes, encoding: str | None) -> str:
         text.encode()
         return text
     except UnicodeError:
-        raise Trouble("its letters are no UTF-8: save it as CSV UTF-8, or say --encoding cp1252 if a Windows program "
-                      "of Western Europe wrote it") from None
+        raise Trouble(NO_UTF_8) from None
     except LookupError:
         raise Trouble(f"there is no encoding {encoding}") from None
 

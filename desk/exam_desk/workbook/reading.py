@@ -66,7 +66,8 @@ def read_book(book: Book, job: Job, progress: Progress = lambda text: None) -> R
         job.report.note(text, what=text.rpartition(": ")[2])
     records = read_sheets(job, usable_sheets(job, book), progress)
     if not records and not job.report.count("mistake"):
-        job.report.mistake("no sheet has rows of one of the seven kinds: see `office template`")
+        where = ": see `office template`" if job.way.is_command else ""
+        job.report.mistake(f"no sheet has rows of one of the seven kinds{where}")
     keep_codes(job, records.get("candidates", []))
     check_files(job, records, progress)
     return Reading(records, job.report)
@@ -122,15 +123,14 @@ def put_back(job: Job, kind: str, sort: str, found: Iterable[mistakes.Mistake], 
     """Mistakes of files as lines on the cells from which they come, unless a line on the cell says it."""
     header = files.HEADERS[kind]
     for mistake in found:
-        what = mistake.what.split(" ")[0]
+        what = mistake.column
         if mistake.line < FIRST or what == "file":
             job.report.add(sort, f"{kind}: {mistake.text}")
             continue
         record = rows[mistake.line - FIRST]
         column = record.columns[header.index(what)] if what in header else None
-        is_empty = what in header and not record.fields[header.index(what)]
-        is_told = is_empty and (column is None or what == "code")  # of the header, or of all candidates
-        if sort == "note" or not (is_told or place_name(record.sheet, record.row, column) in said):
+        is_told = column is None and what in header and not record.fields[header.index(what)]  # of the header
+        if not (is_told or place_name(record.sheet, record.row, column) in said):
             text = f"{mistake.what}: {mistake.text}"
             if what == "row":  # it speaks of another line of the file
                 text = re.sub(r"\bline ([0-9]+)\b", lambda line: place_name(*rows[int(line[1]) - FIRST][:2]),
@@ -142,7 +142,7 @@ def put_back(job: Job, kind: str, sort: str, found: Iterable[mistakes.Mistake], 
 
 def file_parts(kind: str, rows: Iterable[list[str]]) -> Iterator[tuple[bytes, int]]:
     """The rows in files of a length that an import takes, each with its header and the count of its rows."""
-    header = files.BOM + encoded(files.written([files.HEADERS[kind]]))
+    header = files.file_of(kind, [])
     part, size = [header], len(header)
     for line in (encoded(files.written([row])) for row in rows):
         if size + len(line) > files.MOST_BYTES:
@@ -158,9 +158,11 @@ def encoded(text: str) -> bytes:
 
 
 def refuse_there(target: str) -> None:
-    """Raises `Trouble` where something has the name of the folder."""
+    """Raises `Trouble` where something has the name of the folder, or nothing can be made where it is to be."""
     if os.path.lexists(target):
         raise Trouble(f"{target} is there already; name a new folder")
+    if not os.path.isdir(beside := os.path.dirname(os.path.abspath(target))):
+        raise Trouble(f"the folder {beside} is not there")
 
 
 @contextlib.contextmanager
@@ -175,8 +177,8 @@ def new_folder(target: str) -> Iterator[str]:
         shutil.rmtree(making, ignore_errors=True)
 
 
-def write_folder(target: str, reading: Reading, lines_name: str) -> dict[str, int]:
-    """Makes the folder with the files and all lines of the report; gives the count of rows of each kind. Raises
+def write_folder(target: str, reading: Reading, lines_name: str) -> dict[str, str]:
+    """Makes the folder with the files and all lines of the report; says of each kind how many rows it has. Raises
     `Trouble` where a line is a mistake."""
     if reading.report.count("mistake"):
         raise Trouble("there are mistakes, so nothing is written", target)
@@ -187,13 +189,14 @@ def write_folder(target: str, reading: Reading, lines_name: str) -> dict[str, in
                 for kind in files.HEADERS if reading.records.get(kind)}
 
 
-def write_kind(folder: str, kind: str, rows: Iterable[list[str]]) -> int:
-    """Writes the files of a kind, and gives the count of their rows."""
-    counted = 0
+def write_kind(folder: str, kind: str, rows: Iterable[list[str]]) -> str:
+    """Writes the files of a kind; says how many rows they have, and in which files where these are several."""
+    counted, names = 0, list[str]()
     for place, (text, count) in enumerate(file_parts(kind, rows), 1):
-        files.put(os.path.join(folder, f"{kind}.csv" if place == 1 else f"{kind}-{place}.csv"), text)
+        names.append(f"{kind}.csv" if place == 1 else f"{kind}-{place}.csv")
+        files.put(os.path.join(folder, names[-1]), text)
         counted += count
-    return counted
+    return str(counted) if len(names) == 1 else f"{counted}, in {' and '.join(names)}"
 
 
 def workbook_of(rows: Rows | None) -> bytes:

@@ -8,7 +8,7 @@ from exam_desk.trouble import Trouble
 from exam_desk.workbook.cells import MOST_MERGED, Cell, Sheet, letters_of, place_name
 from exam_desk.workbook.headers import HEADER_WORDS, MARKED, Given, folded, match_header, seen, text_cells
 from exam_desk.workbook.tables import Headed, Progress
-from exam_desk.workbook.values import AS_TEXT, NO_DAY, Wrong, bare, is_mark, shown_of
+from exam_desk.workbook.values import AS_TEXT, MAY_BE_EMPTY, NO_DAY, STRUCK, UNREAD, Wrong, bare, is_mark, shown_of
 from exam_desk.words import FEATURES
 
 TOTALS = {"total", "totals", "sum", "summe", "gesamt", "count", "anzahl", "grand total", "subtotal"}
@@ -66,8 +66,8 @@ class Table(Headed):
                 self.note(row, None, "is hidden, so it is not read, as you said")
                 del rows[row]
             else:
-                text = "is hidden, perhaps by a filter: show it, or say --hidden take or --hidden leave"
-                self.mistake(row, None, text)
+                options = self.job.way.or_say("--hidden take or --hidden leave")
+                self.mistake(row, None, f"is hidden, perhaps by a filter: show it{options}")
 
     def look_at_mixed_dates(self) -> None:
         """True dates beside texts such as 13/06/2027: a spreadsheet of the other order of day and month has turned
@@ -89,7 +89,7 @@ class Table(Headed):
         rows, end, covered = self.sheet.rows, max(self.sheet.rows), 0
         for top, left, bottom, right in self.sheet.merged:
             read = [place for place in names if left <= place <= right]
-            if bottom <= self.header.row or not read:
+            if bottom < self.header.row or not read:
                 continue
             last = min(bottom, end)
             covered += max(0, last - top)
@@ -170,8 +170,12 @@ class Table(Headed):
         key_is_word = any(totals(cell) is not None for cell in keys)
         if not (key_is_word or word and not all(keys) or computed and not any(keys)):
             return False
-        whole = all(any(here.get(place) for place in columns.get(name, [])) for name in header)
-        if whole or not (is_last or word or key_is_word):
+        is_whole = all(any(here.get(place) for place in columns.get(name, [])) for name in header if name not in MAY_BE_EMPTY
+                    ) and all(map(self.job.said, header, keys))
+        if is_whole and all(cell.kind == "text" and not cell.formula for cell in cells):
+            self.note(row, None, "is read, though it looks like a total", "total")
+            return False
+        if is_whole or not (is_last or word or key_is_word):
             self.mistake(row, None, "is this a total? Delete the row, or give it another code")
         else:
             self.note(row, None, "looks like a total; it is not read", "total")
@@ -198,8 +202,9 @@ class Table(Headed):
     def read_marks(self, row: int, here: Row) -> list[int]:
         marks = {place: is_mark(here[place]) for place in self.marks}
         for place in [place for place, mark in marks.items() if mark is None]:
-            text = f"{shown_of(here[place])!r} is neither a cross nor empty (below {self.marks[place]})"
-            self.mistake(row, place, text, "cross")
+            cell = here[place]
+            why = cell and (STRUCK if cell.struck else UNREAD.get(cell.kind)) or "is neither a cross nor empty"
+            self.mistake(row, place, f"below {self.marks[place]} {shown_of(cell)!r}: {why}", "cross")
         return [place for place, mark in marks.items() if mark]
 
     def read_field(self, row: int, name: str, here: Row) -> Field:

@@ -10,7 +10,8 @@ from typing import NamedTuple
 
 from exam_desk import files, mistakes
 from exam_desk.workbook.cells import Cell, Sheet, letters_of, place_name
-from exam_desk.workbook.headers import MARKED, OF_PEOPLE, Given, Header, folded, seen, text_cells
+from exam_desk.workbook.headers import (HEADER_WORDS, MARKED, OF_PEOPLE, Given, Header, folded, is_called_list, seen,
+                                        text_cells)
 from exam_desk.workbook.values import SHORT_FEATURES, Value, Way, Wrong, is_mark, read_value, shown_of
 
 WORDS = {"change": "", "note": "NOTE: ", "mistake": "MISTAKE: "}  # in the order in which they are printed
@@ -18,7 +19,7 @@ MOST_PLACES = 5  # of lines that stand together
 MOST_TEXTS = 3  # of one kind that have a line each
 MOST_VALUES = 50_000  # that are kept, lest they are read again
 PARTICULAR = re.compile(r"[0-9]|\b[A-Z][A-Z-]+\b")  # in words that are numbers, dates or codes
-CURE_TWICE = "keep one header, or say which in a file of columns"
+NAMES_PAPERS = HEADER_WORDS["entries", "paper"] - {"code"}
 Progress = Callable[[str], None]
 
 
@@ -191,10 +192,13 @@ class Headed:
     def tell_header(self) -> None:
         if self.paper:
             self.note(None, None, f"bears the name of a paper: whom it lists is entered for {self.paper}")
+        elif self.kind == "entries" and self.job.way.is_command and is_called_list(self.sheet.name):
+            self.mistake(None, None, "is called a list of entries to be withdrawn or reinstated: save it as CSV for `office "
+                         "withdraw --list FILE.csv`, or call it Entries if they are to be entered")
         self.tell_crosses("entries")
         for name, places in self.header.twice.items():
-            columns = ", ".join(map(letters_of, places))
-            self.mistake(self.header.row, places[1], f"columns {columns} could all be {name}: {CURE_TWICE}")
+            columns, options = ", ".join(map(letters_of, places)), self.job.way.or_say("which in a file of columns")
+            self.mistake(self.header.row, places[1], f"columns {columns} could all be {name}: keep one header{options}")
         for tell in (self.tell_names, self.find_features, self.tell_columns, self.tell_lacking, self.tell_unread):
             tell()
 
@@ -204,11 +208,15 @@ class Headed:
         if above:
             rows = f"rows {above[0]} to {above[-1]} above it are" if len(above) > 1 else f"row {above[0]} above it is"
             self.note(row, None, f"is taken as the header; {rows} not read")
-        for name, places in self.header.columns.items():
-            shown = [self.head[place].text.strip() for place in places]
-            if shown != [name]:
-                verb = "are" if len(shown) > 1 else "is"
-                self.note(row, places[0], f"{' and '.join(map(repr, shown))} {verb} read as {name}")
+        read = {name: " with ".join(repr(self.head[place].text.strip()) for place in places)
+                for name, places in self.header.columns.items()}
+        others = {name: shown for name, shown in read.items() if shown.lower() != repr(name)}
+        for name in self.fixed.keys() & read.keys():
+            text = f"{name} is read from this column, and is not always {self.fixed[name]} as the file of columns says"
+            self.note(row, self.header.columns[name][0], text)
+        if others:
+            verb = "columns {} are" if len(others) > 1 else "the column {} is"
+            self.note(row, None, f"{verb.format(', '.join(others))} read from {', '.join(others.values())}")
 
     def find_features(self) -> None:
         """Columns of crosses below features are read in place of the column of features."""
@@ -252,16 +260,28 @@ class Headed:
     def tell_unread(self) -> None:
         """Columns with values that are no columns of the office."""
         there = self.first_places(seen)
-        papers = self.job.papers if self.kind == "candidates" else set()
+        of_people = self.kind == "candidates"
+        crosses = self.first_crosses() if of_people else {}
         for place in sorted({*there, *self.head} - self.places()):
             if place not in self.head:
                 text = f"column {letters_of(place)} has values but no header; it is not read"
                 self.note(there[place], place, text)
-            elif self.job.said("paper", self.head[place]) in papers:
-                text = f"{shown_of(self.head[place])} is a paper: put the crosses on a sheet Entries, with the numbers"
+            elif self.paper and folded(self.head[place].text) in NAMES_PAPERS:
+                text = f"{shown_of(self.head[place])!r} names papers, as the sheet does: delete the column, or call the " \
+                       "sheet Entries"
+                self.mistake(self.header.row, place, text)
+            elif of_people and (self.job.said("paper", self.head[place]) in self.job.papers
+                                or place in crosses and is_short(self.head[place].text)):
+                text = f"what stands below {shown_of(self.head[place])} is not read here: put papers on a sheet Entries, and " \
+                       "needs on a sheet Arrangements, with the numbers"
                 self.mistake(self.header.row, place, text)
             else:
                 self.note(self.header.row, place, f"the column {shown_of(self.head[place]).strip()!r} is not read")
+
+
+def is_short(header: str) -> bool:
+    """Whether a header may be the code of a paper, or is a feature."""
+    return bool(files.is_code(header.strip().encode("utf-8", "replace"))) or folded(header) in SHORT_FEATURES
 
 
 def doubled(marks: Mapping[int, str], what: str) -> dict[int, str]:

@@ -23,6 +23,7 @@ OTHER_LETTERS: dict[str, Callable[[str], str]] = {  # what is done to letters be
     "hard spaces made plain": lambda text: SPACES.sub(" ", text)}
 DASHES = dict.fromkeys(map(ord, "\u2010\u2011\u2012\u2013\u2014\u2212"), "-")
 GROUPS = re.compile(r"(?<=[0-9])[ ,.'\u00a0\u202f](?=[0-9]{3}(?![0-9]))")
+NUMBER = re.compile(r"-?[0-9]+(\.[0-9]+)?")
 QUOTES = tuple("'\u2018\u2019`\u00b4")
 YES = {"yes", "y", "true", "1", "x", "✓", "✔", "ja", "j", "wahr", "oui", "vrai", "si", "sí"}
 NO = {"no", "n", "false", "0", "-", "nein", "falsch", "non", "faux", ""}
@@ -50,8 +51,9 @@ DATES = [re.compile(form) for form in (  # the first form that a text has counts
     r"(?:(?P<weekday>[^\W\d]+),? )?(?P<name>[^\W\d]+)\.? (?P<day>[0-9]{1,2})(?:st|nd|rd|th)?,? (?P<year>[0-9]{4})",
     r"[0-9]{1,2}[/.-][0-9]{1,2}[/.-](?P<short>[0-9]{2})")]
 AS_TEXT = re.compile(r"([0-9]{1,2})([/.-])([0-9]{1,2})\2([0-9]{2}|[0-9]{4})")  # however a spreadsheet shows a date
-SAY_DATES = ", or say --dates day-first or --dates month-first"
-NO_DAY = ("1899-12-30", "1899-12-31", "1900-01-01", "1904-01-01")  # what stands in front of a time alone
+BOTH_DATES = "? Write it so"
+NEXT_DAYS = ("1899-12-31", "1900-01-01")  # of a time of more than 24 hours
+NO_DAY = ("1899-12-30", "1904-01-01", *NEXT_DAYS)  # what stands in front of a time alone
 HOURS = re.compile(r"([0-9]{1,2})(?::([0-5][0-9])(?::00)?|"
                    r" ?(?:h|hrs?|hours?|Std\.?) ?(?:([0-5]?[0-9]) ?(?:min|mins|minutes|m)?)?)", re.I)
 MINUTES = re.compile(r"([0-9]{1,3}) ?(min|mins|minutes|Minuten|')\.?", re.I)
@@ -72,6 +74,8 @@ MADE = {  # the kinds that a spreadsheet makes of what is typed
     "bool": f"a spreadsheet made TRUE or FALSE of it: {AGAIN}", "percent": f"it is a percentage: {AGAIN}",
     "number": "it is a number: type it as text"}
 EMPTY = Cell("text", "", "")
+MAY_BE_EMPTY = {"requires", "features", "needs", "extra", "reserved", "code"}  # columns in which that is a value
+STRUCK = "is struck out: delete the row, or take the line away if it counts"
 
 
 class Wrong(Exception):
@@ -83,6 +87,10 @@ class Way(NamedTuple):
 
     dates: str = ""  # day-first or month-first: what 01/06/2027 means
     words: Mapping[str, Mapping[str, str]] = MappingProxyType({})  # of a column what a word stands for
+    is_command: bool = True  # whether a cure names the options of a command; a page has fields in their place
+
+    def or_say(self, options: str) -> str:
+        return f", or say {options}" if self.is_command else ""
 
 
 class Value(NamedTuple):
@@ -102,7 +110,7 @@ def read_value(column: str, cell: Cell | None, way: Way) -> Value:
     if len(found.text) > MOST_LETTERS:
         raise Wrong(f"has {len(found.text):,} letters; at most {MOST_LETTERS} are looked at")
     if found.struck:
-        raise Wrong("is struck out: delete the row, or take the line away if it counts")
+        raise Wrong(STRUCK)
     if found.unseen:
         raise Wrong("is in the cell, but its number format shows nothing: delete it, or give it another format")
     text, done = cleaned(found.text)
@@ -123,9 +131,8 @@ def refuse_other_digits(cell: Cell) -> None:
     """Raises `Wrong` where a number is shown as other digits: 17 under the format "2027"000 is shown as 2027017."""
     if cell.kind != "number":
         return
-    shown = re.sub(r"[^0-9.,-]", "", GROUPS.sub("", cell.shown)).strip(".,")
-    same = re.sub(r"[.,]0+$", "", shown).lstrip("0") == re.sub(r"\.0+$", "", cell.text).lstrip("0")
-    if not shown or not same:
+    shown = re.sub(r"[^0-9.,-]", "", GROUPS.sub("", cell.shown)).strip(".,").replace(",", ".")
+    if not NUMBER.fullmatch(shown) or decimal.Decimal(shown) != decimal.Decimal(cell.text):
         how = f"shown as {cell.shown}" if cell.shown else "shown by a format of its own"
         raise Wrong(f"is the number {cell.text}, but {how}: type what counts as text")
 
@@ -135,8 +142,8 @@ def shown_of(cell: Cell | None) -> str:
     if cell is None:
         return "(empty)"
     if not cell.shown and cell.kind == "time":
-        return "a true time " + clock_text(decimal.Decimal(cell.text))
-    text = cell.shown or ("a true date" if cell.kind == "date" else cell.text)
+        return f"{clock_text(decimal.Decimal(cell.text))} (a true time)"
+    text = cell.shown or cell.text + " (a true date)" * (cell.kind == "date")
     return plain(text if len(text) <= 200 else f"{text[:197]}..")
 
 
@@ -178,13 +185,11 @@ def is_mark(cell: Cell | None) -> bool | None:
 # -- numbers of candidates, codes and names
 
 def read_number(column: str, cell: Cell, text: str, way: Way) -> Value:
-    if "." not in text:
-        refuse_other_digits(cell)
+    refuse_other_digits(cell)
     quoted = cell.kind == "text" and text.startswith(QUOTES)
-    digits = padded = text[1:] if quoted else text
-    if re.fullmatch(r"[0-9]{1,7}(\.0+)?", digits):
-        padded = digits.split(".")[0].zfill(7)
-    elif re.fullmatch(r"[0-9]{1,3}([ ,.'’][0-9]{3})+", digits):
+    digits = text[1:] if quoted else text
+    padded = mistakes.with_zeros(digits.encode("utf-8", "surrogatepass")).decode("utf-8", "surrogatepass")
+    if re.fullmatch(r"[0-9]{1,3}([ ,.'’][0-9]{3})+", digits):
         raise Wrong(f"marks between the digits: write {re.sub('[^0-9]', '', digits).zfill(7)} if that is meant")
     elif re.fullmatch(r"[0-9]{8,}", digits):
         raise Wrong(f"{len(digits)} digits; a number has seven")
@@ -267,8 +272,7 @@ def read_date(column: str, cell: Cell, text: str, way: Way) -> Value:
     if cell.kind == "number" and re.fullmatch("[0-9]{5}", text):  # nobody sees which day a count of days is
         day = datetime.date(1899, 12, 30) + datetime.timedelta(days=int(text))
         raise Wrong(f"a number without the format of a date: if {day} is meant, give the column the format date")
-    if "." not in text:
-        refuse_other_digits(cell)
+    refuse_other_digits(cell)
     match = first_match(DATES, text)
     if not match or cell.shown == text and LIKE_A_DATE.fullmatch(text):
         return Value(text)
@@ -307,12 +311,12 @@ def slashed(first: int, second: int, year: str, way: Way) -> Value:
     if first == second:
         return day_value(dates["month-first"])
     if len(possible) == 1 and way.dates in ("", *possible):
-        return day_value(dates[possible[0]], ", there is no such month")
+        return day_value(dates[possible[0]], f", as there is no month {max(first, second)}")
     if len(possible) < 2:
         raise Wrong(f"is no date with the {way.dates.replace('-', ' ')}" if way.dates else mistakes.CURES["date"])
     if way.dates:
         return day_value(dates[way.dates], f", {way.dates}")
-    raise Wrong(f"{' or '.join(dates.values())}? Write it so{SAY_DATES}")
+    raise Wrong(f"{' or '.join(dates.values())}{BOTH_DATES}{way.or_say('--dates day-first or --dates month-first')}")
 
 
 # -- times of day, minutes, desks and percent
@@ -342,16 +346,18 @@ def read_time(column: str, cell: Cell, text: str, way: Way) -> Value:
     if column == "until" and (hour == 0 if "half" in said else time == "00:00" and cell.kind != "text"):
         raise Wrong("midnight? Write 24:00 as text if the hall is open until then")
     if "day" in said:
-        return Value(time, "the time of the cell", "", said["day"])
+        return Value(time, "the time of the cell", "has more than 24 hours in its cell" * (said["day"] in NEXT_DAYS),
+                     said["day"])
     is_never = column == "until" and time == "00:00" and ":" in text
     return Value(time, "", "a hall that is open until 00:00 suits nobody; midnight is 24:00" * is_never)
 
 
 def read_whole(column: str, cell: Cell, text: str, way: Way) -> Value:
     """Minutes, desks, or percent of extra time."""
-    if "." not in text:
-        refuse_other_digits(cell)
-    if cell.kind == "percent":
+    refuse_other_digits(cell)
+    if cell.kind == "number" and re.search("[^0-9.,' -]", cell.shown):
+        text = bare(cell.shown)  # with its unit
+    elif cell.kind == "percent":
         text = f"{text}%"
     elif cell.kind == "time":
         text = clock_text(decimal.Decimal(text)).removeprefix("0")
@@ -359,7 +365,7 @@ def read_whole(column: str, cell: Cell, text: str, way: Way) -> Value:
         return Value("0", "none" if text else "empty is none")
     number = re.sub(r"^0+(?=[0-9])", "", text)
     done = "zeros in front taken away" if number != text else ""
-    number = re.sub(r"^([0-9]+)\.0+$", r"\1", number)
+    number = re.sub(r"^([0-9]+)\.(?!000$)0+$", r"\1", number)
     note = "is 1 percent; 100 percent is 100" if (column, number) == ("extra", "1") else ""
     if column == "extra" and (match := PERCENT.fullmatch(number)):
         number, done = match[1], reason(done, "percent")

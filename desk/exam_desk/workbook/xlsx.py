@@ -23,8 +23,10 @@ from exam_desk.workbook.cells import (MOST_COLUMN, MOST_ROW, MOST_SHEETS, OPEN_A
                                       Sheet, local, place_name, place_of)
 from exam_desk.workbook.numberformats import BUILT_IN, MACINTOSH, WINDOWS, number_cell, shown_text
 
+STRICT = "http://purl.oclc.org/ooxml/"  # begins the names of the elements of another form
 STYLES = "xl/styles.xml"  # the only place where openpyxl looks for them
 sheets_reader: Any = _reader
+PENDING = Cell("pending", "", "", True)  # a formula that nobody has computed
 Style = tuple[str, bool]  # a number format, and whether the font is struck out
 
 
@@ -36,6 +38,8 @@ def read_xlsx(archive: zipfile.ZipFile) -> Book:
     sheets_reader.iterparse = iterparse  # the parser in C: each part has been looked at for entities
     parts = Parts(archive)
     roots = {name: parts.look(name) for name in sorted(parts.names) if re.search(r"\.(xml|rels)$", name, re.I)}
+    if any(root.startswith(STRICT) for root in roots.values()):
+        raise Trouble("it is in the form Strict Open XML: save it as an Excel workbook (.xlsx)")
     try:
         return Reader(parts, roots).book()
     except (Trouble, MemoryError):
@@ -115,8 +119,7 @@ class Reader:
             if root != "worksheet":
                 notes.append(f"the sheet {named.name} is no table ({root}); it is not read")
             elif space != SHEET_MAIN_NS:
-                raise Trouble(f"openpyxl cannot read the sheet {named.name}: save it as an .xlsx of the usual form, "
-                              "not as Strict Open XML")
+                raise Trouble(f"openpyxl cannot read the sheet {named.name}: {OPEN_AND_SAVE}")
             else:
                 sheets.append(self.sheet(named, part))
         return Book("xlsx", sheets, notes)
@@ -132,8 +135,10 @@ class Reader:
         if parser.merged_cells is not None:
             sheet.merge((area.min_row, area.min_col, area.max_row, area.max_col)
                         for area in parser.merged_cells.mergeCell)
-        sheet.hidden_rows = [(int(row), int(row)) for row, look in parser.row_dimensions.items()
-                             if is_hidden(look, "ht")]
+        looks = parser.row_dimensions
+        if getattr(parser, "sheet_format", None) and parser.sheet_format.zeroHeight:  # of rows without one of their own
+            looks = {str(row): {"ht": "0", **looks.get(str(row), {})} for row in sheet.rows}
+        sheet.hidden_rows = [(int(row), int(row)) for row, look in looks.items() if is_hidden(look, "ht")]
         sheet.hidden_columns = [(int(look["min"]), int(look["max"])) for look in parser.column_dimensions.values()
                                 if is_hidden(look, "width")]
         sheet.comments = [place_of(ref.partition(":")[0]) for ref in self.comments(part)]
@@ -148,11 +153,14 @@ class Reader:
             element.set("t", "n")  # the parser would make a tree of objects of it
         try:
             found = parse(element)
-        except Trouble as trouble:
+            formula = element.find(sheets_reader.FORMULA_TAG) is not None
+            is_pending = formula and element.find(sheets_reader.VALUE_TAG) is None
+            cell = PENDING if is_pending else self.cell(found, text or found["value"], formula)
+        except (Trouble, ValueError, LookupError, ArithmeticError) as fault:
             place = place_name(sheet, parser.row_counter, parser.col_counter)
-            raise Trouble(f"{place} {trouble.sentence}: {OPEN_AND_SAVE}") from trouble
+            why = fault.sentence if isinstance(fault, Trouble) else "is broken"
+            raise Trouble(f"{place} {why}: {OPEN_AND_SAVE}") from fault
         row, column = found["row"], found["column"]
-        cell = self.cell(found, text or found["value"], element.find(sheets_reader.FORMULA_TAG) is not None)
         if cell is None:
             return
         if not (0 < row <= MOST_ROW and 0 < column <= MOST_COLUMN):
@@ -165,7 +173,7 @@ class Reader:
     def cell(self, found: dict[str, Any], value: Any, formula: bool) -> Cell | None:
         kind = found["data_type"]
         if value is None or value == "":
-            return Cell("pending", "", "", True) if formula and kind not in ("s", "str") else None
+            return PENDING if formula and kind not in ("s", "str") else None
         form, struck = self.style(found["style_id"])
         if kind == "n" and not isinstance(value, SharedText):
             made = number_cell(value, form, self.epoch)
@@ -182,11 +190,13 @@ class Reader:
         elif isinstance(value, datetime.time):
             made = Cell("time", str(value.hour * 3600 + value.minute * 60 + value.second), "")
         else:
-            raise Trouble(f"openpyxl reads a {type(value).__name__} in it, which is not known here: {OPEN_AND_SAVE}")
+            raise Trouble(f"is read as a {type(value).__name__}, which is not known here")
         return made and made._replace(formula=formula, struck=struck or getattr(value, "struck", False))
 
     def style(self, number: int) -> Style:
         if number not in self.styles:
+            if number < 0:  # python would count from the end
+                raise Trouble("has a style that is not there")
             style = self.reader.wb._cell_styles[number]
             cell = StyledCell(self.reader.wb.create_sheet(), style_array=style)
             self.styles[number] = cell.number_format, bool(cell.font and cell.font.strike)

@@ -1,6 +1,6 @@
 """The corpus of workbooks: what each is, what must come out of it, and whether a command does that.
 
-`cases`, `harder` and `further` write workbooks letter by letter; `made/` has those that LibreOffice wrote, with what must come out
+`cases`, `harder`, `further` and `odd` write workbooks letter by letter; `made/` has those that LibreOffice wrote, with what must come out
 in made/expected.json. Of a case that ends with status 0 and other files than it must, or with a change that is not told,
 the verdict is that it is silently wrong.
 """
@@ -23,6 +23,7 @@ from typing import Any, NamedTuple
 import cases
 import further
 import harder
+import odd
 
 HERE = pathlib.Path(__file__).resolve().parent
 DESK = HERE.parent.parent
@@ -62,7 +63,7 @@ class Done(NamedTuple):
 def all_cases() -> list[Case]:
     """The cases of these modules and of the folder, by name."""
     found = [Case(case["name"], f"{case['name']}.{case['suffix']}", case["data"], case["expected"])
-             for case in [*cases.CASES, *harder.CASES, *further.CASES]]
+             for case in [*cases.CASES, *harder.CASES, *further.CASES, *odd.CASES]]
     expected = json.loads((HERE / "made" / "expected.json").read_text("utf-8"))
     found += [Case(f"made-{file.replace('.', '-')}", file, (HERE / "made" / file).read_bytes(), what)
               for file, what in expected.items()]

@@ -185,9 +185,10 @@ case("other-names", xlsx(sheet("Pr\u00fcfungen", ["Pr\u00fcfung", "Bezeichnung",
                          sheet("R\u00e4ume", ["Raum", "Title", "Ausstattung"], ["A", "Aula", "step-free und screen"]),
                          sheet("Sch\u00fcler", ["Nachname", "Vorname", "Nummer", "PIN"], ["Lin", "Ada", 1, "CODE0001"])),
      files={"papers": ["MA-1,Mathe,S1,90,-"], "halls": ["A,Aula,step-free+screen"], "candidates": [ADA_LINE]},
-     told=[["Pr\u00fcfungen!A1", "paper"], ["R\u00e4ume!C2", "step-free+screen"], ["Sch\u00fcler!B1", "name"]])
+     told=[["Pr\u00fcfungen!1", "paper, title, session, minutes, requires", "'Dauer (min)'"], ["R\u00e4ume!C2", "step-free+screen"],
+           ["Sch\u00fcler!1", "name", "'Vorname' with 'Nachname'"]])
 case("headers-in-lines", xlsx(sheet("x", ["Candidate\nNo.", " NAME\u00a0", "Access  Code:"], ADA)), files={"candidates": [ADA_LINE]},
-     told=[["x!A1", "number"]])
+     told=[["x!1", "columns number, code are read from 'candidate\\nno.', 'access  code:'"]])
 case("right-to-left", xlsx(candidates(["\u200e0000001", "\u202b\u05d0\u05d3\u05d4 \u05dc\u05d9\u05df\u202c", "CODE0001"], ["0000002", "\u0645\u06cc\u200c\u062e\u0648\u0627\u0647\u0645", "CODE0002"])),
      files={"candidates": ["0000001,\u05d0\u05d3\u05d4 \u05dc\u05d9\u05df,CODE0001", "0000002,\u0645\u06cc\u200c\u062e\u0648\u0627\u0647\u0645,CODE0002"]},
      told=[["Candidates!A2", "invisible"], ["Candidates!B2", "invisible"], ["Candidates!B3", "joiner"]])

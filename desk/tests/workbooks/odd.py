@@ -1,0 +1,119 @@
+"""Workbooks with odd cells, headers and rows: further cases of the form that `cases` has."""
+import io
+import zipfile
+
+from cases import ADA, ADA_LINE, ARRANGEMENTS, BO, BO_LINE, CANDIDATES, ENTRIES, HALLS, OPENINGS, PAPERS, SESSIONS, candidates, sheet
+from rawbook import MAIN, TIME, ods, ods_row, xlsx, zipped
+
+CASES = []
+TWO_PAPERS = sheet("Papers", PAPERS, ["MA-1", "Maths", "S1", 90, "-"], ["FR", "French", "S1", 60, "-"])
+
+
+def case(name, data, status=0, files=None, suffix="xlsx", **expected):
+    CASES.append({"name": f"odd-{name}", "data": data, "suffix": suffix,
+                  "expected": {"status": status, "files": files or {}, **expected}})
+
+
+def changed(data, part, before, after):
+    """A workbook in one part of which these letters are others."""
+    with zipfile.ZipFile(io.BytesIO(data)) as archive:
+        parts = {name: archive.read(name).decode() for name in archive.namelist()}
+    assert before in parts[part]
+    return zipped(parts | {part: parts[part].replace(before, after)})
+
+
+# headers
+case("name-beside-vorname", xlsx(sheet("Candidates", ["Nummer", "Name", "Vorname", "Code"], ["0000001", "Lin", "Ada", "CODE0001"])),
+     files={"candidates": [ADA_LINE]}, told=[["Candidates!1", "name are read from 'Nummer', 'Vorname' with 'Name'"]])
+case("name-beside-first-name", xlsx(sheet("Candidates", ["number", "name", "first name", "code"], ["0000001", "Lin", "Ada", "CODE0001"])),
+     1, only=True, mistakes=[["Candidates!C1", "columns B, C could all be name"]])
+case("name-three-times", xlsx(sheet("Candidates", ["number", "Name", "Vorname", "Nachname", "code"], ["0000001", "Ada Lin", "Ada", "Lin", "CODE0001"])),
+     1, only=True, mistakes=[["Candidates!C1", "columns B, C, D could all be name"]])
+case("list-of-withdrawals", xlsx(sheet("Withdrawals", ENTRIES, ["0000001", "MA-1"])), 1, only=True,
+     mistakes=[["Withdrawals", "office withdraw --list"]])
+case("paper-without-header", xlsx(TWO_PAPERS, sheet("MA-1", ["0000001", "Ada Lin"], ["0000002", "Bo Berg"])), 1, only=True,
+     mistakes=[["'MA-1'!1", "the name of a paper", "column number"]])
+
+# numbers with units, and numbers that are shown rounded
+case("minutes-with-units", xlsx(sheet("Papers", PAPERS, ["MA-1", "Maths", "S1", ("n", "2", '0" h"'), "-"], ["FR", "French", "S1", ("n", "90", '0" min"'), "-"])),
+     files={"papers": ["MA-1,Maths,S1,120,-", "FR,French,S1,90,-"]}, told=[["Papers!D2", "2 h", "120"], ["Papers!D3", "90 min", "90"]])
+case("other-units", xlsx(sheet("Arrangements", ARRANGEMENTS, ["0000001", "-", ("n", "50", '0" min"')]),
+                         sheet("Openings", OPENINGS, ["S1", "A", ("n", "3", '0" rows"'), "12:00", "no"])), 1, only=True,
+     mistakes=[["Arrangements!C2", "50 min"], ["Openings!C2", "3 rows"]])
+case("rounded", xlsx(candidates([("n", "16.6", "0"), "Ada Lin", "CODE0001"]),
+                     sheet("Papers", PAPERS, ["MA-1", "Maths", "S1", ("n", "1.5", "0"), "-"], ["FR", "French", "S1", ("n", "1.5", "0.00"), "-"])),
+     1, only=True, mistakes=[["Candidates!A2", "number '17': is the number 16.6, but shown as 17"],
+                             ["Papers!D2", "is the number 1.5, but shown as 2"], ["Papers!D3", "a whole number"]])
+case("stored-nonsense", xlsx(candidates([("raw", '<c r="{ref}"><v>1_7</v></c>'), "Ada Lin", "CODE0001"])), 1,
+     stderr=["Candidates!A2 is broken"])
+case("stored-too-much", xlsx(candidates([("raw", '<c r="{ref}"><v>1e99999999999</v></c>'), "Ada Lin", "CODE0001"])), 1,
+     stderr=["Candidates!A2 is broken"])
+case("formula-of-text-without-result", xlsx(candidates(["0000001", "Ada Lin", ("raw", '<c r="{ref}" t="str"><f>A1</f></c>')],
+     ["0000002", "Bo Berg", ("raw", '<c r="{ref}" t="str"><f>A1</f><v></v></c>')])), 1, only=True, mistakes=[["Candidates!C2", "formula"]])
+
+# times and dates
+case("more-than-a-day", xlsx(sheet("Openings", OPENINGS, ["S1", "A", 10, ("n", "1.375", TIME), "no"])), files={"openings": ["S1,A,10,09:00,no"]},
+     told=[["Openings!D2", "until 09:00 has more than 24 hours in its cell"]])
+case("another-calendar", xlsx(sheet("Sessions", SESSIONS, ["S1", ("n", "46539", "[$-107041E]yyyy-mm-dd"), "09:00"])),
+     files={"sessions": ["S1,2027-06-01,09:00"]}, told=[["Sessions!B2", "2027-06-01 (a true date) became", "Tuesday"]])
+case("leap-day", xlsx(sheet("Sessions", SESSIONS, ["S1", "29/02/2028", "09:00"])), files={"sessions": ["S1,2028-02-29,09:00"]},
+     told=[["Sessions!B2", "Tuesday", "as there is no month 29"]])
+
+# rows
+case("whole-rows-of-totals", xlsx(sheet("Halls", HALLS, ["TOTAL", "Total", "-"], ["SUM", "Sum", None])),
+     files={"halls": ["TOTAL,Total,-", "SUM,Sum,-"]}, told=[["Halls!2", "is read, though it looks like a total"], ["Halls!3", "is read"]])
+case("whole-row-with-a-number", xlsx(sheet("Openings", OPENINGS, ["TOTAL", "A", 10, "12:00", "no"])), 1, only=True,
+     mistakes=[["Openings!2", "total?"]])
+case("struck-cross", xlsx(TWO_PAPERS, sheet("Entries", ["number", "MA-1"], ["0000001", ("strike", "x")])), 1, only=True,
+     mistakes=[["Entries!B2", "struck out"]])
+case("rows-without-number", xlsx(candidates([None, "Ada Lin", "CODE0001"], [None, "Bo Berg", "CODE0002"], BO)), 1, only=True,
+     mistakes=[["Candidates!A2", "missing"], ["Candidates!A3", "missing"]])
+
+# papers, crosses, thousands, headers that lack something
+case("paper-with-papers", xlsx(TWO_PAPERS, sheet("MA-1", ENTRIES, ["0000001", "FR"])), 1, only=True,
+     mistakes=[["'MA-1'!B1", "names papers"]])
+case("paper-with-codes", xlsx(TWO_PAPERS, sheet("MA-1", CANDIDATES, ADA)), told=[["'MA-1'!C1", "not read"]],
+     files={"papers": ["MA-1,Maths,S1,90,-", "FR,French,S1,60,-"], "entries": ["0000001,MA-1"]})
+case("crosses-without-result", xlsx(TWO_PAPERS, sheet("Entries", ["number", "MA-1", "FR"], ["0000001",
+     ("raw", '<c r="{ref}" t="str"><f>"x"</f></c>'), ("raw", '<c r="{ref}"><f>"x"</f></c>')])), 1, only=True,
+     mistakes=[["Entries!B2", "no spreadsheet has computed"], ["Entries!C2", "no spreadsheet has computed"]])
+case("thousands", xlsx(candidates(["1.000", "Ada Lin", "CODE0001"]), sheet("Openings", OPENINGS, ["S1", "A", "1.000", "12:00", "no"],
+     ["S1", "B", "40.0", "12:00", "no"])), 1, only=True, mistakes=[["Candidates!A2", "0001000"], ["Openings!C2", "1.000"]],
+     told=[["Openings!C3", "40"]])
+case("header-lacks", xlsx(sheet("Papers", ["Plan"], ["Paper", "Title", "Duration"], ["MA-1", "Maths", 90])), 1, only=True,
+     mistakes=[["Papers!2", "lacks", "session, requires"]])
+case("candidates-by-header", b"Candidate number,Full name,code\n0000001,Ada Lin,CODE0001\n", files={"candidates": [ADA_LINE]}, suffix="csv")
+case("always-and-column", xlsx(sheet("Openings", OPENINGS, ["S1", "A", 10, "12:00", "yes"])), files={"openings": ["S1,A,10,12:00,yes"]},
+     beside={"columns.toml": '\ufeff[openings]\nreserved = { always = "no" }\n'}, args=["--columns", "{here}/columns.toml"],
+     told=[["Openings!E1", "is not always no"]])
+case("columns-of-another-encoding", xlsx(candidates(ADA)), 1, beside={"columns.toml": "\ufeff"}, stderr=["no UTF-8"],
+     args=["--columns", "{here}/odd-columns-of-another-encoding.xlsx"])
+case("utf-16-without-mark", "number,name,code\n0000001,Ada Lin,CODE0001\n".encode("utf-16-le"), files={"candidates": [ADA_LINE]}, suffix="csv",
+     args=["--encoding", "utf-16-le"])
+
+# forms of files, and what is hidden
+case("zero-height", changed(xlsx(candidates(ADA, BO)), "xl/worksheets/sheet1.xml", "<sheetData>",
+     '<sheetFormatPr defaultRowHeight="15" zeroHeight="1"/><sheetData>'), 1, only=True, mistakes=[["Candidates!2", "hidden"], ["Candidates!3", "hidden"]])
+case("strict", changed(xlsx(candidates(ADA)), "xl/workbook.xml", MAIN, "http://purl.oclc.org/ooxml/spreadsheetml/main"), 1,
+     stderr=["Strict Open XML"])
+case("ods-password", zipped({"mimetype": "x", "encrypted-package": "x"}), 1, suffix="ods", stderr=["it has a password"])
+NUMBERED = '<table:table table:name="Openings">' + ods_row(*OPENINGS)
+case("ods-days", ods(NUMBERED + ods_row("S1", "A", "10", '<table:table-cell office:value-type="time" office:time-value="P1DT0H"><text:p>00:00</text:p></table:table-cell>',
+     "no") + "</table:table>"), files={"openings": ["S1,A,10,24:00,no"]}, suffix="ods", told=[["Openings!D2", "24:00"]])
+case("ods-formulas", ods(NUMBERED + ods_row("S1", '<table:table-cell table:formula="of:=1" office:value-type="string"/>',
+     '<table:table-cell table:formula="of:=1" office:value-type="float"/>', "12:00", "no") + "</table:table>"), 1, suffix="ods", only=True,
+     mistakes=[["Openings!B2", "no spreadsheet has computed"], ["Openings!C2", "no spreadsheet has computed"]])
+HIDDEN_STYLE = '<style:style style:name="ro1" style:family="table-row"><style:table-row-properties style:row-height="0cm"/></style:style>'
+case("ods-hidden", ods('<table:table table:name="Candidates"><table:table-column-group table:display="false"><table:table-column '
+     'table:number-columns-repeated="1"/></table:table-column-group>' + ods_row(*CANDIDATES) + ods_row(*ADA).replace("<table:table-row",
+     '<table:table-row table:style-name="ro1"') + "</table:table>", HIDDEN_STYLE), 1, suffix="ods", only=True,
+     mistakes=[["Candidates!2", "hidden"]], told=[["Candidates!A1", "column A is hidden"]])
+case("ods-comment-in-text", ods('<table:table table:name="Candidates">' + ods_row(*CANDIDATES) + ods_row(ADA[0],
+     '<table:table-cell office:value-type="string"><text:p>Ada Lin<office:annotation><text:p>left</text:p></office:annotation></text:p></table:table-cell>',
+     ADA[2]) + "</table:table>"), files={"candidates": [ADA_LINE]}, suffix="ods", told=[["Candidates!B2", "comment"]])
+
+# what is not named, and what is not read
+case("merged-header", xlsx(candidates(["0000001", "Lin", "CODE0001"], merge=["B1:C1"])), 1, only=True, mistakes=[["Candidates!B1", "merged over columns"]])
+case("sheet-by-header", xlsx(sheet("Plan", CANDIDATES, ADA)), files={"candidates": [ADA_LINE]}, told=[["Plan", "is read as candidates, by its header"]])
+case("crosses-beside-candidates", xlsx(sheet("Candidates", [*CANDIDATES, "MA-1", "step-free", "Consent"], [*ADA, "x", None, "x"], [*BO, None, "x", None])),
+     1, only=True, mistakes=[["Candidates!D1", "a sheet Entries"], ["Candidates!E1", "a sheet Arrangements"]], told=[["Candidates!F1", "not read"]])
