@@ -37,7 +37,7 @@ def make(here: Desk) -> Flask:
     app.extensions["guard"] = guard.Guard(app, here.address, here.prefix)
     wording.prepare(app)
     app.jinja_env.globals.update(
-        EFFECTS=proposals.KINDS, FEATURES=FEATURES, RUNNING=session.RUNNING, SHEETS=session.SHEETS, places=PLACES,
+        EFFECTS=proposals.KINDS, FEATURES=FEATURES, MOST_CLASHES=proposals.MOST_CLASHES, RUNNING=session.RUNNING, SHEETS=session.SHEETS, places=PLACES,
         appeals=appeals, copy_key=proposals.copy_key, last_day=appeals.to_decide, tally=people_and_sittings)
     for screen in SCREENS:
         app.register_blueprint(screen)
@@ -61,7 +61,8 @@ def everywhere() -> dict[str, Any]:
     """What every page has besides its own."""
     here, visit = desk(), g.get("visit") or guard.Visit("", mark="")  # a stranger's, where there is none
     said, visit.said = visit.said, []
-    left = visit.proposals.get(request.args.get("again", ""))
+    if (left := visit.proposals.get(request.args.get("again", ""))) and not left.is_done:
+        said.append(("", text("Nothing was done. The form is as you left it.")))
     asked = g.get("asked") or (left.asked if left else forms.Asked())
     return {"mark": visit.mark, "initials": visit.initials, "said": said,
             "today": here.office.today().isoformat(), "pretended": here.pretended,

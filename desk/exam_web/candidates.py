@@ -7,6 +7,7 @@ from collections.abc import Callable, Collection
 from functools import partial
 
 from flask import Blueprint, abort, redirect, render_template, request, url_for
+from markupsafe import Markup
 from werkzeug.datastructures import MultiDict
 from werkzeug.wrappers import Response
 
@@ -20,7 +21,7 @@ from exam_web.desk import View, candidate_row, desk, once, sums, view
 from exam_web.forms import Form, Page, Wrong, checked, lead, short, styled
 from exam_web.proposals import APPEALS, BY_DAY, PLANS, TROUBLE, Plan, command, features, import_step
 from exam_web.session import Session
-from exam_web.wording import said, text
+from exam_web.wording import said, shown, text
 
 pages = Blueprint("candidates", __name__)
 appeal_pages = Blueprint("appeals", __name__)
@@ -210,10 +211,26 @@ def rename(form: Form) -> Plan:
     return Plan(values, [step], page, made_for=view().name)
 
 
+def with_code(values: Values) -> Step:
+    """The import of a candidate with an access code that nobody has."""
+    code = coding.new_code(set(facts.access_codes(view().reading.rows).values()))
+    return import_step("candidates", {**values, "code": code})
+
+
 def new_code(form: Form) -> Plan:
     values, page = candidate(form)
-    code = coding.new_code(set(facts.access_codes(view().reading.rows).values()))
-    return Plan(values, [import_step("candidates", {**values, "code": code})], page)
+    return Plan(values, [with_code(values)], page)
+
+
+def new_candidate(form: Form) -> Plan:
+    """Somebody whom the office does not know yet."""
+    form_page: Page = ("candidates.find", {})
+    values = checked(form_page, form, number="number", name="name")
+    page: Page = ("candidates.page", {"number": int(values["number"])})
+    if there := view().row("SELECT name FROM candidate WHERE number = ?", [page[1]["number"]]):
+        link = Markup('<a href="{}">{}</a>').format(url_for(page[0], **page[1]), shown(there["name"]))
+        raise Wrong(form_page, number=text("the office has this number: {name}", name=link))
+    return Plan(values, [with_code(values)], page, form_page=form_page, made_for=view().name)
 
 
 def lodge(form: Form) -> Plan:
@@ -226,7 +243,7 @@ def lodge(form: Form) -> Plan:
     wanted = [values["needs"]] if kind == "arrangement" else []
     wanted.append(checked(page, form, **{field: lodging.KINDS[kind][-1]})[field])
     fields = {**dict.fromkeys((4, 12, 13, 20, 21), "session"), **dict.fromkeys((5, 7, 8, 11, 18, 19), field)}
-    return Plan({**values, "kind": kind, "wanted": " ".join(wanted)}, [], page, fields,
+    return Plan({**values, "kind": kind, "wanted": wanted[-1]}, [], page, fields,
                 lodge=(values["number"], values["session"], kind, *wanted, short(page, "reason")))
 
 
@@ -271,6 +288,6 @@ PLANS.update({
     "reinstate": partial(of_one, "paper", OF_ENTRY, partial(command, "reinstate", ["number", "paper"])),
     "enter": partial(of_one, "paper", OF_ENTRY, partial(import_step, "entries")),
     "arrangement": partial(of_one, "extra", [20], partial(import_step, "arrangements")),
-    "code": new_code, "name": rename, "lodge": lodge, "decide": decide, "second": second_plan,
+    "code": new_code, "candidate": new_candidate, "name": rename, "lodge": lodge, "decide": decide, "second": second_plan,
     "second-back": second_back,
 })

@@ -2,7 +2,8 @@
 import math
 import re
 import sqlite3
-from collections.abc import Callable, Iterator, Sequence
+from collections import Counter
+from collections.abc import Callable, Iterable, Iterator, Sequence
 from typing import NamedTuple
 
 from flask import Blueprint, abort, g, render_template, request
@@ -18,6 +19,7 @@ from exam_desk.reasons import Shortage
 from exam_desk.sheets import papers, slips
 from exam_desk.trouble import Trouble
 from exam_desk.words import clock
+from exam_desk.words import features as features_of
 from exam_web.desk import View, desk, once, sums, two_papers, view
 from exam_web.forms import Form, Page, Wrong, attached, checked, lead, styled, whole
 from exam_web.proposals import PLANS, Plan, command, features, import_step
@@ -25,14 +27,13 @@ from exam_web.wording import many, said, text
 
 pages = Blueprint("session", __name__)
 MOST_PEOPLE = 100  # that a page lists for one reason
-MOST_EXPLAINED, MOST_REMEDIES = 30, 4
+MOST_EXPLAINED, MOST_REMEDIES = 30, 6
 WIDTH, HEIGHT, GAP = 78, 38, 5  # of a desk in a picture, and from one to the next
 RUNNING = dict(zip(notebook.RUNNING, ("along the rows", "along and back", "down the columns", "down and up")))
 MOST_SUPPOSED = 14  # desks in a row, where nobody said how many
 SEATS = "session,date,start,finish,number,name,paper,paper title,hall,desk,extra,needs".split(",")
 MIDNIGHT = 24 * 60
 Values = dict[str, str]
-USUAL = "SELECT desks, until FROM opening WHERE hall = ? GROUP BY desks, until ORDER BY count(*) DESC LIMIT 1"
 
 
 class Sheet(NamedTuple):
@@ -53,11 +54,25 @@ SHEETS = {
 
 
 class Remedy(NamedTuple):
-    """An opening that would suit some of those without a desk, and how the hall is open now: a guess that a button
-    rehearses, since only the program says what it comes to."""
-    suits: int
+    """An opening that could seat so many, and how the hall is open now: a guess that a button rehearses, since only the
+    program says what it comes to."""
+    seats: int
     opening: Opening
-    now: Opening | None = None
+    now: Opening | None
+
+    def asks(self) -> int:
+        """For how much: more desks, or another hall, count twice."""
+        then, now = self.opening, self.now or self.opening._replace(desks=0)
+        return 2 * (then.desks != now.desks) + (then.until != now.until) + (then.reserved != now.reserved)
+
+
+class Short(NamedTuple):
+    """Why a session is short: the program's own account; for some of those without a desk their needs, and the halls by
+    reason; what could help; and the needs that no hall of the office has together, each with how many have them."""
+    sheet: Shortage
+    reasons: list[tuple[Member, list[str], dict[str, list[str]]]]
+    remedies: list[Remedy]
+    lacking: list[tuple[tuple[str, ...], int]]
 
 
 class Session:
@@ -116,12 +131,14 @@ def page(code: str) -> str:
 
 
 @once
-def shortage(view: View, code: str) -> tuple[Shortage, list[tuple[Member, dict[str, list[str]]]], list[Remedy]]:
-    """Why a session is short: the program's own account; for some of those without a desk the halls by reason; and what
-    could help."""
+def shortage(view: View, code: str) -> Short:
     why, sheet = reasons.compared(view.reading, code)
-    return (sheet, [(member, by_reason(why.of(member))) for member in why.unseated()[:MOST_EXPLAINED]],
-            sorted(remedies(view, why), key=lambda each: -each.suits)[:MOST_REMEDIES])
+    found = [(member, why.needs(member), by_reason(why.of(member))) for member in why.unseated()[:MOST_EXPLAINED]]
+    halls = [features_of(mask) for mask, in view.rows("SELECT features FROM hall")]
+    needs = Counter(tuple(why.needs(member)) for member in why.unseated())
+    return Short(sheet, found, best(remedies(view, why, sheet)),
+                 [(each, count) for each, count in needs.items()
+                  if each and not any(set(each).issubset(there) for there in halls)])
 
 
 def by_reason(halls: list[tuple[str, str]]) -> dict[str, list[str]]:
@@ -132,23 +149,29 @@ def by_reason(halls: list[tuple[str, str]]) -> dict[str, list[str]]:
     return found
 
 
-def remedies(view: View, why: reasons.Reasons) -> Iterator[Remedy]:
-    """Halls that are open in another way, or are not open, and suit some of those without a desk."""
-    opened = {each.hall: each for each in why.openings}
-    for code, title, mask in view.rows("SELECT code, title, features FROM hall ORDER BY code"):
-        widest = Opening(code, title, mask, 1, MIDNIGHT, False)  # open as long as can be, for everybody
-        suited = [member for member in why.unseated() if not why.obstacles(member, widest)]
-        last = max((of_day(member.sitting.finish) for member in suited), default=0)
-        if suited and code in opened:
-            now = opened[code]
-            longer = now._replace(until=max(now.until, last))
-            reserved = now.reserved and all(not why.obstacles(member, longer) for member in suited)
-            desks = max(now.desks, len(suited) + len(why.taken[code]))
-            if (then := longer._replace(reserved=reserved, desks=desks)) != now:
-                yield Remedy(len(suited), then, now)
-        elif suited:  # open as it is in most sessions, and long enough
-            desks, until = view.row(USUAL, [code]) or (len(suited), last)
-            yield Remedy(len(suited), widest._replace(desks=desks, until=max(until, last)))
+def remedies(view: View, why: reasons.Reasons, sheet: Shortage) -> Iterator[Remedy]:
+    """Openings that suit some on the sheet. Each of these leaves a desk to somebody without one, or can, by others who
+    move on. None asks for more than it needs: with the desks that are free, and with as many as are short."""
+    opened, listed = {each.hall: each for each in why.openings}, set(sheet.candidates)
+    members = [member for member in why.members if member.number in listed]
+    most = dict(view.rows("SELECT hall, max(desks) FROM opening GROUP BY hall"))
+    for code, title, mask in view.rows("SELECT code, title, features FROM hall"):
+        now, taken = opened.get(code), len(why.taken[code])
+        base = now or Opening(code, title, mask, 0, 0, False)
+        free = base.desks - taken if now else most.get(code, sheet.unseated)
+        for reserved in {base.reserved, False}:
+            widest = base._replace(until=MIDNIGHT, reserved=reserved)
+            ends = sorted(of_day(member.sitting.finish) for member in members
+                          if member.sitting.hall != code and not why.obstacles(member, widest))[:sheet.unseated]
+            for seats in {len(ends[:free]), len(ends) if now else 0} - {0}:
+                yield Remedy(seats, base._replace(until=max(base.until, ends[seats - 1]), reserved=reserved,
+                                                  desks=max(base.desks, taken + seats)), now)
+
+
+def best(found: Iterable[Remedy]) -> list[Remedy]:
+    """The first of them, of each hall one for as many seats: those for most, and of these what asks for least."""
+    ordered = sorted(found, key=lambda each: (-each.seats, each.asks(), each.opening.hall))
+    return [*{(each.seats, each.opening.hall): each for each in reversed(ordered)}.values()][:-MOST_REMEDIES - 1:-1]
 
 
 @pages.get("/sessions/<code>/halls/<hall>", endpoint="hall")

@@ -12,7 +12,7 @@ import pathlib
 from flask import Flask, current_app, request
 from markupsafe import Markup, escape
 
-from exam_desk.words import clock, feature_text, plain
+from exam_desk.words import clock, features, plain
 
 MOST_LETTERS = 10  # of a name at a desk
 RIGHT_TO_LEFT = ("ar", "fa", "he", "ur")
@@ -90,5 +90,5 @@ def prepare(app: Flask) -> None:
     app.jinja_env.finalize = lambda value: plain(value) if type(value) is str else value
     app.jinja_env.globals.update(_=text, many=many, language=language)
     app.jinja_env.filters.update(shown=shown, num=number, day=day, year_day=year_day, away=away, clock=clock,
-                                 features=feature_text, short=short, until=days_until,
+                                 features=features, short=short, until=days_until,
                                  seven=lambda value: f"{int(value):07}")

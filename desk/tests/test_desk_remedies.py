@@ -1,0 +1,72 @@
+"""What could help a session that is short of desks, at the desk in a browser: over small offices whose best remedies are
+known. Each is what it says, as its rehearsal shows."""
+import html
+import re
+import unittest
+
+from desk_client import SmallSchool, effects
+
+FORM = re.compile(r"<li><form[^>]*>(.*?)</form></li>", re.S)
+VALUE = re.compile(r'<input type="hidden" name="(session|hall|desks|until|reserved)" value="([^"]*)"')
+
+
+class TestWhatCouldHelp(SmallSchool):
+    def remedies(self):
+        """What the page of the session offers; of each what it says, and what its rehearsal comes to."""
+        found = []
+        for form in FORM.findall(self.browser.get("/sessions/S1").partition('class="remedies"')[2]):
+            words = html.unescape(re.sub(r"\s+", " ", re.sub("<[^>]+>", "", form))).strip().removeprefix("Rehearse ")
+            page, _ = self.browser.post("/propose/open", "/sessions/S1", **dict(VALUE.findall(form)))
+            said, _, seats = words.partition(" could seat ")
+            gets = effects(self.browser.get(page)).get("gets", (0, 0))[0]
+            self.assertEqual(int(seats.split()[0]), gets, words)
+            found.append((said, seats))
+        return found
+
+    def test_a_hall_with_free_desks_closes_later(self):
+        """Who sits the long paper ends at 10:30. B has two free desks; C is closed."""
+        self.begin("A,Hall A,-\nB,Hall B,-\nC,Hall C,-\n", "S1,A,1,12:00,no\nS1,B,3,10:00,no\n",
+                   "0000001,LONG\n0000002,LONG\n0000003,SHORT\n")
+        self.assertEqual(self.remedies(), [
+            ("Have B until 10:30", "1 of the 1"), ("Have A with 2 desks, 1 more", "1 of the 1"),
+            ("Open C, Hall C, with 1 desk until 10:30", "1 of the 1")])
+        self.assertIn("2 candidates = 1 desk + 1 without a desk", self.browser.words("/sessions/S1"))
+
+    def test_others_move_on_to_it(self):
+        """Only A suits who needs step-free. Who sits there could sit in B, were that open for longer."""
+        self.begin("A,Hall A,step-free\nB,Hall B,-\n", "S1,A,1,12:00,no\nS1,B,1,10:00,no\n",
+                   "0000001,LONG\n0000002,SHORT\n", "0000002,step-free,0\n")
+        self.assertEqual(self.remedies(), [("Have B until 10:30", "1 of the 1"),
+                                           ("Have A with 2 desks, 1 more", "1 of the 1")])
+
+    def test_no_more_than_is_needed(self):
+        """Three are short of a desk. Who sits the long paper can have A once all others are elsewhere, so 10:00 is late
+        enough. GYM and K are open in another session, with 120 desks and with two."""
+        self.begin("A,Hall A,-\nGYM,Gym,-\nK,Hall K,-\n",
+                   "S1,A,1,12:00,no\nS2,GYM,120,18:00,no\nS2,K,2,18:00,no\n",
+                   "0000001,SHORT\n0000002,SHORT\n0000003,SHORT\n0000004,LONG\n")
+        self.assertEqual(self.remedies(), [
+            ("Have A with 4 desks, 3 more", "3 of the 3"), ("Open GYM, Gym, with 3 desks until 10:00", "3 of the 3"),
+            ("Open K, Hall K, with 2 desks until 10:00", "2 of the 3")])
+
+    def test_a_hall_that_is_reserved(self):
+        self.begin("A,Hall A,-\nR,Hall R,-\n", "S1,A,1,12:00,no\nS1,R,2,12:00,yes\n",
+                   "".join(f"000000{place},SHORT\n" for place in range(1, 5)))
+        self.assertEqual(self.remedies(), [
+            ("Have A with 4 desks, 3 more", "3 of the 3"),
+            ("Have R no longer reserved, with 3 desks, 1 more", "3 of the 3"),
+            ("Have R no longer reserved", "2 of the 3")])
+
+    def test_needs_that_no_hall_has_together(self):
+        """The paper wants a computer, and one who sits it needs quiet; Q has the one and P the other."""
+        self.begin("P,Hall P,computer\nQ,Hall Q,quiet\n", "S1,P,2,12:00,no\nS1,Q,2,12:00,no\n",
+                   "0000001,CODING\n0000002,CODING\n0000003,CODING\n", "0000002,quiet,25\n")
+        self.assertEqual(self.remedies(), [])
+        words = self.browser.words("/sessions/S1")
+        self.assertIn("No hall of the office has all that 1 of these candidates needs: computer, quiet .", words)
+        self.assertIn("computer, quiet, 25 % extra time", words)
+        self.assertNotIn("What could help", words)
+
+
+if __name__ == "__main__":
+    unittest.main()
