@@ -11,8 +11,9 @@ from markupsafe import Markup
 from werkzeug.datastructures import MultiDict
 from werkzeug.wrappers import Response
 
-from exam_desk import coding, facts, lodging, names, notebook, overlaps, second_sitting
+from exam_desk import coding, facts, lists, lodging, notebook, overlaps, second_sitting
 from exam_desk.changing import Step
+from exam_desk.reading import Person
 from exam_desk.sheets import slips as slip_pages
 from exam_desk.sheets import texts
 from exam_desk.trouble import Trouble
@@ -37,25 +38,17 @@ def find() -> str | Response:
     asked = request.args.get("q", "").strip()[:MOST_ASKED]
     found = search(asked) if asked else []
     if len(found) == 1:
-        return redirect(url_for("candidates.page", number=found[0][0]))
+        return redirect(url_for("candidates.page", number=int(found[0].number)))
     return render_template("candidates.html", asked=asked, found=found[:MOST_FOUND], total=len(found),
-                           everybody=len(people(view())))
+                           everybody=view().count("SELECT count(*) FROM candidate"))
 
 
-def search(asked: str) -> list[tuple[int, str]]:
-    """Whose number ends so, or whose name has all these words: accents and capitals do not matter."""
-    if asked.isascii() and asked.isdigit():
-        end = asked.lstrip("0") or "0"
-        return [(number, name) for number, name, _ in people(view()) if str(number).endswith(end)]
-    words = names.letters(asked).split()
-    return [(number, name) for number, name, letters in people(view()) if names.has_words(letters, words)]
-
-
-@once
-def people(found: View) -> list[tuple[int, str, str]]:
-    """All candidates in the order of their names, each with the letters that the search compares."""
-    rows = [(number, name, names.letters(name)) for number, name in found.rows("SELECT number, name FROM candidate")]
-    return sorted(rows, key=lambda each: names.name_order(each[1], f"{each[0]:07}"))
+def search(asked: str) -> list[Person]:
+    """Whose number ends so, or whose name has all these words: accents and capitals do not matter; by name."""
+    if not (asked.isascii() and asked.isdigit()):
+        return texts.find(view().reading.rows, asked)
+    end = asked.lstrip("0") or "0"
+    return lists.by_name(Person(*row) for row in view().rows(f"{texts.CANDIDATES} WHERE number LIKE ?", [f"%{end}"]))
 
 
 @pages.get("/candidates/<int:number>")
@@ -250,8 +243,8 @@ def lodge(form: Form) -> Plan:
 def decide(form: Form) -> Plan:
     values, _ = candidate(form)
     values |= {"ref": form.get("ref", ""), "outcome": form.get("outcome", "")}
-    found = view().row("SELECT number, ref FROM appeal WHERE number = ? AND ref = ?", [values["number"], values["ref"]])
-    page: Page = ("appeals.one", dict(found or abort(404)))
+    found = appeal_row(int(values["number"]), values["ref"])
+    page: Page = ("appeals.one", {"number": found["number"], "ref": found["ref"]})
     if values["outcome"] not in ("granted", "standing", "refused"):
         raise Wrong(page, outcome=text("choose one"))
     step = command("decide", ["number", "ref", "outcome", "reason"], {**values, "reason": short(page, "reason")})
@@ -288,6 +281,6 @@ PLANS.update({
     "reinstate": partial(of_one, "paper", OF_ENTRY, partial(command, "reinstate", ["number", "paper"])),
     "enter": partial(of_one, "paper", OF_ENTRY, partial(import_step, "entries")),
     "arrangement": partial(of_one, "extra", [20], partial(import_step, "arrangements")),
-    "code": new_code, "candidate": new_candidate, "name": rename, "lodge": lodge, "decide": decide, "second": second_plan,
-    "second-back": second_back,
+    "code": new_code, "candidate": new_candidate, "name": rename, "lodge": lodge, "decide": decide,
+    "second": second_plan, "second-back": second_back,
 })

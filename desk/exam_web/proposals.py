@@ -46,25 +46,7 @@ TROUBLE = 0  # among the numbers of refusals: what the desk refuses itself
 APPEALS = ("SELECT appeal.*, day, session.start AS start, name FROM appeal JOIN session ON session.code = session "
            "JOIN candidate ON candidate.number = appeal.number ")
 BY_DAY = "ORDER BY day, session.start, lodged, appeal.number"
-KINDS = {  # the gravest first: in words before the change, after it, and after it of one where that is another
-    "loses": ("would lose the desk", "lost the desk"),
-    "lacks": ("would join a session without a desk", "joined a session without a desk"),
-    "short": ("would be without a desk", "without a desk"),
-    "clashes": ("would have two papers at once anew", "have two papers at once anew", "has two papers at once anew"),
-    "twice": ("would be in two sessions at one time", "are in two sessions at one time",
-              "is in two sessions at one time"),
-    "halls": ("halls would have candidates of two sessions at one time",
-              "halls have candidates of two sessions at one time", "hall has candidates of two sessions at one time"),
-    "paper": ("would have another paper", "have another paper", "has another paper"),
-    "moves": ("would move to another hall", "moved to another hall"),
-    "time": ("would have another time", "have another time", "has another time"),
-    "name": ("would have another name", "have another name", "has another name"),
-    "codes": ("would have another access code", "have another access code", "has another access code"),
-    "gets": ("would get a desk", "got a desk"),
-    "leaves": ("would leave a session", "left a session"),
-    "joins": ("would join a session", "joined a session"),
-    "desk": ("would have another desk number only", "have another desk number only", "has another desk number only"),
-}
+KINDS = ["short", *consequences.KINDS, "codes"]  # the gravest first; their words are in templates/effects.html
 NUMBERS = attrgetter("members", "desks", "short", "clashes")  # of a session
 
 

@@ -2,9 +2,8 @@
 import math
 import re
 import sqlite3
-from collections import Counter
-from collections.abc import Callable, Iterable, Iterator, Sequence
-from typing import NamedTuple
+from collections.abc import Callable, Sequence
+from typing import Any, NamedTuple
 
 from flask import Blueprint, abort, g, render_template, request
 from werkzeug.wrappers import Response
@@ -13,13 +12,11 @@ from exam_desk import facts, files, lists, notebook, reasons
 from exam_desk.changing import Step
 from exam_desk.facts import Opening
 from exam_desk.notebook import Rows
-from exam_desk.overlaps import of_day
 from exam_desk.reading import Member
-from exam_desk.reasons import Shortage
 from exam_desk.sheets import papers, slips
 from exam_desk.trouble import Trouble
 from exam_desk.words import clock
-from exam_desk.words import features as features_of
+from exam_web import remedies
 from exam_web.desk import View, desk, once, sums, two_papers, view
 from exam_web.forms import Form, Page, Wrong, attached, checked, lead, styled, whole
 from exam_web.proposals import PLANS, Plan, command, features, import_step
@@ -27,12 +24,11 @@ from exam_web.wording import many, said, text
 
 pages = Blueprint("session", __name__)
 MOST_PEOPLE = 100  # that a page lists for one reason
-MOST_EXPLAINED, MOST_REMEDIES = 30, 6
+MOST_EXPLAINED = 30
 WIDTH, HEIGHT, GAP = 78, 38, 5  # of a desk in a picture, and from one to the next
 RUNNING = dict(zip(notebook.RUNNING, ("along the rows", "along and back", "down the columns", "down and up")))
 MOST_SUPPOSED = 14  # desks in a row, where nobody said how many
 SEATS = "session,date,start,finish,number,name,paper,paper title,hall,desk,extra,needs".split(",")
-MIDNIGHT = 24 * 60
 Values = dict[str, str]
 
 
@@ -51,28 +47,6 @@ SHEETS = {
         reading, slips.Choice(sessions=[session], desks=True))),
     "board": Sheet("Notice board by name", papers.board), "counts": Sheet("Copies of each paper", papers.counts),
 }
-
-
-class Remedy(NamedTuple):
-    """An opening that could seat so many, and how the hall is open now: a guess that a button rehearses, since only the
-    program says what it comes to."""
-    seats: int
-    opening: Opening
-    now: Opening | None
-
-    def asks(self) -> int:
-        """For how much: more desks, or another hall, count twice."""
-        then, now = self.opening, self.now or self.opening._replace(desks=0)
-        return 2 * (then.desks != now.desks) + (then.until != now.until) + (then.reserved != now.reserved)
-
-
-class Short(NamedTuple):
-    """Why a session is short: the program's own account; for some of those without a desk their needs, and the halls by
-    reason; what could help; and the needs that no hall of the office has together, each with how many have them."""
-    sheet: Shortage
-    reasons: list[tuple[Member, list[str], dict[str, list[str]]]]
-    remedies: list[Remedy]
-    lacking: list[tuple[tuple[str, ...], int]]
 
 
 class Session:
@@ -108,16 +82,13 @@ class Session:
         entries in the rows."""
         numbers = list(two_papers(view()).get(self.code, {}))[:most]
         missed = view().missed(self.code, numbers)
-        return [(member, missed[member.number]) for member in self.members(numbers) if member.number in missed]
-
-    def members(self, numbers: Sequence[int]) -> list[Member]:
-        """What the program says of some members."""
-        return view().reading.members(self.code, numbers)
+        return [(member, missed[member.number]) for member in view().reading.members(self.code, numbers)
+                if member.number in missed]
 
     def absent(self) -> list[Member]:
         """Who is noted as absent; a copy from before somebody came may have been put back."""
         noted = notebook.absent(desk().office, self.code) & facts.candidate_names(view().reading.rows).keys()
-        return self.members(sorted(map(int, noted)))
+        return view().reading.members(self.code, sorted(map(int, noted)))
 
 
 @pages.get("/sessions/<code>")
@@ -131,14 +102,13 @@ def page(code: str) -> str:
 
 
 @once
-def shortage(view: View, code: str) -> Short:
+def shortage(view: View, code: str) -> dict[str, Any]:
+    """Why a session is short: the program's own account; for some of those without a desk their needs, and the halls by
+    reason; what could help; and what they need that no hall has."""
     why, sheet = reasons.compared(view.reading, code)
     found = [(member, why.needs(member), by_reason(why.of(member))) for member in why.unseated()[:MOST_EXPLAINED]]
-    halls = [features_of(mask) for mask, in view.rows("SELECT features FROM hall")]
-    needs = Counter(tuple(why.needs(member)) for member in why.unseated())
-    return Short(sheet, found, best(remedies(view, why, sheet)),
-                 [(each, count) for each, count in needs.items()
-                  if each and not any(set(each).issubset(there) for there in halls)])
+    return {"sheet": sheet, "reasons": found, "remedies": remedies.best(view.reading.rows, why, sheet),
+            "lacking": remedies.lacking(view.reading.rows, why)}
 
 
 def by_reason(halls: list[tuple[str, str]]) -> dict[str, list[str]]:
@@ -149,37 +119,13 @@ def by_reason(halls: list[tuple[str, str]]) -> dict[str, list[str]]:
     return found
 
 
-def remedies(view: View, why: reasons.Reasons, sheet: Shortage) -> Iterator[Remedy]:
-    """Openings that suit some on the sheet. Each of these leaves a desk to somebody without one, or can, by others who
-    move on. None asks for more than it needs: with the desks that are free, and with as many as are short."""
-    opened, listed = {each.hall: each for each in why.openings}, set(sheet.candidates)
-    members = [member for member in why.members if member.number in listed]
-    most = dict(view.rows("SELECT hall, max(desks) FROM opening GROUP BY hall"))
-    for code, title, mask in view.rows("SELECT code, title, features FROM hall"):
-        now, taken = opened.get(code), len(why.taken[code])
-        base = now or Opening(code, title, mask, 0, 0, False)
-        free = base.desks - taken if now else most.get(code, sheet.unseated)
-        for reserved in {base.reserved, False}:
-            widest = base._replace(until=MIDNIGHT, reserved=reserved)
-            ends = sorted(of_day(member.sitting.finish) for member in members
-                          if member.sitting.hall != code and not why.obstacles(member, widest))[:sheet.unseated]
-            for seats in {len(ends[:free]), len(ends) if now else 0} - {0}:
-                yield Remedy(seats, base._replace(until=max(base.until, ends[seats - 1]), reserved=reserved,
-                                                  desks=max(base.desks, taken + seats)), now)
-
-
-def best(found: Iterable[Remedy]) -> list[Remedy]:
-    """The first of them, of each hall one for as many seats: those for most, and of these what asks for least."""
-    ordered = sorted(found, key=lambda each: (-each.seats, each.asks(), each.opening.hall))
-    return [*{(each.seats, each.opening.hall): each for each in reversed(ordered)}.values()][:-MOST_REMEDIES - 1:-1]
-
-
 @pages.get("/sessions/<code>/halls/<hall>", endpoint="hall")
 def hall_page(code: str, hall: str) -> str:
     """A hall as a picture: a piece of the session's page, or a page of its own where no script runs."""
     shown, opening = Session(code), Session(code).opening(hall)
     seated = view().rows("SELECT number FROM seat WHERE session = ? AND hall = ?", [code, hall])
-    members, rows = lists.by_desk(shown.members([number for number, in seated]), hall), standing(opening)
+    members = lists.by_desk(view().reading.members(code, [number for number, in seated]), hall)
+    rows = standing(opening)
     desks = sorted((number, column * (WIDTH + GAP) + 2, row * (HEIGHT + GAP) + 2)
                    for row, line in enumerate(papers.numbered(opening.desks, rows))
                    for column, number in enumerate(line) if number is not None)

@@ -68,15 +68,6 @@ def days_until(iso: str) -> int:
     return (datetime.date.fromisoformat(iso) - today).days
 
 
-def away(iso: str) -> Markup:
-    """How far a day is from today."""
-    left = days_until(iso)
-    near = {0: "today", 1: "tomorrow", -1: "yesterday"}
-    if left in near:
-        return text(near[left])
-    return text("in {count} days", count=left) if left > 0 else text("{count} days ago", count=-left)
-
-
 def short(name: str) -> str:
     """The last word of a name and an initial."""
     words = plain(name).split() or ["?"]
@@ -89,6 +80,6 @@ def prepare(app: Flask) -> None:
     app.jinja_env.trim_blocks = app.jinja_env.lstrip_blocks = True
     app.jinja_env.finalize = lambda value: plain(value) if type(value) is str else value
     app.jinja_env.globals.update(_=text, many=many, language=language)
-    app.jinja_env.filters.update(shown=shown, num=number, day=day, year_day=year_day, away=away, clock=clock,
+    app.jinja_env.filters.update(shown=shown, num=number, day=day, year_day=year_day, clock=clock,
                                  features=features, short=short, until=days_until,
                                  seven=lambda value: f"{int(value):07}")

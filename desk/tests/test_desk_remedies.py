@@ -1,10 +1,22 @@
-"""What could help a session that is short of desks, at the desk in a browser: over small offices whose best remedies are
-known. Each is what it says, as its rehearsal shows."""
+"""What could help a session that is short of desks, at the desk in a browser: over small offices whose best remedies
+are known, and over offices at random. Each seats as many as it says.
+
+REMEDIES is the number of offices at random, four if it is not set."""
+import contextlib
 import html
+import os
 import re
+import sqlite3
+import tempfile
 import unittest
 
 from desk_client import SmallSchool, effects
+from exam_desk import changing, reasons, second_sitting
+from exam_desk.reading import Reading
+from exam_desk.words import clock
+from exam_web import remedies
+from random_offices import RandomOffice
+from sample import SampleSchool
 
 FORM = re.compile(r"<li><form[^>]*>(.*?)</form></li>", re.S)
 VALUE = re.compile(r'<input type="hidden" name="(session|hall|desks|until|reserved)" value="([^"]*)"')
@@ -66,6 +78,72 @@ class TestWhatCouldHelp(SmallSchool):
         self.assertIn("No hall of the office has all that 1 of these candidates needs: computer, quiet .", words)
         self.assertIn("computer, quiet, 25 % extra time", words)
         self.assertNotIn("What could help", words)
+
+    def test_who_has_what_no_hall_has_is_not_counted(self):
+        """Three are without a desk, and one of them needs what no hall has; others in A make no room for that one."""
+        self.begin("A,Hall A,-\nB,Hall B,-\n", "S1,A,1,12:00,no\nS1,B,3,10:00,no\n",
+                   "0000001,LONG\n0000002,LONG\n0000003,SHORT\n0000004,CODING\n", "0000003,-,25\n")
+        self.assertEqual(self.remedies(), [("Have B until 10:30", "2 of the 3"),
+                                           ("Have A with 3 desks, 2 more", "2 of the 3")])
+
+    def test_as_many_as_can_move_on(self):
+        """Two need step-free, which A and B have. Only who sits in A could go to C, and A has one desk."""
+        self.begin("A,Hall A,step-free+screen\nB,Hall B,step-free\nC,Hall C,screen\n",
+                   "S1,A,1,12:00,no\nS1,B,1,12:00,no\n", "".join(f"000000{place},SHORT\n" for place in range(1, 5)),
+                   "0000001,screen,0\n0000002,step-free,0\n0000003,step-free,0\n0000004,step-free,0\n")
+        self.assertEqual(self.remedies(), [
+            ("Have A with 3 desks, 2 more", "2 of the 2"), ("Have B with 3 desks, 2 more", "2 of the 2"),
+            ("Open C, Hall C, with 1 desk until 10:00", "1 of the 2")])
+
+
+class Wide(RandomOffice):
+    """An office at random as its files have it, with halls that close early, are reserved or are not open."""
+
+    def files(self):
+        found = super().files()
+        for row in found["openings"][1:]:
+            row[2:4] = [self.chance.randint(1, 4), self.chance.choice(["10:00", "14:20", "24:00"])]
+        found["openings"][1:] = [row for row in found["openings"][1:] if self.chance.random() < 0.7]
+        return found
+
+    def change(self):
+        pass
+
+
+class TestAtRandom(SampleSchool):
+    def test_each_seats_as_many_as_it_says(self):
+        tried = sum(self.look(seed) for seed in range(int(os.environ.get("REMEDIES", "4"))))
+        self.assertGreater(tried, 0)
+        if "REMEDIES" in os.environ:
+            print(f"{tried} remedies at random")
+
+    def look(self, seed):
+        """Has the program rehearse each remedy; how many there were."""
+        tried = 0
+        with tempfile.TemporaryDirectory() as folder:
+            made = Wide(folder, seed)
+            made.make()
+            for session in made.sessions:
+                with Reading(made.office) as reading:
+                    found = remedies.best(reading.rows, *reasons.compared(reading, session))
+                for each in found:
+                    self.assertEqual(self.gained(made.office, session, each.opening), each.seats, (seed, session, each))
+                tried += len(found)
+        return tried
+
+    def gained(self, office, session, then):
+        """How many more have a seat once a hall is open so."""
+        step = second_sitting.imported("openings", session, then.hall, then.desks, clock(then.until),
+                                       "yes" if then.reserved else "no")
+        with changing.rehearse(office, [step]) as rehearsal:
+            self.assertIsNone(changing.refused_of(rehearsal.answers), then)
+            was, now = (self.seats_of(path, session) for path in (rehearsal.before, rehearsal.after))
+        self.assertLessEqual(was.keys(), now.keys())
+        return len(now) - len(was)
+
+    def seats_of(self, path, session):
+        with contextlib.closing(sqlite3.connect(path)) as file:
+            return dict(file.execute("SELECT number, hall FROM seat WHERE session = ?", [session]))
 
 
 if __name__ == "__main__":

@@ -1,10 +1,16 @@
 """What the screens of the desk in a browser say: arrangements in one way, counts of people that lead to more, a new
-candidate."""
+candidate, the handbook."""
 import html
+import os
+import pathlib
 import re
+import shutil
+import subprocess
+import tempfile
 import unittest
 
-from desk_client import DeskSchool, SmallSchool, effects
+from desk_client import HAS_FLASK, PYTHON, DeskSchool, SmallSchool, effects
+from sample import DESK, TOP
 
 EXTRA = "no needs, 25 % extra time"
 LEADS = r'<a href="#([^"]+)" class="effect (\w+)">'
@@ -54,9 +60,9 @@ class TestCounts(DeskSchool):
 
     def test_two_papers_at_once(self):
         (number, paper), = self.rows(
-            "SELECT number, other.code FROM seat JOIN paper AS other ON other.session = seat.session WHERE other.code > "
-            "(SELECT max(code) FROM paper JOIN entry ON paper = code WHERE entry.number = seat.number AND "
-            "paper.session = seat.session) LIMIT 1")  # one that is not the first by code, so nobody moves
+            "SELECT number, other.code FROM seat JOIN paper AS other ON other.session = seat.session "
+            "WHERE other.code > (SELECT max(code) FROM paper JOIN entry ON paper = code WHERE entry.number = seat.number "
+            "AND paper.session = seat.session) LIMIT 1")  # one that is not the first by code, so nobody moves
         found, text, leads = self.rehearsed("enter", f"/candidates/{number}", number=f"{number:07}", paper=paper)
         self.assertEqual(found["clashes"], (1, 1))
         self.assertIn("1</b> would have two papers at once anew", text)
@@ -155,6 +161,65 @@ class TestNewCandidate(DeskSchool):
         self.assertIn('name="number" value="0009001"', self.browser.get(path))
         self.browser.post(page + "/do", page)
         self.assertNotIn("Nothing was done", self.browser.words(path))
+
+
+HELP = r'<a href="([^"]+/handbook)#([^"]+)">([^<]+)</a>'
+HANDBOOK = (TOP / "docs/HANDBOOK.md").read_text("utf-8")
+WITHOUT = """
+import datetime, sys
+sys.path.insert(0, sys.argv[1])
+from exam_desk.office import Office
+from exam_web import application, desk, guard, office
+print(office.HANDBOOK)
+office.HANDBOOK = None
+app = application.make(desk.Desk(Office('none.db', 'none', datetime.date.today, 'x'), '127.0.0.1:1', '', False))
+app.extensions['guard'].visits[guard.digest('secret')] = guard.Visit('ab')
+client = app.test_client()
+client.set_cookie('localhost', 'desk', 'secret')
+print(client.get('/').text.partition('helpline')[2].partition('</p>')[0])
+"""
+
+
+class TestHandbook(DeskSchool):
+    def test_each_help_line_leads_to_its_chapter(self):
+        book = self.browser.get("/handbook")
+        self.office("lodge", "0001119", "MON-AM", "arrangement", "-", "25", "")
+        for path in ("/", "/sessions/MON-AM", "/candidates", "/candidates/1051", "/appeals", "/appeals/1119/D1",
+                     "/clashes", "/overlaps", "/files", "/office", "/clashes/MON-AM/1051"):
+            (where, place, chapter), = re.findall(HELP, self.browser.get(path))
+            self.assertEqual(where, self.browser.prefix + "/handbook", path)
+            self.assertIn(f'id="{place}"><h2>{chapter}</h2>', book, path)
+
+    def test_it_is_whole(self):
+        book = self.browser.get("/handbook")
+        parts = re.sub("</?(h1|h2|pre|section)[^>]*>", "\n", book.partition("<article")[2].partition("</article>")[0])
+        shown = html.unescape(re.sub("<[^>]+>", "", parts))
+        for words in (shown, HANDBOOK):
+            self.assertGreater(len(words), 50_000)
+        words = re.sub(r"\[([^][]+)\]\(#[^()]+\)", r"\1", re.sub("^#+ ", "", HANDBOOK, flags=re.M))
+        self.assertEqual(shown.partition(">")[2].split(), words.split())
+        for place in re.findall(r"\]\(#([^()]+)\)", HANDBOOK):
+            self.assertIn(f'<a href="#{place}">', book)
+            self.assertEqual(book.count(f'id="{place}"'), 1, place)
+        self.assertIn("S1,C,1,12:00,no\\n", book)  # as it stands there
+        self.assertIn("\n    SHORTAGE session S1\n    unseated 1\n", book)
+
+
+@unittest.skipUnless(HAS_FLASK, "Flask or waitress is missing")
+class TestWhereTheHandbookLies(unittest.TestCase):
+    def test_beside_a_release(self):
+        with tempfile.TemporaryDirectory() as folder:
+            for name in ("exam_desk", "exam_web"):
+                shutil.copytree(DESK / name, pathlib.Path(folder, "share/examoffice/desk", name))
+            book = os.path.join(os.path.realpath(folder), "share/doc/examoffice/HANDBOOK.md")
+            for found in ("None", book):
+                done = subprocess.run([PYTHON, "-B", "-c", WITHOUT, os.path.join(folder, "share/examoffice/desk")],
+                                      capture_output=True, text=True, check=True, cwd=folder)
+                self.assertEqual(done.stdout.splitlines()[0], found)
+                os.makedirs(os.path.dirname(book), exist_ok=True)
+                shutil.copy(TOP / "docs/HANDBOOK.md", book)
+            self.assertIn("The desk in a browser", done.stdout)
+            self.assertNotIn("handbook#", done.stdout)
 
 
 if __name__ == "__main__":
