@@ -1,7 +1,6 @@
 """The application: its screens, what all pages have, and faults in words."""
 import errno
 import sqlite3
-from functools import partial
 from typing import Any
 
 from flask import Flask, g, redirect, render_template, request, url_for
@@ -31,11 +30,16 @@ PROBLEMS = {
 NO_ROOM = {errno.ENOSPC, errno.EDQUOT}
 
 
+class Number(IntegerConverter):
+    """The number of a candidate in an address."""
+    regex = "[0-9]{1,7}"
+
+
 def make(here: Desk) -> Flask:
     app = Flask(__name__)
     app.extensions["desk"] = here
     app.extensions["guard"] = guard.Guard(app, here.address, here.prefix)
-    app.url_map.converters["int"] = partial(IntegerConverter, max=9_999_999)  # a candidate's number
+    app.url_map.converters["int"] = Number
     wording.prepare(app)
     app.jinja_env.globals.update(
         FEATURES=FEATURES, MOST_CLASHES=proposals.MOST_CLASHES, RUNNING=session.RUNNING, SHEETS=session.SHEETS,

@@ -176,7 +176,7 @@ def overlapping() -> str:
 def second(code: str, number: int) -> str | Response:
     """The form for a second sitting: which paper, from when, and where."""
     shown, who = Session(code), f"{candidate_row(number)['number']:07}"
-    member, missed = view().reading.member(code, who), view().missed(code, [number]).get(who)
+    member, missed = view().reading.member(code, who), view().reading.clashes(code, [who]).get(who)
     if not member or not missed:
         return redirect(url_for("clashes.page", session=code))
     return render_template("second.html", s=shown.sums, member=member, missed=missed, choices=shown.choices(),

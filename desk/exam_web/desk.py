@@ -57,11 +57,6 @@ class View:
     def count(self, query: str, values: Sequence[object] = ()) -> int:
         return int(self.rows(query, values)[0][0])
 
-    def missed(self, session: str, numbers: Iterable[int]) -> dict[str, list[str]]:
-        """The papers that each of some candidates is entered for and does not sit, by number, as the program says."""
-        asked = [f"{number:07}" for number in numbers]
-        return self.reading.clashes(session, asked) if asked else {}
-
     def ask(self, numbers: Iterable[int]) -> None:
         """Asks the program of many; after some of them other pages have their turn."""
         people = [self.reading.person(number) for number in numbers]

@@ -61,8 +61,7 @@ class Effects:
         kinds = telling.by_kind(changes)
         self.changes = [each for part in kinds.values() for each in part]
         self.to_tell = [each for each in self.changes if each.is_to_tell()]
-        self.people, _ = telling.people_and_sittings([each.number for each in self.to_tell])
-        self.desk_only = Counter(each.session for each in self.changes if each.kind() == "desk")  # by session
+        self.desk_only = Counter(each.session for each in kinds.get("desk", []))  # by session
         self.codes = consequences.by_name(now, [str(number) for number, code in facts.access_codes(now.rows).items()
                                                 if codes.get(number, code) != code])
         self.sessions = [(was.get(code), each) for code, each in sums(after).items()
@@ -88,8 +87,8 @@ def new_clashes(before: View, after: View) -> list[tuple[str, Member, list[str]]
     for code, people in two_papers(after).items():
         was = old.get(code, {})
         others = [number for number in people if people[number] != was.get(number)][:MOST_CLASHES - len(found)]
-        then, now = before.missed(code, [number for number in others if number in was]), after.missed(code, others)
-        for number, papers in now.items():
+        then = before.reading.clashes(code, [str(number) for number in others if number in was])
+        for number, papers in after.reading.clashes(code, [*map(str, others)]).items():
             new = [paper for paper in papers if paper not in then.get(number, [])]
             if new and (member := after.reading.member(code, number)):
                 found.append((code, member, new))

@@ -29,60 +29,55 @@ class Remedy(NamedTuple):
         return 2 * (then.desks != now.desks) + (then.until != now.until) + (then.reserved != now.reserved)
 
 
-class Moves:
-    """Who of those on a shortage sheet could sit in which open hall."""
-
-    def __init__(self, why: Reasons, sheet: Shortage) -> None:
-        listed = set(sheet.candidates)
-        self.why, self.members = why, [member for member in why.members if member.number in listed]
-        self.suited = {each.hall: [member.number for member in self.members if not why.obstacles(member, each)]
-                       for each in why.openings}
-
-    def ends(self, hall: Opening) -> list[int]:
-        """One more has a desk each time that a hall of this kind is open until then and has another desk: whoever it
-        suits goes there, and others move on to the desk that is left, the last from none."""
-        at, full, found = {member.number: member.sitting.hall for member in self.members}, {hall.hall}, list[int]()
-
-        def leaves(number: str) -> bool:
-            """Whether somebody can have the desk of a candidate, so that one more has a desk; they have it then."""
-            if (left := at[number]) is None or left in full:
-                return left is None
-            full.add(left)
-            for other in self.suited[left]:
-                if at[other] != left and leaves(other):
-                    at[other] = left
-                    full.discard(left)
-                    return True
-            return False
-        for member in sorted(self.members, key=lambda member: member.sitting.finish):
-            if not self.why.obstacles(member, hall) and leaves(member.number):
-                at[member.number] = hall.hall
-                found.append(of_day(member.sitting.finish))
-        return found
-
-
 def best(rows: Rows, why: Reasons, sheet: Shortage) -> list[Remedy]:
     """The first of them, of each hall one for as many seats: those for most, and of these what asks for least."""
     found: dict[tuple[int, str], Remedy] = {}
-    for each in sorted(remedies(rows, Moves(why, sheet)), key=lambda each: (-each.seats, each.asks())):
+    for each in sorted(remedies(rows, why, sheet), key=lambda each: (-each.seats, each.asks())):
         found.setdefault((each.seats, each.opening.hall), each)
     return [*found.values()][:MOST]
 
 
-def remedies(rows: Rows, moves: Moves) -> Iterator[Remedy]:
+def remedies(rows: Rows, why: Reasons, sheet: Shortage) -> Iterator[Remedy]:
     """No opening asks for more than it needs: with the desks that are free, and with as many as are short. A closed
     hall has no more than it has in another session."""
-    opened = {each.hall: each for each in moves.why.openings}
+    listed = set(sheet.candidates)
+    members = sorted((member for member in why.members if member.number in listed), key=lambda each: each.sitting.finish)
+    suited = {each.hall: [member for member in members if not why.obstacles(member, each)] for each in why.openings}
+    opened = {each.hall: each for each in why.openings}
     most = dict(rows.execute("SELECT hall, max(desks) FROM opening GROUP BY hall"))
     for code, title, mask in rows.execute("SELECT code, title, features FROM hall ORDER BY code"):
-        now, taken = opened.get(code), len(moves.why.taken[code])
+        now, taken = opened.get(code), len(why.taken[code])
         base = now or Opening(code, title, mask, 0, 0, False)
         for reserved in {base.reserved, False}:
-            ends = moves.ends(base._replace(until=MIDNIGHT, reserved=reserved))
+            widest = base._replace(until=MIDNIGHT, reserved=reserved)
+            ends = ends_of(code, [member for member in members if not why.obstacles(member, widest)], suited)
             free = base.desks - taken if now else most.get(code, len(ends))
             for seats in {len(ends[:free]), len(ends) if now else 0} - {0}:
                 yield Remedy(seats, base._replace(until=max(base.until, ends[seats - 1]), reserved=reserved,
                                                   desks=max(base.desks, taken + seats)), now)
+
+
+def ends_of(hall: str, there: list[Member], suited: dict[str, list[Member]]) -> list[int]:
+    """One more has a desk each time that a hall is open until then and has another desk: one of these goes there, and
+    others move on to the desk that is left, the last from none."""
+    at, full, found = dict[str, str](), {hall}, list[int]()
+
+    def leaves(member: Member) -> bool:
+        """Whether somebody can have the desk of a member, so that one more has a desk; they have it then."""
+        if (left := at.get(member.number, member.sitting.hall)) is None or left in full:
+            return left is None
+        full.add(left)
+        for other in suited[left]:
+            if at.get(other.number, other.sitting.hall) != left and leaves(other):
+                at[other.number] = left
+                full.discard(left)
+                return True
+        return False
+    for member in there:
+        if leaves(member):
+            at[member.number] = hall
+            found.append(of_day(member.sitting.finish))
+    return found
 
 
 def lacking(rows: Rows, why: Reasons) -> Counter[tuple[str, ...]]:

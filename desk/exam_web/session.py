@@ -80,8 +80,8 @@ class Session:
     def clashes(self, most: int) -> list[tuple[Member, list[str]]]:
         """Who has two papers at once, and which ones they miss, both as the program says. Who is asked of has two live
         entries in the rows."""
-        numbers = list(two_papers(view()).get(self.code, {}))[:most]
-        missed = view().missed(self.code, numbers)
+        numbers = [*two_papers(view()).get(self.code, {})][:most]
+        missed = view().reading.clashes(self.code, [*map(str, numbers)])
         return [(member, missed[member.number]) for member in view().reading.members(self.code, numbers)
                 if member.number in missed]
 

@@ -59,10 +59,6 @@ def day(iso: str) -> Markup:
     return Markup("{} {} {}").format(text(f"{date:%a}"), date.day, text(f"{date:%b}"))
 
 
-def year_day(iso: str) -> Markup:
-    return Markup("{} {}").format(day(iso), iso[:4])
-
-
 def days_until(iso: str) -> int:
     today: datetime.date = current_app.extensions["desk"].office.today()
     return (datetime.date.fromisoformat(iso) - today).days
@@ -80,6 +76,5 @@ def prepare(app: Flask) -> None:
     app.jinja_env.trim_blocks = app.jinja_env.lstrip_blocks = True
     app.jinja_env.finalize = lambda value: plain(value) if type(value) is str else value
     app.jinja_env.globals.update(_=text, many=many, language=language)
-    app.jinja_env.filters.update(shown=shown, num=number, day=day, year_day=year_day, clock=clock,
-                                 features=features, short=short, until=days_until,
-                                 seven=lambda value: f"{int(value):07}")
+    app.jinja_env.filters.update(shown=shown, num=number, day=day, clock=clock, features=features,
+                                 short=short, until=days_until, seven=lambda value: f"{int(value):07}")

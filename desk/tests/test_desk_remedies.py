@@ -51,6 +51,23 @@ class TestWhatCouldHelp(SmallSchool):
         self.assertEqual(self.remedies(), [("Have B until 10:30", "1 of the 1"),
                                            ("Have A with 2 desks, 1 more", "1 of the 1")])
 
+    def test_one_moves_after_another(self):
+        """Who needs step-free suits A alone, who needs a reader A and B, who needs a screen B and C, which is closed."""
+        self.begin("A,Hall A,step-free+reader\nB,Hall B,screen+reader\nC,Hall C,screen\n",
+                   "S1,A,1,12:00,no\nS1,B,1,12:00,no\n", "0000001,SHORT\n0000002,SHORT\n0000003,SHORT\n",
+                   "0000001,screen,0\n0000002,reader,0\n0000003,step-free,0\n")
+        self.assertEqual(self.remedies(), [
+            ("Have A with 2 desks, 1 more", "1 of the 1"), ("Have B with 2 desks, 1 more", "1 of the 1"),
+            ("Open C, Hall C, with 1 desk until 10:00", "1 of the 1")])
+
+    def test_no_later_than_is_needed(self):
+        """B has one free desk. One without a desk ends at 10:00, another at 10:30; A closes before that."""
+        self.begin("A,Hall A,-\nB,Hall B,-\n", "S1,A,1,10:00,no\nS1,B,1,09:30,no\n",
+                   "0000001,SHORT\n0000002,SHORT\n0000003,LONG\n")
+        self.assertEqual(self.remedies(), [
+            ("Have A until 10:30, with 3 desks, 2 more", "2 of the 2"),
+            ("Have B until 10:30, with 2 desks, 1 more", "2 of the 2"), ("Have B until 10:00", "1 of the 2")])
+
     def test_no_more_than_is_needed(self):
         """Three are short of a desk. Who sits the long paper can have A once all others are elsewhere, so 10:00 is late
         enough. GYM and K are open in another session, with 120 desks and with two."""

@@ -92,11 +92,12 @@ class TestCounts(DeskSchool):
 
 class TestPeople(SmallSchool):
     def test_the_season_counts_people(self):
-        """One candidate is in two sessions without a hall; another in one. Both have two papers at once in S1."""
-        self.begin("A,Hall A,-\n", "", "0000001,SHORT\n0000001,LONG\n0000001,OTHER\n0000002,SHORT\n0000002,LONG\n")
+        """One candidate is in two sessions without a hall, another in one. Both have two papers at once in each."""
+        self.begin("A,Hall A,-\n", "", "0000001,SHORT\n0000001,LONG\n0000001,OTHER\n0000001,MORE\n"
+                                       "0000002,SHORT\n0000002,LONG\n")
         words = self.browser.words("/")
         self.assertIn("2 candidates 2 sessions 3 sittings 2 without a desk ( 3 sittings)", words)
-        self.assertIn("2 candidates with two papers at once and no appeal, in sessions: 1", words)
+        self.assertIn("2 candidates with two papers at once and no appeal, in sessions: 2", words)
         self.begin("A,Hall A,-\n", "S2,A,1,18:00,no\n", "0000001,SHORT\n0000001,LONG\n0000001,OTHER\n")
         words = self.browser.words("/")
         self.assertIn("1 candidate 2 sessions 2 sittings 1 without a desk 0 open appeals", words)
