@@ -7,6 +7,7 @@ from flask import Flask, g, redirect, render_template, request, url_for
 from flask.typing import ResponseReturnValue
 from markupsafe import escape
 from werkzeug.exceptions import HTTPException
+from werkzeug.routing import IntegerConverter
 from werkzeug.wrappers import Response
 
 from exam_desk import appeals
@@ -19,8 +20,6 @@ from exam_web.wording import text
 
 SCREENS = [guard.pages, season.pages, session.pages, candidates.pages, candidates.appeal_pages, candidates.clash_pages,
            uploads.pages, proposals.pages, office.pages]
-PLACES = [("season.page", "Season"), ("files.page", "Files"), ("candidates.find", "Candidates"),
-          ("appeals.page", "Appeals"), ("office.page", "Office")]
 PROBLEMS = {
     400: "The browser sent what no form of the desk sends. Nothing was done.",
     403: "The request did not come from a page of this desk. Nothing was done.",
@@ -31,14 +30,20 @@ PROBLEMS = {
 NO_ROOM = {errno.ENOSPC, errno.EDQUOT}
 
 
+class Number(IntegerConverter):
+    """The number of a candidate in an address."""
+    regex = "[0-9]{1,7}"
+
+
 def make(here: Desk) -> Flask:
     app = Flask(__name__)
     app.extensions["desk"] = here
     app.extensions["guard"] = guard.Guard(app, here.address, here.prefix)
+    app.url_map.converters["int"] = Number
     wording.prepare(app)
     app.jinja_env.globals.update(
-        EFFECTS=proposals.KINDS, FEATURES=FEATURES, RUNNING=session.RUNNING, SHEETS=session.SHEETS, places=PLACES,
-        appeals=appeals, copy_key=proposals.copy_key, last_day=appeals.to_decide, tally=people_and_sittings)
+        FEATURES=FEATURES, MOST_CLASHES=proposals.MOST_CLASHES, RUNNING=session.RUNNING, SHEETS=session.SHEETS,
+        has_handbook=office.HANDBOOK is not None, appeals=appeals, copy_key=proposals.copy_key, last_day=appeals.to_decide, tally=people_and_sittings)
     for screen in SCREENS:
         app.register_blueprint(screen)
     app.before_request(begin)
@@ -61,7 +66,8 @@ def everywhere() -> dict[str, Any]:
     """What every page has besides its own."""
     here, visit = desk(), g.get("visit") or guard.Visit("", mark="")  # a stranger's, where there is none
     said, visit.said = visit.said, []
-    left = visit.proposals.get(request.args.get("again", ""))
+    if (left := visit.proposals.get(request.args.get("again", ""))) and not left.is_done:
+        said.append(("", text("Nothing was done. The form is as you left it.")))
     asked = g.get("asked") or (left.asked if left else forms.Asked())
     return {"mark": visit.mark, "initials": visit.initials, "said": said,
             "today": here.office.today().isoformat(), "pretended": here.pretended,
@@ -77,7 +83,7 @@ def still_reading(stage: StillReading) -> ResponseReturnValue:
 
 def problem(fault: Exception) -> ResponseReturnValue:
     """A fault in words: of a request, or what the package, a file or the database refuses."""
-    said, status = wording.shown(str(fault)), 500
+    said, status = wording.said(str(fault)), 500
     if isinstance(fault, HTTPException):
         if fault.code == 401:
             return redirect(url_for("entering.page"))

@@ -7,11 +7,13 @@ from collections.abc import Callable, Collection
 from functools import partial
 
 from flask import Blueprint, abort, redirect, render_template, request, url_for
+from markupsafe import Markup
 from werkzeug.datastructures import MultiDict
 from werkzeug.wrappers import Response
 
-from exam_desk import coding, facts, lodging, names, notebook, overlaps, second_sitting
+from exam_desk import coding, facts, lists, lodging, notebook, overlaps, second_sitting
 from exam_desk.changing import Step
+from exam_desk.reading import Person
 from exam_desk.sheets import slips as slip_pages
 from exam_desk.sheets import texts
 from exam_desk.trouble import Trouble
@@ -20,7 +22,7 @@ from exam_web.desk import View, candidate_row, desk, once, sums, view
 from exam_web.forms import Form, Page, Wrong, checked, lead, short, styled
 from exam_web.proposals import APPEALS, BY_DAY, PLANS, TROUBLE, Plan, command, features, import_step
 from exam_web.session import Session
-from exam_web.wording import said, text
+from exam_web.wording import said, shown, text
 
 pages = Blueprint("candidates", __name__)
 appeal_pages = Blueprint("appeals", __name__)
@@ -36,25 +38,17 @@ def find() -> str | Response:
     asked = request.args.get("q", "").strip()[:MOST_ASKED]
     found = search(asked) if asked else []
     if len(found) == 1:
-        return redirect(url_for("candidates.page", number=found[0][0]))
+        return redirect(url_for("candidates.page", number=int(found[0].number)))
     return render_template("candidates.html", asked=asked, found=found[:MOST_FOUND], total=len(found),
-                           everybody=len(people(view())))
+                           everybody=view().count("SELECT count(*) FROM candidate"))
 
 
-def search(asked: str) -> list[tuple[int, str]]:
-    """Whose number ends so, or whose name has all these words: accents and capitals do not matter."""
-    if asked.isascii() and asked.isdigit():
-        end = asked.lstrip("0") or "0"
-        return [(number, name) for number, name, _ in people(view()) if str(number).endswith(end)]
-    words = names.letters(asked).split()
-    return [(number, name) for number, name, letters in people(view()) if names.has_words(letters, words)]
-
-
-@once
-def people(found: View) -> list[tuple[int, str, str]]:
-    """All candidates in the order of their names, each with the letters that the search compares."""
-    rows = [(number, name, names.letters(name)) for number, name in found.rows("SELECT number, name FROM candidate")]
-    return sorted(rows, key=lambda each: names.name_order(each[1], f"{each[0]:07}"))
+def search(asked: str) -> list[Person]:
+    """Whose number ends so, or whose name has all these words: accents and capitals do not matter; by name."""
+    if not (asked.isascii() and asked.isdigit()):
+        return texts.find(view().reading.rows, asked)
+    end = asked.lstrip("0") or "0"
+    return lists.by_name(Person(*row) for row in view().rows(f"{texts.CANDIDATES} WHERE number LIKE ?", [f"%{end}"]))
 
 
 @pages.get("/candidates/<int:number>")
@@ -182,7 +176,7 @@ def overlapping() -> str:
 def second(code: str, number: int) -> str | Response:
     """The form for a second sitting: which paper, from when, and where."""
     shown, who = Session(code), f"{candidate_row(number)['number']:07}"
-    member, missed = view().reading.member(code, who), view().missed(code, [number]).get(who)
+    member, missed = view().reading.member(code, who), view().reading.clashes(code, [who]).get(who)
     if not member or not missed:
         return redirect(url_for("clashes.page", session=code))
     return render_template("second.html", s=shown.sums, member=member, missed=missed, choices=shown.choices(),
@@ -210,10 +204,26 @@ def rename(form: Form) -> Plan:
     return Plan(values, [step], page, made_for=view().name)
 
 
+def with_code(values: Values) -> Step:
+    """The import of a candidate with an access code that nobody has."""
+    code = coding.new_code(set(facts.access_codes(view().reading.rows).values()))
+    return import_step("candidates", {**values, "code": code})
+
+
 def new_code(form: Form) -> Plan:
     values, page = candidate(form)
-    code = coding.new_code(set(facts.access_codes(view().reading.rows).values()))
-    return Plan(values, [import_step("candidates", {**values, "code": code})], page)
+    return Plan(values, [with_code(values)], page)
+
+
+def new_candidate(form: Form) -> Plan:
+    """Somebody whom the office does not know yet."""
+    form_page: Page = ("candidates.find", {})
+    values = checked(form_page, form, number="number", name="name")
+    page: Page = ("candidates.page", {"number": int(values["number"])})
+    if there := view().row("SELECT name FROM candidate WHERE number = ?", [page[1]["number"]]):
+        link = Markup('<a href="{}">{}</a>').format(url_for(page[0], **page[1]), shown(there["name"]))
+        raise Wrong(form_page, number=text("the office has this number: {name}", name=link))
+    return Plan(values, [with_code(values)], page, form_page=form_page, made_for=view().name)
 
 
 def lodge(form: Form) -> Plan:
@@ -226,15 +236,15 @@ def lodge(form: Form) -> Plan:
     wanted = [values["needs"]] if kind == "arrangement" else []
     wanted.append(checked(page, form, **{field: lodging.KINDS[kind][-1]})[field])
     fields = {**dict.fromkeys((4, 12, 13, 20, 21), "session"), **dict.fromkeys((5, 7, 8, 11, 18, 19), field)}
-    return Plan({**values, "kind": kind, "wanted": " ".join(wanted)}, [], page, fields,
+    return Plan({**values, "kind": kind, "wanted": wanted[-1]}, [], page, fields,
                 lodge=(values["number"], values["session"], kind, *wanted, short(page, "reason")))
 
 
 def decide(form: Form) -> Plan:
     values, _ = candidate(form)
     values |= {"ref": form.get("ref", ""), "outcome": form.get("outcome", "")}
-    found = view().row("SELECT number, ref FROM appeal WHERE number = ? AND ref = ?", [values["number"], values["ref"]])
-    page: Page = ("appeals.one", dict(found or abort(404)))
+    found = appeal_row(int(values["number"]), values["ref"])
+    page: Page = ("appeals.one", {"number": found["number"], "ref": found["ref"]})
     if values["outcome"] not in ("granted", "standing", "refused"):
         raise Wrong(page, outcome=text("choose one"))
     step = command("decide", ["number", "ref", "outcome", "reason"], {**values, "reason": short(page, "reason")})
@@ -271,6 +281,6 @@ PLANS.update({
     "reinstate": partial(of_one, "paper", OF_ENTRY, partial(command, "reinstate", ["number", "paper"])),
     "enter": partial(of_one, "paper", OF_ENTRY, partial(import_step, "entries")),
     "arrangement": partial(of_one, "extra", [20], partial(import_step, "arrangements")),
-    "code": new_code, "name": rename, "lodge": lodge, "decide": decide, "second": second_plan,
-    "second-back": second_back,
+    "code": new_code, "candidate": new_candidate, "name": rename, "lodge": lodge, "decide": decide,
+    "second": second_plan, "second-back": second_back,
 })

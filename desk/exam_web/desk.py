@@ -25,6 +25,8 @@ COPYING, COUNTING = "Its files are copied and read", "Candidates and desks are c
 AT_ONCE = ("SELECT session, number, group_concat(code) FROM (SELECT session, number, paper.code AS code "
            "FROM entry JOIN paper ON paper.code = entry.paper WHERE live = 1 ORDER BY session, number, paper.code) "
            "GROUP BY session, number HAVING count(*) > 1 ORDER BY 1, 2")
+UNSEATED = ("SELECT session, number FROM entry JOIN paper ON code = paper WHERE live = 1 "
+            "EXCEPT SELECT session, number FROM seat")
 Found = TypeVar("Found")
 Asked = ParamSpec("Asked")
 
@@ -54,11 +56,6 @@ class View:
 
     def count(self, query: str, values: Sequence[object] = ()) -> int:
         return int(self.rows(query, values)[0][0])
-
-    def missed(self, session: str, numbers: Iterable[int]) -> dict[str, list[str]]:
-        """The papers that each of some candidates is entered for and does not sit, by number, as the program says."""
-        asked = [f"{number:07}" for number in numbers]
-        return self.reading.clashes(session, asked) if asked else {}
 
     def ask(self, numbers: Iterable[int]) -> None:
         """Asks the program of many; after some of them other pages have their turn."""
@@ -115,6 +112,12 @@ def sums(view: View) -> dict[str, Sums]:
     waiting = dict(view.rows("SELECT session, count(*) FROM appeal WHERE state = 1 GROUP BY session"))
     return {code: Sums(code, day, start, *people[code], desks.get(code, 0), len(clashing.get(code, ())),
                        waiting.get(code, 0)) for code, day, start in facts.sessions(view.reading.rows)}
+
+
+@once
+def unseated(view: View) -> set[tuple[str, int]]:
+    """Who has a live entry in a session and no seat there: the session and the number."""
+    return {(code, number) for code, number in view.rows(UNSEATED)}
 
 
 @once

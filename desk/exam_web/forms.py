@@ -2,12 +2,11 @@
 a sheet to print, or a file."""
 import base64
 import hashlib
-import io
 import os
 import pathlib
 import re
 import secrets
-import zipfile
+import shutil
 from collections.abc import Callable, Mapping
 from typing import Any, NamedTuple
 
@@ -105,12 +104,10 @@ def attached(content: bytes, name: str, kind: str = "text/csv") -> Response:
 
 def archive(name: str, fill: Callable[[str], object]) -> Response:
     """A zip of the files that are put into a folder; its name has the day."""
-    out, name = io.BytesIO(), f"{name}-{desk().office.today().isoformat()}"
-    with private.own_folder(desk().office.path) as folder, zipfile.ZipFile(out, "w", zipfile.ZIP_DEFLATED) as packed:
+    name = f"{name}-{desk().office.today().isoformat()}"
+    with private.own_folder(desk().office.path) as folder:
         place = os.path.join(folder, name)
         os.mkdir(place, 0o700)
         fill(place)
-        for each in sorted(pathlib.Path(place).rglob("*")):
-            if each.is_file():
-                packed.write(each, f"{name}/{each.relative_to(place)}")
-    return attached(out.getvalue(), f"{name}.zip", "application/zip")
+        packed = shutil.make_archive(place, "zip", folder, name)
+        return attached(pathlib.Path(packed).read_bytes(), f"{name}.zip", "application/zip")

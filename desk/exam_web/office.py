@@ -5,6 +5,7 @@ import re
 import sys
 
 from flask import Blueprint, abort, render_template, request
+from markupsafe import Markup, escape
 from werkzeug.wrappers import Response
 
 from exam_desk import beside, changing, copies, keeping, logbook, notebook, private, turns
@@ -12,11 +13,15 @@ from exam_desk.trouble import Stale
 from exam_web.desk import View, desk, office, once, view
 from exam_web.forms import Wrong, archive, lead, whole
 from exam_web.proposals import MOST_ROWS, Effects, copy_key
-from exam_web.wording import shown, text
+from exam_web.wording import said, text
 
 pages = Blueprint("office", __name__)
 MOST_LINES = 200  # of the log
-COMMAND = str(pathlib.Path(__file__).resolve().parent.parent / "office")
+DESK = pathlib.Path(__file__).resolve().parent.parent
+COMMAND = str(DESK / "office")
+HANDBOOKS = [DESK.parent / "docs/HANDBOOK.md", DESK.parent.parent / "doc/examoffice/HANDBOOK.md"]  # a release has the last
+HANDBOOK = next(filter(pathlib.Path.is_file, HANDBOOKS), None)  # none where a system installs no documentation
+PLACE_IN_IT = re.compile(r"\[([^][]+)\]\((#[a-z0-9-]+)\)")  # a link to a chapter
 LOWEST_PORT, HIGHEST_PORT = 1024, 65535
 
 
@@ -76,6 +81,15 @@ def back(key: str) -> Response:
                                     when=when))
 
 
+@pages.get("/handbook")
+def handbook() -> str:
+    """The handbook as it lies beside the desk, in its chapters."""
+    found = str(escape((HANDBOOK or abort(404)).read_text("utf-8")))
+    _, title, first, *chapters = re.split("^#+ (.+)\n", PLACE_IN_IT.sub(r'<a href="\2">\1</a>', found), flags=re.M)
+    return render_template("handbook.html", title=title, first=Markup(first),
+                           chapters=zip(chapters[::2], map(Markup, chapters[1::2])))
+
+
 @pages.post("/office/keep")
 def keep() -> Response:
     what, port = request.form.get("what"), request.form.get("port", "")
@@ -87,7 +101,7 @@ def keep() -> Response:
     if not (re.fullmatch("[0-9]{1,5}", port) and LOWEST_PORT <= int(port) <= HIGHEST_PORT):
         raise Wrong(("office.page", {}), "keep", port=whole(LOWEST_PORT, HIGHEST_PORT))
     status = keeping.start(office(), [sys.executable, COMMAND, "keep", "run", port])
-    return lead("office.page", shown(status.sentence), "good" if status.serves else "bad", _anchor="serve")
+    return lead("office.page", said(status.sentence), "good" if status.serves else "bad", _anchor="serve")
 
 
 @pages.post("/office/backup")

@@ -29,7 +29,7 @@ from exam_desk.office import Office
 from exam_desk.reading import Member, Person, Reading
 from exam_desk.trouble import Stale, Trouble
 from exam_desk.words import FEATURES
-from exam_web.desk import PATIENCE, Desk, View, desk, office, sums, two_papers, view
+from exam_web.desk import PATIENCE, Desk, View, desk, office, sums, two_papers, unseated, view
 from exam_web.forms import Asked, Form, Page, Wrong, attached, keep, lead
 from exam_web.wording import said
 
@@ -46,18 +46,7 @@ TROUBLE = 0  # among the numbers of refusals: what the desk refuses itself
 APPEALS = ("SELECT appeal.*, day, session.start AS start, name FROM appeal JOIN session ON session.code = session "
            "JOIN candidate ON candidate.number = appeal.number ")
 BY_DAY = "ORDER BY day, session.start, lodged, appeal.number"
-KINDS = {  # the gravest first: in words before the change, after it, and after it of one where that is another
-    "loses": ("would lose the desk", "lost the desk"),
-    "lacks": ("would join a session without a desk", "joined a session without a desk"),
-    "paper": ("would have another paper", "have another paper", "has another paper"),
-    "moves": ("would move to another hall", "moved to another hall"),
-    "time": ("would have another time", "have another time", "has another time"),
-    "name": ("would have another name", "have another name", "has another name"),
-    "gets": ("would get a desk", "got a desk"),
-    "leaves": ("would leave a session", "left a session"),
-    "joins": ("would join a session", "joined a session"),
-    "desk": ("would have another desk number only", "have another desk number only", "has another desk number only"),
-}
+KINDS = ["short", *consequences.KINDS, "codes"]  # the gravest first; their words are in templates/effects.html
 NUMBERS = attrgetter("members", "desks", "short", "clashes")  # of a session
 
 
@@ -69,18 +58,23 @@ class Effects:
         then, now, was = before.reading, after.reading, sums(before)
         met, codes = telling.touched(then, now), facts.access_codes(then.rows)
         changes = telling.of_touched(then, now, met) if consequences.has_seats(then) else []
-        self.changes = sorted(changes, key=lambda each: [*KINDS].index(each.kind()))
-        self.counts = {kind: telling.people_and_sittings([each.number for each in changes if each.kind() == kind])
-                       for kind in KINDS}
+        kinds = telling.by_kind(changes)
+        self.changes = [each for part in kinds.values() for each in part]
         self.to_tell = [each for each in self.changes if each.is_to_tell()]
-        self.people, _ = telling.people_and_sittings([each.number for each in self.to_tell])
-        self.desk_only = Counter(each.session for each in self.changes if each.kind() == "desk")  # by session
-        self.codes = sum(codes.get(number, code) != code for number, code in facts.access_codes(now.rows).items())
+        self.desk_only = Counter(each.session for each in kinds.get("desk", []))  # by session
+        self.codes = consequences.by_name(now, [str(number) for number, code in facts.access_codes(now.rows).items()
+                                                if codes.get(number, code) != code])
         self.sessions = [(was.get(code), each) for code, each in sums(after).items()
                          if code not in was or NUMBERS(was[code]) != NUMBERS(each)]
-        self.short = sum(max(0, each.short - (old.short if old else 0)) for old, each in self.sessions)
         self.clashes, self.overlaps = new_clashes(before, after), named(now, overlaps.new(then, now, [*met]))
         self.out_of_date = consequences.out_of_date(now.office, changes)
+        who: dict[str, list[Any]] = {kind: [each.number for each in part] for kind, part in kinds.items()} | {
+            "short": [number for _, number in unseated(after) - unseated(before)] if not changes else [],
+            "clashes": [member.number for _, member, _ in self.clashes],
+            "twice": [person.number for _, people in self.overlaps for person in people],
+            "halls": [(each.early, each.late, hall) for each, _ in self.overlaps for hall in each.halls],
+            "codes": [person.number for person in self.codes]}
+        self.counts = {kind: telling.people_and_sittings(who[kind]) for kind in KINDS if who.get(kind)}
         self.titles = telling.titles_of(then, now)
 
     def csv(self, name: str) -> Response:
@@ -94,8 +88,8 @@ def new_clashes(before: View, after: View) -> list[tuple[str, Member, list[str]]
     for code, people in two_papers(after).items():
         was = old.get(code, {})
         others = [number for number in people if people[number] != was.get(number)][:MOST_CLASHES - len(found)]
-        then, now = before.missed(code, [number for number in others if number in was]), after.missed(code, others)
-        for number, papers in now.items():
+        then = before.reading.clashes(code, [str(number) for number in others if number in was])
+        for number, papers in after.reading.clashes(code, [*map(str, others)]).items():
             new = [paper for paper in papers if paper not in then.get(number, [])]
             if new and (member := after.reading.member(code, number)):
                 found.append((code, member, new))

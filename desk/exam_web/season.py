@@ -8,9 +8,10 @@ from flask import Blueprint, render_template, request, url_for
 from werkzeug.wrappers import Response
 
 from exam_desk import appeals, facts, logbook, notebook, running, turns
+from exam_desk.telling import people_and_sittings
 from exam_desk.trouble import Trouble
 from exam_web import candidates
-from exam_web.desk import Sums, desk, sums, two_papers, view
+from exam_web.desk import Sums, desk, sums, two_papers, unseated, view
 from exam_web.forms import lead
 from exam_web.proposals import copy_key
 from exam_web.wording import days_until, text
@@ -39,6 +40,7 @@ def page() -> str:
     return render_template("season.html", sessions=found, weeks=weeks_of(found), attention=attention(found, is_whole),
                            is_whole=is_whole, deadlines=deadlines(found), most=MOST_SHOWN,
                            candidates=view().count("SELECT count(*) FROM candidate"),
+                           short=people_and_sittings([number for _, number in unseated(view())]),
                            widest=max((max(each.members, each.desks) for each in found), default=1))
 
 
@@ -101,11 +103,11 @@ def open_appeals() -> list[Attention]:
 def clashes(coming: list[Sums]) -> Iterator[Attention]:
     """How many have two papers at once and no appeal on it that is open or decided."""
     heard = set(map(tuple, view().rows("SELECT session, number FROM appeal WHERE kind = 2 AND state IN (1, 2, 3)")))
-    unheard = {code: sum((code, number) not in heard for number in people)
+    unheard = {code: {number for number in people if (code, number) not in heard}
                for code, people in two_papers(view()).items()}
     if late := [each for each in coming if unheard.get(each.code) and days_until(each.day) > 0]:
         yield Attention("note", appeals.to_lodge("clash", late[0].day), "clashes", url_for("clashes.page"),
-                        {"count": sum(unheard[each.code] for each in late), "sessions": len(late)})
+                        {"count": len(set().union(*(unheard[each.code] for each in late))), "sessions": len(late)})
 
 
 def out_of_date(coming: list[Sums]) -> Iterator[Attention]:

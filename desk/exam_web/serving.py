@@ -1,20 +1,18 @@
 """One desk an office: its port, its lock and its links; and the end of all of them."""
 import contextlib
-import fcntl
 import logging
 import os
 import secrets
 import socket
 from collections.abc import Callable, Iterator
 
-from exam_desk import beside
+from exam_desk import beside, turns
 from exam_desk.office import Office
 from exam_desk.trouble import Trouble
 
 HOST = "127.0.0.1"  # no option names another
 PORT, PORTS = 8717, 20  # the first that is tried where none is given, and how many after it
 LOCK = "desk.lock"
-NOTE_BYTES = 256
 THREADS = 6
 SILENCE = 120  # seconds after which a connection without a request is closed
 MISSING = ("the desk in a browser needs {}: `apt install python3-flask python3-waitress`, as root; every other command "
@@ -34,19 +32,12 @@ def import_waitress() -> None:
 def lock_of(office: Office) -> Iterator[int | None]:
     """The lock of the office's desk; None where another desk has it."""
     beside.make_folder(office.path)
-    file = beside.open_file(office.path, LOCK, flags=os.O_RDWR | os.O_CREAT)
-    try:
-        fcntl.flock(file, fcntl.LOCK_EX | fcntl.LOCK_NB)
-        yield file
-    except BlockingIOError:
-        yield None
-    finally:
-        os.close(file)
+    with turns.opened(office, LOCK) as file:
+        yield file if turns.try_lock(file) else None
 
 
 def running_at(office: Office) -> tuple[str, str]:
-    with open(beside.open_file(office.path, LOCK, flags=os.O_RDONLY), "rb") as file:
-        said = file.read(NOTE_BYTES).decode("ascii", "replace").split()
+    said = turns.text_of(office, LOCK).split()
     if len(said) != 2:
         raise Trouble("a desk of this office begins or ends just now; try again")
     return said[0], said[1]
@@ -89,7 +80,7 @@ def serve(office: Office, port: int | None, pretended: bool, ready: Callable[[st
         stack.callback(guard.drop_links, office.path)
         stack.callback(os.ftruncate, lock, 0)
         door = application.make(desk).extensions["guard"].door
-        os.pwrite(lock, f"{address} {prefix}".ljust(NOTE_BYTES).encode(), 0)
+        turns.note(lock, f"{address} {prefix}")
         guard.drop_links(office.path)
         logging.getLogger("waitress.queue").setLevel(logging.ERROR)  # that a request waits is nothing to say
         if desk.is_there():

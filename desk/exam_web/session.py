@@ -2,8 +2,8 @@
 import math
 import re
 import sqlite3
-from collections.abc import Callable, Iterator, Sequence
-from typing import NamedTuple
+from collections.abc import Callable, Sequence
+from typing import Any, NamedTuple
 
 from flask import Blueprint, abort, g, render_template, request
 from werkzeug.wrappers import Response
@@ -12,12 +12,11 @@ from exam_desk import facts, files, lists, notebook, reasons
 from exam_desk.changing import Step
 from exam_desk.facts import Opening
 from exam_desk.notebook import Rows
-from exam_desk.overlaps import of_day
 from exam_desk.reading import Member
-from exam_desk.reasons import Shortage
 from exam_desk.sheets import papers, slips
 from exam_desk.trouble import Trouble
 from exam_desk.words import clock
+from exam_web import remedies
 from exam_web.desk import View, desk, once, sums, two_papers, view
 from exam_web.forms import Form, Page, Wrong, attached, checked, lead, styled, whole
 from exam_web.proposals import PLANS, Plan, command, features, import_step
@@ -25,14 +24,12 @@ from exam_web.wording import many, said, text
 
 pages = Blueprint("session", __name__)
 MOST_PEOPLE = 100  # that a page lists for one reason
-MOST_EXPLAINED, MOST_REMEDIES = 30, 4
+MOST_EXPLAINED = 30
 WIDTH, HEIGHT, GAP = 78, 38, 5  # of a desk in a picture, and from one to the next
 RUNNING = dict(zip(notebook.RUNNING, ("along the rows", "along and back", "down the columns", "down and up")))
 MOST_SUPPOSED = 14  # desks in a row, where nobody said how many
 SEATS = "session,date,start,finish,number,name,paper,paper title,hall,desk,extra,needs".split(",")
-MIDNIGHT = 24 * 60
 Values = dict[str, str]
-USUAL = "SELECT desks, until FROM opening WHERE hall = ? GROUP BY desks, until ORDER BY count(*) DESC LIMIT 1"
 
 
 class Sheet(NamedTuple):
@@ -50,14 +47,6 @@ SHEETS = {
         reading, slips.Choice(sessions=[session], desks=True))),
     "board": Sheet("Notice board by name", papers.board), "counts": Sheet("Copies of each paper", papers.counts),
 }
-
-
-class Remedy(NamedTuple):
-    """An opening that would suit some of those without a desk, and how the hall is open now: a guess that a button
-    rehearses, since only the program says what it comes to."""
-    suits: int
-    opening: Opening
-    now: Opening | None = None
 
 
 class Session:
@@ -91,13 +80,10 @@ class Session:
     def clashes(self, most: int) -> list[tuple[Member, list[str]]]:
         """Who has two papers at once, and which ones they miss, both as the program says. Who is asked of has two live
         entries in the rows."""
-        numbers = list(two_papers(view()).get(self.code, {}))[:most]
-        missed = view().missed(self.code, numbers)
-        return [(member, missed[member.number]) for member in self.members(numbers) if member.number in missed]
-
-    def members(self, numbers: Sequence[int]) -> list[Member]:
-        """What the program says of some members."""
-        return view().reading.members(self.code, numbers)
+        numbers = [*two_papers(view()).get(self.code, {})][:most]
+        missed = view().reading.clashes(self.code, [*map(str, numbers)])
+        return [(member, missed[member.number]) for member in view().reading.members(self.code, numbers)
+                if member.number in missed]
 
     def is_to_come(self) -> bool:
         return notebook.is_to_come(desk().office, self.sums.day)
@@ -106,7 +92,7 @@ class Session:
         """Who is noted as absent, if anything is; a copy from before somebody came may have been put back."""
         noted = notebook.absent(desk().office, self.code)
         known = facts.candidate_names(view().reading.rows).keys()
-        return None if noted is None else self.members(sorted(map(int, noted & known)))
+        return None if noted is None else view().reading.members(self.code, sorted(map(int, noted & known)))
 
 
 @pages.get("/sessions/<code>")
@@ -121,12 +107,13 @@ def page(code: str) -> str:
 
 
 @once
-def shortage(view: View, code: str) -> tuple[Shortage, list[tuple[Member, dict[str, list[str]]]], list[Remedy]]:
-    """Why a session is short: the program's own account; for some of those without a desk the halls by reason; and what
-    could help."""
+def shortage(view: View, code: str) -> dict[str, Any]:
+    """Why a session is short: the program's own account; for some of those without a desk their needs, and the halls by
+    reason; what could help; and what they need that no hall has."""
     why, sheet = reasons.compared(view.reading, code)
-    return (sheet, [(member, by_reason(why.of(member))) for member in why.unseated()[:MOST_EXPLAINED]],
-            sorted(remedies(view, why), key=lambda each: -each.suits)[:MOST_REMEDIES])
+    found = [(member, why.needs(member), by_reason(why.of(member))) for member in why.unseated()[:MOST_EXPLAINED]]
+    return {"sheet": sheet, "reasons": found, "remedies": remedies.best(view.reading.rows, why, sheet),
+            "lacking": remedies.lacking(view.reading.rows, why)}
 
 
 def by_reason(halls: list[tuple[str, str]]) -> dict[str, list[str]]:
@@ -137,31 +124,13 @@ def by_reason(halls: list[tuple[str, str]]) -> dict[str, list[str]]:
     return found
 
 
-def remedies(view: View, why: reasons.Reasons) -> Iterator[Remedy]:
-    """Halls that are open in another way, or are not open, and suit some of those without a desk."""
-    opened = {each.hall: each for each in why.openings}
-    for code, title, mask in view.rows("SELECT code, title, features FROM hall ORDER BY code"):
-        widest = Opening(code, title, mask, 1, MIDNIGHT, False)  # open as long as can be, for everybody
-        suited = [member for member in why.unseated() if not why.obstacles(member, widest)]
-        last = max((of_day(member.sitting.finish) for member in suited), default=0)
-        if suited and code in opened:
-            now = opened[code]
-            longer = now._replace(until=max(now.until, last))
-            reserved = now.reserved and all(not why.obstacles(member, longer) for member in suited)
-            desks = max(now.desks, len(suited) + len(why.taken[code]))
-            if (then := longer._replace(reserved=reserved, desks=desks)) != now:
-                yield Remedy(len(suited), then, now)
-        elif suited:  # open as it is in most sessions, and long enough
-            desks, until = view.row(USUAL, [code]) or (len(suited), last)
-            yield Remedy(len(suited), widest._replace(desks=desks, until=max(until, last)))
-
-
 @pages.get("/sessions/<code>/halls/<hall>", endpoint="hall")
 def hall_page(code: str, hall: str) -> str:
     """A hall as a picture: a piece of the session's page, or a page of its own where no script runs."""
     shown, opening = Session(code), Session(code).opening(hall)
     seated = view().rows("SELECT number FROM seat WHERE session = ? AND hall = ?", [code, hall])
-    members, rows = lists.by_desk(shown.members([number for number, in seated]), hall), standing(opening)
+    members = lists.by_desk(view().reading.members(code, [number for number, in seated]), hall)
+    rows = standing(opening)
     desks = sorted((number, column * (WIDTH + GAP) + 2, row * (HEIGHT + GAP) + 2)
                    for row, line in enumerate(papers.numbered(opening.desks, rows))
                    for column, number in enumerate(line) if number is not None)

@@ -12,7 +12,7 @@ import pathlib
 from flask import Flask, current_app, request
 from markupsafe import Markup, escape
 
-from exam_desk.words import clock, feature_text, plain
+from exam_desk.words import clock, features, plain
 
 MOST_LETTERS = 10  # of a name at a desk
 RIGHT_TO_LEFT = ("ar", "fa", "he", "ur")
@@ -59,22 +59,9 @@ def day(iso: str) -> Markup:
     return Markup("{} {} {}").format(text(f"{date:%a}"), date.day, text(f"{date:%b}"))
 
 
-def year_day(iso: str) -> Markup:
-    return Markup("{} {}").format(day(iso), iso[:4])
-
-
 def days_until(iso: str) -> int:
     today: datetime.date = current_app.extensions["desk"].office.today()
     return (datetime.date.fromisoformat(iso) - today).days
-
-
-def away(iso: str) -> Markup:
-    """How far a day is from today."""
-    left = days_until(iso)
-    near = {0: "today", 1: "tomorrow", -1: "yesterday"}
-    if left in near:
-        return text(near[left])
-    return text("in {count} days", count=left) if left > 0 else text("{count} days ago", count=-left)
 
 
 def short(name: str) -> str:
@@ -89,6 +76,5 @@ def prepare(app: Flask) -> None:
     app.jinja_env.trim_blocks = app.jinja_env.lstrip_blocks = True
     app.jinja_env.finalize = lambda value: plain(value) if type(value) is str else value
     app.jinja_env.globals.update(_=text, many=many, language=language)
-    app.jinja_env.filters.update(shown=shown, num=number, day=day, year_day=year_day, away=away, clock=clock,
-                                 features=feature_text, short=short, until=days_until,
-                                 seven=lambda value: f"{int(value):07}")
+    app.jinja_env.filters.update(shown=shown, num=number, day=day, clock=clock, features=features,
+                                 short=short, until=days_until, seven=lambda value: f"{int(value):07}")

@@ -9,11 +9,14 @@ import time
 import urllib.parse
 
 import sample
-from sample import DESK, SampleSchool
+from exam_desk import files
+from sample import DESK, KINDS, SampleSchool
 
 MARK, STATE = 'name="mark" value="([^"]+)"', 'name="state" value="([^"]*)"'
 EFFECT = r'effect (\w+)"><b>([\d,]+)</b>[^<]*(?:<small>\((?:<bdi>)?([\d,]+))?'
 LINK = r"http://127\.0\.0\.1:(\d+)(/[^/\s]+)/enter#(\S+)"
+SESSIONS = "S1,2027-06-07,09:00\nS2,2027-06-08,09:00\n"
+PAPERS = "SHORT,Short,S1,60,-\nLONG,Long,S1,90,-\nCODING,Coding,S1,60,computer\nOTHER,Other,S2,60,-\nMORE,More,S2,60,-\n"
 PYTHON = "/usr/bin/python3"
 HAS_FLASK = subprocess.run([PYTHON, "-c", "import flask, waitress"], capture_output=True, check=False).returncode == 0
 
@@ -118,3 +121,23 @@ class DeskSchool(SampleSchool):
     def log(self):
         with open(os.path.join(self.desk, "log"), encoding="utf-8") as file:
             return file.read()
+
+
+class SmallSchool(DeskSchool):
+    """A desk over a small office of the two sessions S1 and S2, which a test fills."""
+
+    def begin(self, halls, openings, entries, arrangements=""):
+        """Begins anew with an office of these rows; its candidates are those who are entered."""
+        self.end()
+        for name in os.listdir(self.folder):
+            if name.startswith("office.db"):
+                os.remove(os.path.join(self.folder, name))
+        numbers = dict.fromkeys(row.split(",")[0] for row in entries.split())
+        rows = dict(zip(KINDS, (SESSIONS, PAPERS, halls, openings,
+                                "".join(f"{number},Name {number},CODE{number}\n" for number in numbers),
+                                arrangements, entries)))
+        lines = [["init"], *(["import", kind, self.write(f"{kind}.csv", f"{','.join(files.HEADERS[kind])}\n{text}")]
+                             for kind, text in rows.items())]
+        for words in lines:
+            subprocess.run(self.value.line(*words), check=True, stdout=subprocess.DEVNULL)
+        self.start()

@@ -22,6 +22,7 @@ FORMS = {  # a form of each plan that the sample school takes, and the page that
     "arrangement": ("/candidates/1051", {**WHO, "needs": "quiet", "extra": "25"}),
     "code": ("/candidates/1051", WHO),
     "name": ("/candidates/1051", {**WHO, "name": "Berg, Ada"}),
+    "candidate": ("/candidates", {"number": "0009001", "name": "Ann"}),
     "lodge": ("/candidates/1051", {**WHO, "session": "TUE-AM", "kind": "hall", "wanted_hall": "AULA"}),
     "decide": ("/appeals/1051/D1", {**WHO, "ref": "D1", "outcome": "refused"}),
     "open": ("/sessions/MON-AM", {**MONDAY, "hall": "R14", "desks": "3", "until": "14:00"}),

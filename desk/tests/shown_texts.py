@@ -17,27 +17,29 @@ from jinja2 import nodes
 
 DESK = pathlib.Path(__file__).resolve().parent.parent
 sys.path.insert(0, str(DESK))
-from exam_desk import appeals, mistakes, refusals  # noqa: E402
+from exam_desk import appeals, keeping, mistakes, refusals  # noqa: E402
 from exam_desk.workbook import cells, opening  # noqa: E402
-from exam_web import application, desk, forms, proposals, session  # noqa: E402
+from exam_web import application, desk, forms, proposals, session, wording  # noqa: E402
 
 DAYS = [datetime.date(2027, 3, day) for day in range(1, 8)]
 MONTHS = [datetime.date(2027, month, 1) for month in range(1, 13)]
 CHAPTERS = set(re.findall("^## (.+)", (DESK.parent / "docs/HANDBOOK.md").read_text("utf-8"), re.M))
-SAID = [*refusals.SENTENCES.values(), *refusals.OTHER.values()]
+RAISED = [call.args[0].value for path in (DESK / "exam_desk").glob("*.py")  # sentences without a value
+          for call in ast.walk(ast.parse(path.read_text("utf-8"))) if isinstance(call, ast.Call)
+          and ast.unparse(call.func) == "Trouble" and isinstance(call.args[0], ast.Constant)]
+OTHERWISE = wording.LANGUAGES["en"].keys() & {*RAISED, keeping.RUNS, refusals.NO_CODE}  # said as no command says them
+SAID = [*refusals.SENTENCES.values(), *refusals.OTHER.values(), *OTHERWISE]
 CURES = [cure.removesuffix(forms.SHEET_HINT) for cure in mistakes.CURES.values()]
 OPENED = [cells.PASSWORD, opening.NO_UTF_8, opening.NO_WORKBOOK, opening.OLD_FORM]  # why a file is not read
 OWN = [proposals.OTHER_OFFICE, proposals.WRONG_DESK]
 TABLES = {  # by what stands in the call
-    "word": [*(word for _, word in application.PLACES), *session.RUNNING.values()],
+    "word": session.RUNNING.values(),
     "sheet.title": [sheet.title for sheet in session.SHEETS.values()],
-    "words[tense]": [word for pair in proposals.KINDS.values() for word in pair],
     "appeals.KINDS[row.kind]": appeals.KINDS.values(), "appeals.STATES[row.state]": appeals.STATES.values(),
     "kind": appeals.KINDS.values(), "PROBLEMS[fault.code]": application.PROBLEMS.values(),
     "str(stage)": [desk.COPYING, desk.COUNTING], "mistakes.CURES[column].removesuffix(SHEET_HINT)": CURES,
     "v.kind": appeals.KINDS.values(),
     "f'{date:%a}'": [f"{date:%a}" for date in DAYS], "f'{date:%b}'": [f"{date:%b}" for date in MONTHS],
-    "near[left]": ["today", "tomorrow", "yesterday"],
 }
 SENTENCE = re.compile(r"[a-z]{2,} [a-z]{2,}.* [a-z]{2,}")
 SQL = re.compile(r"\s*(SELECT|FROM|WHERE|ORDER|JOIN|AND|GROUP|HAVING)\b|.*\b(SELECT|FROM entry|JOIN)\b")

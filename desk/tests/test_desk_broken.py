@@ -120,6 +120,7 @@ class AtAnyTime(Uploads):
         proposal = self.propose()
         rehearsed = time.monotonic()
         self.browser.post(proposal + "/do", proposal)
+        self.browser.get(proposal)  # waits for the end, where that takes longer than the desk lets a request wait
         done, after = time.monotonic(), states.name_now(self.value)
         self.office("back", "1", "--yes")
         return rehearsed - began, done - rehearsed, after

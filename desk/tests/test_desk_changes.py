@@ -332,6 +332,8 @@ class TestBesideKeep(DeskSchool):
         self.browser.post("/office/keep", "/office", what="start", port=str(port))
         self.addCleanup(self.run_office, "keep", "stop")
         self.assertIn(f"127.0.0.1 {port}", self.browser.words("/office"))
+        _, text = self.browser.post("/office/keep", "/office", 500, what="start", port=str(port))
+        self.assertIn("candidates are served already; the page Office says where", text)
         stop, answers = threading.Event(), []
 
         def ask():

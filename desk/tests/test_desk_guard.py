@@ -145,7 +145,8 @@ class TestPages(DeskSchool):
         for path in ("/", "/enter", "/static/desk.css"):
             self.assertEqual(self.browser.ask("GET", path, prefix="")[0].status, 404)
         for path in ("/static/../guard.py", "/static/%2e%2e/guard.py", "/sessions/..%2f..", "/office/copies/..%2f..",
-                     "/files/uploaded/x/../../etc.csv", "/nothing"):
+                     "/files/uploaded/x/../../etc.csv", "/nothing", f"/candidates/{10**20}",
+                     f"/appeals/{10**20}/D1", f"/clashes/MON-AM/{10**20}"):
             self.assertIn(self.browser.ask("GET", path)[0].status, (404, 308), path)
 
     def test_headers(self):

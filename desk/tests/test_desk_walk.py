@@ -60,6 +60,7 @@ class TestWalk(DeskSchool):
             ("enter", where, {**person, "paper": chance.choice(entries)[1]}),
             ("lodge", where, {**person, "session": session, "kind": "arrangement", "wanted_extra": 25, **needs}),
             ("lodge", where, {**person, "session": session, "kind": "hall", "wanted_hall": hall}),
+            ("candidate", "/candidates", {"number": f"{number + chance.randint(0, 1) * 9000000:07}", "name": "New"}),
             ("close", f"/sessions/{session}", {"session": session, "lost": hall}),
             ("open", f"/sessions/{session}", {"session": session, "hall": hall, "desks": chance.randint(1, 9),
                                               "until": "23:30"}),

@@ -1,0 +1,227 @@
+"""What the screens of the desk in a browser say: arrangements in one way, counts of people that lead to more, a new
+candidate, the handbook."""
+import html
+import os
+import pathlib
+import re
+import shutil
+import subprocess
+import tempfile
+import unittest
+
+from desk_client import HAS_FLASK, PYTHON, DeskSchool, SmallSchool, effects
+from sample import DESK, TOP
+
+EXTRA = "no needs, 25 % extra time"
+LEADS = r'<a href="#([^"]+)" class="effect (\w+)">'
+
+
+class TestArrangements(DeskSchool):
+    def words(self, path):
+        """A page as it is read: tags part no words."""
+        return html.unescape(re.sub(r"\s+", " ", re.sub(r"<[^>]+>", "", self.browser.get(path))))
+
+    def test_an_appeal_says_what_it_asks(self):
+        self.office("lodge", "0001119", "MON-AM", "arrangement", "-", "25", "")
+        self.office("lodge", "0001051", "MON-AM", "arrangement", "step-free+quiet", "0", "")
+        for path in ("/appeals", "/appeals/1119/D1", "/sessions/MON-AM", "/candidates/1119"):
+            words = self.words(path)
+            self.assertIn(EXTRA, words, path)
+            self.assertNotRegex(words, r"- 25|-, 25|25 % %", path)
+        for path in ("/appeals", "/appeals/1051/D1", "/sessions/MON-AM", "/candidates/1051"):
+            self.assertIn("step-free, quiet, no extra time", self.words(path), path)
+
+    def test_so_do_a_rehearsal_and_who_has_it(self):
+        form = {"number": "0001119", "extra": "25"}
+        page, _ = self.browser.post("/propose/arrangement", "/candidates/1119", **form)
+        self.assertRegex(self.words(page), f"Arrangement of [^:]+: {EXTRA}")
+        self.browser.post(page + "/do", page)
+        self.assertIn(f"Arrangement: {EXTRA}", self.words("/candidates/1119"))
+        (session, hall), = self.rows("SELECT session, hall FROM seat WHERE number = 1119 LIMIT 1")
+        self.assertIn(f"with {EXTRA}", self.words("/candidates/1119"))
+        drawn = self.browser.get(f"/sessions/{session}/halls/{hall}")
+        self.assertRegex(drawn, f"<title>[^<]*, 0001119, [^<]*, {EXTRA}</title>")
+        self.assertIn(f"<td>{EXTRA}</td>", drawn)
+        page, _ = self.browser.post("/propose/lodge", "/candidates/1119", number="0001119", session=session,
+                                    kind="arrangement", wanted_extra="17", needs=["screen", "quiet"])
+        self.assertIn("arrangement screen, quiet, 17 % extra time", self.words(page))
+
+
+class TestCounts(DeskSchool):
+    def rehearsed(self, what, path, **values):
+        """The effects of a rehearsal, and its text; each count leads to a place of the page."""
+        page, _ = self.browser.post(f"/propose/{what}", path, **values)
+        text = self.browser.get(page)
+        leads = re.findall(LEADS, text)
+        self.assertEqual({kind for _, kind in leads}, {*effects(text)})
+        for place, _ in leads:
+            self.assertEqual(text.count(f'id="{place}"'), 1, place)
+        return effects(text), text, {kind: place for place, kind in leads}
+
+    def test_two_papers_at_once(self):
+        (number, paper), = self.rows(
+            "SELECT number, other.code FROM seat JOIN paper AS other ON other.session = seat.session "
+            "WHERE other.code > (SELECT max(code) FROM paper JOIN entry ON paper = code WHERE entry.number = seat.number "
+            "AND paper.session = seat.session) LIMIT 1")  # one that is not the first by code, so nobody moves
+        found, text, leads = self.rehearsed("enter", f"/candidates/{number}", number=f"{number:07}", paper=paper)
+        self.assertEqual(found["clashes"], (1, 1))
+        self.assertIn("1</b> would have two papers at once anew", text)
+        self.assertIn(paper, text.partition(f'id="{leads["clashes"]}"')[2].partition("</table>")[0])
+        self.assertNotIn("Nobody would move", text)
+
+    def test_two_sessions_at_one_time(self):
+        for kind, rows in (("sessions", "session,date,start\nHL,2027-06-07,10:00\n"),
+                           ("papers", "paper,title,session,minutes,requires\nHL-1,Oral,HL,60,-\n"),
+                           ("openings", "session,hall,desks,until,reserved\nHL,AULA,5,18:00,no\n")):
+            self.office("import", kind, self.write(f"{kind}.csv", rows))
+        found, text, leads = self.rehearsed("enter", "/candidates/1000", number="0001000", paper="HL-1")
+        self.assertEqual((found["twice"], found["halls"]), ((1, 1), (1, 1)))  # AULA has both sessions
+        self.assertIn("Ada Lin", text.partition(f'id="{leads["twice"]}"')[2].partition("</table>")[0])
+
+    def test_another_access_code(self):
+        found, text, leads = self.rehearsed("code", "/candidates/1051", number="0001051")
+        self.assertEqual(found, {"codes": (1, 1)})
+        self.assertIn("0001051", text.partition(f'id="{leads["codes"]}"')[2].partition("</p>")[0])
+
+    def test_a_lost_hall(self):
+        found, text, leads = self.rehearsed("close", "/sessions/MON-AM", session="MON-AM", lost="GYM")
+        rows = text.partition(f'id="{leads["loses"]}"')[2].partition("</table>")[0]
+        self.assertEqual(rows.count('<tr class="loses">'), found["loses"][1])
+        self.assertNotIn("clashes", found)
+
+
+class TestPeople(SmallSchool):
+    def test_the_season_counts_people(self):
+        """One candidate is in two sessions without a hall, another in one. Both have two papers at once in each."""
+        self.begin("A,Hall A,-\n", "", "0000001,SHORT\n0000001,LONG\n0000001,OTHER\n0000001,MORE\n"
+                                       "0000002,SHORT\n0000002,LONG\n")
+        words = self.browser.words("/")
+        self.assertIn("2 candidates 2 sessions 3 sittings 2 without a desk ( 3 sittings)", words)
+        self.assertIn("2 candidates with two papers at once and no appeal, in sessions: 2", words)
+        self.begin("A,Hall A,-\n", "S2,A,1,18:00,no\n", "0000001,SHORT\n0000001,LONG\n0000001,OTHER\n")
+        words = self.browser.words("/")
+        self.assertIn("1 candidate 2 sessions 2 sittings 1 without a desk 0 open appeals", words)
+        self.assertIn("0 free of 1 desk ", self.browser.words("/sessions/S2"))
+        self.assertIn("1 member 1 seated ", self.browser.words("/sessions/S2"))
+        self.assertIn("1 candidate = 0 desks + 1 without a desk", self.browser.words("/sessions/S1"))
+
+
+class TestNewCandidate(DeskSchool):
+    NEW = {"number": "0009001", "name": "Zoë <b> Lund"}
+
+    def test_taken_in_and_entered(self):
+        before = self.seats()
+        page, _ = self.browser.post("/propose/candidate", "/candidates", **self.NEW)
+        self.assertIn("New candidate 0009001 : Zoë <b> Lund", self.browser.words(page))
+        self.assertIn("Nobody would move", self.browser.words(page))
+        self.assertEqual(self.rows("SELECT * FROM candidate WHERE number = 9001"), [])
+        self.browser.post(page + "/do", page)
+        (name, code), = self.rows("SELECT name, code FROM candidate WHERE number = 9001")
+        self.assertEqual(name, self.NEW["name"])
+        self.assertRegex(code, "^[B-Z][B-Z2-9]{9}$")
+        self.assertEqual(self.seats(), before)
+        done = self.browser.get(page)
+        self.assertNotIn(code, done + self.log())
+        link = re.search(r'href="([^"]+)">To the candidate', done)[1].removeprefix(self.browser.prefix)
+        self.assertEqual(link, "/candidates/9001")
+        self.assertIn("No entry yet: choose a paper below", self.browser.words(link))
+        self.assertIn('action="' + self.browser.prefix + '/propose/enter"', self.browser.get(link))
+        entered, _ = self.browser.post("/propose/enter", link, number="0009001", paper="EN-1")
+        self.browser.post(entered + "/do", entered)
+        self.assertEqual(self.rows("SELECT paper FROM entry WHERE number = 9001"), [("EN-1",)])
+
+    def test_refused_at_its_field(self):
+        (there,), = self.rows("SELECT name FROM candidate WHERE number = 1051")
+        for values, said, field in (
+                ({"number": "0001051"}, "the office has this number", "number"),
+                ({"number": "9001"}, "seven digits", "number"), ({"number": "0000000"}, "seven digits", "number"),
+                ({"name": ""}, "1 to 80 bytes", "name"),
+                ({"name": "x" * 81}, "1 to 80 bytes", "name"), ({"name": "a\nb"}, "1 to 80 bytes", "name")):
+            _, text = self.browser.post("/propose/candidate", "/candidates", 422, **{**self.NEW, **values})
+            self.assertRegex(text, rf'name="{field}"[^>]*aria-invalid="true"', values)
+            self.assertIn(said, text, values)
+            if values.get("number") == "0001051":
+                fault = text.partition('id="fault-candidate-number"')[2].partition("</span>")[0]
+                self.assertIn(f'<a href="{self.browser.prefix}/candidates/1051">', fault)
+                self.assertIn(there, fault)
+        self.assertEqual(self.rows("SELECT count(*) FROM candidate"), [(60,)])
+
+    def test_somebody_else_takes_the_number_meanwhile(self):
+        """Another name and code would come in the place of theirs."""
+        page, _ = self.browser.post("/propose/candidate", "/candidates", **self.NEW)
+        self.office("import", "candidates", self.write("candidates.csv", "number,name,code\n0009001,Ann,ANNSCODE1\n"))
+        self.browser.post(page + "/do", page)
+        self.assertIn("go back to the form", self.browser.words(page))
+        self.assertEqual(self.rows("SELECT name, code FROM candidate WHERE number = 9001"), [("Ann", "ANNSCODE1")])
+
+    def test_not_now(self):
+        page, _ = self.browser.post("/propose/candidate", "/candidates", **self.NEW)
+        path = html.unescape(re.search(r'<a class="button" href="([^"]+)">Not now', self.browser.get(page))[1])
+        path = path.removeprefix(self.browser.prefix).partition("#")[0]
+        self.assertIn("Nothing was done. The form is as you left it.", self.browser.words(path))
+        self.assertIn('name="number" value="0009001"', self.browser.get(path))
+        self.browser.post(page + "/do", page)
+        self.assertNotIn("Nothing was done", self.browser.words(path))
+
+
+HELP = r'<a href="([^"]+/handbook)#([^"]+)">([^<]+)</a>'
+HANDBOOK = (TOP / "docs/HANDBOOK.md").read_text("utf-8")
+WITHOUT = """
+import datetime, sys
+sys.path.insert(0, sys.argv[1])
+from exam_desk.office import Office
+from exam_web import application, desk, guard, office
+print(office.HANDBOOK)
+office.HANDBOOK = None
+app = application.make(desk.Desk(Office('none.db', 'none', datetime.date.today, 'x'), '127.0.0.1:1', '', False))
+app.extensions['guard'].visits[guard.digest('secret')] = guard.Visit('ab')
+client = app.test_client()
+client.set_cookie('localhost', 'desk', 'secret')
+print(client.get('/').text.partition('helpline')[2].partition('</p>')[0])
+"""
+
+
+class TestHandbook(DeskSchool):
+    def test_each_help_line_leads_to_its_chapter(self):
+        book = self.browser.get("/handbook")
+        self.office("lodge", "0001119", "MON-AM", "arrangement", "-", "25", "")
+        for path in ("/", "/sessions/MON-AM", "/candidates", "/candidates/1051", "/appeals", "/appeals/1119/D1",
+                     "/clashes", "/overlaps", "/files", "/office", "/clashes/MON-AM/1051"):
+            (where, place, chapter), = re.findall(HELP, self.browser.get(path))
+            self.assertEqual(where, self.browser.prefix + "/handbook", path)
+            self.assertIn(f'id="{place}"><h2>{chapter}</h2>', book, path)
+
+    def test_it_is_whole(self):
+        book = self.browser.get("/handbook")
+        parts = re.sub("</?(h1|h2|pre|section)[^>]*>", "\n", book.partition("<article")[2].partition("</article>")[0])
+        shown = html.unescape(re.sub("<[^>]+>", "", parts))
+        for words in (shown, HANDBOOK):
+            self.assertGreater(len(words), 50_000)
+        words = re.sub(r"\[([^][]+)\]\(#[^()]+\)", r"\1", re.sub("^#+ ", "", HANDBOOK, flags=re.M))
+        self.assertEqual(shown.partition(">")[2].split(), words.split())
+        for place in re.findall(r"\]\(#([^()]+)\)", HANDBOOK):
+            self.assertIn(f'<a href="#{place}">', book)
+            self.assertEqual(book.count(f'id="{place}"'), 1, place)
+        self.assertIn("S1,C,1,12:00,no\\n", book)  # as it stands there
+        self.assertIn("\n    SHORTAGE session S1\n    unseated 1\n", book)
+
+
+@unittest.skipUnless(HAS_FLASK, "Flask or waitress is missing")
+class TestWhereTheHandbookLies(unittest.TestCase):
+    def test_beside_a_release(self):
+        with tempfile.TemporaryDirectory() as folder:
+            for name in ("exam_desk", "exam_web"):
+                shutil.copytree(DESK / name, pathlib.Path(folder, "share/examoffice/desk", name))
+            book = os.path.join(os.path.realpath(folder), "share/doc/examoffice/HANDBOOK.md")
+            for found in ("None", book):
+                done = subprocess.run([PYTHON, "-B", "-c", WITHOUT, os.path.join(folder, "share/examoffice/desk")],
+                                      capture_output=True, text=True, check=True, cwd=folder)
+                self.assertEqual(done.stdout.splitlines()[0], found)
+                os.makedirs(os.path.dirname(book), exist_ok=True)
+                shutil.copy(TOP / "docs/HANDBOOK.md", book)
+            self.assertIn("The desk in a browser", done.stdout)
+            self.assertNotIn("handbook#", done.stdout)
+
+
+if __name__ == "__main__":
+    unittest.main()
