@@ -112,7 +112,7 @@ It writes a new file that only its owner can read, never over one that is there;
 so that no spreadsheet takes it for a number.
 """)
 def codes(parser: ArgumentParser) -> int:
-    from exam_desk import coding, lists
+    from exam_desk import coding, files, lists
     parser.add_argument("candidates", metavar="CANDIDATES.csv", nargs="?", help="candidates.csv if not given")
     parser.add_argument("--new", metavar="NUMBER", nargs="+", default=[], help="who gets another code")
     form = parser.add_mutually_exclusive_group()
@@ -128,7 +128,7 @@ def codes(parser: ArgumentParser) -> int:
         title = " ".join(["codes", *(["--new", *given.new] if given.new else [])])
         return programs.carry_out(command.office(), step, title)
     output = given.output or f"{os.path.splitext(path)[0]}-with-codes.csv"
-    coding.write(output, found.rows)
+    files.put(output, coding.file_of(found.rows))
     kept = f", {found.kept} filled from the office" if found.kept else ""
     made, rows = lists.count(found.made, "code"), lists.count(len(found.rows), "row")
     command.say(f"{plain(output)}: {made} made for {rows}{kept}\n")

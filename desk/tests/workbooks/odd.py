@@ -2,7 +2,7 @@
 import io
 import zipfile
 
-from cases import ADA, ADA_LINE, ARRANGEMENTS, BO, BO_LINE, CANDIDATES, ENTRIES, HALLS, OPENINGS, PAPERS, SESSIONS, candidates, sheet
+from cases import ADA, ADA_LINE, ARRANGEMENTS, BO, CANDIDATES, ENTRIES, HALLS, OPENINGS, PAPERS, SESSIONS, candidates, sheet
 from rawbook import MAIN, TIME, ods, ods_row, xlsx, zipped
 
 CASES = []
