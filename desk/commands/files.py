@@ -136,8 +136,8 @@ def codes(parser: ArgumentParser) -> Plan:
 
 
 def write_codes(path: str, found: Coded) -> None:
-    from exam_desk import coding, lists
-    coding.write(path, found.rows)
+    from exam_desk import coding, files, lists
+    files.put(path, coding.file_of(found.rows))
     kept = f", {found.kept} filled from the office" if found.kept else ""
     made, rows = lists.count(found.made, "code"), lists.count(len(found.rows), "row")
     command.say(f"{plain(path)}: {made} made for {rows}{kept}\n")

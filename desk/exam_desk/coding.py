@@ -87,14 +87,6 @@ def file_of(rows: list[list[str]]) -> bytes:
     return files.file_of("candidates", rows)
 
 
-def write(path: str, rows: list[list[str]]) -> None:
-    """Makes a file of candidates for its owner alone. Raises `Trouble` where it is there."""
-    try:
-        files.put(path, file_of(rows))
-    except FileExistsError:
-        raise Trouble(f"{path} is there already; remove it, or name another with --output") from None
-
-
 def renamed(office: Office, number: str, name: str) -> Step:
     """The import of a candidate's row with another name and the same code. Raises `Trouble` where there is no such
     candidate, or the name has another form."""

@@ -62,8 +62,12 @@ def read(path: str) -> bytes:
 
 
 def put(path: str, text: bytes) -> None:
-    """Makes a file for its owner alone, whole or not at all. Raises FileExistsError where it is there."""
-    with open(os.open(path, os.O_WRONLY | os.O_CREAT | os.O_EXCL, 0o600), "wb") as file:
+    """Makes a file for its owner alone, whole or not at all. Raises `Trouble` where something has its name."""
+    try:
+        number = os.open(path, os.O_WRONLY | os.O_CREAT | os.O_EXCL, 0o600)
+    except FileExistsError:
+        raise Trouble(f"{path} is there already; name another") from None
+    with open(number, "wb") as file:
         try:
             file.write(text)
             file.flush()

@@ -208,6 +208,4 @@ def put_workbook(path: str, rows: Rows | None = None) -> None:
     """Makes a workbook for its owner alone. Raises `Trouble` where something has its name, or openpyxl is missing."""
     if not path.endswith(".xlsx"):
         raise Trouble("the name of the workbook must end in .xlsx")
-    if os.path.lexists(path):
-        raise Trouble(f"{path} is there already; name another")
     files.put(path, workbook_of(rows))

@@ -2,7 +2,7 @@
 import io
 import zipfile
 
-from cases import ADA, ADA_LINE, ARRANGEMENTS, BO, BO_LINE, CANDIDATES, ENTRIES, HALLS, OPENINGS, PAPERS, SESSIONS, candidates, sheet
+from cases import ADA, ADA_LINE, ARRANGEMENTS, BO, CANDIDATES, ENTRIES, HALLS, OPENINGS, PAPERS, SESSIONS, candidates, sheet
 from rawbook import MAIN, TIME, ods, ods_row, xlsx, zipped
 
 CASES = []
@@ -117,3 +117,5 @@ case("merged-header", xlsx(candidates(["0000001", "Lin", "CODE0001"], merge=["B1
 case("sheet-by-header", xlsx(sheet("Plan", CANDIDATES, ADA)), files={"candidates": [ADA_LINE]}, told=[["Plan", "is read as candidates, by its header"]])
 case("crosses-beside-candidates", xlsx(sheet("Candidates", [*CANDIDATES, "MA-1", "step-free", "Consent"], [*ADA, "x", None, "x"], [*BO, None, "x", None])),
      1, only=True, mistakes=[["Candidates!D1", "a sheet Entries"], ["Candidates!E1", "a sheet Arrangements"]], told=[["Candidates!F1", "not read"]])
+case("struck-and-odd", xlsx(candidates(["0000001", ("strike", "Fran\u00c3\u00a7ois"), "CODE0001"])), 1, only=True, quiet=True,
+     mistakes=[["Candidates!B2", "struck"]])
