@@ -195,11 +195,11 @@ class Commands(sample.SampleSchool):
         self.assertEqual(sorted((line.split(",")[1], line.split(",")[2]) for line in members),
                          sorted((line[0], line[1]) for line in lines[1:]))
         self.assertEqual(self.office("absent", "MON-AM", "0001051"), f"1 candidate absent of {len(members)}\n")
-        self.assertEqual(self.office("absent", "MON-AM", "-", stdin="0001000\n0001017, 0001051\n"),
+        self.assertEqual(self.office("absent", "MON-AM", "-", stdin="1000\n0001017, 0001051\n"),
                          f"3 candidates absent of {len(members)}\n")
         self.office("absent", "MON-AM", "--there", "0001000")
         self.assertEqual({line[0] for line in self.board() if line[2] == "absent"}, {"0001017", "0001051"})
-        self.assertIn("nothing is noted: 1051: no candidate of MON-AM", self.refused("absent", "MON-AM", "0001000", "1051"))
+        self.assertIn("nothing is noted: 0009051: no candidate of MON-AM", self.refused("absent", "MON-AM", "0001000", "9051"))
         self.assertEqual(len([line for line in self.board() if line[2] == "absent"]), 2)
         self.assertIn("there is no session MON", self.refused("absent", "MON"))
 

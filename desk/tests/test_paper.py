@@ -35,7 +35,7 @@ class Papers(sample.SampleSchool):
         self.assertIn("with 50 % extra time, reader", text)
         self.assertIn("<b>no desk yet: ask the office</b>", text)
         self.assertIn("desk&nbsp;1<", self.office("slips", "--desks", "MON-AM"))
-        self.assertIn("sits nothing there", self.refused("slips", "--only", "1051"))
+        self.assertIn("sits nothing there", self.refused("slips", "--only", "9051"))
         self.assertIn("no session S9", self.refused("slips", "S9"))
 
     def test_slips_by_group(self):
