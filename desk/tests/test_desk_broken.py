@@ -110,7 +110,7 @@ class AtAnyTime(Uploads):
             proposal = self.propose()
             self.kill(lambda: self.browser.post(proposal + "/do", proposal), chance.uniform(0, 1.1) * length)
             self.put_back(after)
-            self.assertEqual((states.name_now(self.value), self.office("check")), (self.before, "good\n"))
+            self.assertEqual((states.name_now(self.value), self.run_office("check").stdout), (self.before, "good\n"))
         if "KILLS" in os.environ:
             print(f"{2 * self.KILLS} kills, half of them in a rehearsal")
 

@@ -6,8 +6,10 @@ import sqlite3
 import unittest
 
 import test_changing
-from exam_desk import telling
+from commands import programs
+from exam_desk import changing, telling
 from exam_desk.reading import Sitting
+from exam_desk.trouble import Stale
 
 
 class WhatIf(test_changing.Changing):
@@ -94,6 +96,17 @@ class WhatIf(test_changing.Changing):
         done = self.run_office("what-if", "reinstate", "--list", path)
         self.assertEqual((done.returncode, done.stdout), (1, "0 of 1 rows would be done\n"))
         self.assertIn("line 2: reinstate 0001017 MA-1: refused 10\n", done.stderr)
+
+    def test_steps_that_were_made_for_another_state(self):
+        """Another command came between the look at the office and the rehearsal."""
+        step = changing.Step(("withdraw", "0001000", "MA-1"))
+        with changing.rehearse(self.value, [step]) as rehearsal:
+            for state in ("another", rehearsal.promised):
+                plan = programs.Asked([step], question="", done="", is_agreed=True, made_for=state)
+                with self.assertRaisesRegex(Stale, "the office changed meanwhile, so nothing is changed"):
+                    plan.said(rehearsal)
+            self.assertEqual(programs.Asked([step], question="", done="", is_agreed=True, made_for=rehearsal.made_from,
+                                            own=lambda before, after: []).said(rehearsal), 0)
 
     def test_take_is_its_rehearsal_without_the_question(self):
         facts = self.facts()

@@ -39,7 +39,7 @@ class Words(sample.SampleSchool):
 
     def test_a_name_that_cannot_be(self):
         before = self.row()
-        for words, said in ((["1051", "Ann"], "the office has no candidate 1051"),
+        for words, said in ((["10x51", "Ann"], "the office has no candidate 10x51"),
                             (["9999999", "Ann"], "the office has no candidate 9999999"),
                             *((["0001051", name], "a name has 1 to 80 bytes") for name in ("", "é" * 41, "a\nb"))):
             self.assertIn(said, self.refused("name", *words))
