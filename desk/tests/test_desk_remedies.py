@@ -52,7 +52,7 @@ class TestWhatCouldHelp(SmallSchool):
                                            ("Have A with 2 desks, 1 more", "1 of the 1")])
 
     def test_one_moves_after_another(self):
-        """Who needs step-free suits A alone, who needs a reader A and B, who needs a screen B and C, which is closed."""
+        """Who needs step-free can sit in A alone, who needs a reader in A and B, who needs a screen in B, and in C."""
         self.begin("A,Hall A,step-free+reader\nB,Hall B,screen+reader\nC,Hall C,screen\n",
                    "S1,A,1,12:00,no\nS1,B,1,12:00,no\n", "0000001,SHORT\n0000002,SHORT\n0000003,SHORT\n",
                    "0000001,screen,0\n0000002,reader,0\n0000003,step-free,0\n")
