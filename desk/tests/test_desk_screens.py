@@ -186,11 +186,10 @@ class TestSearch(DeskSchool):
         self.assertEqual(set(self.found("051")), {1051, 9051})
         self.assertEqual(self.found("0000007"), "/candidates/7")
         self.assertEqual(self.found("nobody"), [])
-        names = dict(self.rows("SELECT number, name FROM candidate"))
-        many = self.found("1")
+        names, many = dict(self.rows("SELECT number, name FROM candidate")), self.found("1")
         self.assertEqual(set(many), {number for number in names if number % 10 == 1})
-        self.assertEqual([names[number].split()[-1] for number in many],
-                         sorted(names[number].split()[-1] for number in many))
+        last = [names[number].split()[-1].replace("Å", "A") for number in many]
+        self.assertEqual(last, sorted(last))
 
 
 HELP = r'<a href="([^"]+/handbook)#([^"]+)">([^<]+)</a>'
