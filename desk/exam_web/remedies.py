@@ -17,7 +17,7 @@ MIDNIGHT = 24 * 60
 
 
 class Remedy(NamedTuple):
-    """An opening that could seat so many, and how the hall is open now."""
+    """An opening that could seat so many, or more where who sits there moves on; and how the hall is open now."""
     seats: int
     opening: Opening
     now: Opening | None

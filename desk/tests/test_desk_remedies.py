@@ -1,7 +1,8 @@
 """What could help a session that is short of desks, at the desk in a browser: over small offices whose best remedies
-are known, and over offices at random. Each seats as many as it says.
+are known, where each seats as many as it says; and over offices at random, where each seats no fewer, since others in
+its hall may move on, too.
 
-REMEDIES is the number of offices at random, four if it is not set."""
+REMEDIES is the number of offices at random, eight if it is not set."""
 import contextlib
 import html
 import os
@@ -128,23 +129,30 @@ class Wide(RandomOffice):
 
 
 class TestAtRandom(SampleSchool):
-    def test_each_seats_as_many_as_it_says(self):
-        tried = sum(self.look(seed) for seed in range(int(os.environ.get("REMEDIES", "4"))))
+    def test_none_seats_fewer_than_it_says(self):
+        tried = sum(self.look(seed) for seed in range(int(os.environ.get("REMEDIES", "8"))))
         self.assertGreater(tried, 0)
         if "REMEDIES" in os.environ:
             print(f"{tried} remedies at random")
 
     def look(self, seed):
-        """Has the program rehearse each remedy; how many there were."""
+        """Has the program rehearse each remedy, and each open hall with more desks than anybody needs, open for
+        everybody until the end of the day: no remedy of that hall is forgotten. How many there were."""
         tried = 0
         with tempfile.TemporaryDirectory() as folder:
             made = Wide(folder, seed)
             made.make()
             for session in made.sessions:
                 with Reading(made.office) as reading:
-                    found = remedies.best(reading.rows, *reasons.compared(reading, session))
+                    why, sheet = reasons.compared(reading, session)
+                    found = [*remedies.remedies(reading.rows, why, sheet)]
                 for each in found:
-                    self.assertEqual(self.gained(made.office, session, each.opening), each.seats, (seed, session, each))
+                    self.assertGreaterEqual(self.gained(made.office, session, each.opening), each.seats,
+                                            (seed, session, each))
+                for each in why.openings:
+                    most = max((remedy.seats for remedy in found if remedy.opening.hall == each.hall), default=0)
+                    widest = each._replace(desks=99, until=24 * 60, reserved=False)
+                    self.assertEqual(self.gained(made.office, session, widest), most, (seed, session, each))
                 tried += len(found)
         return tried
 
