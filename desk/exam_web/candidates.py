@@ -47,8 +47,8 @@ def search(asked: str) -> list[Person]:
     """Whose number ends so, or whose name has all these words: accents and capitals do not matter; by name."""
     if not (asked.isascii() and asked.isdigit()):
         return texts.find(view().reading.rows, asked)
-    end = asked.lstrip("0") or "0"
-    return lists.by_name(Person(*row) for row in view().rows(f"{texts.CANDIDATES} WHERE number LIKE ?", [f"%{end}"]))
+    rows = view().rows(f"{texts.CANDIDATES} WHERE printf('%07d', number) LIKE ?", [f"%{asked}"])
+    return lists.by_name(Person(*row) for row in rows)
 
 
 @pages.get("/candidates/<int:number>")

@@ -8,7 +8,6 @@ from typing import NamedTuple
 
 from exam_desk.facts import Opening
 from exam_desk.overlaps import of_day
-from exam_desk.reading import Member
 from exam_desk.reasons import Reasons, Shortage
 from exam_desk.snapshot import Rows
 from exam_desk.words import features
@@ -18,7 +17,7 @@ MIDNIGHT = 24 * 60
 
 
 class Remedy(NamedTuple):
-    """An opening that could seat so many, and how the hall is open now."""
+    """An opening that could seat so many, or more where who sits there moves on; and how the hall is open now."""
     seats: int
     opening: Opening
     now: Opening | None
@@ -40,43 +39,47 @@ def best(rows: Rows, why: Reasons, sheet: Shortage) -> list[Remedy]:
 def remedies(rows: Rows, why: Reasons, sheet: Shortage) -> Iterator[Remedy]:
     """No opening asks for more than it needs: with the desks that are free, and with as many as are short. A closed
     hall has no more than it has in another session."""
-    listed = set(sheet.candidates)
-    members = sorted((member for member in why.members if member.number in listed), key=lambda each: each.sitting.finish)
-    suited = {each.hall: [member for member in members if not why.obstacles(member, each)] for each in why.openings}
-    opened = {each.hall: each for each in why.openings}
+    listed, opened = set(sheet.candidates), {each.hall: each for each in why.openings}
+    members = sorted((each for each in why.members if each.number in listed), key=lambda each: bool(each.sitting.hall))
+    suited = [frozenset(each.hall for each in why.openings if not why.obstacles(member, each)) for member in members]
     most = dict(rows.execute("SELECT hall, max(desks) FROM opening GROUP BY hall"))
     for code, title, mask in rows.execute("SELECT code, title, features FROM hall ORDER BY code"):
         now, taken = opened.get(code), len(why.taken[code])
         base = now or Opening(code, title, mask, 0, 0, False)
         for reserved in {base.reserved, False}:
             widest = base._replace(until=MIDNIGHT, reserved=reserved)
-            ends = ends_of(code, [member for member in members if not why.obstacles(member, widest)], suited)
+            ends = ends_of(code, Counter(
+                (0 if why.obstacles(member, widest) else of_day(member.sitting.finish), halls, member.sitting.hall)
+                for member, halls in zip(members, suited)))
             free = base.desks - taken if now else most.get(code, len(ends))
             for seats in {len(ends[:free]), len(ends) if now else 0} - {0}:
                 yield Remedy(seats, base._replace(until=max(base.until, ends[seats - 1]), reserved=reserved,
                                                   desks=max(base.desks, taken + seats)), now)
 
 
-def ends_of(hall: str, there: list[Member], suited: dict[str, list[Member]]) -> list[int]:
-    """One more has a desk each time that a hall is open until then and has another desk: one of these goes there, and
-    others move on to the desk that is left, the last from none."""
-    at, full, found = dict[str, str](), {hall}, list[int]()
+def ends_of(hall: str, people: Counter[tuple[int, frozenset[str], str | None]]) -> list[int]:
+    """One more has a desk each time that a hall is open until then and has another desk: somebody goes there, and
+    others move on to the desk that is left, the last from none. How many people there are is by their end, 0 where the
+    hall cannot suit them, by the open halls that do, and by where they sit."""
+    full, found = {hall}, list[int]()
 
-    def leaves(member: Member) -> bool:
-        """Whether somebody can have the desk of a member, so that one more has a desk; they have it then."""
-        if (left := at.get(member.number, member.sitting.hall)) is None or left in full:
-            return left is None
-        full.add(left)
-        for other in suited[left]:
-            if at.get(other.number, other.sitting.hall) != left and leaves(other):
-                at[other.number] = left
-                full.discard(left)
+    def is_left(place: str | None) -> bool:
+        """Whether somebody can have a desk that is left, so that one more has a desk; they have it then."""
+        if place is None or place in full:
+            return place is None
+        full.add(place)
+        for end, halls, other in [*people]:
+            if place in halls and other != place and people[end, halls, other] and is_left(other):
+                people[end, halls, other] -= 1
+                people[end, halls, place] += 1
+                full.discard(place)
                 return True
         return False
-    for member in there:
-        if leaves(member):
-            at[member.number] = hall
-            found.append(of_day(member.sitting.finish))
+    for end, halls in sorted({(end, halls) for end, halls, _ in people if end}, key=lambda each: each[0]):
+        places = [None, *halls]
+        while (place := next((each for each in places if people[end, halls, each] and is_left(each)), hall)) != hall:
+            people[end, halls, place] -= 1
+            found.append(end)
     return found
 
 

@@ -16,7 +16,8 @@ MARK, STATE = 'name="mark" value="([^"]+)"', 'name="state" value="([^"]*)"'
 EFFECT = r'effect (\w+)"><b>([\d,]+)</b>[^<]*(?:<small>\((?:<bdi>)?([\d,]+))?'
 LINK = r"http://127\.0\.0\.1:(\d+)(/[^/\s]+)/enter#(\S+)"
 SESSIONS = "S1,2027-06-07,09:00\nS2,2027-06-08,09:00\n"
-PAPERS = "SHORT,Short,S1,60,-\nLONG,Long,S1,90,-\nCODING,Coding,S1,60,computer\nOTHER,Other,S2,60,-\nMORE,More,S2,60,-\n"
+PAPERS = ("SHORT,Short,S1,60,-\nLONG,Long,S1,90,-\nCODING,Coding,S1,60,computer\n"
+          "OTHER,Other,S2,60,-\nMORE,More,S2,60,-\n")
 PYTHON = "/usr/bin/python3"
 HAS_FLASK = subprocess.run([PYTHON, "-c", "import flask, waitress"], capture_output=True, check=False).returncode == 0
 

@@ -8,6 +8,7 @@ import shutil
 import subprocess
 import tempfile
 import unittest
+import urllib.parse
 
 from desk_client import HAS_FLASK, PYTHON, DeskSchool, SmallSchool, effects
 from sample import DESK, TOP
@@ -61,7 +62,7 @@ class TestCounts(DeskSchool):
     def test_two_papers_at_once(self):
         (number, paper), = self.rows(
             "SELECT number, other.code FROM seat JOIN paper AS other ON other.session = seat.session "
-            "WHERE other.code > (SELECT max(code) FROM paper JOIN entry ON paper = code WHERE entry.number = seat.number "
+            "WHERE other.code > (SELECT max(code) FROM paper JOIN entry ON paper = code WHERE number = seat.number "
             "AND paper.session = seat.session) LIMIT 1")  # one that is not the first by code, so nobody moves
         found, text, leads = self.rehearsed("enter", f"/candidates/{number}", number=f"{number:07}", paper=paper)
         self.assertEqual(found["clashes"], (1, 1))
@@ -162,6 +163,33 @@ class TestNewCandidate(DeskSchool):
         self.assertIn('name="number" value="0009001"', self.browser.get(path))
         self.browser.post(page + "/do", page)
         self.assertNotIn("Nothing was done", self.browser.words(path))
+
+
+class TestSearch(DeskSchool):
+    def found(self, asked):
+        """The numbers on the page of a search, in its order; of one candidate the page of that one."""
+        answer, text = self.browser.ask("GET", f"/candidates?q={urllib.parse.quote(asked)}")
+        if answer.status == 302:
+            return answer.headers["Location"].removeprefix(self.browser.prefix)
+        return [int(number) for number in re.findall(r"<small>(\d{7})</small>", text.partition('"people"')[2])]
+
+    def test_by_name_and_by_the_end_of_the_number(self):
+        self.office("import", "candidates", self.write(
+            "candidates.csv", "number,name,code\n0009051,Zoë Ådal,CODE90511\n0090510,zoe aaaa,CODE90510\n"
+                              "0000007,Ann Zoega,CODE00007\n"))
+        parts = self.found("ZOE")
+        self.assertLess(parts.index(90510), parts.index(9051))  # by the last name
+        self.assertIn(7, parts)
+        self.assertEqual(self.found("ådal  zoë"), "/candidates/9051")
+        self.assertEqual(self.found("0009051"), "/candidates/9051")
+        self.assertEqual(self.found("9051"), "/candidates/9051")
+        self.assertEqual(set(self.found("051")), {1051, 9051})
+        self.assertEqual(self.found("0000007"), "/candidates/7")
+        self.assertEqual(self.found("nobody"), [])
+        names, many = dict(self.rows("SELECT number, name FROM candidate")), self.found("1")
+        self.assertEqual(set(many), {number for number in names if number % 10 == 1})
+        last = [names[number].split()[-1].replace("Å", "A") for number in many]
+        self.assertEqual(last, sorted(last))
 
 
 HELP = r'<a href="([^"]+/handbook)#([^"]+)">([^<]+)</a>'
