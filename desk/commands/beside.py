@@ -56,7 +56,7 @@ def numbers(words: list[str]) -> list[str]:
     text = sys.stdin.buffer.read(MOST_BYTES + 1)
     if len(text) > MOST_BYTES:
         raise Trouble(f"more than {MOST_BYTES} bytes of numbers")
-    return [*map(typed.number, text.removeprefix(files.BOM).decode("utf-8", "replace").replace(",", " ").split())]
+    return text.removeprefix(files.BOM).decode("utf-8", "replace").replace(",", " ").split()
 
 
 @command.named("""Keeps notes on candidates, such as rest breaks, a scribe, a dictionary: notes [FILE]

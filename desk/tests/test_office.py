@@ -132,7 +132,7 @@ class Words(sample.SampleSchool):
         self.assertIn("1051", self.office("look", "1051").partition("refused")[2])
         self.office("name", "1051", "Ada")
         self.assertEqual(self.office("slips", "--only", "1051", "--csv"), self.office("slips", "--only", "0001051", "--csv"))
-        self.assertEqual(self.office("absent", "MON-AM", "1051", "1000"), "2 candidates absent of 60\n")
+        self.assertEqual(self.office("absent", "MON-AM", "1051", "1000", TODAY="2027-06-07"), "2 candidates absent of 60\n")
         with open(os.path.join(self.desk, "log"), encoding="utf-8") as log:
             self.assertFalse([line for line in log if re.search(r"\b10\d\d\b", line.split("\t")[2])])
         for words in (["withdraw", "0", "MA-1"], ["withdraw", "\u0661\u0660\u0660\u0660", "MA-1"], ["withdraw", "-1000", "MA-1"]):
