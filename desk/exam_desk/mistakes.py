@@ -344,7 +344,7 @@ def places_of(kind: str, header: tuple[bytes, ...]) -> Places | None:
 
 
 def placed(fields: tuple[bytes, ...], places: Places, width: int) -> tuple[bytes, ...]:
-    """The fields of a row in the order of the office's columns; as they are where the row is not so wide as its header."""
+    """The fields of a row in the order of the office's columns; as they are where its width is not the header's."""
     if any(fields[width:]) or len(fields) <= max(place or 0 for place in places):
         return fields
     return tuple(b"" if place is None else fields[place] for place in places)

@@ -199,8 +199,8 @@ def without_codes(upload: Upload) -> int:
 
 
 def may_be_list(upload: Upload, known: mistakes.Known) -> bool:
-    """Whether a file of entries is perhaps a list of withdrawals or of reinstatements: so it is called, or the office has
-    all its rows, as entries that count or that are withdrawn."""
+    """Whether a file of entries is perhaps a list of withdrawals or of reinstatements: so it is called, or the office
+    has all its rows, as entries that count or that are withdrawn."""
     content = upload.texts["entries"]
     return upload.is_called_list or next(below_header(content), None) is not None and any(
         all(record.fields in rows for record in below_header(content)) for rows in (known.entries, known.withdrawn))
@@ -320,7 +320,7 @@ def import_files(form: Form) -> Plan:
 
 
 def with_codes(upload: Upload, page: Page, form: Form) -> dict[str, bytes]:
-    """The file of candidates, if one of them has no access code, with that of the office, or a new one if this is asked."""
+    """The file of candidates, if one has no access code: with that of the office, or a new one if this is asked."""
     content = upload.texts.get("candidates", b"")
     if all(record.fields[-1] for record in below_header(content)):
         return {}
@@ -332,7 +332,8 @@ def with_codes(upload: Upload, page: Page, form: Form) -> dict[str, bytes]:
 
 
 def withdraw_list(upload: Upload, choice: str, page: Page) -> Plan:
-    """Withdraws or reinstates the entries of a list, each by a command of its own; who cannot be is named and left out."""
+    """Withdraws or reinstates the entries of a list, each by a command of its own. What is no such entry of the office
+    is named and left out."""
     if upload.kinds != ["entries"]:
         raise Wrong(page, choice=text("upload this list alone: what else is here would not be imported"))
     known, lines = mistakes.Known(view().reading.rows), dict[tuple[bytes, ...], int]()

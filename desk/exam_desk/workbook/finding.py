@@ -1,7 +1,7 @@
 """Which sheet of a workbook is what."""
 from exam_desk import files
 from exam_desk.workbook.cells import Book, Sheet, place_name
-from exam_desk.workbook.headers import (HEADER_WORDS, WITHIN, find_header, folded, is_exact, match_header, named_kind,
+from exam_desk.workbook.headers import (HEADER_WORDS, WITHIN, find_header, folded, match_header, named_kind,
                                         text_cells)
 from exam_desk.workbook.rows import Table
 from exam_desk.workbook.tables import Job
@@ -64,9 +64,7 @@ def kinds_of(job: Job, sheet: Sheet) -> list[str]:
     headers = {kind: header for kind in files.HEADERS if may_be(job, kind, sheet)
                and (header := find_header(kind, sheet, job.of_kind(kind), True))}
     read = {kind: {place for places in header.columns.values() for place in places} for kind, header in headers.items()}
-    kinds = [kind for kind in read if not any(read[kind] < read[other] for other in read)]  # that leave out least
-    exact = [kind for kind in kinds if is_exact(kind, sheet)]
-    return exact if len(exact) == 1 else kinds
+    return [kind for kind in read if not any(read[kind] < read[other] for other in read)]  # that leave out least
 
 
 def known_papers(job: Job) -> set[str]:
@@ -159,7 +157,8 @@ def find_entries(job: Job, rest: list[Sheet], tables: list[Table]) -> list[Table
             text = f"neither a header number, paper nor one of number and the codes of papers is found{cure}"
             job.report.mistake(text, sheet, min(sheet.rows))
         elif job.paper(sheet.name):
-            job.report.mistake("bears the name of a paper, but no row is a header with the column number", sheet, min(sheet.rows))
+            text = "bears the name of a paper, but no row is a header with the column number"
+            job.report.mistake(text, sheet, min(sheet.rows))
         else:
             job.report.note("is not read: no row is the header of one of the seven kinds", sheet)
     crossed = [table for table in lists if table.marks]

@@ -140,13 +140,6 @@ def find_header(kind: str, sheet: Sheet, given: Given, whole: bool = False) -> H
     return max(found, key=lambda header: len(header.columns)) if found else None
 
 
-def is_exact(kind: str, sheet: Sheet) -> bool:
-    """Whether a sheet has just the columns of a kind, under their own names."""
-    header = find_header(kind, sheet, Given(), True)
-    names = sorted(cell.text for cell in sheet.rows[header.row].values()) if header else []
-    return names == sorted(files.HEADERS[kind])
-
-
 # -- the file of columns
 
 def read_columns(path: str) -> tuple[dict[str, Given], Way]:

@@ -49,8 +49,8 @@ def book_of(data: bytes, name: str, encoding: str | None = None) -> Book:
 
 
 def is_zip(data: bytes, encoding: str | None = None) -> bool:
-    """Whether a file is a zip or else a text; raises `Trouble` where it is neither. A text that nobody gives an encoding
-    has no zeros but in UTF-16."""
+    """Whether a file is a zip or else a text; raises `Trouble` where it is neither. A text has no zeros but in UTF-16,
+    or in an encoding that the officer names."""
     if data.startswith(OLD):
         if "EncryptedPackage".encode("utf-16-le") in data:
             raise Trouble(PASSWORD)

@@ -170,8 +170,9 @@ class Table(Headed):
         key_is_word = any(totals(cell) is not None for cell in keys)
         if not (key_is_word or word and not all(keys) or computed and not any(keys)):
             return False
-        is_whole = all(any(here.get(place) for place in columns.get(name, [])) for name in header if name not in MAY_BE_EMPTY
-                    ) and all(map(self.job.said, header, keys))
+        needed = [name for name in header if name not in MAY_BE_EMPTY]
+        is_whole = all(any(here.get(place) for place in columns.get(name, [])) for name in needed) and \
+            all(map(self.job.said, header, keys))
         if is_whole and all(cell.kind == "text" and not cell.formula for cell in cells):
             self.note(row, None, "is read, though it looks like a total", "total")
             return False

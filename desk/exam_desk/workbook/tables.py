@@ -193,8 +193,8 @@ class Headed:
         if self.paper:
             self.note(None, None, f"bears the name of a paper: whom it lists is entered for {self.paper}")
         elif self.kind == "entries" and self.job.way.is_command and is_called_list(self.sheet.name):
-            self.mistake(None, None, "is called a list of entries to be withdrawn or reinstated: save it as CSV for `office "
-                         "withdraw --list FILE.csv`, or call it Entries if they are to be entered")
+            self.mistake(None, None, "is called a list of entries to be withdrawn or reinstated: save it as CSV for "
+                         "`office withdraw --list FILE.csv`, or call it Entries if they are to be entered")
         self.tell_crosses("entries")
         for name, places in self.header.twice.items():
             columns, options = ", ".join(map(letters_of, places)), self.job.way.or_say("which in a file of columns")
@@ -267,13 +267,13 @@ class Headed:
                 text = f"column {letters_of(place)} has values but no header; it is not read"
                 self.note(there[place], place, text)
             elif self.paper and folded(self.head[place].text) in NAMES_PAPERS:
-                text = f"{shown_of(self.head[place])!r} names papers, as the sheet does: delete the column, or call the " \
-                       "sheet Entries"
+                text = f"{shown_of(self.head[place])!r} names papers, as the sheet does: delete the column, or call " \
+                       "the sheet Entries"
                 self.mistake(self.header.row, place, text)
             elif of_people and (self.job.said("paper", self.head[place]) in self.job.papers
                                 or place in crosses and is_short(self.head[place].text)):
-                text = f"what stands below {shown_of(self.head[place])} is not read here: put papers on a sheet Entries, and " \
-                       "needs on a sheet Arrangements, with the numbers"
+                text = f"what stands below {shown_of(self.head[place])} is not read here: put papers on a sheet " \
+                       "Entries, and needs on a sheet Arrangements, with the numbers"
                 self.mistake(self.header.row, place, text)
             else:
                 self.note(self.header.row, place, f"the column {shown_of(self.head[place]).strip()!r} is not read")
