@@ -11,10 +11,10 @@ from typing import Any
 from xml.etree.ElementTree import Element, iterparse
 
 from openpyxl.cell import Cell as StyledCell
-from openpyxl.packaging.relationship import get_dependents, get_rels_path
+from openpyxl.packaging import relationship
 from openpyxl.reader.excel import ExcelReader
+from openpyxl.styles import stylesheet
 from openpyxl.styles.numbers import BUILTIN_FORMATS
-from openpyxl.styles.stylesheet import apply_stylesheet
 from openpyxl.worksheet import _reader
 from openpyxl.xml.constants import COMMENTS_NS, SHEET_MAIN_NS
 
@@ -25,7 +25,9 @@ from exam_desk.workbook.numberformats import BUILT_IN, MACINTOSH, WINDOWS, numbe
 
 STRICT = "http://purl.oclc.org/ooxml/"  # begins the names of the elements of another form
 STYLES = "xl/styles.xml"  # the only place where openpyxl looks for them
-sheets_reader: Any = _reader
+sheets_reader: Any = _reader  # openpyxl is typed in part, and only where python3-typeshed is there
+relations: Any = relationship
+styles_reader: Any = stylesheet
 PENDING = Cell("pending", "", "", True)  # a formula that nobody has computed
 Style = tuple[str, bool]  # a number format, and whether the font is struck out
 
@@ -85,7 +87,7 @@ class Reader:
         self.reader = ExcelReader(self.archive.fp, keep_links=False)
         self.reader.read_manifest()
         self.reader.read_workbook()
-        apply_stylesheet(self.archive, self.reader.wb)
+        styles_reader.apply_stylesheet(self.archive, self.reader.wb)
         self.epoch = MACINTOSH if self.reader.wb.epoch.year == 1904 else WINDOWS
         self.texts = SharedTexts()
         if len(tables := self.of_root("sst")) > 1:
@@ -203,8 +205,8 @@ class Reader:
         return self.styles[number]
 
     def comments(self, part: str) -> Iterator[str]:
-        beside = get_rels_path(part)
-        links = get_dependents(self.archive, beside).find(COMMENTS_NS) if beside in self.roots else []
+        beside = relations.get_rels_path(part)
+        links = relations.get_dependents(self.archive, beside).find(COMMENTS_NS) if beside in self.roots else []
         for element in self.elements([link.target for link in links if link.target in self.roots], "comment"):
             self.budget.keep("")
             yield element.attrib["ref"]
