@@ -338,9 +338,10 @@ def places_of(kind: str, header: tuple[bytes, ...]) -> Places | None:
     lacks is no key and refers to no other file."""
     head = [field.decode("utf-8", "replace").strip().lower() for field in header]
     places = {name: head.index(name) if name in head else None for name in files.HEADERS[kind]}
+    found = [place for place in places.values() if place is not None]
     missing = {name for name, place in places.items() if place is None}
-    is_one = files.needed_columns(kind).isdisjoint(missing) and len(places) - len(missing) > 1
-    return [*places.values()] if is_one and len({*head} - {""} - {*places}) == 0 else None
+    is_one = files.needed_columns(kind).isdisjoint(missing) and len(found) > 1 and found == sorted(found)
+    return [*places.values()] if is_one and {*head} <= {"", *places} else None
 
 
 def placed(fields: tuple[bytes, ...], places: Places, width: int) -> tuple[bytes, ...]:

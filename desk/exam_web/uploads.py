@@ -308,6 +308,8 @@ def dump() -> Response:
 def import_files(form: Form) -> Plan:
     key = form.get("upload", "")
     upload: Upload = g.visit.uploads.get(key) or abort(404)
+    if not upload.kinds:
+        abort(404)
     page: Page = ("files.look", {"key": key})
     choice = form.get("choice", "")
     if choice in CHOICES:

@@ -196,8 +196,8 @@ class Words(unittest.TestCase):
             "the column code is missing: add it (leave it empty; `office take .. --codes` makes the codes)",
             "leading zeros lost? 0001000 (seven digits; format the column as text)", "1 to 80 bytes; it has 0",
             "1 fields in place of 3; values are missing"], []))
-        self.assertEqual(self.mistakes_in("candidates", b"name, Number,code\nAda,1000,CODE0001\n"), ([
-            "the header must be number,name,code",
+        self.assertEqual(self.mistakes_in("candidates", b" Number,,name,code\n1000,,Ada,CODE0001\n"), ([
+            "columns without a name: delete them",
             "leading zeros lost? 0001000 (seven digits; format the column as text)"], []))
         self.assertEqual(self.mistakes_in("openings", b"session,desks,until,reserved\nS1,1,12:00,no\n")[0],
                          ["the first line must be session,hall,desks,until,reserved; no such header is found"])

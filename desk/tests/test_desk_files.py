@@ -193,6 +193,9 @@ class TestFiles(Uploads):
         words = self.browser.words(page)
         self.assertRegex(words, "MISTAKE entries!A3 : number 'x'")
         self.assertNotIn("/propose/files", self.browser.get(page))
+        page = self.upload(("halls.csv", b"hall,title\nZZ,x\n"))
+        self.assertRegex(self.browser.words(page), "MISTAKE halls!1 : the column features is missing")
+        self.propose(page, 404)
 
     def test_dates_are_chosen_on_the_screen(self):
         sheets = {"Sessions": [["session", "date", "start"], ["X-1", "01/06/2027", "9:00"]]}

@@ -134,7 +134,7 @@ class TestFiles(Uploads):
                 ("entries.csv", b"number,paper\n9999999,EN-1\n", 6),
                 ("papers.csv", b"paper,title,session,minutes,requires\nX,x,NO-1,9,-\n", 4),
                 ("openings.csv", b"session,hall,desks,until,reserved\nMON-AM,ZZ,9,14:00,no\n", 7),
-                ("halls.csv", b"hall,title,features\nzz,x,-\n", 1), ("halls.csv", b"hall,title\n", 2),
+                ("halls.csv", b"hall,title,features\nzz,x,-\n", 1),
                 ("halls.csv", b"hall,title,features\nZZ,x,-\nZZ,y,-\n", 3)):
             page = self.upload((name, text))
             proposal, _ = self.browser.post("/propose/files", page, upload=page.rsplit("/", 1)[1])
