@@ -8,7 +8,6 @@ from typing import NamedTuple
 
 from exam_desk import copies, facts, lists, notebook, overlaps, telling
 from exam_desk.asking import Progress
-from exam_desk.changing import Rehearsal
 from exam_desk.notebook import Desk, desk_of
 from exam_desk.office import Office
 from exam_desk.reading import Person, Reading
@@ -61,16 +60,9 @@ class Group(NamedTuple):
         return self.kind not in (HALLS, PRINTED)
 
 
-def of(rehearsal: Rehearsal, at_most: int | None, progress: Progress) -> list[str]:
-    """What the steps of a rehearsal would do, of those who are named at most so many in each way."""
-    with (Reading(rehearsal.office, rehearsal.before, progress) as before,
-          Reading(rehearsal.office, rehearsal.after, progress) as after):
-        return between(before, after, at_most)
-
-
 def between(before: Reading, after: Reading, at_most: int | None) -> list[str]:
-    """As `of`, from two readings; then a line for each session whose candidates or seats are other ones: how many they
-    are, counted by their rows."""
+    """What the steps of a rehearsal would do, of those who are named at most so many in each way; then a line for each
+    session whose candidates or seats are other ones: how many they are, counted by their rows."""
     met, was = groups(before, after), figures(before)
     shown = lines(met, at_most) if met or has_seats(before) else []
     sessions = [f"session {code}: {lists.count(people, 'candidate')}, {people - seats:,} without a desk"

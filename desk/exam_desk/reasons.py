@@ -16,7 +16,7 @@ from exam_desk.facts import Opening, session_row
 from exam_desk.lists import count
 from exam_desk.reading import Member, Reading
 from exam_desk.trouble import Trouble
-from exam_desk.words import FEATURES, clock, features, plain
+from exam_desk.words import FEATURES, clock, features, few, plain
 
 MOST_NAMED, MOST_HALLS = 3, 5  # occupants of a full hall, halls of a reason
 MOST_LINES = 60  # that go hall by hall; in place of more, equal reasons are put together
@@ -108,9 +108,7 @@ class Reasons:
         taken = self.taken[opening.hall]
         if len(taken) < opening.desks:
             return f"suits, {opening.desks - len(taken)} of {opening.desks} desks are free"
-        others = len(taken) - MOST_NAMED
-        return (f"suits, but {len(taken)} of {opening.desks} desks are taken: {', '.join(taken[:MOST_NAMED])}"
-                + (f" and {others} more" if others > 0 else ""))
+        return f"suits, but {len(taken)} of {opening.desks} desks are taken: {few(taken, MOST_NAMED)}"
 
     def text(self, number: str | None = None) -> str:
         """Lines on everybody without a desk, or on one candidate, hall by hall; of many candidates and halls in short.
@@ -143,9 +141,8 @@ class Reasons:
         yield f"why not in {halls}; a hall may have several reasons:" if self.openings else "no hall is open"
         for reason in sorted(where, key=lambda reason: (-len(who[reason]), reason)):
             named = sorted(where[reason])
-            more = f" and {len(named) - MOST_HALLS} more" if len(named) > MOST_HALLS else ""
             yield (f"  {reason}: {count(len(who[reason]), 'candidate')}, {count(len(named), 'hall')}: "
-                   f"{', '.join(named[:MOST_HALLS])}{more}")
+                   f"{few(named, MOST_HALLS)}")
         yield f"`office why {self.session} NUMBER` goes hall by hall for one of them"
 
     def lines(self, member: Member) -> str:

@@ -176,7 +176,6 @@ class Plan:
     def grant(self, who: Office) -> list[Step]:
         """Lodges the appeal, and keeps its reference; gives the step that would grant it, none where it is refused."""
         lodged = lodging.lodge(who, self.lodge)
-        assert lodged, "the form has all values"
         if lodged.status:
             self.refuse(lodged.line, lodged.explained)
             return []

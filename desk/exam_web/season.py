@@ -81,10 +81,8 @@ def level_of(session: Sums) -> str:
 
 
 def broken_off() -> Iterator[Attention]:
-    """A change without an end in the log, while nobody has the office: its process was killed, or the machine
-    stopped."""
-    here = desk().office
-    if (found := logbook.unfinished(here)) and not turns.is_taken(here):
+    """A change without an end in the log: its process was killed, or the machine stopped."""
+    if found := logbook.broken_off(desk().office):
         link = url_for("office.copy", key=copy_key(found.copy)) if found.copy else url_for("office.page")
         yield Attention("late", None, "broken", link, {"command": found.command, "when": found.when})
 
