@@ -139,7 +139,10 @@ def say_lines(lines: Iterable[str]) -> None:
 def ask(question: str) -> None:
     """Raises `Trouble` unless the answer is yes."""
     say(f"{question} [y/N] ")
-    if sys.stdin.readline().strip().lower() not in ("y", "yes"):
+    answer = sys.stdin.readline()
+    if not answer.endswith("\n"):  # nobody pressed Enter
+        say("\n")
+    if answer.strip().lower() not in ("y", "yes"):
         raise Trouble("nothing is changed")
 
 

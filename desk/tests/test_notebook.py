@@ -246,7 +246,7 @@ class Commands(sample.SampleSchool):
         self.assertEqual({line[0] for line in self.board() if line[2] == "absent"}, {"0001017", "0001051"})
         self.assertIn("nothing is noted: 0001052: no candidate of MON-AM",
                       self.refused("absent", "MON-AM", "0001000", "1052"))
-        for wrong in ("x1051", "00001051", "0", "١٠٥١", "10 51"):
+        for wrong in ("x1051", "00001051", "0000000", "١٠٥١", "10 51"):
             self.assertIn(f"'{wrong}' is no candidate number", self.refused("absent", "MON-AM", "1034", wrong))
         self.assertIn(f"'{'a' * 57}..' is no candidate number", self.refused("absent", "MON-AM", "a" * 99))
         self.assertEqual(len([line for line in self.board() if line[2] == "absent"]), 2)

@@ -134,6 +134,7 @@ class There(SecondSitting):
         self.assertEqual((done.returncode, done.stderr), (1, "office: nothing is changed\n"))
         self.assertTrue(done.stdout.endswith("do this? [y/N] "), done.stdout)
         self.assertEqual((self.state(), len(self.kept())), (self.before, self.copies_before))
+        self.assertTrue(self.run_office("second-sitting", *ONE, stdin="").stdout.endswith("do this? [y/N] \n"))
         self.assertIn("done; ", self.office("second-sitting", *ONE, stdin="y\n"))
 
     def test_an_arrangement_that_holds_in_one_session_alone_is_noted(self):
