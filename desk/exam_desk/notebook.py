@@ -133,8 +133,7 @@ def compared(reading: Reading, session: str) -> Compared | None:
     before = printed(reading.office, session)
     if not before:
         return None
-    members = reading.members(session)
-    now, names = desks_of(members), {member.number: member.name for member in members}
+    now, names = desks_of(reading.members(session)), facts.candidate_names(reading.rows)
     moves = [Move(number, names.get(number, ""), now.get(number), before.get(number)) for number in moved(before, now)]
     halls = {desk.hall for move in moves for desk in (move.now, move.printed) if desk}
     return Compared(moves, sorted(halls), sorted(halls - {desk.hall for desk in now.values()}))

@@ -69,7 +69,7 @@ class Change(NamedTuple):
         return self.kind() != "desk"
 
     def kind(self) -> str:
-        """The gravest of KINDS that it is."""
+        """The gravest of KINDS that it is; another day or start counts before another hall."""
         old, new = self.old, self.new
         if old is None or new is None:
             return "leaves" if new is None else "joins" if new.hall else "lacks"
@@ -77,6 +77,8 @@ class Change(NamedTuple):
             return "loses"
         if old.paper != new.paper:
             return "paper"
+        if old.hall and (old.date, old.start) != (new.date, new.start):
+            return "time"
         if old.hall != new.hall:
             return "moves" if old.hall else "gets"
         if old.session != new.session or time(old) != time(new):

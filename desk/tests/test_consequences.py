@@ -29,6 +29,7 @@ class Kinds(unittest.TestCase):
         for new, kind in ((SITTING._replace(hall=None, desk=None), "loses"),
                           (other._replace(hall=None, desk=None), "loses"), (other._replace(hall="B"), "paper"),
                           (SITTING._replace(hall="B", finish="10:15"), "moves"),
+                          (SITTING._replace(hall="B", date="2027-06-02"), "time"),
                           (SITTING._replace(start="09:10"), "time"), (SITTING._replace(date="2027-06-02"), "time"),
                           (SITTING._replace(finish="10:15", desk=2), "time"),
                           (SITTING._replace(desk=2), "desk"), (None, "leaves")):
