@@ -21,6 +21,8 @@ class Numbers(unittest.TestCase):
         self.assertEqual(papers.numbered(5, notebook.Rows(3, "down")), [[1, 3, 5], [2, 4, None]])
         self.assertEqual(papers.numbered(5, notebook.Rows(3, "down-and-up")), [[1, 4, 5], [2, 3, None]])
         self.assertEqual(papers.numbered(2, notebook.Rows(3, "down")), [[1, 2, None]])
+        self.assertEqual(papers.numbered(7, notebook.Rows(3, "down")), [[1, 4, 6], [2, 5, 7], [3, None, None]])
+        self.assertEqual(papers.numbered(7, notebook.Rows(3, "down-and-up")), [[1, 5, 6], [2, 4, 7], [3, None, None]])
         self.assertEqual(papers.numbered(1, notebook.Rows(1, "across-and-back")), [[1]])
 
     def test_each_desk_stands_once(self):

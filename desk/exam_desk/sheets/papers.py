@@ -138,15 +138,16 @@ def drawn(desks: int, members: Iterable[Member], rows: Rows) -> Iterator[Markup]
 
 
 def numbered(desks: int, rows: Rows) -> list[list[int | None]]:
-    """The numbers of the desks of a hall, row by row from the front; None where no desk stands."""
+    """The numbers of the desks of a hall, row by row from the front; None where no desk stands. The last row may be
+    short, and so may the columns that end there."""
     depth = -(-desks // rows.across)
     is_across, turns_back = rows.running.startswith("across"), "-and-" in rows.running
-    length = rows.across if is_across else depth
+    last = desks - (depth - 1) * rows.across  # desks of the last row
+    lengths = [rows.across] * depth if is_across else [depth - (column >= last) for column in range(rows.across)]
+    places = [(line, length - 1 - place if turns_back and line % 2 else place)
+              for line, length in enumerate(lengths) for place in range(length)]
     grid: list[list[int | None]] = [[None] * rows.across for _ in range(depth)]
-    for number in range(1, desks + 1):
-        line, place = divmod(number - 1, length)
-        if turns_back and line % 2:
-            place = length - 1 - place
+    for number, (line, place) in zip(range(1, desks + 1), places):
         row, column = (line, place) if is_across else (place, line)
         grid[row][column] = number
     return grid
