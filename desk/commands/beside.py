@@ -11,10 +11,11 @@ from exam_desk.words import few, plain
 if TYPE_CHECKING:
     from argparse import ArgumentParser
 
-    from exam_desk.notebook import Desk
+    from exam_desk.notebook import Desk, Move
     from exam_desk.reading import Reading
 
 MOST_BYTES = 1 << 16  # of numbers on standard input
+OTHERWISE = "with another name, paper, time, arrangement, note or title"
 
 
 @command.named("""Notes who was missing in a session, and lists it for the exam board: absent SESSION [NUMBER .. | -]
@@ -83,10 +84,10 @@ def notes(parser: ArgumentParser) -> None:
     command.say(" ".join(f"{word} {noted[word]}" for word in ("added", "changed", "removed", "same")) + "\n")
 
 
-@command.named("""Notes which desks are on paper, and says which are other ones now: printed SESSION [--look]
+@command.named("""Notes what is on paper, and says what is otherwise now: printed SESSION [--look]
 
-    office printed MON-AM           after printing: the desks as they are now are on paper
-    office printed MON-AM --look    who has another desk since then, and which halls are to be printed again
+    office printed MON-AM           after printing: the session as it is now is on paper
+    office printed MON-AM --look    who is not as on paper any more, and which halls are to be printed again
 
 Nothing but this command notes it: to look at a page notes nothing. On the day write *absent* on the paper rather than
 withdraw, since a withdrawal can give others another desk.
@@ -104,16 +105,21 @@ def printed(parser: ArgumentParser) -> None:
 
 
 def compared(reading: Reading, session: str) -> list[str]:
-    """Who has another desk than on paper, and the halls whose paper is out of date."""
+    """Who is not as on paper, and the halls whose paper is out of date."""
     from exam_desk import notebook
     found = notebook.compared(reading, session)
     if found is None:
         raise Trouble(f"nobody noted which desks are printed for {session}; `office printed {session}` does")
     again = ", ".join(hall for hall in found.halls if hall not in found.empty)
-    return [*(f"{move.number} {move.name}: {place(move.now)}, was {place(move.printed)}" for move in found.moves),
+    return [*(f"{move.number} {move.name}: {place(move.now)}, {other(move)}" for move in found.moves),
             *([f"to print again: {again}"] if again else []),
             *([f"to take away, as nobody sits there now: {', '.join(found.empty)}"] if found.empty else []),
             *([] if found.halls else ["the papers are up to date"])]
+
+
+def other(move: Move) -> str:
+    """What is another than on paper."""
+    return OTHERWISE if move.now == move.printed else f"was {place(move.printed)}"
 
 
 def place(desk: Desk | None) -> str:

@@ -176,6 +176,7 @@ def carry_out(office: Office, steps: Sequence[Step], made_from: str | None = Non
     Where names of states are given, the office must be of the first one, else `Stale` is raised; and it is said whether
     it is of the second one then. Raises `Trouble` where nothing could begin, and nothing is changed.
     """
+    office.today()  # a day that is none is said before anything begins
     if not os.path.isfile(office.path):  # the program says so
         return Carried([Answered(steps[0], run_patiently(office, steps[0]))], None, None)
     title = title or ", ".join(step.title() for step in steps)

@@ -2,15 +2,14 @@
 from __future__ import annotations
 
 import sqlite3
-from collections import Counter
+from collections import Counter, defaultdict
 from collections.abc import Collection, Iterable
 from typing import NamedTuple
 
 from exam_desk import copies, facts, lists, notebook, overlaps, telling
 from exam_desk.asking import Progress
-from exam_desk.notebook import Desk, desk_of
 from exam_desk.office import Office
-from exam_desk.reading import Person, Reading
+from exam_desk.reading import Member, Person, Reading
 from exam_desk.telling import Change, counted
 from exam_desk.trouble import Trouble
 from exam_desk.words import plain
@@ -103,20 +102,29 @@ def groups(before: Reading, after: Reading) -> list[Group]:
         HALLS: [Met(each.early, f"and {each.late} in {hall}", "both number their desks from 1")
                 for each in twice for hall in each.halls],
         PRINTED: [Met(code, f"for {', '.join(halls)}", f"afterwards `office {LISTED_BY[PRINTED].format(code)}`")
-                  for code, halls in out_of_date(after.office, different).items()]})
+                  for code, halls in out_of_date(after, different).items()]})
 
 
-def out_of_date(office: Office, changes: Iterable[Change]) -> dict[str, list[str]]:
-    """By session the halls whose papers are noted as printed and hold no longer: by these changes somebody there has
-    another desk than on paper, or none."""
-    printed: dict[str, dict[str, Desk]] = {}
-    halls: dict[str, set[str]] = {}
-    for session, number, _, old, new, _ in changes:
-        papers = printed.setdefault(session, notebook.printed(office, session))
-        on_paper, now = papers.get(number), desk_of(new)
-        if papers and now != on_paper and now != desk_of(old):
-            halls.setdefault(session, set()).update(desk.hall for desk in (on_paper, now) if desk)
-    return {session: sorted(found) for session, found in halls.items()}
+def out_of_date(after: Reading, changes: Iterable[Change]) -> dict[str, list[str]]:
+    """By session the halls whose papers are noted as printed and hold no longer: by these changes somebody there is not
+    as on paper."""
+    met, now = defaultdict[str, set[str]](set), defaultdict[str, list[Member]](list)
+    for each in changes:
+        met[each.session].add(each.number)
+        if each.old:
+            met[each.old.session].add(each.number)
+        if each.new:
+            now[each.new.session].append(Member(each.number, each.name, each.new))
+    halls = {session: halls_out_of_date(after, session, numbers, now[session]) for session, numbers in met.items()}
+    return {session: sorted(found) for session, found in halls.items() if found}
+
+
+def halls_out_of_date(after: Reading, session: str, numbers: Iterable[str], members: list[Member]) -> set[str]:
+    """The halls of those of these numbers who are not as on paper, now and there."""
+    papers = notebook.on_paper(after.office, session)
+    now = notebook.lines_of(after, session, members) if papers else {}
+    pairs = [(papers.get(number), now.get(number)) for number in numbers] if papers else []
+    return {line.desk.hall for pair in pairs if pair[0] != pair[1] for line in pair if line}
 
 
 def new_clashes(before: Reading, after: Reading, session: str, people: Collection[int] | None) -> list[Met]:

@@ -9,6 +9,7 @@ from __future__ import annotations
 
 import contextlib
 import fcntl
+import hashlib
 import json
 import os
 import re
@@ -21,7 +22,7 @@ from exam_desk.office import Office
 from exam_desk.trouble import NoOffice, Trouble
 
 if TYPE_CHECKING:
-    from exam_desk.reading import Member, Reading, Sitting
+    from exam_desk.reading import Member, Reading
 
 PLACE = "notebook"
 WORDS = {  # what a file holds, by the beginning of its name; {} is a session
@@ -33,6 +34,7 @@ RUNNING = ["across", "across-and-back", "down", "down-and-up"]  # how the number
 MOST_NOTE_BYTES = 200
 MOST_ACROSS = 100  # desks in a row
 MOST_NAMED = 5  # numbers in a refusal
+REST = 16  # letters of a sum of what a line on paper shows
 ATTENDANCE = ["number", "paper", "attendance"]
 Held = TypeVar("Held", bound=Collection[object])
 
@@ -43,6 +45,12 @@ class Desk(NamedTuple):
     desk: int
 
 
+class Line(NamedTuple):
+    """What papers show of somebody who has a desk."""
+    desk: Desk
+    rest: str  # a sum of the name, paper, times, arrangement, note and titles
+
+
 class Rows(NamedTuple):
     """How the desks of a hall stand."""
     across: int  # desks in a row
@@ -50,7 +58,8 @@ class Rows(NamedTuple):
 
 
 class Move(NamedTuple):
-    """Somebody who has another desk than on paper, or none."""
+    """Somebody who is not as on paper: at another desk, at none, or at the same one with another name, paper, time,
+    arrangement, note or title."""
     number: str
     name: str  # "" where they sit nothing in the session any more
     now: Desk | None
@@ -110,45 +119,58 @@ def can_stand(rows: Rows) -> bool:
     return 1 <= rows.across <= MOST_ACROSS and rows.running in RUNNING
 
 
+def on_paper(office: Office, session: str) -> dict[str, Line]:
+    """What was printed for a session, by number; nothing where nobody said that it was."""
+    found = read(office, f"printed.{session}", dict[str, tuple[str, int, str]](), is_line)
+    return {number: Line(Desk(hall, desk), rest) for number, (hall, desk, rest) in found.items()}
+
+
 def printed(office: Office, session: str) -> dict[str, Desk]:
-    """The desks that were printed for a session, by number; none where nobody said that they were."""
-    found = read(office, f"printed.{session}", dict[str, tuple[str, int]](), is_desk)
-    return {number: Desk(*desk) for number, desk in found.items()}
+    return {number: line.desk for number, line in on_paper(office, session).items()}
+
+
+def lines_of(reading: Reading, session: str, members: Iterable[Member]) -> dict[str, Line]:
+    """What papers of a session show of these members, of those who have a desk."""
+    noted, papers = notes(reading.office), facts.paper_titles(reading.rows)
+    halls = {each.hall: (each.title, each.until) for each in facts.openings(reading.rows, session)}
+    found = {}
+    for number, name, sits in members:
+        if sits.hall:
+            shown = [name, *sits, papers.get(sits.paper), halls.get(sits.hall), noted.get(number)]
+            rest = hashlib.sha256(repr(shown).encode("utf-8", "backslashreplace")).hexdigest()[:REST]
+            found[number] = Line(Desk(sits.hall, sits.desk or 0), rest)
+    return found
 
 
 def note_printed(reading: Reading, session: str) -> tuple[int, int]:
-    """Notes that the desks of a session are printed as they are; how many, and how many are other ones than those that
-    were noted before. Raises `Trouble` where there is no such session."""
-    desks = desks_of(reading.members(session))
-    before = printed(reading.office, session)
+    """Notes that the papers of a session are printed as it is; how many desks they have, and how many lines are other
+    ones than those that were noted before. Raises `Trouble` where there is no such session."""
+    lines = lines_of(reading, session, reading.members(session))
+    before = on_paper(reading.office, session)
     with alone(reading.office) as folder:
-        write(reading.office, folder, f"printed.{session}", desks)
-    return len(desks), len(moved(before, desks)) if before else 0
+        write(reading.office, folder, f"printed.{session}", {number: [*line.desk, line.rest] for number, line in lines.items()})
+    return len(lines), len(moved(before, lines)) if before else 0
 
 
 def compared(reading: Reading, session: str) -> Compared | None:
-    """The desks that were noted beside those of now; None where none were. Raises `Trouble` where there is no such
-    session."""
+    """What was noted beside what is so now; None where nothing was. Raises `Trouble` where there is no such session."""
     facts.session_row(reading.rows, session)
-    before = printed(reading.office, session)
+    before = on_paper(reading.office, session)
     if not before:
         return None
-    now, names = desks_of(reading.members(session)), facts.candidate_names(reading.rows)
-    moves = [Move(number, names.get(number, ""), now.get(number), before.get(number)) for number in moved(before, now)]
+    now, names = lines_of(reading, session, reading.members(session)), facts.candidate_names(reading.rows)
+    moves = [Move(number, names.get(number, ""), desk_of(now.get(number)), desk_of(before.get(number)))
+             for number in moved(before, now)]
     halls = {desk.hall for move in moves for desk in (move.now, move.printed) if desk}
-    return Compared(moves, sorted(halls), sorted(halls - {desk.hall for desk in now.values()}))
+    return Compared(moves, sorted(halls), sorted(halls - {line.desk.hall for line in now.values()}))
 
 
-def desk_of(sitting: Sitting | None) -> Desk | None:
-    return Desk(sitting.hall, sitting.desk or 0) if sitting and sitting.hall else None
+def desk_of(line: Line | None) -> Desk | None:
+    return line.desk if line else None
 
 
-def desks_of(members: Iterable[Member]) -> dict[str, Desk]:
-    return {member.number: desk for member in members if (desk := desk_of(member.sitting))}
-
-
-def moved(before: Mapping[str, Desk], now: Mapping[str, Desk]) -> list[str]:
-    """The numbers of who has another desk than before, or none, or one for the first time; by number."""
+def moved(before: Mapping[str, Line], now: Mapping[str, Line]) -> list[str]:
+    """The numbers of those whose line is another than before, is gone, or is there for the first time; by number."""
     return sorted(number for number in {*before, *now} if before.get(number) != now.get(number))
 
 
@@ -212,8 +234,8 @@ def is_text(part: object) -> bool:
     return isinstance(part, str)
 
 
-def is_desk(part: object) -> bool:
-    return isinstance(part, list) and [*map(type, part)] == [str, int]
+def is_line(part: object) -> bool:
+    return isinstance(part, list) and [*map(type, part)] == [str, int, str]
 
 
 def is_rows(part: object) -> bool:

@@ -67,7 +67,7 @@ class Effects:
         self.sessions = [(was.get(code), each) for code, each in sums(after).items()
                          if code not in was or NUMBERS(was[code]) != NUMBERS(each)]
         self.clashes, self.overlaps = new_clashes(before, after), named(now, overlaps.new(then, now, [*met]))
-        self.out_of_date = consequences.out_of_date(now.office, changes)
+        self.out_of_date = consequences.out_of_date(now, changes)
         who: dict[str, list[Any]] = {kind: [each.number for each in part] for kind, part in kinds.items()} | {
             "short": [number for _, number in unseated(after) - unseated(before)] if not changes else [],
             "clashes": [member.number for _, member, _ in self.clashes],

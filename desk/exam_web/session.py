@@ -212,7 +212,7 @@ def sheet(code: str, sheet: str, hall: Sequence[str] = ()) -> str:
 
 @pages.get("/sessions/<code>/printed")
 def compare_printed(code: str) -> str:
-    """Who has another desk than on paper: a piece of the session's page, or a page of its own where no script runs."""
+    """Who is not as on paper: a piece of the session's page, or a page of its own where no script runs."""
     shown = Session(code)
     return render_template("printed.html", s=shown.sums, found=notebook.compared(view().reading, code),
                            most=MOST_PEOPLE, taken=shown.taken())

@@ -170,8 +170,8 @@ class Told(sample.SampleSchool):
         self.assertEqual(lines[0], "1 session has printed papers that are out of date: MON-AM for AULA")
         self.assertEqual(lines[-1], "`office changes 1; office printed MON-AM --look` lists them")
         self.assertIn("to print again: AULA\n", self.office("printed", "MON-AM", "--look"))
-        self.assertNotIn("printed", "\n".join(self.told("name", "0001306", "Another Name")))
-        self.assertNotIn("printed", "\n".join(self.told("back", "2", "--yes")))  # all desks are as on paper again
+        self.assertIn("MON-AM for AULA", "\n".join(self.told("name", "0001306", "Another Name")))
+        self.assertNotIn("printed", "\n".join(self.told("back", "2", "--yes")))  # all is as on paper again
         lines = self.told("close-hall", "MON-AM", "GYM")
         [line] = [line for line in lines if "printed papers" in line]
         halls = line.removeprefix("1 session has printed papers that are out of date: MON-AM for ").split(", ")

@@ -193,7 +193,7 @@ class TestPages(DeskSchool):
             text = self.browser.get(path)
             self.assertNotRegex(text, r"<script(?! src=)|<img|<b on|\u202e|\u2066", path)
             self.assertNotIn("{49", text)
-        self.assertIn("another desk than on paper", self.browser.words("/sessions/MON-AM/printed"))
+        self.assertIn("not as on paper", self.browser.words("/sessions/MON-AM/printed"))
         _, text = self.browser.ask("GET", "/sessions/MON-AM/seats.csv")
         self.assertNotIn('"=HYPER', text)
         answer, text = self.browser.ask("GET", "/candidates/notes")

@@ -68,33 +68,33 @@ class TestWhatNeedsAPerson(DeskSchool):
         return found
 
     def test_printed_papers_that_are_out_of_date(self):
-        begin = " of MON-AM has another desk than on paper"
+        begin = " of MON-AM are not as on paper"
         self.office("printed", "MON-AM")
         self.office("printed", "TUE-AM")
         self.assertIn('data-load="' + self.browser.prefix + '/"', self.browser.get("/"))
         for path in self.WHOLE:
-            self.assertNotIn("than on paper", self.browser.words(path))
+            self.assertNotIn("as on paper", self.browser.words(path))
         self.office("withdraw", "0001051", "CS-1")
         *moves, halls = self.office("printed", "MON-AM", "--look").splitlines()
         self.assertGreater(len(moves), 1)
-        self.assertNotIn("than on paper", self.browser.words("/"))
+        self.assertNotIn("as on paper", self.browser.words("/"))
         for path in self.WHOLE:
-            said, link = self.line(path, f"{len(moves)} candidates{begin.replace('has', 'have')}: ")
+            said, link = self.line(path, f"{len(moves)} candidates{begin}: ")
             self.assertEqual(said, halls.removeprefix("to print again: "))
             self.assertEqual(link, "/sessions/MON-AM#print")
-            self.assertNotIn("TUE-AM have another", self.browser.words(path))
-        self.assertIn(f"{len(moves)} candidates have another desk", self.browser.words("/sessions/MON-AM/printed"))
+            self.assertNotIn("TUE-AM are not", self.browser.words(path))
+        self.assertIn(f"{len(moves)} candidates are not as on paper", self.browser.words("/sessions/MON-AM/printed"))
         self.office("printed", "MON-AM")  # the office is as it was, the notebook is not
-        self.assertNotIn("than on paper", self.browser.words("/?piece"))
+        self.assertNotIn("as on paper", self.browser.words("/?piece"))
 
     def test_not_of_a_session_that_is_over(self):
         self.office("printed", "MON-AM")
         self.office("withdraw", "0001051", "CS-1")
-        self.assertIn("than on paper", self.browser.words("/?piece"))
+        self.assertIn("as on paper", self.browser.words("/?piece"))
         self.end()
         self.environment["TODAY"] = "2027-06-08"
         self.start()
-        self.assertNotIn("than on paper", self.browser.words("/?piece"))
+        self.assertNotIn("as on paper", self.browser.words("/?piece"))
 
     def test_sessions_at_one_time(self):
         self.assertNotIn("at one time:", self.browser.words("/?piece"))

@@ -97,7 +97,7 @@ class Notebook(unittest.TestCase):
     def test_printed(self):
         desks = {"0000001": Desk("A", 1), "0000002": Desk("A", 2), "0000003": Desk("B", 1)}
         with notebook.alone(self.office) as folder:
-            notebook.write(self.office, folder, "printed.S1", desks)
+            notebook.write(self.office, folder, "printed.S1", {number: [*desk, "0"] for number, desk in desks.items()})
         self.assertEqual((notebook.printed(self.office, "S1"), notebook.printed(self.office, "S2")), (desks, {}))
         now = {"0000002": Desk("A", 1), "0000003": Desk("B", 1), "0000004": Desk("C", 1)}
         self.assertEqual(notebook.moved(desks, now), ["0000001", "0000002", "0000004"])
@@ -272,6 +272,23 @@ class Commands(sample.SampleSchool):
         halls = {place for line in moves for place in re.findall(r"(?:: |, was )(\w+) \d+(?=,|$)", line)}
         self.assertEqual(again, f"to print again: {', '.join(sorted(halls - {'GYM'}))}")
         self.assertIn("PC1", again)
+
+    def test_what_else_is_on_paper(self):
+        """A line is another one where the desk is the same: each part of it that papers show."""
+        number, hall = next((row[1], row[3]) for row in (line.split(",") for line in self.office("export", "MON-AM").splitlines())
+                            if row[2:4] == ["LAT", "AULA"])
+        other = "with another name, paper, time, arrangement, note or title"
+        for words in (("name", number, "Another Name"), ("notes", self.write("notes.csv", f"number,text\n{number},a scribe\n")),
+                      ("import", "arrangements", self.write("a.csv", f"number,needs,extra\n{number},-,10\n")),
+                      ("import", "halls", self.write("h.csv", "hall,title,features\nAULA,Great hall,-\n")),
+                      ("import", "papers", self.write("p.csv", "paper,title,session,minutes,requires\nLAT,Latin 1,MON-AM,90,-\n")),
+                      ("import", "sessions", self.write("s.csv", "session,date,start\nMON-AM,2027-06-07,08:30\n"))):
+            self.office("printed", "MON-AM")
+            self.assertEqual(self.office("printed", "MON-AM", "--look"), "the papers are up to date\n")
+            self.office(*words)
+            lines = self.office("printed", "MON-AM", "--look").splitlines()
+            self.assertTrue([line for line in lines if line.startswith(number) and line.endswith(other)], (words, lines))
+            self.assertIn(hall, lines[-1].removeprefix("to print again: ").split(", "), words)
 
     def test_back_leaves_it_and_says_so(self):
         self.office("school", "Hill")
