@@ -164,6 +164,8 @@ class Words(sample.SampleSchool):
 
     def test_a_bad_date_is_named(self):
         self.assertIn("TODAY is 1.5.2027", self.refused("shortage", "MON-AM", TODAY="1.5.2027"))
+        self.assertIn("TODAY is 1.5.2027", self.refused("withdraw", "0001000", "MA-1", TODAY="1.5.2027"))
+        self.assertEqual(self.office("back"), "no copies\n")
 
     def test_a_file_that_is_no_office(self):
         before = os.listdir(self.folder)

@@ -74,7 +74,8 @@ if (drop) {
   const send = async (found) => {
     const form = new FormData(drop);
     form.delete("files");
-    for (const file of found) if (wanted.test(file.name)) form.append("files", file, file.name);
+    const tables = found.filter((file) => wanted.test(file.name));  // a folder has other files, too
+    for (const file of tables.length ? tables : found.slice(0, 10)) form.append("files", file, file.name);
     const line = drop.querySelector(".big");
     line.textContent = drop.dataset.working;
     line.setAttribute("role", "status");
