@@ -115,7 +115,7 @@ class TestFiles(Uploads):
         self.assertRegex(words, "Two sessions at one time would be new Sessions Candidates in both .* both MON-AM, HL "
                                 "Ada Lin 0001000 AULA Who")
         self.browser.post(proposal + "/do", proposal)
-        self.assertIn("Two sessions at one time anew", self.browser.words(proposal))
+        self.assertIn("New: two sessions at one time", self.browser.words(proposal))
         late, _ = self.browser.post("/propose/withdraw", "/candidates/1017", number="0001017", paper="MA-1")
         self.assertNotIn("at one time", self.browser.words(late))  # what was so before
 

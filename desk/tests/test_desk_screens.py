@@ -66,7 +66,7 @@ class TestCounts(DeskSchool):
             "AND paper.session = seat.session) LIMIT 1")  # one that is not the first by code, so nobody moves
         found, text, leads = self.rehearsed("enter", f"/candidates/{number}", number=f"{number:07}", paper=paper)
         self.assertEqual(found["clashes"], (1, 1))
-        self.assertIn("1</b> would have two papers at once anew", text)
+        self.assertIn("1</b> would newly have two papers at once", text)
         self.assertIn(paper, text.partition(f'id="{leads["clashes"]}"')[2].partition("</table>")[0])
         self.assertNotIn("Nobody would move", text)
 
