@@ -142,7 +142,8 @@ class TestNewCandidate(DeskSchool):
         for values, said, field in (
                 ({"number": "0001051"}, "the office has this number", "number"),
                 ({"number": "1051"}, "the office has this number", "number"),
-                *(({"number": wrong}, "seven digits", "number") for wrong in ("", "0", "0000000", "12345678", "９００１")),
+                *(({"number": wrong}, "seven digits", "number")
+                  for wrong in ("", "0", "0000000", "12345678", "９００１")),
                 ({"name": ""}, "1 to 80 bytes", "name"),
                 ({"name": "x" * 81}, "1 to 80 bytes", "name"), ({"name": "a\nb"}, "1 to 80 bytes", "name")):
             _, text = self.browser.post("/propose/candidate", "/candidates", 422, **{**self.NEW, **values})
