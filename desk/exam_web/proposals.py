@@ -63,7 +63,9 @@ class Effects:
         self.changes = [each for part in kinds.values() for each in part]
         self.to_tell = [each for each in self.changes if each.is_to_tell()]
         self.desk_only = Counter(each.session for each in kinds.get("desk", []))  # by session
-        self.codes = consequences.by_name(now, [str(number) for number, code in facts.access_codes(now.rows).items()
+        codes_now = facts.access_codes(now.rows)
+        self.new = codes_now.keys() - codes.keys()  # candidates who have no page before it is done
+        self.codes = consequences.by_name(now, [str(number) for number, code in codes_now.items()
                                                 if codes.get(number, code) != code])
         self.sessions = [(was.get(code), each) for code, each in sums(after).items()
                          if code not in was or NUMBERS(was[code]) != NUMBERS(each)]

@@ -417,13 +417,19 @@ class TestBegin(Uploads):
                 f"{number},<i>Ann N{999 - int(number)},CODE{number}\n" for number in numbers)).encode()),
             ("entries.csv", ("number,paper\n" + "".join(
                 f"{number},P\n{number},Q\n" for number in numbers)).encode()))
-        text = self.browser.get(self.propose(page))
+        proposal = self.propose(page)
+        text = self.browser.get(proposal)
         self.assertRegex(text, r'"#no-desk" class="effect short"><b>150</b> would be without a desk <small>\(<bdi>300')
         listed = text.partition('id="no-desk"')[2].partition("</table>")[0]
-        found = re.findall(r'/candidates/(\d+)"><bdi>([^<]*)</bdi></a> .*?<td class="w">(?:<bdi>)?(\w)', listed)
-        self.assertEqual(found, [(f"{number}", f"&lt;i&gt;Ann N{999 - number}", session) for session, first in
+        found = re.findall(r'<bdi>([^<]*)</bdi> <small>.*?(\d+)<.*?<td class="w">(?:<bdi>)?(\w)', listed)
+        self.assertEqual(found, [(f"&lt;i&gt;Ann N{999 - number}", f"{number:07}", session) for session, first in
                                  (("B", 1), ("A", 51)) for number in range(150, first - 1, -1)])
         self.assertRegex(text, "and (<bdi>)?50(</bdi>)? more")
+        self.assertNotIn("/candidates/", listed)  # the office does not know them yet
+        self.browser.post(proposal + "/do", proposal)
+        listed = self.browser.get(proposal).partition('id="no-desk"')[2].partition("</table>")[0]
+        links = re.findall(r'(/candidates/\d+)"><bdi>', listed)
+        self.assertEqual((len(links), links[0]), (250, "/candidates/150"))
 
 
 SCRIPT = """
