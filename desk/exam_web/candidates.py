@@ -247,7 +247,8 @@ def decide(form: Form) -> Plan:
     page: Page = ("appeals.one", {"number": found["number"], "ref": found["ref"]})
     if values["outcome"] not in ("granted", "standing", "refused"):
         raise Wrong(page, outcome=text("choose one"))
-    step = command("decide", ["number", "ref", "outcome", "reason"], {**values, "reason": short(page, "reason")})
+    values["answer"] = short(page, "reason")
+    step = command("decide", ["number", "ref", "outcome", "answer"], values)
     return Plan(values, [step], page, dict.fromkeys((8, 12, 15, 16, 17, 26), "outcome"))
 
 

@@ -16,7 +16,7 @@ from markupsafe import Markup
 from werkzeug.datastructures import MultiDict
 from werkzeug.wrappers import Response
 
-from exam_desk import mistakes, notebook, private
+from exam_desk import mistakes, notebook, private, typed
 from exam_web.desk import desk
 from exam_web.wording import text
 
@@ -58,8 +58,10 @@ def lead(endpoint: str, said: Markup | None = None, kind: str = "good", **values
 
 
 def checked(page: Page, form: Form, **columns: str) -> dict[str, str]:
-    """The values of fields, by the forms of the columns that are named; what is wrong is said beside its field."""
+    """The values of fields, by the forms of the columns that are named; what is wrong is said beside its field. The
+    number of a candidate may be typed without its zeros."""
     values = {name: form.get(name, "").strip() for name in columns}
+    values |= {name: typed.number(values[name]) for name, column in columns.items() if column == "number"}
     wrong = {name: text(mistakes.CURES[column].removesuffix(SHEET_HINT)) for name, column in columns.items()
              if not mistakes.RIGHT[column](values[name].encode("utf-8", "surrogateescape"))}
     if wrong:

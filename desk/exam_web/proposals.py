@@ -8,12 +8,13 @@ import contextlib
 import dataclasses
 import datetime
 import hashlib
+import itertools
 import os
 import sqlite3
 import threading
 import time
 from collections import Counter
-from collections.abc import Callable, Iterable, Mapping, Sequence
+from collections.abc import Callable, Iterable, Iterator, Mapping, Sequence
 from dataclasses import dataclass, field
 from operator import attrgetter
 from typing import Any
@@ -62,14 +63,18 @@ class Effects:
         self.changes = [each for part in kinds.values() for each in part]
         self.to_tell = [each for each in self.changes if each.is_to_tell()]
         self.desk_only = Counter(each.session for each in kinds.get("desk", []))  # by session
-        self.codes = consequences.by_name(now, [str(number) for number, code in facts.access_codes(now.rows).items()
+        codes_now = facts.access_codes(now.rows)
+        self.new = codes_now.keys() - codes.keys()  # candidates who have no page before it is done
+        self.codes = consequences.by_name(now, [str(number) for number, code in codes_now.items()
                                                 if codes.get(number, code) != code])
         self.sessions = [(was.get(code), each) for code, each in sums(after).items()
                          if code not in was or NUMBERS(was[code]) != NUMBERS(each)]
         self.clashes, self.overlaps = new_clashes(before, after), named(now, overlaps.new(then, now, [*met]))
         self.out_of_date = consequences.out_of_date(now, changes)
+        short = set() if changes else unseated(after) - unseated(before)
+        self.short = [*itertools.islice(by_session(after, short), MOST_ROWS)]
         who: dict[str, list[Any]] = {kind: [each.number for each in part] for kind, part in kinds.items()} | {
-            "short": [number for _, number in unseated(after) - unseated(before)] if not changes else [],
+            "short": [number for _, number in short],
             "clashes": [member.number for _, member, _ in self.clashes],
             "twice": [person.number for _, people in self.overlaps for person in people],
             "halls": [(each.early, each.late, hall) for each, _ in self.overlaps for hall in each.halls],
@@ -79,6 +84,13 @@ class Effects:
 
     def csv(self, name: str) -> Response:
         return attached(telling.csv_text(self.changes, self.titles).encode("utf-8", "surrogateescape"), name)
+
+
+def by_session(view: View, found: set[tuple[str, int]]) -> Iterator[tuple[str, Person]]:
+    """Candidates with a session, by its day and their names."""
+    for session in sums(view):
+        for person in consequences.by_name(view.reading, [str(number) for code, number in found if code == session]):
+            yield session, person
 
 
 def new_clashes(before: View, after: View) -> list[tuple[str, Member, list[str]]]:

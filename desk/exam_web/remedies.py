@@ -4,6 +4,7 @@ from __future__ import annotations
 
 from collections import Counter
 from collections.abc import Iterator
+from statistics import mode
 from typing import NamedTuple
 
 from exam_desk.facts import Opening
@@ -37,15 +38,16 @@ def best(rows: Rows, why: Reasons, sheet: Shortage) -> list[Remedy]:
 
 
 def remedies(rows: Rows, why: Reasons, sheet: Shortage) -> Iterator[Remedy]:
-    """No opening asks for more than it needs: with the desks that are free, and with as many as are short. A closed
-    hall has no more than it has in another session."""
+    """With the desks that are free, and with as many as are short. A closed hall has no more than it has in another
+    session. A hall is open no longer than is needed; a closed one until most open halls are, where that is later."""
     listed, opened = set(sheet.candidates), {each.hall: each for each in why.openings}
     members = sorted((each for each in why.members if each.number in listed), key=lambda each: bool(each.sitting.hall))
     suited = [frozenset(each.hall for each in why.openings if not why.obstacles(member, each)) for member in members]
     most = dict(rows.execute("SELECT hall, max(desks) FROM opening GROUP BY hall"))
+    usual = mode(sorted((each.until for each in why.openings), reverse=True) or [0])  # of several the latest
     for code, title, mask in rows.execute("SELECT code, title, features FROM hall ORDER BY code"):
         now, taken = opened.get(code), len(why.taken[code])
-        base = now or Opening(code, title, mask, 0, 0, False)
+        base = now or Opening(code, title, mask, 0, usual, False)
         for reserved in {base.reserved, False}:
             widest = base._replace(until=MIDNIGHT, reserved=reserved)
             ends = ends_of(code, Counter(

@@ -207,6 +207,21 @@ class TestAppeals(DeskSchool):
                                     reason="x")
         self.browser.post("/propose/decide", "/office", 422, number="0001051", ref="D1", outcome="other")
 
+    def test_an_answer_is_shown_before_the_decision_and_stands_on_the_page_alone(self):
+        self.lodged()
+        for outcome, answer, said in (("granted", '<b>"late"</b> & well', '<b>"late"</b> & well'),
+                                      ("granted", "", "none"), ("refused", "  too late, sorry ", "too late, sorry")):
+            page, _ = self.browser.post("/propose/decide", "/appeals/1051/D1", number="0001051", ref="D1",
+                                        outcome=outcome, reason=answer)
+            text = self.browser.get(page)
+            shown = re.search("Answer to the candidate: (.*?)</p>", text)[1]
+            self.assertNotIn("<b>", shown)
+            self.assertEqual(html.unescape(re.sub("</?(q|bdi)>", "", shown)), said)
+            self.assertEqual([each for each in re.findall('(?:href|action)="([^"]*)"', text) if "late" in each], [])
+        self.browser.post(page + "/do", page)
+        self.assertEqual(self.rows("SELECT state, answer FROM appeal"), [(3, "too late, sorry")])
+        self.assertNotIn("late", self.log())
+
     def test_a_reason_stands_in_no_log_and_no_argument(self):
         seen = set()
         stop = concurrent.futures.Future()

@@ -115,7 +115,7 @@ class TestFiles(Uploads):
         self.assertRegex(words, "Two sessions at one time would be new Sessions Candidates in both .* both MON-AM, HL "
                                 "Ada Lin 0001000 AULA Who")
         self.browser.post(proposal + "/do", proposal)
-        self.assertIn("Two sessions at one time anew", self.browser.words(proposal))
+        self.assertIn("New: two sessions at one time", self.browser.words(proposal))
         late, _ = self.browser.post("/propose/withdraw", "/candidates/1017", number="0001017", paper="MA-1")
         self.assertNotIn("at one time", self.browser.words(late))  # what was so before
 
@@ -396,10 +396,40 @@ class TestBegin(Uploads):
         words = self.browser.words(proposal)  # three candidates and two desks
         self.assertIn("1 would be without a desk", words)
         self.assertNotIn("Nobody would move", words)
+        promised = re.search("Who would have no desk Candidate Session (.*?) S1 ", words)[1]
         self.browser.post(proposal + "/do", proposal)
         self.assertIn("1 without a desk", self.browser.words(proposal))
+        (number, name), = self.rows("SELECT printf('%07d', number), name FROM candidate "
+                                    "WHERE number NOT IN (SELECT number FROM seat)")
+        self.assertEqual(promised, f"{name} {number}")
+        self.assertIn(f"Who has no desk Candidate Session {promised} S1 ", self.browser.words(proposal))
         self.assertNotIn("Uploaded, not imported", self.browser.words("/files"))
         self.assertNotIn("nothing is imported", self.browser.words(page))
+
+    def test_a_first_import_lists_the_first_of_many_without_a_desk_by_session_and_name(self):
+        """Two sessions without a hall; 150 candidates are in both, and their numbers go against their names."""
+        self.browser.post("/init", "/")
+        numbers = [f"{number:07}" for number in range(1, 151)]
+        page = self.upload(
+            ("sessions.csv", b"session,date,start\nA,2027-06-08,09:00\nB,2027-06-07,09:00\n"),
+            ("papers.csv", b"paper,title,session,minutes,requires\nP,P,A,60,-\nQ,Q,B,60,-\n"),
+            ("candidates.csv", ("number,name,code\n" + "".join(
+                f"{number},<i>Ann N{999 - int(number)},CODE{number}\n" for number in numbers)).encode()),
+            ("entries.csv", ("number,paper\n" + "".join(
+                f"{number},P\n{number},Q\n" for number in numbers)).encode()))
+        proposal = self.propose(page)
+        text = self.browser.get(proposal)
+        self.assertRegex(text, r'"#no-desk" class="effect short"><b>150</b> would be without a desk <small>\(<bdi>300')
+        listed = text.partition('id="no-desk"')[2].partition("</table>")[0]
+        found = re.findall(r'<bdi>([^<]*)</bdi> <small>.*?(\d+)<.*?<td class="w">(?:<bdi>)?(\w)', listed)
+        self.assertEqual(found, [(f"&lt;i&gt;Ann N{999 - number}", f"{number:07}", session) for session, first in
+                                 (("B", 1), ("A", 51)) for number in range(150, first - 1, -1)])
+        self.assertRegex(text, "and (<bdi>)?50(</bdi>)? more")
+        self.assertNotIn("/candidates/", listed)  # the office does not know them yet
+        self.browser.post(proposal + "/do", proposal)
+        listed = self.browser.get(proposal).partition('id="no-desk"')[2].partition("</table>")[0]
+        links = re.findall(r'(/candidates/\d+)"><bdi>', listed)
+        self.assertEqual((len(links), links[0]), (250, "/candidates/150"))
 
 
 SCRIPT = """

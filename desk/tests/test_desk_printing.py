@@ -83,7 +83,7 @@ class TestPrinting(DeskSchool):
                              [(1000, "MON-AM"), (1051, "Z-1")])
             file.commit()
         copy = re.search(r"/office/copies/\w+", self.browser.get("/office"))[0]
-        clashes = self.browser.get(copy).partition("Two papers at once anew")[2].partition("</table>")[0]
+        clashes = self.browser.get(copy).partition("New: two papers at once")[2].partition("</table>")[0]
         self.assertEqual(re.findall(r'<td class="w">([ZA]-\d)</td>', clashes), ["Z-1", "A-9"])
         form = self.browser.get("/candidates/1051").partition('<select name="session"')[2].partition("</select>")[0]
         self.assertEqual(re.findall(r"<option[^>]*>([^<]*)", form), ["Z-1", "MON-AM", "MON-PM", "TUE-AM", "A-9"])

@@ -42,7 +42,7 @@ class TestWhatCouldHelp(SmallSchool):
                    "0000001,LONG\n0000002,LONG\n0000003,SHORT\n")
         self.assertEqual(self.remedies(), [
             ("Have B until 10:30", "1 of the 1"), ("Have A with 2 desks, 1 more", "1 of the 1"),
-            ("Open C, Hall C, with 1 desk until 10:30", "1 of the 1")])
+            ("Open C, Hall C, with 1 desk until 12:00", "1 of the 1")])
         self.assertIn("2 candidates = 1 desk + 1 without a desk", self.browser.words("/sessions/S1"))
 
     def test_others_move_on_to_it(self):
@@ -59,7 +59,7 @@ class TestWhatCouldHelp(SmallSchool):
                    "0000001,screen,0\n0000002,reader,0\n0000003,step-free,0\n")
         self.assertEqual(self.remedies(), [
             ("Have A with 2 desks, 1 more", "1 of the 1"), ("Have B with 2 desks, 1 more", "1 of the 1"),
-            ("Open C, Hall C, with 1 desk until 10:00", "1 of the 1")])
+            ("Open C, Hall C, with 1 desk until 12:00", "1 of the 1")])
 
     def test_no_later_than_is_needed(self):
         """B has one free desk. One without a desk ends at 10:00, another at 10:30; A closes before that."""
@@ -70,14 +70,35 @@ class TestWhatCouldHelp(SmallSchool):
             ("Have B until 10:30, with 2 desks, 1 more", "2 of the 2"), ("Have B until 10:00", "1 of the 2")])
 
     def test_no_more_than_is_needed(self):
-        """Three are short of a desk. Who sits the long paper can have A once all others are elsewhere, so 10:00 is late
-        enough. GYM and K are open in another session, with 120 desks and with two."""
+        """Three are short of a desk. GYM and K are open in another session, with 120 desks and with two."""
         self.begin("A,Hall A,-\nGYM,Gym,-\nK,Hall K,-\n",
                    "S1,A,1,12:00,no\nS2,GYM,120,18:00,no\nS2,K,2,18:00,no\n",
                    "0000001,SHORT\n0000002,SHORT\n0000003,SHORT\n0000004,LONG\n")
         self.assertEqual(self.remedies(), [
-            ("Have A with 4 desks, 3 more", "3 of the 3"), ("Open GYM, Gym, with 3 desks until 10:00", "3 of the 3"),
-            ("Open K, Hall K, with 2 desks until 10:00", "2 of the 3")])
+            ("Have A with 4 desks, 3 more", "3 of the 3"), ("Open GYM, Gym, with 3 desks until 12:00", "3 of the 3"),
+            ("Open K, Hall K, with 2 desks until 12:00", "2 of the 3")])
+
+    def test_a_hall_opens_until_most_others_are_open(self):
+        """Who sits the long paper ends at 10:30. Were C open until 10:00 alone, one of the others would move there."""
+        self.begin("A,Hall A,-\nB,Hall B,-\nC,Hall C,-\nD,Hall D,-\n",
+                   "S1,A,2,12:00,no\nS1,B,2,12:00,no\nS1,D,1,14:00,no\n",
+                   "".join(f"000000{place},SHORT\n" for place in range(1, 6)) + "0000006,LONG\n")
+        self.assertIn(("Open C, Hall C, with 1 desk until 12:00", "1 of the 1"), self.remedies())
+        for until, kinds in (("12:00", {"gets"}), ("10:00", {"gets", "moves"})):
+            page, _ = self.browser.post("/propose/open", "/sessions/S1", session="S1", hall="C", desks="1", until=until)
+            self.assertEqual(effects(self.browser.get(page)).keys(), kinds)
+
+    def test_a_hall_opens_no_shorter_than_is_needed(self):
+        """Two are short of a desk, and P and Q close too early for anybody. Who sits the long paper can have A once all
+        others are elsewhere, so 10:00 is late enough."""
+        self.begin("A,Hall A,-\nGYM,Gym,-\nP,Hall P,-\nQ,Hall Q,-\n",
+                   "S1,A,1,12:00,no\nS1,P,1,09:30,no\nS1,Q,1,09:30,no\nS2,GYM,120,18:00,no\n",
+                   "0000001,SHORT\n0000002,SHORT\n0000003,LONG\n")
+        self.assertEqual(self.remedies(), [
+            ("Have A with 3 desks, 2 more", "2 of the 2"), ("Open GYM, Gym, with 2 desks until 10:00", "2 of the 2"),
+            ("Have P until 10:00, with 2 desks, 1 more", "2 of the 2"),
+            ("Have Q until 10:00, with 2 desks, 1 more", "2 of the 2"),
+            ("Have P until 10:00", "1 of the 2"), ("Have Q until 10:00", "1 of the 2")])
 
     def test_a_hall_that_is_reserved(self):
         self.begin("A,Hall A,-\nR,Hall R,-\n", "S1,A,1,12:00,no\nS1,R,2,12:00,yes\n",
@@ -111,7 +132,7 @@ class TestWhatCouldHelp(SmallSchool):
                    "0000001,screen,0\n0000002,step-free,0\n0000003,step-free,0\n0000004,step-free,0\n")
         self.assertEqual(self.remedies(), [
             ("Have A with 3 desks, 2 more", "2 of the 2"), ("Have B with 3 desks, 2 more", "2 of the 2"),
-            ("Open C, Hall C, with 1 desk until 10:00", "1 of the 2")])
+            ("Open C, Hall C, with 1 desk until 12:00", "1 of the 2")])
 
 
 class Wide(RandomOffice):

@@ -66,7 +66,7 @@ class TestCounts(DeskSchool):
             "AND paper.session = seat.session) LIMIT 1")  # one that is not the first by code, so nobody moves
         found, text, leads = self.rehearsed("enter", f"/candidates/{number}", number=f"{number:07}", paper=paper)
         self.assertEqual(found["clashes"], (1, 1))
-        self.assertIn("1</b> would have two papers at once anew", text)
+        self.assertIn("1</b> would newly have two papers at once", text)
         self.assertIn(paper, text.partition(f'id="{leads["clashes"]}"')[2].partition("</table>")[0])
         self.assertNotIn("Nobody would move", text)
 
@@ -131,17 +131,25 @@ class TestNewCandidate(DeskSchool):
         self.browser.post(entered + "/do", entered)
         self.assertEqual(self.rows("SELECT paper FROM entry WHERE number = 9001"), [("EN-1",)])
 
+    def test_a_number_without_its_zeros(self):
+        page, _ = self.browser.post("/propose/candidate", "/candidates", **{**self.NEW, "number": " 9001 "})
+        self.assertIn("New candidate 0009001 : Zoë <b> Lund", self.browser.words(page))
+        self.browser.post(page + "/do", page)
+        self.assertEqual(self.rows("SELECT name FROM candidate WHERE number = 9001"), [(self.NEW["name"],)])
+
     def test_refused_at_its_field(self):
         (there,), = self.rows("SELECT name FROM candidate WHERE number = 1051")
         for values, said, field in (
                 ({"number": "0001051"}, "the office has this number", "number"),
-                ({"number": "9001"}, "seven digits", "number"), ({"number": "0000000"}, "seven digits", "number"),
+                ({"number": "1051"}, "the office has this number", "number"),
+                *(({"number": wrong}, "seven digits", "number")
+                  for wrong in ("", "0", "0000000", "12345678", "９００１")),
                 ({"name": ""}, "1 to 80 bytes", "name"),
                 ({"name": "x" * 81}, "1 to 80 bytes", "name"), ({"name": "a\nb"}, "1 to 80 bytes", "name")):
             _, text = self.browser.post("/propose/candidate", "/candidates", 422, **{**self.NEW, **values})
             self.assertRegex(text, rf'name="{field}"[^>]*aria-invalid="true"', values)
             self.assertIn(said, text, values)
-            if values.get("number") == "0001051":
+            if values.get("number") in ("0001051", "1051"):
                 fault = text.partition('id="fault-candidate-number"')[2].partition("</span>")[0]
                 self.assertIn(f'<a href="{self.browser.prefix}/candidates/1051">', fault)
                 self.assertIn(there, fault)
