@@ -308,6 +308,25 @@ class Commands(sample.SampleSchool):
         self.assertGreater(len(self.run_office("read", "b.xlsx", "new", "--all").stdout.splitlines()), 100)
 
     @needs_openpyxl
+    def test_a_number_beside_many_crosses_is_one_mistake(self) -> None:
+        """Three crosses in each of two rows with a number that nobody has, and a row that stands twice."""
+        self.office("dump", "facts")
+        papers = [row[0] for row in self.rows("facts", "papers")[:3]]
+        known = self.rows("facts", "candidates")[0][0]
+        book = rawbook.xlsx({"name": "Entries", "rows": [
+            ["number", *papers], ["0001232", "x", "x", "x"], ["0001233", "x", "x", "x"], ["0001232", "x", "x", "x"],
+            [known, "x", "x", "x"], [known, "x", "x", "x"]]})
+        pathlib.Path(self.folder, "b.xlsx").write_bytes(book)
+        told = self.run_office("read", "b.xlsx", "new").stdout.splitlines()
+        wrong = "MISTAKE: number '000123{}': is not among the candidates"
+        self.assertEqual([line for line in told if "MISTAKE" in line],
+                         [f"Entries!A2: {wrong.format(2)}", f"Entries!A3: {wrong.format(3)}"])
+        self.assertIn("2 mistakes, ", told[-1])
+        self.assertEqual([line for line in told if "it counts once" in line],
+                         ["Entries!4: NOTE: the same as Entries!2; it counts once",
+                          "Entries!6: NOTE: the same as Entries!5; it counts once"])
+
+    @needs_openpyxl
     def test_the_office_fills_codes_and_knows_papers(self) -> None:
         first = self.office("dump", "facts") and self.rows("facts", "candidates")[0]
         paper = self.rows("facts", "papers")[0][0]

@@ -129,13 +129,13 @@ def put_back(job: Job, kind: str, sort: str, found: Iterable[mistakes.Mistake], 
             continue
         record = rows[mistake.line - FIRST]
         column = record.columns[header.index(what)] if what in header else None
+        place, text = place_name(record.sheet, record.row, column), f"{mistake.what}: {mistake.text}"
         is_told = column is None and what in header and not record.fields[header.index(what)]  # of the header
-        if not (is_told or place_name(record.sheet, record.row, column) in said):
-            text = f"{mistake.what}: {mistake.text}"
-            if what == "row":  # it speaks of another line of the file
-                text = re.sub(r"\bline ([0-9]+)\b", lambda line: place_name(*rows[int(line[1]) - FIRST][:2]),
-                              mistake.text)
+        if what == "row":  # it speaks of another line of the file
+            text = re.sub(r"\bline ([0-9]+)\b", lambda line: place_name(*rows[int(line[1]) - FIRST][:2]), mistake.text)
+        if not (is_told or place in said or place + text in said):
             job.report.add(sort, text, record.sheet, record.row, column, f"{what} {mistake.text}")
+            said.add(place + text)  # a row of crosses has one number and is several rows of the file
 
 
 # -- the new folder, for its owner alone, whole or not at all
