@@ -84,6 +84,8 @@ class Upload:
     workbooks: list[Book] = field(default_factory=list)
     when: str = field(default_factory=lambda: datetime.datetime.now().isoformat(" ", "minutes"))
     is_called_list: bool = False  # a file or a sheet of entries is called withdrawals or reinstatements
+    names: list[str] = field(default_factory=list)  # of the files, as the browser gave them
+    mistakes: int = 0  # that the last look found
     edits: int = 0
     is_imported: bool = False
 
@@ -107,6 +109,7 @@ def taken(storages: Iterable[FileStorage], way: Way) -> Upload:
     upload = Upload()
     for storage in storages:
         name = PureWindowsPath(storage.filename or "").name
+        upload.names += [name[-MOST_NAME:]] * (name != "")
         if name.lower().endswith(".zip"):
             take_zip(upload, name, storage.stream, way)
         elif name:
@@ -241,7 +244,7 @@ def corrected(content: bytes, wanted: Corrections) -> bytes:
 @pages.get("/files")
 def page() -> str:
     counts = {kind: view().count(f"SELECT count(*) FROM ({query})") for kind, query in files.QUERIES.items()}
-    return render_template("files.html", headers=files.HEADERS, counts=counts,
+    return render_template("files.html", headers=files.HEADERS, counts=counts, most=MOST_SHOWN,
                            uploaded={key: each for key, each in g.visit.uploads.items() if not each.is_imported})
 
 
@@ -261,8 +264,10 @@ def way_of(form: Form) -> Way:
 @pages.get("/files/uploaded/<key>")
 def look(key: str) -> str:
     found: Upload = g.visit.uploads.get(key) or abort(404)
-    return render_template("look.html", key=key, upload=found, looked=looked_through(found),
-                           headers=files.HEADERS, most=MOST_SHOWN, most_lines=MOST_LINES)
+    looked = looked_through(found)
+    found.mistakes = sum(each.total for each in looked.values()) + sum(book.mistakes for book in found.workbooks)
+    return render_template("look.html", key=key, upload=found, looked=looked, headers=files.HEADERS,
+                           most=MOST_SHOWN, most_lines=MOST_LINES)
 
 
 @pages.post("/files/uploaded/<key>/correct")

@@ -1,4 +1,5 @@
 """Files at the desk in a browser: uploads of every kind, their mistakes, corrections, and the rehearsed import."""
+import html
 import io
 import json
 import os
@@ -345,6 +346,27 @@ class TestFiles(Uploads):
             self.assertNotRegex(text, r"<script(?! src=)")
             self.assertNotIn("/propose/files", text)
             self.assertNotIn(self.folder, text)
+
+    def test_what_is_uploaded_bears_its_names_and_says_its_mistakes(self):
+        name = "<b onclick=x>\u202e.csv"
+        hall = b"hall,title,features\nR20,Room,-\n"
+        for found in ([(name, b"number;paper\nx;EN-1\ny;EN-1\n"), ("plan.csv", hall)], [("right.csv", hall)],
+                      [("readme.txt", b"hello")], [("halls.csv", hall + b"R21,Room,PC\n")]):
+            self.browser.get(page := self.upload(*found))
+        listed = self.browser.get("/files").partition("Uploaded, not imported")[2].partition("</ul>")[0]
+        self.assertNotIn("<b onclick", listed)
+        self.assertNotIn("\u202e", listed)
+        wrong, right, none, other = (re.sub("\\s+", " ", html.unescape(re.sub("<[^>]*>", "", line))).strip()
+                                     for line in re.findall("<li>(.*?)</li>", listed, re.S))
+        self.assertRegex(wrong, r'^20[-0-9]+ [0-9:]+: <b onclick=x>\S?\.csv, plan\.csv 2 mistakes$')
+        self.assertRegex(right, r"^20[-0-9]+ [0-9:]+: right\.csv$")
+        self.assertRegex(none, r"^20[-0-9]+ [0-9:]+: readme\.txt nothing that could be read$")
+        self.assertRegex(other, r"^20[-0-9]+ [0-9:]+: halls\.csv 1 mistake$")
+        self.browser.post(page + "/correct", page, **{"halls:3:features": "-"})
+        self.browser.get(page)
+        self.assertNotIn("1 mistake", self.browser.words("/files"))
+        _, text = self.browser.ask("GET", "/files", headers={"Accept-Language": "de"})
+        self.assertRegex(text, "<bdi>2</bdi> Fehler|2 Fehler")
 
     def test_downloads(self):
         self.office("school", "Hill School")
