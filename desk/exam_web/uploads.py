@@ -58,7 +58,8 @@ class Looked(NamedTuple):
     cures: int  # that are clear
     rows: int
     codes: int = 0  # candidates without an access code, here and in the office
-    asks: bool = False  # all rows are entries that the office has, so they may be a list of withdrawals
+    known: int = 0  # rows that are entries which the office has
+    asks: bool = False  # they may be a list of withdrawals or of reinstatements
 
 
 @dataclass
@@ -178,7 +179,7 @@ def below_header(content: bytes) -> Iterator[files.Record]:
 def looked_through(upload: Upload) -> dict[str, Looked]:
     """The files with their mistakes, each beside the office and the files before it."""
     known, looked = mistakes.Known(view().reading.rows), {}
-    asks = "entries" in upload.texts and may_be_list(upload, known)
+    had, asks = may_be_list(upload, known)
     lacking = without_codes(upload)
     for kind in upload.kinds:
         content = upload.texts[kind]
@@ -189,7 +190,7 @@ def looked_through(upload: Upload) -> dict[str, Looked]:
                   for record in files.records(content) if record.line in lines}
         looked[kind] = Looked(*found, fields, wrong.count, sum(each.write != "" for each in found[0]),
                               sum(1 for _ in below_header(content)), lacking if kind == "candidates" else 0,
-                              asks and kind == "entries")
+                              *(had, asks) if kind == "entries" else ())
     return looked
 
 
@@ -201,12 +202,12 @@ def without_codes(upload: Upload) -> int:
     return sum(not mistakes.RIGHT["number"](number) or int(number) not in codes for number in numbers)
 
 
-def may_be_list(upload: Upload, known: mistakes.Known) -> bool:
-    """Whether a file of entries is perhaps a list of withdrawals or of reinstatements: so it is called, or the office
-    has all its rows, as entries that count or that are withdrawn."""
-    content = upload.texts["entries"]
-    return upload.is_called_list or next(below_header(content), None) is not None and any(
-        all(record.fields in rows for record in below_header(content)) for rows in (known.entries, known.withdrawn))
+def may_be_list(upload: Upload, known: mistakes.Known) -> tuple[int, bool]:
+    """How many rows of a file of entries the office has, as entries that count or as withdrawn ones; and whether it is
+    perhaps a list of withdrawals or of reinstatements: so it is called, or these are half of its rows or more."""
+    rows = [record.fields for record in below_header(upload.texts.get("entries", b""))]
+    had = max(sum(row in entries for row in rows) for entries in (known.entries, known.withdrawn))
+    return had, bool(rows) and (upload.is_called_list or 2 * had >= len(rows))
 
 
 Corrections = dict[int, dict[int, str]]  # by line and place; an empty dict takes the row out
@@ -319,7 +320,7 @@ def import_files(form: Form) -> Plan:
     choice = form.get("choice", "")
     if choice in CHOICES:
         return withdraw_list(upload, choice, page)
-    if "entries" in upload.texts and not choice and may_be_list(upload, mistakes.Known(view().reading.rows)):
+    if not choice and may_be_list(upload, mistakes.Known(view().reading.rows))[1]:
         raise Wrong(page, choice=text("say what is to become of these entries"))
     texts = upload.texts | with_codes(upload, page, form)
     steps = [Step(("import", kind, f"{kind}.csv"), texts[kind]) for kind in upload.kinds]

@@ -256,6 +256,23 @@ class TestFiles(Uploads):
         self.assertEqual(self.live(), before - {numbers[2]})
         self.assertIn("withdraw --list", self.office("back"))
 
+    def test_what_the_office_has_by_half_is_never_imported_unasked(self):
+        """A list of leavers in which some rows are wrong, or late, is no list of new entries for that."""
+        numbers, _ = self.listed()
+        live = [f"{number},EN-1\n" for number in numbers]
+        new = [f"{row}\n" for row, in self.rows("SELECT printf('%07d,LAT', number) FROM candidate WHERE number NOT IN "
+                                                "(SELECT number FROM entry WHERE paper = 'LAT') LIMIT 2")]
+        for rows, count in (live[:2] + new[:2], 2), (live[:2] + new[:1], 2), (live[:1] + new[:2], 0):
+            page = self.upload(("june.csv", f"number,paper\n{''.join(rows)}".encode()))
+            words, text = self.browser.words(page), self.browser.get(page)
+            said = f"The office has {count} of these {len(rows)} entries already; an import would not change them."
+            self.assertEqual((said in words, "checked" in text), (count > 0, count == 0), rows)
+            self.assertEqual(text.count('name="choice"'), text.count(" required"))
+        page = self.upload(("june.csv", f"number,paper\n{''.join(live[:2] + new[:1])}".encode()))
+        self.propose(page, 422)
+        self.carry_out(self.propose(page, choice="withdraw"))
+        self.assertTrue(self.live().isdisjoint(numbers[:2]))
+
     def test_rows_that_cannot_be_withdrawn_are_named_and_left_out(self):
         (number, other), text = self.listed()[0][:2], "number,paper\n"
         self.office("withdraw", other, "EN-1")
@@ -278,7 +295,7 @@ class TestFiles(Uploads):
             page = self.upload(found)
             self.assertIn("called a list of withdrawals or reinstatements", self.browser.words(page), found[0])
             self.propose(page, 422)
-        page = self.upload(("entries.csv", text))
+        page = self.upload(("entries.csv", text + b"0001085,BI-1\n"))
         self.assertNotIn("called a list", self.browser.words(page))
         self.assertIn('value="enter" required checked', self.browser.get(page))
         page = self.upload(("withdrawals.csv", text), ("halls.csv", b"hall,title,features\nR20,Room 20,-\n"))

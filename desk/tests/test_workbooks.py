@@ -326,6 +326,22 @@ class Commands(sample.SampleSchool):
                          ["Entries!4: NOTE: the same as Entries!2; it counts once",
                           "Entries!6: NOTE: the same as Entries!5; it counts once"])
 
+    def test_a_list_of_entries_that_count_says_what_withdraws_them(self) -> None:
+        """Where half of its rows count or more, and nothing else comes with them."""
+        self.office("dump", "facts")
+        had = self.rows("facts", "entries")
+        papers, numbers = ([row[0] for row in self.rows("facts", kind)] for kind in ("papers", "candidates"))
+        new = [[number, paper] for number in numbers for paper in papers if [number, paper] not in had]
+        for rows, said in ((had[:2], "2 of 2"), (had[:2] + new[:1], "2 of 3"), (had[:1] + new[1:2], "1 of 2"),
+                           (had[:1] + new[2:4], "")):
+            pathlib.Path(self.folder, "leave.csv").write_text(
+                "".join(",".join(row) + "\n" for row in [["number", "paper"], *rows]), "utf-8")
+            done = self.run_office("take", "leave.csv", "--yes")
+            self.assertEqual([line for line in done.stdout.splitlines() if "withdraw --list" in line],
+                             [f"NOTE: {said} entries count already; to withdraw them: office withdraw --list FILE"]
+                             if said else [])
+        self.assertNotIn("withdraw --list", self.run_office("take", "facts", "--yes").stdout)
+
     @needs_openpyxl
     def test_the_office_fills_codes_and_knows_papers(self) -> None:
         first = self.office("dump", "facts") and self.rows("facts", "candidates")[0]
