@@ -198,6 +198,64 @@ class TestFiles(Uploads):
         self.assertRegex(self.browser.words(page), "MISTAKE halls!1 : the column features is missing")
         self.propose(page, 404)
 
+    TOGETHER = {"sessions.csv": "session,date,start\nFRI-AM,2027-06-11,09:00\n",
+                "papers.csv": "paper,title,session,minutes,requires\nGE-1,Geography,FRI-AM,60,-\n",
+                "halls.csv": "hall,title,features\nATRIUM,Atrium,-\n",
+                "openings.csv": "session,hall,desks,until,reserved\nFRI-AM,ATRIUM,70,12:00,no\n",
+                "candidates.csv": "number,name,code\n0012001,Nadia,K4WBN7RTQD\n",
+                "entries.csv": "number,paper\n0012001,GE-1\n"}
+
+    def with_semicolons(self, *names, **others):
+        """The files together, those of these names with semicolons."""
+        return [(name, others.get(name[:-4], text.replace(",", ";") if name in names else text).encode())
+                for name, text in self.TOGETHER.items()]
+
+    def test_files_that_come_together_are_read_together(self):
+        """Whatever parts their columns, in which order they come, and where one of them is a workbook."""
+        names = [*self.TOGETHER]
+        crosses = workbook({"Entries": [["number", "GE-1"], [12001, "x"]]})
+        sessions = workbook({"Sessions": [["session", "date", "start"], ["FRI-AM", "2027-06-11", "09:00"]]})
+        late = self.with_semicolons("papers.csv")
+        late[0] = ("s.xlsx", sessions)
+        for found in (self.with_semicolons(*names), self.with_semicolons(*names)[::-1],
+                      self.with_semicolons("openings.csv"), self.with_semicolons("sessions.csv"), late, late[::-1],
+                      [*self.with_semicolons("papers.csv")[:-1], ("e.xlsx", crosses)],
+                      [("e.xlsx", crosses), *self.with_semicolons(*names)[:-1]],
+                      self.with_semicolons("openings.csv", openings="session;hall;desks;until;reserved\n"
+                                           "FRI-AM;ATRIUM;70;2027-06-11 12:00;no\n")):
+            page = self.upload(*found)
+            self.assertIn("No mistake", self.browser.words(page), [name for name, _ in found])
+            for name, text in self.TOGETHER.items():
+                here = self.browser.ask("GET", f"{page}/{name}")[1]
+                self.assertEqual(here.removeprefix("\ufeff").replace('"', ""), text)
+        self.carry_out(self.propose(page, choice="enter"))
+        self.assertEqual(self.rows("SELECT count(*) FROM entry WHERE number = 12001"), [(1,)])
+
+    def test_what_nothing_is_taken_of_is_known_to_the_others_and_not_imported(self):
+        """A wrong date in one of them is one mistake; a hall that no file has is one."""
+        date = {"sessions": "session;date;start\nFRI-AM;06/11/2027;09:00\n"}
+        for names in ("sessions.csv",), ("sessions.csv", "openings.csv", "papers.csv"):
+            page = self.upload(*self.with_semicolons(*names, **date))
+            text = self.browser.get(page)
+            self.assertRegex(text, "<h1><bdi>1</bdi> mistake ", names)
+            self.assertNotIn("/propose/files", text)
+        self.browser.post(page + "/again", page, book="0", dates="month-first")
+        self.assertIn("No mistake", self.browser.words(page))
+        for names in ("openings.csv",), ("openings.csv", "sessions.csv"):
+            page = self.upload(*[each for each in self.with_semicolons(*names) if each[0] != "halls.csv"])
+            self.assertRegex(self.browser.get(page), "<h1><bdi>1</bdi> mistake ", names)
+            self.assertIn("hall 'ATRIUM': is not among the halls", self.browser.words(page))
+
+    def test_what_is_read_of_one_workbook_is_known_to_another(self):
+        """A sheet that is hidden until a box is ticked has the session of which the other speaks."""
+        hidden = workbook({"Sessions": [["session", "date", "start"], ["FRI-AM", "2027-06-11", "09:00"]],
+                           "Halls": [["hall", "title", "features"], ["ATRIUM", "Atrium", "-"]]}, sheets=["Sessions"])
+        page = self.upload(("s.xlsx", hidden), *self.with_semicolons("papers.csv")[1:2])
+        self.assertIn("'FRI-AM': is not among the sessions", self.browser.words(page))
+        self.browser.post(page + "/again", page, book="0", take="1")
+        self.assertIn("No mistake", self.browser.words(page))
+        self.browser.get(page + "/papers.csv")
+
     def test_dates_are_chosen_on_the_screen(self):
         sheets = {"Sessions": [["session", "date", "start"], ["X-1", "01/06/2027", "9:00"]]}
         page = self.upload(("s.xlsx", workbook(sheets)))

@@ -86,7 +86,7 @@ def read_sheets(job: Job, sheets: list[Sheet], progress: Progress) -> dict[str, 
         if found := [record for table in tables if table.kind == kind for record in table.records(progress)]:
             records[kind] = found
         if kind == "sessions":
-            job.days = {record.fields[0]: record.fields[1] for record in found}
+            job.days |= {record.fields[0]: record.fields[1] for record in found}
         if kind == "papers":
             job.papers = known_papers(job) | {record.fields[0] for record in found}
     return records
@@ -96,7 +96,8 @@ def read_sheets(job: Job, sheets: list[Sheet], progress: Progress) -> dict[str, 
 
 def keep_codes(job: Job, candidates: list[Record]) -> None:
     """A candidate without a code keeps the one that the office has. One line tells of all others of a sheet."""
-    have = {number.decode(): code.decode() for code, numbers in job.known.codes.items() for number in numbers}
+    have = {number.decode(): code.decode() for code, numbers in job.known.codes.items() for number in numbers
+            if code}
     for record in candidates:
         if not record.fields[2] and record.fields[0] in have:
             record.fields[2] = have[record.fields[0]]
