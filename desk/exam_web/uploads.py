@@ -10,7 +10,7 @@ import itertools
 import zipfile
 import zlib
 from collections.abc import Iterable, Iterator, Mapping
-from dataclasses import dataclass, field
+from dataclasses import dataclass, field, replace
 from functools import partial
 from pathlib import PureWindowsPath
 from typing import IO, NamedTuple
@@ -25,9 +25,10 @@ from exam_desk.changing import Step
 from exam_desk.mistakes import Mistake
 from exam_desk.trouble import Trouble
 from exam_desk.workbook.cells import MOST_FILE
+from exam_desk.workbook.cells import Book as OpenBook
 from exam_desk.workbook.headers import is_called_list
 from exam_desk.workbook.opening import book_of
-from exam_desk.workbook.reading import read_book
+from exam_desk.workbook.reading import Reading, encoded, read_book
 from exam_desk.workbook.tables import Job, Line, together
 from exam_desk.workbook.values import BOTH_DATES, Way
 from exam_web.desk import view
@@ -58,10 +59,11 @@ class Looked(NamedTuple):
     cures: int  # that are clear
     rows: int
     codes: int = 0  # candidates without an access code, here and in the office
-    asks: bool = False  # all rows are entries that the office has, so they may be a list of withdrawals
+    known: int = 0  # rows that are entries which the office has
+    asks: bool = False  # they may be a list of withdrawals or of reinstatements
 
 
-@dataclass
+@dataclass(eq=False)
 class Book:
     """A workbook, or a CSV file that is none of the seven as it is; and what was said of it."""
     name: str
@@ -74,6 +76,7 @@ class Book:
     mistakes: int = 0
     changes: int = 0
     kinds: list[str] = field(default_factory=list)  # that are taken from it
+    rows: dict[str, list[tuple[bytes, ...]]] = field(default_factory=dict)  # that it brings, taken or not
 
 
 @dataclass
@@ -84,6 +87,8 @@ class Upload:
     workbooks: list[Book] = field(default_factory=list)
     when: str = field(default_factory=lambda: datetime.datetime.now().isoformat(" ", "minutes"))
     is_called_list: bool = False  # a file or a sheet of entries is called withdrawals or reinstatements
+    names: list[str] = field(default_factory=list)  # of the files, as the browser gave them
+    mistakes: int = 0  # that the last look found
     edits: int = 0
     is_imported: bool = False
 
@@ -92,7 +97,8 @@ class Upload:
         return [kind for kind in files.HEADERS if kind in self.texts]
 
     def note(self, name: str, words: Markup) -> None:
-        self.notes.append(Markup("{}: {}").format(shown(name[:MOST_NAME]), words))
+        note = Markup("{}: {}").format(shown(name[:MOST_NAME]), words)
+        self.notes += [note] * (note not in self.notes)
 
     def take(self, kind: str, content: bytes, name: str, *sheets: str) -> None:
         """Takes a file of a kind, and the names of its sheets."""
@@ -104,14 +110,17 @@ class Upload:
 
 
 def taken(storages: Iterable[FileStorage], way: Way) -> Upload:
+    """The files that come together."""
     upload = Upload()
     for storage in storages:
         name = PureWindowsPath(storage.filename or "").name
+        upload.names += [name[-MOST_NAME:]] * (name != "")
         if name.lower().endswith(".zip"):
             take_zip(upload, name, storage.stream, way)
         elif name:
             content = storage.stream.read()
             take(upload, name, content, way, MOST_FILE if content.startswith(b"PK") else files.MOST_BYTES)
+    take_books(upload, upload.workbooks)
     return upload
 
 
@@ -130,27 +139,70 @@ def take_zip(upload: Upload, name: str, stream: IO[bytes], way: Way) -> None:
 
 
 def take(upload: Upload, name: str, content: bytes, way: Way, most: int = files.MOST_BYTES) -> None:
-    """Puts one of the seven files, as an import takes them, under its kind; reads all else as a workbook."""
+    """Puts one of the seven files, as an import takes them, under its kind; all else is to be read as a workbook."""
     first = next(files.records(content[:1 << 12]), None)
     if len(content) > most:
         upload.note(name, text("it has more than {most} bytes: split it", most=most))
     elif kind := next((kind for kind in files.HEADERS if files.is_header(kind, first)), None):
         upload.take(kind, content, name)
     else:
-        take_book(upload, Book(name[-MOST_NAME:], content, way))
+        upload.workbooks.append(Book(name[-MOST_NAME:], content, way))
 
 
-def take_book(upload: Upload, book: Book) -> None:
-    """Reads a workbook by the rules of `office read`: its sheets are taken where no line is a mistake."""
+def take_books(upload: Upload, books: list[Book]) -> None:
+    """Reads workbooks, twice where there are several, since each is read beside what all the others bring."""
+    others = [book for book in upload.workbooks if book not in books]
+    found = [(book, cells) for book in books if (cells := open_of(upload, book)) is not None]
+    upload.workbooks = [*others, *(book for book, _ in found)]
+    readings: list[Reading | None] = []
+    for _ in range(min(len(found), 2)):
+        readings = [read_beside(upload, book, cells) for book, cells in found]
+    upload.workbooks = others
+    for (book, cells), reading in zip(found, readings):
+        if reading is not None:
+            take_book(upload, book, cells, reading)
+
+
+def open_of(upload: Upload, book: Book) -> OpenBook | None:
+    """The cells of a workbook; where it cannot be opened, a note says why."""
     try:
-        opened = book_of(book.content, book.name)
-        names = [sheet.name for sheet in opened.sheets if sheet.hidden or book.hidden == "take"]
-        reading = read_book(opened, Job(mistakes.Known(view().reading.rows), book.way,
-                                        sheets=names if book.hidden == "take" else None,
-                                        leave=names if book.hidden == "leave" else [], hidden=book.hidden))
+        return book_of(book.content, book.name)
     except Trouble as trouble:
         upload.note(book.name, said(trouble.sentence))
-        return
+        return None
+
+
+def rows_beside(upload: Upload, book: Book | None = None) -> dict[str, list[tuple[bytes, ...]]]:
+    """What the files bring that are taken, and the workbooks that were read, without one of them."""
+    brought = {kind: [record.fields for record in below_header(content)] for kind, content in upload.texts.items()}
+    others = [brought, *(other.rows for other in upload.workbooks if other is not book)]
+    return {kind: [row for other in others for row in other.get(kind, [])
+                   if len(row) == len(header) and all(map(files.is_utf_8, row))]
+            for kind, header in files.HEADERS.items()}
+
+
+def read_beside(upload: Upload, book: Book, opened: OpenBook) -> Reading | None:
+    """Reads a workbook by the rules of `office read`, beside the office and what the other files bring."""
+    sheets = [replace(sheet, rows=dict(sheet.rows)) for sheet in opened.sheets]  # hidden rows may be taken out of these
+    names = [sheet.name for sheet in sheets if sheet.hidden or book.hidden == "take"]
+    beside, known = rows_beside(upload, book), mistakes.Known(view().reading.rows)
+    for kind, rows in beside.items():
+        known.take(kind, rows)
+    days = {session.decode(): date.decode() for session, date, _ in beside["sessions"]}
+    job = Job(known, book.way, sheets=names if book.hidden == "take" else None,
+              leave=names if book.hidden == "leave" else [], hidden=book.hidden, days=days)
+    try:
+        reading = read_book(opened._replace(sheets=sheets), job)
+    except Trouble as trouble:
+        upload.note(book.name, said(trouble.sentence))
+        return None
+    book.rows = {kind: [tuple(map(encoded, record.fields)) for record in records]
+                 for kind, records in reading.records.items()}
+    return reading
+
+
+def take_book(upload: Upload, book: Book, opened: OpenBook, reading: Reading) -> None:
+    """Takes the sheets of a workbook where no line is a mistake."""
     report = reading.report
     if not any(line.sheet for line in report.lines if line.sort == "mistake") and not reading.records:
         upload.note(book.name, text("no row is the header of one of the seven files, so nothing is taken of it"))
@@ -172,10 +224,14 @@ def below_header(content: bytes) -> Iterator[files.Record]:
     return itertools.islice(files.records(content), 1, None)
 
 
-def looked_through(upload: Upload) -> dict[str, Looked]:
-    """The files with their mistakes, each beside the office and the files before it."""
+def looked_through(upload: Upload, alone: bool = False) -> dict[str, Looked]:
+    """The files with their mistakes, each beside the office and the files before it; also beside the workbooks of which
+    nothing is taken yet, if they are not to stand alone."""
     known, looked = mistakes.Known(view().reading.rows), {}
-    asks = "entries" in upload.texts and may_be_list(upload, known)
+    had, asks = may_be_list(upload, known)
+    for book in upload.workbooks if not alone else ():
+        for kind, rows in book.rows.items() if book.mistakes else ():
+            known.take(kind, rows)
     lacking = without_codes(upload)
     for kind in upload.kinds:
         content = upload.texts[kind]
@@ -186,7 +242,7 @@ def looked_through(upload: Upload) -> dict[str, Looked]:
                   for record in files.records(content) if record.line in lines}
         looked[kind] = Looked(*found, fields, wrong.count, sum(each.write != "" for each in found[0]),
                               sum(1 for _ in below_header(content)), lacking if kind == "candidates" else 0,
-                              asks and kind == "entries")
+                              *(had, asks) if kind == "entries" else ())
     return looked
 
 
@@ -198,12 +254,12 @@ def without_codes(upload: Upload) -> int:
     return sum(not mistakes.RIGHT["number"](number) or int(number) not in codes for number in numbers)
 
 
-def may_be_list(upload: Upload, known: mistakes.Known) -> bool:
-    """Whether a file of entries is perhaps a list of withdrawals or of reinstatements: so it is called, or the office
-    has all its rows, as entries that count or that are withdrawn."""
-    content = upload.texts["entries"]
-    return upload.is_called_list or next(below_header(content), None) is not None and any(
-        all(record.fields in rows for record in below_header(content)) for rows in (known.entries, known.withdrawn))
+def may_be_list(upload: Upload, known: mistakes.Known) -> tuple[int, bool]:
+    """How many rows of a file of entries the office has, as entries that count or as withdrawn ones; and whether it is
+    perhaps a list of withdrawals or of reinstatements: so it is called, or these are half of its rows or more."""
+    rows = [record.fields for record in below_header(upload.texts.get("entries", b""))]
+    had = max(sum(row in entries for row in rows) for entries in (known.entries, known.withdrawn))
+    return had, bool(rows) and (upload.is_called_list or 2 * had >= len(rows))
 
 
 Corrections = dict[int, dict[int, str]]  # by line and place; an empty dict takes the row out
@@ -241,7 +297,7 @@ def corrected(content: bytes, wanted: Corrections) -> bytes:
 @pages.get("/files")
 def page() -> str:
     counts = {kind: view().count(f"SELECT count(*) FROM ({query})") for kind, query in files.QUERIES.items()}
-    return render_template("files.html", headers=files.HEADERS, counts=counts,
+    return render_template("files.html", headers=files.HEADERS, counts=counts, most=MOST_SHOWN,
                            uploaded={key: each for key, each in g.visit.uploads.items() if not each.is_imported})
 
 
@@ -261,8 +317,12 @@ def way_of(form: Form) -> Way:
 @pages.get("/files/uploaded/<key>")
 def look(key: str) -> str:
     found: Upload = g.visit.uploads.get(key) or abort(404)
-    return render_template("look.html", key=key, upload=found, looked=looked_through(found),
-                           headers=files.HEADERS, most=MOST_SHOWN, most_lines=MOST_LINES)
+    looked = looked_through(found)
+    of_books = sum(book.mistakes for book in found.workbooks)
+    found.mistakes = sum(each.total for each in looked.values()) + of_books
+    stands = not of_books or not any(each.total for each in looked_through(found, alone=True).values())
+    return render_template("look.html", key=key, upload=found, looked=looked, stands=stands, headers=files.HEADERS,
+                           most=MOST_SHOWN, most_lines=MOST_LINES)
 
 
 @pages.post("/files/uploaded/<key>/correct")
@@ -282,7 +342,7 @@ def correct(key: str) -> Response:
 
 @pages.post("/files/uploaded/<key>/again")
 def again(key: str) -> Response:
-    """Reads a workbook once more, with its hidden rows and sheets or without them, and its dates as the form says."""
+    """Reads a workbook again, with its hidden rows and sheets or without them, and its dates as the form says."""
     found: Upload = g.visit.uploads.get(key) or abort(404)
     place = request.form.get("book", "")
     if place not in map(str, range(len(found.workbooks))) or found.is_imported:
@@ -290,7 +350,8 @@ def again(key: str) -> Response:
     book = found.workbooks.pop(int(place))
     found.texts = {kind: content for kind, content in found.texts.items() if kind not in book.kinds}
     choice = ("take" if request.form.get("take") else "leave") if book.has_hidden else ""
-    take_book(found, Book(book.name, book.content, way_of(request.form), choice))
+    wrong = [other for other in found.workbooks if other.mistakes]  # perhaps for what is read of this one now
+    take_books(found, [*wrong, Book(book.name, book.content, way_of(request.form), choice)])
     return lead("files.look", key=key)
 
 
@@ -314,7 +375,7 @@ def import_files(form: Form) -> Plan:
     choice = form.get("choice", "")
     if choice in CHOICES:
         return withdraw_list(upload, choice, page)
-    if "entries" in upload.texts and not choice and may_be_list(upload, mistakes.Known(view().reading.rows)):
+    if not choice and may_be_list(upload, mistakes.Known(view().reading.rows))[1]:
         raise Wrong(page, choice=text("say what is to become of these entries"))
     texts = upload.texts | with_codes(upload, page, form)
     steps = [Step(("import", kind, f"{kind}.csv"), texts[kind]) for kind in upload.kinds]

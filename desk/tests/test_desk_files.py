@@ -1,4 +1,5 @@
 """Files at the desk in a browser: uploads of every kind, their mistakes, corrections, and the rehearsed import."""
+import html
 import io
 import json
 import os
@@ -197,6 +198,64 @@ class TestFiles(Uploads):
         self.assertRegex(self.browser.words(page), "MISTAKE halls!1 : the column features is missing")
         self.propose(page, 404)
 
+    TOGETHER = {"sessions.csv": "session,date,start\nFRI-AM,2027-06-11,09:00\n",
+                "papers.csv": "paper,title,session,minutes,requires\nGE-1,Geography,FRI-AM,60,-\n",
+                "halls.csv": "hall,title,features\nATRIUM,Atrium,-\n",
+                "openings.csv": "session,hall,desks,until,reserved\nFRI-AM,ATRIUM,70,12:00,no\n",
+                "candidates.csv": "number,name,code\n0012001,Nadia,K4WBN7RTQD\n",
+                "entries.csv": "number,paper\n0012001,GE-1\n"}
+
+    def with_semicolons(self, *names, **others):
+        """The files together, those of these names with semicolons."""
+        return [(name, others.get(name[:-4], text.replace(",", ";") if name in names else text).encode())
+                for name, text in self.TOGETHER.items()]
+
+    def test_files_that_come_together_are_read_together(self):
+        """Whatever parts their columns, in which order they come, and where one of them is a workbook."""
+        names = [*self.TOGETHER]
+        crosses = workbook({"Entries": [["number", "GE-1"], [12001, "x"]]})
+        sessions = workbook({"Sessions": [["session", "date", "start"], ["FRI-AM", "2027-06-11", "09:00"]]})
+        late = self.with_semicolons("papers.csv")
+        late[0] = ("s.xlsx", sessions)
+        for found in (self.with_semicolons(*names), self.with_semicolons(*names)[::-1],
+                      self.with_semicolons("openings.csv"), self.with_semicolons("sessions.csv"), late, late[::-1],
+                      [*self.with_semicolons("papers.csv")[:-1], ("e.xlsx", crosses)],
+                      [("e.xlsx", crosses), *self.with_semicolons(*names)[:-1]],
+                      self.with_semicolons("openings.csv", openings="session;hall;desks;until;reserved\n"
+                                           "FRI-AM;ATRIUM;70;2027-06-11 12:00;no\n")):
+            page = self.upload(*found)
+            self.assertIn("No mistake", self.browser.words(page), [name for name, _ in found])
+            for name, text in self.TOGETHER.items():
+                here = self.browser.ask("GET", f"{page}/{name}")[1]
+                self.assertEqual(here.removeprefix("\ufeff").replace('"', ""), text)
+        self.carry_out(self.propose(page, choice="enter"))
+        self.assertEqual(self.rows("SELECT count(*) FROM entry WHERE number = 12001"), [(1,)])
+
+    def test_what_nothing_is_taken_of_is_known_to_the_others_and_not_imported(self):
+        """A wrong date in one of them is one mistake; a hall that no file has is one."""
+        date = {"sessions": "session;date;start\nFRI-AM;06/11/2027;09:00\n"}
+        for names in ("sessions.csv",), ("sessions.csv", "openings.csv", "papers.csv"):
+            page = self.upload(*self.with_semicolons(*names, **date))
+            text = self.browser.get(page)
+            self.assertRegex(text, "<h1><bdi>1</bdi> mistake ", names)
+            self.assertNotIn("/propose/files", text)
+        self.browser.post(page + "/again", page, book="0", dates="month-first")
+        self.assertIn("No mistake", self.browser.words(page))
+        for names in ("openings.csv",), ("openings.csv", "sessions.csv"):
+            page = self.upload(*[each for each in self.with_semicolons(*names) if each[0] != "halls.csv"])
+            self.assertRegex(self.browser.get(page), "<h1><bdi>1</bdi> mistake ", names)
+            self.assertIn("hall 'ATRIUM': is not among the halls", self.browser.words(page))
+
+    def test_what_is_read_of_one_workbook_is_known_to_another(self):
+        """A sheet that is hidden until a box is ticked has the session of which the other speaks."""
+        hidden = workbook({"Sessions": [["session", "date", "start"], ["FRI-AM", "2027-06-11", "09:00"]],
+                           "Halls": [["hall", "title", "features"], ["ATRIUM", "Atrium", "-"]]}, sheets=["Sessions"])
+        page = self.upload(("s.xlsx", hidden), *self.with_semicolons("papers.csv")[1:2])
+        self.assertIn("'FRI-AM': is not among the sessions", self.browser.words(page))
+        self.browser.post(page + "/again", page, book="0", take="1")
+        self.assertIn("No mistake", self.browser.words(page))
+        self.browser.get(page + "/papers.csv")
+
     def test_dates_are_chosen_on_the_screen(self):
         sheets = {"Sessions": [["session", "date", "start"], ["X-1", "01/06/2027", "9:00"]]}
         page = self.upload(("s.xlsx", workbook(sheets)))
@@ -255,6 +314,23 @@ class TestFiles(Uploads):
         self.assertEqual(self.live(), before - {numbers[2]})
         self.assertIn("withdraw --list", self.office("back"))
 
+    def test_what_the_office_has_by_half_is_never_imported_unasked(self):
+        """A list of leavers in which some rows are wrong, or late, is no list of new entries for that."""
+        numbers, _ = self.listed()
+        live = [f"{number},EN-1\n" for number in numbers]
+        new = [f"{row}\n" for row, in self.rows("SELECT printf('%07d,LAT', number) FROM candidate WHERE number NOT IN "
+                                                "(SELECT number FROM entry WHERE paper = 'LAT') LIMIT 2")]
+        for rows, count in (live[:2] + new[:2], 2), (live[:2] + new[:1], 2), (live[:1] + new[:2], 0):
+            page = self.upload(("june.csv", f"number,paper\n{''.join(rows)}".encode()))
+            words, text = self.browser.words(page), self.browser.get(page)
+            said = f"The office has {count} of these {len(rows)} entries already; an import would not change them."
+            self.assertEqual((said in words, "checked" in text), (count > 0, count == 0), rows)
+            self.assertEqual(text.count('name="choice"'), text.count(" required"))
+        page = self.upload(("june.csv", f"number,paper\n{''.join(live[:2] + new[:1])}".encode()))
+        self.propose(page, 422)
+        self.carry_out(self.propose(page, choice="withdraw"))
+        self.assertTrue(self.live().isdisjoint(numbers[:2]))
+
     def test_rows_that_cannot_be_withdrawn_are_named_and_left_out(self):
         (number, other), text = self.listed()[0][:2], "number,paper\n"
         self.office("withdraw", other, "EN-1")
@@ -277,7 +353,7 @@ class TestFiles(Uploads):
             page = self.upload(found)
             self.assertIn("called a list of withdrawals or reinstatements", self.browser.words(page), found[0])
             self.propose(page, 422)
-        page = self.upload(("entries.csv", text))
+        page = self.upload(("entries.csv", text + b"0001085,BI-1\n"))
         self.assertNotIn("called a list", self.browser.words(page))
         self.assertIn('value="enter" required checked', self.browser.get(page))
         page = self.upload(("withdrawals.csv", text), ("halls.csv", b"hall,title,features\nR20,Room 20,-\n"))
@@ -345,6 +421,27 @@ class TestFiles(Uploads):
             self.assertNotRegex(text, r"<script(?! src=)")
             self.assertNotIn("/propose/files", text)
             self.assertNotIn(self.folder, text)
+
+    def test_what_is_uploaded_bears_its_names_and_says_its_mistakes(self):
+        name = "<b onclick=x>\u202e.csv"
+        hall = b"hall,title,features\nR20,Room,-\n"
+        for found in ([(name, b"number;paper\nx;EN-1\ny;EN-1\n"), ("plan.csv", hall)], [("right.csv", hall)],
+                      [("readme.txt", b"hello")], [("halls.csv", hall + b"R21,Room,PC\n")]):
+            self.browser.get(page := self.upload(*found))
+        listed = self.browser.get("/files").partition("Uploaded, not imported")[2].partition("</ul>")[0]
+        self.assertNotIn("<b onclick", listed)
+        self.assertNotIn("\u202e", listed)
+        wrong, right, none, other = (re.sub("\\s+", " ", html.unescape(re.sub("<[^>]*>", "", line))).strip()
+                                     for line in re.findall("<li>(.*?)</li>", listed, re.S))
+        self.assertRegex(wrong, r'^20[-0-9]+ [0-9:]+: <b onclick=x>\S?\.csv, plan\.csv 2 mistakes$')
+        self.assertRegex(right, r"^20[-0-9]+ [0-9:]+: right\.csv$")
+        self.assertRegex(none, r"^20[-0-9]+ [0-9:]+: readme\.txt nothing that could be read$")
+        self.assertRegex(other, r"^20[-0-9]+ [0-9:]+: halls\.csv 1 mistake$")
+        self.browser.post(page + "/correct", page, **{"halls:3:features": "-"})
+        self.browser.get(page)
+        self.assertNotIn("1 mistake", self.browser.words("/files"))
+        _, text = self.browser.ask("GET", "/files", headers={"Accept-Language": "de"})
+        self.assertRegex(text, "<bdi>2</bdi> Fehler|2 Fehler")
 
     def test_downloads(self):
         self.office("school", "Hill School")

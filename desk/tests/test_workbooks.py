@@ -308,6 +308,41 @@ class Commands(sample.SampleSchool):
         self.assertGreater(len(self.run_office("read", "b.xlsx", "new", "--all").stdout.splitlines()), 100)
 
     @needs_openpyxl
+    def test_a_number_beside_many_crosses_is_one_mistake(self) -> None:
+        """Three crosses in each of two rows with a number that nobody has, and a row that stands twice."""
+        self.office("dump", "facts")
+        papers = [row[0] for row in self.rows("facts", "papers")[:3]]
+        known = self.rows("facts", "candidates")[0][0]
+        book = rawbook.xlsx({"name": "Entries", "rows": [
+            ["number", *papers], ["0001232", "x", "x", "x"], ["0001233", "x", "x", "x"], ["0001232", "x", "x", "x"],
+            [known, "x", "x", "x"], [known, "x", "x", "x"]]})
+        pathlib.Path(self.folder, "b.xlsx").write_bytes(book)
+        told = self.run_office("read", "b.xlsx", "new").stdout.splitlines()
+        wrong = "MISTAKE: number '000123{}': is not among the candidates"
+        self.assertEqual([line for line in told if "MISTAKE" in line],
+                         [f"Entries!A2: {wrong.format(2)}", f"Entries!A3: {wrong.format(3)}"])
+        self.assertIn("2 mistakes, ", told[-1])
+        self.assertEqual([line for line in told if "it counts once" in line],
+                         ["Entries!4: NOTE: the same as Entries!2; it counts once",
+                          "Entries!6: NOTE: the same as Entries!5; it counts once"])
+
+    def test_a_list_of_entries_that_count_says_what_withdraws_them(self) -> None:
+        """Where half of its rows count or more, and nothing else comes with them."""
+        self.office("dump", "facts")
+        had = self.rows("facts", "entries")
+        papers, numbers = ([row[0] for row in self.rows("facts", kind)] for kind in ("papers", "candidates"))
+        new = [[number, paper] for number in numbers for paper in papers if [number, paper] not in had]
+        for rows, said in ((had[:2], "2 of 2"), (had[:2] + new[:1], "2 of 3"), (had[:1] + new[1:2], "1 of 2"),
+                           (had[:1] + new[2:4], "")):
+            pathlib.Path(self.folder, "leave.csv").write_text(
+                "".join(",".join(row) + "\n" for row in [["number", "paper"], *rows]), "utf-8")
+            done = self.run_office("take", "leave.csv", "--yes")
+            self.assertEqual([line for line in done.stdout.splitlines() if "withdraw --list" in line],
+                             [f"NOTE: {said} entries count already; to withdraw them: office withdraw --list FILE"]
+                             if said else [])
+        self.assertNotIn("withdraw --list", self.run_office("take", "facts", "--yes").stdout)
+
+    @needs_openpyxl
     def test_the_office_fills_codes_and_knows_papers(self) -> None:
         first = self.office("dump", "facts") and self.rows("facts", "candidates")[0]
         paper = self.rows("facts", "papers")[0][0]

@@ -69,6 +69,8 @@ def read_book(book: Book, job: Job, progress: Progress = lambda text: None) -> R
         where = ": see `office template`" if job.way.is_command else ""
         job.report.mistake(f"no sheet has rows of one of the seven kinds{where}")
     keep_codes(job, records.get("candidates", []))
+    if [*records] == ["entries"]:
+        tell_entered(job, records["entries"])
     check_files(job, records, progress)
     return Reading(records, job.report)
 
@@ -84,7 +86,7 @@ def read_sheets(job: Job, sheets: list[Sheet], progress: Progress) -> dict[str, 
         if found := [record for table in tables if table.kind == kind for record in table.records(progress)]:
             records[kind] = found
         if kind == "sessions":
-            job.days = {record.fields[0]: record.fields[1] for record in found}
+            job.days |= {record.fields[0]: record.fields[1] for record in found}
         if kind == "papers":
             job.papers = known_papers(job) | {record.fields[0] for record in found}
     return records
@@ -94,7 +96,8 @@ def read_sheets(job: Job, sheets: list[Sheet], progress: Progress) -> dict[str, 
 
 def keep_codes(job: Job, candidates: list[Record]) -> None:
     """A candidate without a code keeps the one that the office has. One line tells of all others of a sheet."""
-    have = {number.decode(): code.decode() for code, numbers in job.known.codes.items() for number in numbers}
+    have = {number.decode(): code.decode() for code, numbers in job.known.codes.items() for number in numbers
+            if code}
     for record in candidates:
         if not record.fields[2] and record.fields[0] in have:
             record.fields[2] = have[record.fields[0]]
@@ -105,6 +108,13 @@ def keep_codes(job: Job, candidates: list[Record]) -> None:
         found = list(records)
         job.report.lines.append(Line("note", mistakes.no_codes(len(found)), found[0].sheet,
                                      [record.row for record in found], found[0].columns[2], mistakes.NO_CODE))
+
+
+def tell_entered(job: Job, entries: list[Record]) -> None:
+    """A list of entries half of which or more count already may be one of withdrawals, which no import carries out."""
+    count = sum(tuple(map(encoded, record.fields)) in job.known.entries for record in entries)
+    if job.way.is_command and 2 * count >= len(entries):
+        job.report.note(f"{count} of {len(entries)} entries count already; to withdraw them: office withdraw --list FILE")
 
 
 def check_files(job: Job, records: Mapping[str, list[Record]], progress: Progress) -> None:
@@ -129,13 +139,13 @@ def put_back(job: Job, kind: str, sort: str, found: Iterable[mistakes.Mistake], 
             continue
         record = rows[mistake.line - FIRST]
         column = record.columns[header.index(what)] if what in header else None
+        place, text = place_name(record.sheet, record.row, column), f"{mistake.what}: {mistake.text}"
         is_told = column is None and what in header and not record.fields[header.index(what)]  # of the header
-        if not (is_told or place_name(record.sheet, record.row, column) in said):
-            text = f"{mistake.what}: {mistake.text}"
-            if what == "row":  # it speaks of another line of the file
-                text = re.sub(r"\bline ([0-9]+)\b", lambda line: place_name(*rows[int(line[1]) - FIRST][:2]),
-                              mistake.text)
+        if what == "row":  # it speaks of another line of the file
+            text = re.sub(r"\bline ([0-9]+)\b", lambda line: place_name(*rows[int(line[1]) - FIRST][:2]), mistake.text)
+        if not (is_told or place in said or place + text in said):
             job.report.add(sort, text, record.sheet, record.row, column, f"{what} {mistake.text}")
+            said.add(place + text)  # a row of crosses has one number and is several rows of the file
 
 
 # -- the new folder, for its owner alone, whole or not at all

@@ -99,7 +99,7 @@ class Job:
     hidden: str = ""  # take or leave: what becomes of hidden rows
     report: Report = field(default_factory=Report)
     papers: set[str] = field(default_factory=set)  # codes that the office or the workbook has
-    days: dict[str, str] = field(default_factory=dict)  # of the sessions of the workbook
+    days: dict[str, str] = field(default_factory=dict)  # of the sessions that are imported with it
 
     def __post_init__(self) -> None:
         read = functools.partial(read_value, way=self.way)
