@@ -242,7 +242,7 @@ def looked_through(upload: Upload, alone: bool = False) -> dict[str, Looked]:
                   for record in files.records(content) if record.line in lines}
         looked[kind] = Looked(*found, fields, wrong.count, sum(each.write != "" for each in found[0]),
                               sum(1 for _ in below_header(content)), lacking if kind == "candidates" else 0,
-                              *(had, asks) if kind == "entries" else ())
+                              had if kind == "entries" else 0, asks and kind == "entries")
     return looked
 
 
