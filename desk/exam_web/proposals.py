@@ -36,7 +36,7 @@ from exam_web.wording import said
 
 pages = Blueprint("proposals", __name__)
 MOST_PROPOSALS = 20  # of a visit
-MOST_ROWS = 250  # of those who must be told, on the page; all are in the CSV file
+MOST_ROWS = 250  # of a list on the page; all who must be told are in the CSV file
 MOST_LINES = 20  # of the log, where the office was another
 MOST_CLASHES = 100  # new ones that are named
 COMPARING, LODGING = "Both states are compared", "The appeal is lodged"
