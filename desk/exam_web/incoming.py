@@ -45,7 +45,7 @@ class Book:
     mistakes: int = 0
     changes: int = 0
     kinds: list[str] = field(default_factory=list)  # that are taken from it
-    rows: dict[str, list[tuple[bytes, ...]]] = field(default_factory=dict)  # that it brings, taken or not
+    rows: dict[str, list[tuple[bytes, ...]]] = field(default_factory=dict)  # that it brings, until they are taken
 
 
 @dataclass
@@ -187,6 +187,7 @@ def take_book(upload: Upload, book: Book, opened: OpenBook, reading: Reading) ->
     for kind, records in reading.records.items() if not book.mistakes else ():
         upload.take(kind, files.file_of(kind, [record.fields for record in records]), book.name,
                     *{record.sheet.name for record in records})
+    book.rows = book.rows if book.mistakes else {}
 
 
 def below_header(content: bytes) -> Iterator[files.Record]:

@@ -47,7 +47,7 @@ def looked_through(upload: Upload, alone: bool = False) -> dict[str, Looked]:
     known, looked = mistakes.Known(view().reading.rows), {}
     had, asks = may_be_list(upload, known)
     for book in upload.workbooks if not alone else ():
-        for kind, rows in book.rows.items() if book.mistakes else ():
+        for kind, rows in book.rows.items():
             known.take(kind, rows)
     lacking = without_codes(upload)
     for kind in upload.kinds:
