@@ -1,53 +1,31 @@
-"""Files: what the office has; what a browser brings, which of the seven it is, its mistakes with cures, and corrections
-on the spot.
-
-No name that a browser sends becomes a path: it is compared and shown. A zip is read in memory and never unpacked.
-"""
+"""Files: what the office has; what a browser brings, its mistakes with cures, and corrections on the spot."""
 import csv
-import datetime
 import io
-import itertools
-import zipfile
-import zlib
-from collections.abc import Iterable, Iterator, Mapping
-from dataclasses import dataclass, field, replace
+from collections.abc import Mapping
 from functools import partial
-from pathlib import PureWindowsPath
-from typing import IO, NamedTuple
+from typing import NamedTuple
 
 from flask import Blueprint, abort, g, render_template, request
-from markupsafe import Markup
-from werkzeug.datastructures import FileStorage
 from werkzeug.wrappers import Response
 
 from exam_desk import coding, dumping, facts, files, mistakes
 from exam_desk.changing import Step
 from exam_desk.mistakes import Mistake
-from exam_desk.trouble import Trouble
-from exam_desk.workbook.cells import MOST_FILE
-from exam_desk.workbook.cells import Book as OpenBook
-from exam_desk.workbook.headers import is_called_list
-from exam_desk.workbook.opening import book_of
-from exam_desk.workbook.reading import Reading, encoded, read_book
-from exam_desk.workbook.tables import Job, Line, together
-from exam_desk.workbook.values import BOTH_DATES, Way
+from exam_desk.workbook.values import Way
 from exam_web.desk import view
 from exam_web.forms import Form, Page, Wrong, archive, attached, keep, lead
+from exam_web.incoming import Book, Upload, below_header, take_books, taken
 from exam_web.proposals import PLANS, Plan
-from exam_web.wording import many, said, shown, text
+from exam_web.wording import many, text
 
 pages = Blueprint("files", __name__)
-MOST_MEMBERS = 64  # of a zip
 MOST_UPLOADS = 4  # of a visit
-MOST_NAME = 80  # letters that are shown
 MOST_SHOWN = 40  # mistakes of a file on the page
 MOST_CURED = 20_000  # of a file that one press of a button can mend
 MOST_VALUE = 400  # letters of a value that is typed
 MOST_LINES = 300  # of a workbook, on the page
 MOST_LISTED = 300  # rows that are withdrawn or reinstated one by one, while nobody else has the office
 CHOICES = ("withdraw", "reinstate")  # what else may become of entries
-HIDDEN = "hidden"  # stands in the lines of a reading that speak of hidden rows and sheets
-UNREADABLE = (zipfile.BadZipFile, zipfile.LargeZipFile, zlib.error, RuntimeError, EOFError, OSError, ValueError)
 
 
 class Looked(NamedTuple):
@@ -63,174 +41,13 @@ class Looked(NamedTuple):
     asks: bool = False  # they may be a list of withdrawals or of reinstatements
 
 
-@dataclass(eq=False)
-class Book:
-    """A workbook, or a CSV file that is none of the seven as it is; and what was said of it."""
-    name: str
-    content: bytes
-    way: Way
-    hidden: str = ""  # what becomes of hidden rows and sheets: take or leave; "" asks
-    has_hidden: bool = False  # something hidden that is spoken of
-    has_dates: bool = False  # dates that may be two days
-    lines: list[Line] = field(default_factory=list)  # mistakes first
-    mistakes: int = 0
-    changes: int = 0
-    kinds: list[str] = field(default_factory=list)  # that are taken from it
-    rows: dict[str, list[tuple[bytes, ...]]] = field(default_factory=dict)  # that it brings, taken or not
-
-
-@dataclass
-class Upload:
-    """Files that came to the desk; corrections are made in these bytes."""
-    texts: dict[str, bytes] = field(default_factory=dict)  # by kind
-    notes: list[Markup] = field(default_factory=list)
-    workbooks: list[Book] = field(default_factory=list)
-    when: str = field(default_factory=lambda: datetime.datetime.now().isoformat(" ", "minutes"))
-    is_called_list: bool = False  # a file or a sheet of entries is called withdrawals or reinstatements
-    names: list[str] = field(default_factory=list)  # of the files, as the browser gave them
-    mistakes: int = 0  # that the last look found
-    edits: int = 0
-    is_imported: bool = False
-
-    @property
-    def kinds(self) -> list[str]:
-        return [kind for kind in files.HEADERS if kind in self.texts]
-
-    def note(self, name: str, words: Markup) -> None:
-        note = Markup("{}: {}").format(shown(name[:MOST_NAME]), words)
-        self.notes += [note] * (note not in self.notes)
-
-    def take(self, kind: str, content: bytes, name: str, *sheets: str) -> None:
-        """Takes a file of a kind, and the names of its sheets."""
-        if kind in self.texts:
-            self.note(name, text("there are two files of {kind}; the first is taken", kind=kind))
-        else:
-            self.texts[kind] = content
-            self.is_called_list |= kind == "entries" and any(map(is_called_list, (name, *sheets)))
-
-
-def taken(storages: Iterable[FileStorage], way: Way) -> Upload:
-    """The files that come together."""
-    upload = Upload()
-    for storage in storages:
-        name = PureWindowsPath(storage.filename or "").name
-        upload.names += [name[-MOST_NAME:]] * (name != "")
-        if name.lower().endswith(".zip"):
-            take_zip(upload, name, storage.stream, way)
-        elif name:
-            content = storage.stream.read()
-            take(upload, name, content, way, MOST_FILE if content.startswith(b"PK") else files.MOST_BYTES)
-    take_books(upload, upload.workbooks)
-    return upload
-
-
-def take_zip(upload: Upload, name: str, stream: IO[bytes], way: Way) -> None:
-    try:
-        with zipfile.ZipFile(stream) as archive:
-            members = [each for each in archive.infolist() if not each.is_dir() and "__MACOSX" not in each.filename]
-            if len(members) > MOST_MEMBERS:
-                upload.note(name, text("it holds {count} files; give the seven alone", count=len(members)))
-                return
-            for member in members:
-                with archive.open(member) as file:
-                    take(upload, PureWindowsPath(member.filename).name, file.read(files.MOST_BYTES + 1), way)
-    except UNREADABLE as fault:
-        upload.note(name, text("it cannot be read: {why}", why=str(fault)))
-
-
-def take(upload: Upload, name: str, content: bytes, way: Way, most: int = files.MOST_BYTES) -> None:
-    """Puts one of the seven files, as an import takes them, under its kind; all else is to be read as a workbook."""
-    first = next(files.records(content[:1 << 12]), None)
-    if len(content) > most:
-        upload.note(name, text("it has more than {most} bytes: split it", most=most))
-    elif kind := next((kind for kind in files.HEADERS if files.is_header(kind, first)), None):
-        upload.take(kind, content, name)
-    else:
-        upload.workbooks.append(Book(name[-MOST_NAME:], content, way))
-
-
-def take_books(upload: Upload, books: list[Book]) -> None:
-    """Reads workbooks, twice where there are several, since each is read beside what all the others bring."""
-    others = [book for book in upload.workbooks if book not in books]
-    found = [(book, cells) for book in books if (cells := open_of(upload, book)) is not None]
-    upload.workbooks = [*others, *(book for book, _ in found)]
-    readings: list[Reading | None] = []
-    for _ in range(min(len(found), 2)):
-        readings = [read_beside(upload, book, cells) for book, cells in found]
-    upload.workbooks = others
-    for (book, cells), reading in zip(found, readings):
-        if reading is not None:
-            take_book(upload, book, cells, reading)
-
-
-def open_of(upload: Upload, book: Book) -> OpenBook | None:
-    """The cells of a workbook; where it cannot be opened, a note says why."""
-    try:
-        return book_of(book.content, book.name)
-    except Trouble as trouble:
-        upload.note(book.name, said(trouble.sentence))
-        return None
-
-
-def rows_beside(upload: Upload, book: Book | None = None) -> dict[str, list[tuple[bytes, ...]]]:
-    """What the files bring that are taken, and the workbooks that were read, without one of them."""
-    brought = {kind: [record.fields for record in below_header(content)] for kind, content in upload.texts.items()}
-    others = [brought, *(other.rows for other in upload.workbooks if other is not book)]
-    return {kind: [row for other in others for row in other.get(kind, [])
-                   if len(row) == len(header) and all(map(files.is_utf_8, row))]
-            for kind, header in files.HEADERS.items()}
-
-
-def read_beside(upload: Upload, book: Book, opened: OpenBook) -> Reading | None:
-    """Reads a workbook by the rules of `office read`, beside the office and what the other files bring."""
-    sheets = [replace(sheet, rows=dict(sheet.rows)) for sheet in opened.sheets]  # hidden rows may be taken out of these
-    names = [sheet.name for sheet in sheets if sheet.hidden or book.hidden == "take"]
-    beside, known = rows_beside(upload, book), mistakes.Known(view().reading.rows)
-    for kind, rows in beside.items():
-        known.take(kind, rows)
-    days = {session.decode(): date.decode() for session, date, _ in beside["sessions"]}
-    job = Job(known, book.way, sheets=names if book.hidden == "take" else None,
-              leave=names if book.hidden == "leave" else [], hidden=book.hidden, days=days)
-    try:
-        reading = read_book(opened._replace(sheets=sheets), job)
-    except Trouble as trouble:
-        upload.note(book.name, said(trouble.sentence))
-        return None
-    book.rows = {kind: [tuple(map(encoded, record.fields)) for record in records]
-                 for kind, records in reading.records.items()}
-    return reading
-
-
-def take_book(upload: Upload, book: Book, opened: OpenBook, reading: Reading) -> None:
-    """Takes the sheets of a workbook where no line is a mistake."""
-    report = reading.report
-    if not any(line.sheet for line in report.lines if line.sort == "mistake") and not reading.records:
-        upload.note(book.name, text("no row is the header of one of the seven files, so nothing is taken of it"))
-        return
-    upload.workbooks.append(book)
-    book.lines = sorted((line for line in together(report.lines) if line.what != mistakes.NO_CODE),
-                        key=lambda line: line.sort != "mistake")
-    book.mistakes, book.changes = report.count("mistake"), report.count("change")
-    book.has_hidden = any(sheet.hidden or sheet.hidden_rows for sheet in opened.sheets) and (
-        book.hidden != "" or any(HIDDEN in line.text for line in report.lines))
-    book.has_dates = book.way.dates != "" or any(BOTH_DATES in line.text for line in report.lines)
-    book.kinds = [kind for kind in reading.records if not book.mistakes and kind not in upload.texts]
-    for kind, records in reading.records.items() if not book.mistakes else ():
-        upload.take(kind, files.file_of(kind, [record.fields for record in records]), book.name,
-                    *{record.sheet.name for record in records})
-
-
-def below_header(content: bytes) -> Iterator[files.Record]:
-    return itertools.islice(files.records(content), 1, None)
-
-
 def looked_through(upload: Upload, alone: bool = False) -> dict[str, Looked]:
     """The files with their mistakes, each beside the office and the files before it; also beside the workbooks of which
     nothing is taken yet, if they are not to stand alone."""
     known, looked = mistakes.Known(view().reading.rows), {}
     had, asks = may_be_list(upload, known)
     for book in upload.workbooks if not alone else ():
-        for kind, rows in book.rows.items() if book.mistakes else ():
+        for kind, rows in book.rows.items():
             known.take(kind, rows)
     lacking = without_codes(upload)
     for kind in upload.kinds:

@@ -114,7 +114,8 @@ def tell_entered(job: Job, entries: list[Record]) -> None:
     """A list of entries half of which or more count already may be one of withdrawals, which no import carries out."""
     count = sum(tuple(map(encoded, record.fields)) in job.known.entries for record in entries)
     if job.way.is_command and 2 * count >= len(entries):
-        job.report.note(f"{count} of {len(entries)} entries count already; to withdraw them: office withdraw --list FILE")
+        job.report.note(f"{count} of {len(entries)} entries count already; "
+                        "to withdraw them: office withdraw --list FILE")
 
 
 def check_files(job: Job, records: Mapping[str, list[Record]], progress: Progress) -> None:
