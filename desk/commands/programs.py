@@ -1,5 +1,5 @@
-"""What `office` does for a command of the program, and for each command that changes the office: that gives a plan, which
-`what-if` rehearses, and `office` carries out."""
+"""What `office` does for a command of the program, and for each command that changes the office: that gives a plan,
+which `what-if` rehearses, and `office` carries out."""
 from __future__ import annotations
 
 import contextlib

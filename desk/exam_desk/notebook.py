@@ -148,7 +148,8 @@ def note_printed(reading: Reading, session: str) -> tuple[int, int]:
     lines = lines_of(reading, session, reading.members(session))
     before = on_paper(reading.office, session)
     with alone(reading.office) as folder:
-        write(reading.office, folder, f"printed.{session}", {number: [*line.desk, line.rest] for number, line in lines.items()})
+        write(reading.office, folder, f"printed.{session}",
+              {number: [*line.desk, line.rest] for number, line in lines.items()})
     return len(lines), len(moved(before, lines)) if before else 0
 
 
