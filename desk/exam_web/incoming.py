@@ -16,7 +16,7 @@ from werkzeug.datastructures import FileStorage
 
 from exam_desk import files, mistakes
 from exam_desk.trouble import Trouble
-from exam_desk.workbook.cells import MOST_FILE
+from exam_desk.workbook.cells import MOST_CELLS, MOST_FILE
 from exam_desk.workbook.cells import Book as OpenBook
 from exam_desk.workbook.headers import is_called_list
 from exam_desk.workbook.opening import book_of
@@ -121,7 +121,7 @@ def take(upload: Upload, name: str, content: bytes, way: Way, most: int = files.
 def take_books(upload: Upload, books: list[Book]) -> None:
     """Reads workbooks, twice where there are several, since each is read beside what all the others bring."""
     others = [book for book in upload.workbooks if book not in books]
-    found = [(book, cells) for book in books if (cells := open_of(upload, book)) is not None]
+    found = list(with_cells(upload, books))
     upload.workbooks = [*others, *(book for book, _ in found)]
     readings: list[Reading | None] = []
     for _ in range(min(len(found), 2)):
@@ -132,13 +132,21 @@ def take_books(upload: Upload, books: list[Book]) -> None:
             take_book(upload, book, cells, reading)
 
 
-def open_of(upload: Upload, book: Book) -> OpenBook | None:
-    """The cells of a workbook; where it cannot be opened, a note says why."""
-    try:
-        return book_of(book.content, book.name)
-    except Trouble as trouble:
-        upload.note(book.name, said(trouble.sentence))
-        return None
+def with_cells(upload: Upload, books: list[Book]) -> Iterator[tuple[Book, OpenBook]]:
+    """Workbooks with their cells, as many as one may have; a note says of each other one why it is left."""
+    room = MOST_CELLS
+    for book in books:
+        try:
+            found = book_of(book.content, book.name)
+        except Trouble as trouble:
+            upload.note(book.name, said(trouble.sentence))
+            continue
+        cells = sum(len(row) for sheet in found.sheets for row in sheet.rows.values())
+        if cells > room:
+            upload.note(book.name, text("it is too large beside the others: bring it alone"))
+            continue
+        room -= cells
+        yield book, found
 
 
 def rows_beside(upload: Upload, book: Book | None = None) -> dict[str, list[tuple[bytes, ...]]]:

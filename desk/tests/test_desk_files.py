@@ -9,8 +9,18 @@ import unittest
 import zipfile
 
 from desk_client import MARK, PYTHON, DeskSchool
-from sample import KINDS
+from sample import DESK, KINDS
 
+KEPT_TOGETHER = """
+from unittest import mock
+from exam_desk.workbook.values import Way
+from exam_web import incoming
+upload = incoming.Upload()
+books = [incoming.Book(name, content, Way()) for name, content in
+         (("a.csv", b"a;b\\n1;2\\n"), ("b.csv", b"a;b\\n1;2\\n"), ("c.csv", b"x\\n"))]
+with mock.patch.multiple(incoming, MOST_CELLS=5, text=lambda words: words):
+    print([book.name for book, _ in incoming.with_cells(upload, books)], *map(str, upload.notes), sep="\\n")
+"""
 NEW = b"number,name,code\n12001,Nadia,K4WBN7RTQD\n0012008,Tom,\n"
 
 
@@ -29,6 +39,12 @@ class Uploads(DeskSchool):
         self.assertEqual(answer.status, status, text[-500:])
         return (answer.headers["Location"] or "").removeprefix(self.browser.prefix)
 
+
+    def test_cells_of_an_upload_that_are_kept_together(self):
+        """They are as many as those of one workbook: what goes beyond is named, and the others are read."""
+        done = subprocess.run([PYTHON, "-c", KEPT_TOGETHER], cwd=DESK.parent, capture_output=True, text=True, check=True,
+                              env={**os.environ, "PYTHONPATH": str(DESK)})
+        self.assertEqual(done.stdout, "['a.csv', 'c.csv']\n<bdi>b.csv</bdi>: it is too large beside the others: bring it alone\n")
 
     def propose(self, page, status=303, **fields):
         return self.browser.post("/propose/files", page, status, upload=page.rsplit("/", 1)[1], **fields)[0]

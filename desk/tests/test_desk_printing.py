@@ -66,7 +66,7 @@ class TestPrinting(DeskSchool):
         self.assertIn("PC1", halls)
         self.assertIn("And of the whole session: Posters for doors , Slips for candidates, with desk numbers , "
                       "Notice board by name ,", found)
-        self.assertIn(f"{len(moves)} candidates have another desk", found)
+        self.assertIn(f"{len(moves)} candidates are not as on paper", found)
         for move in moves:
             number, _, was = re.match(r"(\d{7}) (.*): .*, was (.*)", move).groups()
             self.assertRegex(found, rf"{number} {was.replace(' ', ' desk ')} ")
