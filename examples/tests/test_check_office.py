@@ -155,6 +155,9 @@ class SmallOffice(unittest.TestCase):
         self.addCleanup(folder.cleanup)
         self.folder = pathlib.Path(folder.name)
         self.path, self.sheets = small_office.make(folder.name)
+        silent = unittest.mock.patch.object(PRINTING, "EVERY", 3600)  # on a slow machine, too
+        silent.start()
+        self.addCleanup(silent.stop)
 
     def check(self, *words, **environment):
         done = subprocess.run([CHECK, *words], capture_output=True, encoding="utf-8", check=False, timeout=60,
