@@ -73,10 +73,11 @@ def without_codes(upload: Upload) -> int:
 
 def may_be_list(upload: Upload, known: mistakes.Known) -> tuple[int, bool]:
     """How many rows of a file of entries the office has, as entries that count or as withdrawn ones; and whether it is
-    perhaps a list of withdrawals or of reinstatements: so it is called, or these are half of its rows or more."""
+    perhaps a list of withdrawals or of reinstatements: so it is called, or it comes alone, and these are half of its
+    rows or more."""
     rows = [record.fields for record in below_header(upload.texts.get("entries", b""))]
     had = max(sum(row in entries for row in rows) for entries in (known.entries, known.withdrawn))
-    return had, bool(rows) and (upload.is_called_list or 2 * had >= len(rows))
+    return had, bool(rows) and (upload.is_called_list or upload.kinds == ["entries"] and 2 * had >= len(rows))
 
 
 Corrections = dict[int, dict[int, str]]  # by line and place; an empty dict takes the row out

@@ -342,6 +342,9 @@ class TestFiles(Uploads):
             said = f"The office has {count} of these {len(rows)} entries already; an import would not change them."
             self.assertEqual((said in words, "checked" in text), (count > 0, count == 0), rows)
             self.assertEqual(text.count('name="choice"'), text.count(" required"))
+        page = self.upload(("june.csv", f"number,paper\n{''.join(live[:2] + new[:1])}".encode()),
+                           ("papers.csv", b"paper,title,session,minutes,requires\n"))
+        self.assertNotIn(" required", self.browser.get(page), "what comes with other files is an import")
         page = self.upload(("june.csv", f"number,paper\n{''.join(live[:2] + new[:1])}".encode()))
         self.propose(page, 422)
         self.carry_out(self.propose(page, choice="withdraw"))
