@@ -344,7 +344,7 @@ class TestFiles(Uploads):
             self.assertEqual(text.count('name="choice"'), text.count(" required"))
         page = self.upload(("june.csv", f"number,paper\n{''.join(live[:2] + new[:1])}".encode()),
                            ("papers.csv", b"paper,title,session,minutes,requires\n"))
-        self.assertNotIn(" required", self.browser.get(page), "what comes with other files is an import")
+        self.assertIn("checked", self.browser.get(page), "what comes with other files is an import")
         page = self.upload(("june.csv", f"number,paper\n{''.join(live[:2] + new[:1])}".encode()))
         self.propose(page, 422)
         self.carry_out(self.propose(page, choice="withdraw"))
