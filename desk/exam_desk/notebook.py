@@ -15,7 +15,7 @@ import os
 import re
 from collections import Counter
 from collections.abc import Callable, Collection, Iterable, Iterator, Mapping
-from typing import TYPE_CHECKING, NamedTuple, TypeVar
+from typing import TYPE_CHECKING, Any, NamedTuple, TypeVar
 
 from exam_desk import beside, facts, files, typed, words
 from exam_desk.office import Office
@@ -120,9 +120,10 @@ def can_stand(rows: Rows) -> bool:
 
 
 def on_paper(office: Office, session: str) -> dict[str, Line]:
-    """What was printed for a session, by number; nothing where nobody said that it was."""
-    found = read(office, f"printed.{session}", dict[str, tuple[str, int, str]](), is_line)
-    return {number: Line(Desk(hall, desk), rest) for number, (hall, desk, rest) in found.items()}
+    """What was printed for a session, by number; nothing where nobody said that it was. A line that has its desk alone
+    is another than each of now."""
+    found = read(office, f"printed.{session}", dict[str, list[Any]](), is_line)
+    return {number: Line(Desk(hall, desk), "".join(rest)) for number, (hall, desk, *rest) in found.items()}
 
 
 def printed(office: Office, session: str) -> dict[str, Desk]:
@@ -236,7 +237,7 @@ def is_text(part: object) -> bool:
 
 
 def is_line(part: object) -> bool:
-    return isinstance(part, list) and [*map(type, part)] == [str, int, str]
+    return isinstance(part, list) and [*map(type, part)] in ([str, int], [str, int, str])
 
 
 def is_rows(part: object) -> bool:

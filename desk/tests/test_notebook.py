@@ -273,6 +273,13 @@ class Commands(sample.SampleSchool):
         self.assertEqual(again, f"to print again: {', '.join(sorted(halls - {'GYM'}))}")
         self.assertIn("PC1", again)
 
+    def test_a_line_that_has_its_desk_alone(self):
+        """Its desk is known, so papers show where another one was; and it has to be printed again."""
+        with notebook.alone(self.value) as folder:
+            notebook.write(self.value, folder, "printed.MON-AM", {"0001000": ["GYM", 99]})
+        self.assertRegex(self.office("doors", "MON-AM"), r"<small>was (GYM )?99</small>")
+        self.assertIn("0001000 ", self.office("printed", "MON-AM", "--look"))
+
     def test_what_else_is_on_paper(self):
         """A line is another one where the desk is the same: each part of it that papers show."""
         number, hall = next((row[1], row[3]) for row in (line.split(",") for line in self.office("export", "MON-AM").splitlines())
