@@ -1,4 +1,5 @@
-/* Lies before the C library for refuse-in-turn and refuse-rows: answers none to an allocation, or gives half of what a read of a file asks for. */
+/* Lies before the C library for refuse-in-turn and refuse-rows: answers none to an allocation, or gives half of what a
+ * read of a file asks for. */
 #define _GNU_SOURCE
 #include <errno.h>
 #include <fcntl.h>

@@ -1,5 +1,5 @@
-"""What peers, growth, floors, largest and strangers share: an office over files; times, memory and instructions of commands; a server
-and who asks it."""
+"""What peers, growth, floors, largest and strangers share: an office over files; times, memory and instructions of
+commands; a server and who asks it."""
 import contextlib
 import csv
 import os

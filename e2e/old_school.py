@@ -1,8 +1,8 @@
 """A school of 1,000 candidates as the first versions of the program kept it, and its sheets by the rules that they had.
 
-Nothing here comes from the program: the rules and the sheets are written anew from what the handbook says of them. Version 1 knew
-no standing grant, so an arrangement that was granted held in one session. A session could have 128 openings, and a set of features
-the sum 31. The seats are of some best plan, and seldom those that the program would have found.
+Nothing here comes from the program: the rules and the sheets are written anew from what the handbook says of them.
+Version 1 knew no standing grant, so an arrangement that was granted held in one session. A session could have 128
+openings, and a set of features the sum 31. The seats are of some best plan, and seldom those that the program finds.
 """
 import collections
 import datetime

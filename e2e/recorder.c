@@ -1,5 +1,5 @@
-/* Lists what a program does to the files of an office (names that begin with office.db) in the file that RECORD_LIST names, for lose-power.
- * It lies before the C library. An entry is the head below, and as many bytes as it says. */
+/* For lose-power: lists what a program does to the files of an office (names that begin with office.db) in the file that
+ * RECORD_LIST names. It lies before the C library. An entry is the head below, and as many bytes as it says. */
 #define _GNU_SOURCE
 #include <fcntl.h>
 #include <stdarg.h>

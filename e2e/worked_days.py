@@ -1,4 +1,5 @@
-"""The worked days of the crates of tests, as they stand there: texts of commands, files and answers, and what comes before each."""
+"""The worked days of the crates of tests, as they stand there: texts of commands, files and answers, and what comes
+before each."""
 import ast
 import re
 from collections.abc import Iterator
