@@ -58,13 +58,14 @@ def page(number: int, code: str = "") -> str:
     lodged = view().rows("SELECT appeal.*, day FROM appeal JOIN session ON session.code = session WHERE number = ? "
                          "ORDER BY state, lodged, ref", [number])
     standing = {ref for ref, in view().rows("SELECT ref FROM standing WHERE number = ?", [number])}
-    others = view().rows("SELECT paper.code AS code, title, session FROM paper JOIN session ON session.code = session "
-                         "WHERE paper.code NOT IN (SELECT paper FROM entry WHERE number = ?) "
+    others = view().rows("SELECT paper.code AS code, title, session, day FROM paper JOIN session "
+                         "ON session.code = session WHERE paper.code NOT IN (SELECT paper FROM entry WHERE number = ?) "
                          "ORDER BY day, start, paper.code", [number])
     return render_template("candidate.html", who=who, entries=entries, sittings=view().reading.all_of(f"{number:07}"),
                            lodged=lodged, standing=standing, others=others, code=code,
                            second=second_sat(number, entries), hall_titles=facts.hall_titles(view().reading.rows),
                            note=notebook.notes(desk().office).get(f"{number:07}", ""),
+                           granted=proposals.granted(view().reading, number),
                            arrangement=view().row("SELECT needs, extra FROM arrangement WHERE number = ?", [number]))
 
 

@@ -23,13 +23,12 @@ from flask import Blueprint, abort, g, render_template, request, url_for
 from markupsafe import Markup
 from werkzeug.wrappers import Response
 
-from exam_desk import (changing, consequences, facts, files, lodging, logbook, overlaps, private, refusals,
-                       second_sitting, telling)
+from exam_desk import (changing, consequences, copies, facts, files, lodging, logbook, overlaps, private, refusals,
+                       second_sitting, telling, words)
 from exam_desk.changing import Answered, Step
 from exam_desk.office import Office
 from exam_desk.reading import Member, Person, Reading
 from exam_desk.trouble import Stale, Trouble
-from exam_desk.words import FEATURES
 from exam_web.desk import PATIENCE, Desk, View, desk, office, sums, two_papers, unseated, view
 from exam_web.forms import Asked, Form, Page, Wrong, attached, keep, lead
 from exam_web.wording import said
@@ -39,6 +38,7 @@ MOST_PROPOSALS = 20  # of a visit
 MOST_ROWS = 250  # of a list on the page; all who must be told are in the CSV file
 MOST_LINES = 20  # of the log, where the office was another
 MOST_CLASHES = 100  # new ones that are named
+CHANGED = ["sessions", "papers", "halls", "openings"]  # the kinds of rows of which a page says what is another
 COMPARING, LODGING = "Both states are compared", "The appeal is lodged"
 OTHER_OFFICE = ("the office has changed since the page that you came from, so nothing was done: go back to the form, "
                 "and ask once more")
@@ -46,6 +46,8 @@ WRONG_DESK = "the desk is wrong here; the office is as the log says"
 TROUBLE = 0  # among the numbers of refusals: what the desk refuses itself
 APPEALS = ("SELECT appeal.*, day, session.start AS start, name FROM appeal JOIN session ON session.code = session "
            "JOIN candidate ON candidate.number = appeal.number ")
+OF_GRANTED = ("SELECT number, needs || ' ' || extra FROM arrangement "
+              "WHERE number IN (SELECT number FROM appeal WHERE kind = 3 AND state = 2)")
 BY_DAY = "ORDER BY day, session.start, lodged, appeal.number"
 KINDS = ["short", *consequences.KINDS, "codes"]  # the gravest first; their words are in templates/effects.html
 NUMBERS = attrgetter("members", "desks", "short", "clashes")  # of a session
@@ -69,6 +71,9 @@ class Effects:
                                                 if codes.get(number, code) != code])
         self.sessions = [(was.get(code), each) for code, each in sums(after).items()
                          if code not in was or NUMBERS(was[code]) != NUMBERS(each)]
+        self.rows = [*itertools.islice((each for kind in CHANGED for each in changed(kind, then, now)), MOST_ROWS)]
+        self.granted = [(now.person(number), found) for number in set_anew(then, now)
+                        if (found := granted(now, number))]
         self.clashes, self.overlaps = new_clashes(before, after), named(now, overlaps.new(then, now, [*met]))
         self.out_of_date = consequences.out_of_date(now, changes)
         short = set() if changes else unseated(after) - unseated(before)
@@ -84,6 +89,32 @@ class Effects:
 
     def csv(self, name: str) -> Response:
         return attached(telling.csv_text(self.changes, self.titles).encode("utf-8", "surrogateescape"), name)
+
+
+def changed(kind: str, before: Reading, after: Reading) -> Iterator[tuple[str, str, str, str]]:
+    """Of each row of a kind that was there before: its key, and the columns that are others, each as it was and is."""
+    keys = files.KEYS.get(kind, 1)
+    old = {tuple(row[:keys]): row for row in files.rows_of(before.rows, kind)}
+    for row in files.rows_of(after.rows, kind):
+        pairs = zip(files.HEADERS[kind], old.get(tuple(row[:keys]), row), row)
+        yield from ((" ".join(row[:keys]), column, was, now) for column, was, now in pairs if was != now)
+
+
+def set_anew(before: Reading, after: Reading) -> list[int]:
+    """Who has a granted arrangement appeal, and another imported arrangement than before."""
+    was = dict(before.rows.execute("SELECT number, needs || ' ' || extra FROM arrangement"))
+    return [number for number, arrangement in after.rows.execute(OF_GRANTED) if was.get(number) != arrangement]
+
+
+def granted(reading: Reading, number: int) -> dict[tuple[tuple[str, ...], int], list[str]]:
+    """What a candidate has in the place of the imported arrangement, as the program says, and in which sessions: a
+    grant is in force there."""
+    row = reading.rows.execute("SELECT needs, extra FROM arrangement WHERE number = ?", [number]).fetchone() or (0, 0)
+    found: dict[tuple[tuple[str, ...], int], list[str]] = {}
+    for session, sits in reading.all_of(f"{number:07}").items():
+        if (sits.needs, sits.extra) != (tuple(words.features(row[0])), row[1]):
+            found.setdefault((sits.needs, sits.extra), []).append(session)
+    return found
 
 
 def by_session(view: View, found: set[tuple[str, int]]) -> Iterator[tuple[str, Person]]:
@@ -210,7 +241,7 @@ def import_step(kind: str, values: Mapping[str, str]) -> Step:
 
 
 def features(form: Form, field: str = "needs") -> str:
-    return "+".join(name for name in FEATURES if name in form.getlist(field)) or "-"
+    return "+".join(name for name in words.FEATURES if name in form.getlist(field)) or "-"
 
 
 @pages.post("/propose/<what>")
@@ -222,7 +253,7 @@ def propose(what: str) -> Response:
     name = plan.fields.get(refusals.number_of(plan.refusal) or TROUBLE)
     if name and plan.against and not plan.is_working:
         del g.visit.proposals[plan.key]
-        raise Wrong(plan.page, **{name: Markup("; ").join(plan.words())})
+        raise Wrong(plan.form_page or plan.page, **{name: Markup("; ").join(plan.words())})
     return lead("proposals.page", key=plan.key)
 
 
@@ -303,11 +334,13 @@ def page(key: str) -> str:
     plan: Plan = g.visit.proposals.get(key) or abort(404)
     if plan.is_working:
         return render_template("working.html", p=plan, seconds=int(time.monotonic() - plan.began))
-    following = None
+    kept, following = copies.listed(desk().office) if plan.copy else [], None
     if plan.is_done and plan.asked.form == "decide":
         today = desk().office.today().isoformat()
         following = view().row(f"{APPEALS} WHERE state = 1 AND day > ? {BY_DAY}", [today])
-    return render_template("proposal.html", p=plan, most=MOST_ROWS, next_appeal=following)
+    since = [copies.when_and_what(each) for each in itertools.takewhile(lambda each: each != plan.copy, kept)]
+    return render_template("proposal.html", p=plan, most=MOST_ROWS, next_appeal=following, since=since,
+                           has_copy=plan.copy in kept)
 
 
 @pages.post("/proposals/<key>/do")

@@ -1,4 +1,5 @@
-"""A session: its numbers, its shortage and what could help, its halls as pictures, its appeals and what is printed."""
+"""A session: its numbers, its shortage and what could help, its halls as pictures, its appeals and what is printed; and
+the forms that move it, its papers and its halls."""
 import math
 import re
 import sqlite3
@@ -12,6 +13,7 @@ from exam_desk import facts, files, lists, notebook, reasons
 from exam_desk.changing import Step
 from exam_desk.facts import Opening
 from exam_desk.notebook import Rows
+from exam_desk.overlaps import of_day
 from exam_desk.reading import Member
 from exam_desk.sheets import papers, slips
 from exam_desk.trouble import Trouble
@@ -29,6 +31,7 @@ WIDTH, HEIGHT, GAP = 78, 38, 5  # of a desk in a picture, and from one to the ne
 RUNNING = dict(zip(notebook.RUNNING, ("along the rows", "along and back", "down the columns", "down and up")))
 MOST_SUPPOSED = 14  # desks in a row, where nobody said how many
 SEATS = "session,date,start,finish,number,name,paper,paper title,hall,desk,extra,needs".split(",")
+MIDNIGHT = 24 * 60  # a hall closes then at the latest
 Values = dict[str, str]
 
 
@@ -60,6 +63,9 @@ class Session:
 
     def opening(self, hall: str) -> Opening:
         return self.halls.get(hall) or abort(404)
+
+    def hall_page(self, hall: str) -> Page:
+        return "session.hall", {"code": self.code, "hall": hall}
 
     def taken(self) -> dict[str, int]:
         """How many sit in each hall."""
@@ -146,6 +152,16 @@ def standing(found: Opening) -> Rows:
     return notebook.rows_of_halls(desk().office).get(found.hall, supposed)
 
 
+@pages.get("/papers/<paper>", endpoint="paper")
+def paper_page(paper: str) -> str:
+    row = paper_row(paper)
+    return render_template("paper.html", row=row, s=Session(row["session"]).sums, sessions=[*sums(view()).values()])
+
+
+def paper_row(code: str) -> sqlite3.Row:
+    return view().row("SELECT * FROM paper WHERE code = ?", [code]) or abort(404)
+
+
 @pages.post("/sessions/<code>/draw")
 def draw(code: str) -> Response:
     """Keeps how the desks of halls stand; nobody moves. It leads to the charts that wait for that, else to the hall."""
@@ -155,7 +171,7 @@ def draw(code: str) -> Response:
     drawn, is_chart = {hall: rows_given(hall) for hall in halls}, "chart" in request.form
     if wrong := {f"across-{hall}": whole(1, notebook.MOST_ACROSS) for hall, rows in drawn.items()
                  if not notebook.can_stand(rows)}:
-        raise Wrong(charts if is_chart else ("session.hall", {"code": code, "hall": halls[0]}), "draw", **wrong)
+        raise Wrong(charts if is_chart else shown.hall_page(halls[0]), "draw", **wrong)
     for hall, rows in drawn.items():
         notebook.keep_rows(desk().office, hall, rows)
     return lead(charts[0], **charts[1]) if is_chart else lead("session.page", code=code, _anchor=f"hall-{halls[0]}")
@@ -246,9 +262,12 @@ def opening(form: Form, page: Page, code: str) -> tuple[Values, list[Step]]:
 
 
 def open_hall(form: Form) -> Plan:
-    shown = Session(form.get("session", ""))
-    values, steps = opening(form, shown.page, shown.code)
-    return Plan(values, steps, shown.page, {4: "hall", 7: "hall", 20: "desks"})
+    """A hall that is closed, from the session's page; or one that is open already, from its own."""
+    shown, hall = Session(form.get("session", "")), form.get("hall", "")
+    is_open = hall in shown.halls and not form.get("new_hall")
+    page = shown.hall_page(hall) if is_open else shown.page
+    values, steps = opening(form, page, shown.code)
+    return Plan(values, steps, shown.page, {4: "hall", 7: "hall", 20: "desks"}, form_page=page)
 
 
 def close_hall(form: Form) -> Plan:
@@ -276,4 +295,40 @@ def others(choices: list[tuple[str, str, Opening | None]], lost: str) -> dict[st
             "until": clock(max(each.until for each in needed)) if needed else ""}
 
 
-PLANS.update(open=open_hall, close=close_hall)
+def change_row(kind: str, code: str, form: Form, page: Page, form_page: Page) -> Plan:
+    """Another row in the place of one that the office has: the form on a page has all its columns."""
+    key, *columns = files.HEADERS[kind]
+    sets = [name for name in columns if files.RIGHT[name] is files.is_features]
+    values = checked(form_page, form, **{name: name for name in columns if name not in sets})
+    values |= {key: code, **{name: features(form, name) for name in sets}}
+    return Plan(values, [import_step(kind, values)], page, {4: "session", 20: "session"}, form_page=form_page)
+
+
+def change_session(form: Form) -> Plan:
+    """Another day or start. Its halls close when they did, or as much later or sooner: in an order of the two steps in
+    which nobody loses a desk between them."""
+    shown = Session(form.get("session", ""))
+    plan = change_row("sessions", shown.code, form, shown.page, shown.page)
+    later = of_day(plan.values["start"]) - shown.sums.start
+    if later and shown.halls and form.get("along"):
+        rows = [(shown.code, each.hall, each.desks, clock(min(max(each.until + later, 0), MIDNIGHT)),
+                 "yes" if each.reserved else "no") for each in shown.halls.values()]
+        halls = Step(("import", "openings", "openings.csv"), files.file_of("openings", rows))
+        plan.steps, plan.made_for = [halls, *plan.steps] if later > 0 else [*plan.steps, halls], view().name
+    return plan
+
+
+def change_paper(form: Form) -> Plan:
+    row = paper_row(form.get("paper", ""))
+    return change_row("papers", row["code"], form, Session(row["session"]).page,
+                      ("session.paper", {"paper": row["code"]}))
+
+
+def change_hall(form: Form) -> Plan:
+    """It is of all sessions; the form is on the page of the hall in one of them."""
+    shown = Session(form.get("session", ""))
+    hall = shown.opening(form.get("hall", "")).hall
+    return change_row("halls", hall, form, shown.page, shown.hall_page(hall))
+
+
+PLANS.update(open=open_hall, close=close_hall, session=change_session, paper=change_paper, hall=change_hall)
