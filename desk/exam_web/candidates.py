@@ -60,7 +60,7 @@ def page(number: int, code: str = "") -> str:
     standing = {ref for ref, in view().rows("SELECT ref FROM standing WHERE number = ?", [number])}
     others = view().rows("SELECT paper.code AS code, title, session, day FROM paper JOIN session "
                          "ON session.code = session WHERE paper.code NOT IN (SELECT paper FROM entry WHERE number = ?) "
-                         "ORDER BY day, start, paper.code", [number])
+                         "ORDER BY day < ?, day, start, paper.code", [number, desk().office.today().isoformat()])
     return render_template("candidate.html", who=who, entries=entries, sittings=view().reading.all_of(f"{number:07}"),
                            lodged=lodged, standing=standing, others=others, code=code,
                            second=second_sat(number, entries), hall_titles=facts.hall_titles(view().reading.rows),

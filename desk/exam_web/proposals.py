@@ -16,6 +16,7 @@ import time
 from collections import Counter
 from collections.abc import Callable, Iterable, Iterator, Mapping, Sequence
 from dataclasses import dataclass, field
+from functools import partial
 from operator import attrgetter
 from typing import Any
 
@@ -46,8 +47,8 @@ WRONG_DESK = "the desk is wrong here; the office is as the log says"
 TROUBLE = 0  # among the numbers of refusals: what the desk refuses itself
 APPEALS = ("SELECT appeal.*, day, session.start AS start, name FROM appeal JOIN session ON session.code = session "
            "JOIN candidate ON candidate.number = appeal.number ")
-OF_GRANTED = ("SELECT number, needs || ' ' || extra FROM arrangement "
-              "WHERE number IN (SELECT number FROM appeal WHERE kind = 3 AND state = 2)")
+ARRANGED = "SELECT number, needs, extra FROM arrangement"
+OF_GRANTED = f"{ARRANGED} WHERE number IN (SELECT number FROM appeal WHERE kind = 3 AND state = 2)"
 BY_DAY = "ORDER BY day, session.start, lodged, appeal.number"
 KINDS = ["short", *consequences.KINDS, "codes"]  # the gravest first; their words are in templates/effects.html
 NUMBERS = attrgetter("members", "desks", "short", "clashes")  # of a session
@@ -72,8 +73,9 @@ class Effects:
         self.sessions = [(was.get(code), each) for code, each in sums(after).items()
                          if code not in was or NUMBERS(was[code]) != NUMBERS(each)]
         self.rows = [*itertools.islice((each for kind in CHANGED for each in changed(kind, then, now)), MOST_ROWS)]
-        self.granted = [(now.person(number), found) for number in set_anew(then, now)
-                        if (found := granted(now, number))]
+        arranged = {*map(tuple, then.rows.execute(ARRANGED))}
+        self.granted = [(now.person(row[0]), found) for row in now.rows.execute(OF_GRANTED).fetchall()
+                        if tuple(row) not in arranged and (found := granted(now, row[0]))]
         self.clashes, self.overlaps = new_clashes(before, after), named(now, overlaps.new(then, now, [*met]))
         self.out_of_date = consequences.out_of_date(now, changes)
         short = set() if changes else unseated(after) - unseated(before)
@@ -100,21 +102,12 @@ def changed(kind: str, before: Reading, after: Reading) -> Iterator[tuple[str, s
         yield from ((" ".join(row[:keys]), column, was, now) for column, was, now in pairs if was != now)
 
 
-def set_anew(before: Reading, after: Reading) -> list[int]:
-    """Who has a granted arrangement appeal, and another imported arrangement than before."""
-    was = dict(before.rows.execute("SELECT number, needs || ' ' || extra FROM arrangement"))
-    return [number for number, arrangement in after.rows.execute(OF_GRANTED) if was.get(number) != arrangement]
-
-
-def granted(reading: Reading, number: int) -> dict[tuple[tuple[str, ...], int], list[str]]:
-    """What a candidate has in the place of the imported arrangement, as the program says, and in which sessions: a
-    grant is in force there."""
-    row = reading.rows.execute("SELECT needs, extra FROM arrangement WHERE number = ?", [number]).fetchone() or (0, 0)
-    found: dict[tuple[tuple[str, ...], int], list[str]] = {}
-    for session, sits in reading.all_of(f"{number:07}").items():
-        if (sits.needs, sits.extra) != (tuple(words.features(row[0])), row[1]):
-            found.setdefault((sits.needs, sits.extra), []).append(session)
-    return found
+def granted(reading: Reading, number: int) -> list[str]:
+    """The sessions in which a candidate has another arrangement than the imported one, as the program says: a grant is
+    in force there."""
+    _, needs, extra = reading.rows.execute(f"{ARRANGED} WHERE number = ?", [number]).fetchone() or (number, 0, 0)
+    return [session for session, sits in reading.all_of(f"{number:07}").items()
+            if (sits.needs, sits.extra) != (tuple(words.features(needs)), extra)]
 
 
 def by_session(view: View, found: set[tuple[str, int]]) -> Iterator[tuple[str, Person]]:
@@ -163,7 +156,6 @@ class Plan:
     lock: threading.Lock = field(default_factory=threading.Lock)  # of who does it
     working: threading.Thread | None = None
     began: float = 0
-    seconds: float = 0
     stage: str = ""
     since: str = ""  # when the state was read
     made_from: str = ""  # the states from before the rehearsal, and after it
@@ -202,9 +194,6 @@ class Plan:
         parts = [(each.step, each.first_line().split()) for each in self.answers if len(self.steps) > 1]
         return [(step.words[1], int(said[1]), int(said[3]), int(said[5])) for step, said in parts
                 if said[::2] == ["added", "changed", "same"]]
-
-    def tell(self, stage: str) -> None:
-        self.stage = stage
 
     def refuse(self, line: str, explained: list[str]) -> None:
         self.refusal, self.against = line, explained or [line]
@@ -270,8 +259,6 @@ def work(plan: Plan, task: Callable[[Plan, Desk, Office], None]) -> None:
         except Exception:
             plan.against = [WRONG_DESK]
             raise
-        finally:
-            plan.seconds = time.monotonic() - plan.began
     plan.against, plan.began = [], time.monotonic()
     plan.working = threading.Thread(target=run, daemon=True)
     plan.working.start()
@@ -284,19 +271,19 @@ def rehearse(plan: Plan, here: Desk, who: Office) -> None:
     plan.since, steps = datetime.datetime.now().isoformat(" ", "seconds"), plan.steps
     with contextlib.ExitStack() as stack:
         if plan.lodge:
-            plan.tell(LODGING)
+            plan.stage = LODGING
             who = dataclasses.replace(who, path=stack.enter_context(private.private_copy(who.path, who.path)))
             steps = plan.grant(who)
         if plan.refusal:
             return
-        rehearsal = stack.enter_context(changing.rehearse(who, steps, plan.tell))
+        rehearsal = stack.enter_context(changing.rehearse(who, steps, partial(setattr, plan, "stage")))
         before = here.fresh() or View(here.office, rehearsal.before)
         if plan.made_for not in ("", before.name):
             raise Trouble(OTHER_OFFICE)
         if not plan.lodge:  # a grant may be refused where a lodging is not
             plan.take(who, rehearsal.answers)
         if not plan.refusal:
-            plan.tell(COMPARING)
+            plan.stage = COMPARING
             after = View(here.office, rehearsal.after)
             plan.lines = plan.look(before.reading, after.reading)
             plan.effects = Effects(before, after)
@@ -311,7 +298,8 @@ def carry_out(plan: Plan, here: Desk, who: Office) -> None:
         plan.is_done = plan.grant(who) != []
         return
     try:
-        carried = changing.carry_out(who, plan.steps, plan.made_from, plan.promised, plan.command, plan.tell)
+        carried = changing.carry_out(who, plan.steps, plan.made_from, plan.promised, plan.command,
+                                     partial(setattr, plan, "stage"))
     except Stale:
         since = plan.since
         rehearse(plan, here, who)

@@ -1,9 +1,9 @@
 """A session: its numbers, its shortage and what could help, its halls as pictures, its appeals and what is printed; and
 the forms that move it, its papers and its halls."""
 import math
-import re
 import sqlite3
 from collections.abc import Callable, Sequence
+from functools import partial
 from typing import Any, NamedTuple
 
 from flask import Blueprint, abort, g, render_template, request
@@ -31,7 +31,6 @@ WIDTH, HEIGHT, GAP = 78, 38, 5  # of a desk in a picture, and from one to the ne
 RUNNING = dict(zip(notebook.RUNNING, ("along the rows", "along and back", "down the columns", "down and up")))
 MOST_SUPPOSED = 14  # desks in a row, where nobody said how many
 SEATS = "session,date,start,finish,number,name,paper,paper title,hall,desk,extra,needs".split(",")
-MIDNIGHT = 24 * 60  # a hall closes then at the latest
 Values = dict[str, str]
 
 
@@ -91,9 +90,6 @@ class Session:
         return [(member, missed[member.number]) for member in view().reading.members(self.code, numbers)
                 if member.number in missed]
 
-    def is_to_come(self) -> bool:
-        return notebook.is_to_come(desk().office, self.sums.day)
-
     def absent(self) -> list[Member] | None:
         """Who is noted as absent, if anything is; a copy from before somebody came may have been put back."""
         noted = notebook.absent(desk().office, self.code)
@@ -108,8 +104,7 @@ def page(code: str) -> str:
     lodged = view().rows("SELECT appeal.*, name FROM appeal JOIN candidate ON candidate.number = appeal.number "
                          "WHERE session = ? ORDER BY state, appeal.number, ref LIMIT ?", [code, MOST_PEOPLE + 1])
     return render_template("session.html", shown=shown, s=shown.sums, lodged=lodged, previous=before, next=after,
-                           shortage=shortage(view(), code) if shown.sums.short else None, most=MOST_PEOPLE,
-                           to_come=shown.is_to_come())
+                           shortage=shortage(view(), code) if shown.sums.short else None, most=MOST_PEOPLE)
 
 
 @once
@@ -143,7 +138,7 @@ def hall_page(code: str, hall: str) -> str:
     return render_template("hall.html", s=shown.sums, opening=opening, rows=rows, desks=desks, members=members,
                            by_desk={member.sitting.desk: member for member in members}, desk_width=WIDTH,
                            desk_height=HEIGHT, codes=[row["code"] for row in shown.papers()],
-                           absent=notebook.absent(desk().office, code) or (), to_come=shown.is_to_come())
+                           absent=notebook.absent(desk().office, code) or ())
 
 
 def standing(found: Opening) -> Rows:
@@ -154,12 +149,9 @@ def standing(found: Opening) -> Rows:
 
 @pages.get("/papers/<paper>", endpoint="paper")
 def paper_page(paper: str) -> str:
-    row = paper_row(paper)
+    """The form that moves or changes a paper."""
+    row = view().row("SELECT * FROM paper WHERE code = ?", [paper]) or abort(404)
     return render_template("paper.html", row=row, s=Session(row["session"]).sums, sessions=[*sums(view()).values()])
-
-
-def paper_row(code: str) -> sqlite3.Row:
-    return view().row("SELECT * FROM paper WHERE code = ?", [code]) or abort(404)
 
 
 @pages.post("/sessions/<code>/draw")
@@ -168,18 +160,14 @@ def draw(code: str) -> Response:
     shown = Session(code)
     halls = [shown.opening(hall).hall for hall in request.form.getlist("hall")] or abort(400)
     charts: Page = ("session.sheet", {"code": code, "sheet": "chart", "hall": request.form.getlist("of")})
-    drawn, is_chart = {hall: rows_given(hall) for hall in halls}, "chart" in request.form
+    drawn, is_chart = {hall: Rows(request.form.get(f"across-{hall}", 0, int), request.form.get(f"running-{hall}", ""))
+                       for hall in halls}, "chart" in request.form
     if wrong := {f"across-{hall}": whole(1, notebook.MOST_ACROSS) for hall, rows in drawn.items()
                  if not notebook.can_stand(rows)}:
         raise Wrong(charts if is_chart else shown.hall_page(halls[0]), "draw", **wrong)
     for hall, rows in drawn.items():
         notebook.keep_rows(desk().office, hall, rows)
     return lead(charts[0], **charts[1]) if is_chart else lead("session.page", code=code, _anchor=f"hall-{halls[0]}")
-
-
-def rows_given(hall: str) -> Rows:
-    across = request.form.get(f"across-{hall}", "")
-    return Rows(int(across) if re.fullmatch("[0-9]{1,4}", across) else 0, request.form.get(f"running-{hall}", ""))
 
 
 @pages.post("/sessions/<code>/absent")
@@ -295,40 +283,32 @@ def others(choices: list[tuple[str, str, Opening | None]], lost: str) -> dict[st
             "until": clock(max(each.until for each in needed)) if needed else ""}
 
 
-def change_row(kind: str, code: str, form: Form, page: Page, form_page: Page) -> Plan:
-    """Another row in the place of one that the office has: the form on a page has all its columns."""
-    key, *columns = files.HEADERS[kind]
+def change_row(kind: str, form: Form) -> Plan:
+    """Another row in the place of one that the office has: the form has all its columns, and the session at which it
+    stands."""
+    table, *columns = files.HEADERS[kind]
+    shown, code = Session(form.get("at", "")), form.get(table, "")
+    if not view().row(f"SELECT 1 FROM {table} WHERE code = ?", [code]):
+        abort(404)
+    page = {"paper": ("session.paper", {"paper": code}), "hall": shown.hall_page(code)}.get(table, shown.page)
     sets = [name for name in columns if files.RIGHT[name] is files.is_features]
-    values = checked(form_page, form, **{name: name for name in columns if name not in sets})
-    values |= {key: code, **{name: features(form, name) for name in sets}}
-    return Plan(values, [import_step(kind, values)], page, {4: "session", 20: "session"}, form_page=form_page)
+    values = checked(page, form, **{name: name for name in columns if name not in sets})
+    values |= {table: code, **{name: features(form, name) for name in sets}}
+    return Plan(values, [import_step(kind, values)], shown.page, {4: "session", 20: "session"}, form_page=page)
 
 
 def change_session(form: Form) -> Plan:
     """Another day or start. Its halls close when they did, or as much later or sooner: in an order of the two steps in
     which nobody loses a desk between them."""
-    shown = Session(form.get("session", ""))
-    plan = change_row("sessions", shown.code, form, shown.page, shown.page)
+    shown, plan = Session(form.get("session", "")), change_row("sessions", form)
     later = of_day(plan.values["start"]) - shown.sums.start
     if later and shown.halls and form.get("along"):
-        rows = [(shown.code, each.hall, each.desks, clock(min(max(each.until + later, 0), MIDNIGHT)),
+        rows = [(shown.code, each.hall, each.desks, clock(min(max(each.until + later, 0), remedies.MIDNIGHT)),
                  "yes" if each.reserved else "no") for each in shown.halls.values()]
         halls = Step(("import", "openings", "openings.csv"), files.file_of("openings", rows))
         plan.steps, plan.made_for = [halls, *plan.steps] if later > 0 else [*plan.steps, halls], view().name
     return plan
 
 
-def change_paper(form: Form) -> Plan:
-    row = paper_row(form.get("paper", ""))
-    return change_row("papers", row["code"], form, Session(row["session"]).page,
-                      ("session.paper", {"paper": row["code"]}))
-
-
-def change_hall(form: Form) -> Plan:
-    """It is of all sessions; the form is on the page of the hall in one of them."""
-    shown = Session(form.get("session", ""))
-    hall = shown.opening(form.get("hall", "")).hall
-    return change_row("halls", hall, form, shown.page, shown.hall_page(hall))
-
-
-PLANS.update(open=open_hall, close=close_hall, session=change_session, paper=change_paper, hall=change_hall)
+PLANS.update(open=open_hall, close=close_hall, session=change_session, paper=partial(change_row, "papers"),
+             hall=partial(change_row, "halls"))
