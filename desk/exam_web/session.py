@@ -31,7 +31,6 @@ WIDTH, HEIGHT, GAP = 78, 38, 5  # of a desk in a picture, and from one to the ne
 RUNNING = dict(zip(notebook.RUNNING, ("along the rows", "along and back", "down the columns", "down and up")))
 MOST_SUPPOSED = 14  # desks in a row, where nobody said how many
 SEATS = "session,date,start,finish,number,name,paper,paper title,hall,desk,extra,needs".split(",")
-Values = dict[str, str]
 
 
 class Sheet(NamedTuple):
@@ -235,7 +234,7 @@ def note_printed(code: str) -> Response:
     return lead("session.page", told, code=code, _anchor="print")
 
 
-def opening(form: Form, page: Page, code: str) -> tuple[Values, list[Step]]:
+def opening(form: Form, page: Page, code: str) -> tuple[dict[str, str], list[Step]]:
     """A hall that is to be open, which was chosen or which the office does not know yet; and the steps for it."""
     is_new = form.get("new_hall", "").strip() != ""
     names = {"new_hall": "hall", "new_title": "title"} if is_new else {"hall": "hall"}
@@ -250,10 +249,9 @@ def opening(form: Form, page: Page, code: str) -> tuple[Values, list[Step]]:
 
 
 def open_hall(form: Form) -> Plan:
-    """A hall that is closed, from the session's page; or one that is open already, from its own."""
-    shown, hall = Session(form.get("session", "")), form.get("hall", "")
-    is_open = hall in shown.halls and not form.get("new_hall")
-    page = shown.hall_page(hall) if is_open else shown.page
+    """The form of a hall that is open says so by `at`: it stands on the page of that hall."""
+    shown = Session(form.get("session", ""))
+    page = shown.hall_page(form.get("hall", "")) if "at" in form else shown.page
     values, steps = opening(form, page, shown.code)
     return Plan(values, steps, shown.page, {4: "hall", 7: "hall", 20: "desks"}, form_page=page)
 
