@@ -87,12 +87,14 @@ class TestSessions(Rows):
 
     def test_its_halls_close_as_much_later_or_sooner(self):
         """Nobody loses the desk between the two steps: then candidate 2 would get one in A, the first by code."""
-        for start, until in (("09:30", 630), ("08:45", 585), ("23:59", 1440)):
+        for start, until, effect, seats in (
+                ("09:30", 630, "time", [("S1", 2, "B")]), ("08:45", 585, "time", [("S1", 2, "B")]),
+                ("23:30", 1440, "loses", [])):  # no hall is open until 24:30
             page, found, _ = self.move(date="2027-06-07", start=start, along="1")
-            self.assertEqual(found, {} if start == "23:59" else {"time": (1, 1)}, start)
+            self.assertEqual(found, {effect: (1, 1)}, start)
             self.browser.post(page + "/do", page)
             self.assertEqual(self.rows("SELECT hall, until FROM opening ORDER BY 1"), [("A", until), ("B", until)])
-            self.assertEqual(self.seats(), [("S1", 2, "B")])
+            self.assertEqual(self.seats(), seats)
 
     def test_refused_at_its_field(self):
         self.refused("session", SESSION, {"session": "S1", "at": "S1", "date": "2027-06-09", "start": "10:00"}, {
