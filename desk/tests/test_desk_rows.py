@@ -57,7 +57,7 @@ class TestPapers(Rows):
         self.refused("paper", "/papers/SHORT", self.FORM, {
             ("session", "NONE"): "the office has no such session", ("session", "no"): "1 to 12 of A-Z",
             ("title", ""): "1 to 80 bytes", ("title", "x" * 81): "1 to 80 bytes", ("title", "a\nb"): "1 to 80 bytes",
-            ("minutes", "0"): "from 1 to 600", ("minutes", "601"): "from 1 to 600", ("minutes", "1.5"): "from 1 to 600"})
+            **{("minutes", wrong): "from 1 to 600" for wrong in ("0", "601", "1.5")}})
         for values in ({"paper": "NONE"}, {"paper": "--db=x"}, {"at": "NONE"}):
             self.browser.post("/propose/paper", "/papers/SHORT", 404, **{**self.FORM, **values})
         self.browser.get("/papers/NONE", 404)
