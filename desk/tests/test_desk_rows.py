@@ -1,10 +1,12 @@
 """Forms of the desk in a browser for what is there: a paper, a session, a hall, how it is open. What pages say of a
 session that is over, of a grant in the place of an arrangement, and of a change that was taken back."""
 import re
+import time
 import unittest
 
 from desk_client import DeskSchool, SmallSchool, effects
 
+PATIENCE = 4  # seconds that the desk waits for a rehearsal
 SESSION, HALL = "/sessions/S1", "/sessions/S1/halls/A"
 
 
@@ -17,7 +19,12 @@ class Rows(SmallSchool):
     def refused(self, what, page, values, said):
         """Each of these values is refused at its field."""
         for (field, wrong), words in said.items():
-            _, text = self.browser.post(f"/propose/{what}", page, 422, **{**values, field: wrong})
+            began = time.monotonic()
+            where, text = self.browser.post(f"/propose/{what}", page, (422, 303), **{**values, field: wrong})
+            if where:  # a rehearsal that takes long has a page of its own
+                self.assertGreater(time.monotonic() - began, PATIENCE)
+                self.assertIn(words, self.browser.words(where))
+                continue
             self.assertRegex(text, rf'name="{field}"[^>]*aria-invalid="true"', (field, wrong))
             self.assertIn(words, re.sub("<[^>]*>", "", text.partition(f'id="fault-{what}-{field}"')[2]), (field, wrong))
 
