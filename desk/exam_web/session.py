@@ -292,7 +292,8 @@ def change_row(kind: str, form: Form) -> Plan:
     sets = [name for name in columns if files.RIGHT[name] is files.is_features]
     values = checked(page, form, **{name: name for name in columns if name not in sets})
     values |= {table: code, **{name: features(form, name) for name in sets}}
-    return Plan(values, [import_step(kind, values)], shown.page, {4: "session", 20: "session"}, form_page=page)
+    fields = dict.fromkeys((4, 20) if "session" in columns else (), "session")
+    return Plan(values, [import_step(kind, values)], shown.page, fields, form_page=page)
 
 
 def change_session(form: Form) -> Plan:
