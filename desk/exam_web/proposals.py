@@ -324,8 +324,7 @@ def page(key: str) -> str:
         return render_template("working.html", p=plan, seconds=int(time.monotonic() - plan.began))
     kept, following = copies.listed(desk().office) if plan.copy else [], None
     if plan.is_done and plan.asked.form == "decide":
-        today = desk().office.today().isoformat()
-        following = view().row(f"{APPEALS} WHERE state = 1 AND day > ? {BY_DAY}", [today])
+        following = view().row(f"{APPEALS} WHERE state = 1 AND day > ? {BY_DAY}", [desk().office.today().isoformat()])
     since = [copies.when_and_what(each) for each in itertools.takewhile(lambda each: each != plan.copy, kept)]
     return render_template("proposal.html", p=plan, most=MOST_ROWS, next_appeal=following, since=since,
                            has_copy=plan.copy in kept)
