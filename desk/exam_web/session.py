@@ -9,7 +9,7 @@ from typing import Any, NamedTuple
 from flask import Blueprint, abort, g, render_template, request
 from werkzeug.wrappers import Response
 
-from exam_desk import facts, files, lists, notebook, reasons
+from exam_desk import facts, files, lists, notebook, reasons, second_sitting
 from exam_desk.changing import Step
 from exam_desk.facts import Opening
 from exam_desk.notebook import Rows
@@ -103,6 +103,7 @@ def page(code: str) -> str:
     lodged = view().rows("SELECT appeal.*, name FROM appeal JOIN candidate ON candidate.number = appeal.number "
                          "WHERE session = ? ORDER BY state, appeal.number, ref LIMIT ?", [code, MOST_PEOPLE + 1])
     return render_template("session.html", shown=shown, s=shown.sums, lodged=lodged, previous=before, next=after,
+                           seconds=[each for each in codes if second_sitting.is_numbered(each, code)],
                            shortage=shortage(view(), code) if shown.sums.short else None, most=MOST_PEOPLE)
 
 

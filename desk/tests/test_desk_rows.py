@@ -103,6 +103,12 @@ class TestSessions(Rows):
             self.assertEqual(self.rows("SELECT hall, until FROM opening ORDER BY 1"), [("A", until), ("B", until)])
             self.assertEqual(self.seats(), seats)
 
+    def test_second_sittings_stay(self):
+        self.assertNotIn("second sittings stay", self.browser.words(SESSION))
+        self.office("import", "sessions", self.write("sessions.csv", "session,date,start\nS1-2,2027-06-07,13:00\n"))
+        self.assertIn("Its second sittings stay where they are: S1-2", self.browser.words(SESSION))
+        self.assertNotIn("second sittings stay", self.browser.words("/sessions/S1-2"))
+
     def test_refused_at_its_field(self):
         self.refused("session", SESSION, {"session": "S1", "at": "S1", "date": "2027-06-09", "start": "10:00"}, {
             ("date", "2027-02-30"): "a date as", ("date", ""): "a date as", ("date", "1999-12-31"): "a date as",
