@@ -103,8 +103,7 @@ def changed(kind: str, before: Reading, after: Reading) -> Iterator[tuple[str, s
 
 
 def granted(reading: Reading, number: int) -> list[str]:
-    """The sessions in which a candidate has another arrangement than the imported one, as the program says: a grant is
-    in force there."""
+    """The sessions in which the program says another arrangement than the imported one: a grant is in force there."""
     _, needs, extra = reading.rows.execute(f"{ARRANGED} WHERE number = ?", [number]).fetchone() or (number, 0, 0)
     return [session for session, sits in reading.all_of(f"{number:07}").items()
             if (sits.needs, sits.extra) != (tuple(words.features(needs)), extra)]

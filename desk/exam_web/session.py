@@ -283,8 +283,7 @@ def others(choices: list[tuple[str, str, Opening | None]], lost: str) -> dict[st
 
 
 def change_row(kind: str, form: Form) -> Plan:
-    """Another row in the place of one that the office has: the form has all its columns, and the session at which it
-    stands."""
+    """Another row in the place of one that the office has; `at` is the session whose page leads to its form."""
     table, *columns = files.HEADERS[kind]
     shown, code = Session(form.get("at", "")), form.get(table, "")
     if not view().row(f"SELECT 1 FROM {table} WHERE code = ?", [code]):
@@ -298,8 +297,7 @@ def change_row(kind: str, form: Form) -> Plan:
 
 
 def change_session(form: Form) -> Plan:
-    """Another day or start. Its halls close when they did, or as much later or sooner: in an order of the two steps in
-    which nobody loses a desk between them."""
+    """Another day or start. Where halls close as much later or sooner, nobody loses a desk between the two steps."""
     shown, plan = Session(form.get("session", "")), change_row("sessions", form)
     later = of_day(plan.values["start"]) - shown.sums.start
     if later and shown.halls and form.get("along"):
