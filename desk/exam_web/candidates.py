@@ -55,16 +55,14 @@ def search(asked: str) -> list[Person]:
 def page(number: int, code: str = "") -> str:
     who = candidate_row(number)
     entries = view().rows(texts.ENTRIES, [number])
-    lodged = view().rows("SELECT appeal.*, day FROM appeal JOIN session ON session.code = session WHERE number = ? "
-                         "ORDER BY state, lodged, ref", [number])
-    standing = {ref for ref, in view().rows("SELECT ref FROM standing WHERE number = ?", [number])}
-    others = view().rows("SELECT paper.code AS code, title, session FROM paper JOIN session ON session.code = session "
-                         "WHERE paper.code NOT IN (SELECT paper FROM entry WHERE number = ?) "
-                         "ORDER BY day, start, paper.code", [number])
+    others = view().rows("SELECT paper.code AS code, title, session, day FROM paper JOIN session "
+                         "ON session.code = session WHERE paper.code NOT IN (SELECT paper FROM entry WHERE number = ?) "
+                         "ORDER BY day < ?, day, start, paper.code", [number, desk().office.today().isoformat()])
     return render_template("candidate.html", who=who, entries=entries, sittings=view().reading.all_of(f"{number:07}"),
-                           lodged=lodged, standing=standing, others=others, code=code,
+                           lodged=view().rows(texts.LODGED, [number]), others=others, code=code,
                            second=second_sat(number, entries), hall_titles=facts.hall_titles(view().reading.rows),
                            note=notebook.notes(desk().office).get(f"{number:07}", ""),
+                           granted=proposals.granted(view().reading, number),
                            arrangement=view().row("SELECT needs, extra FROM arrangement WHERE number = ?", [number]))
 
 

@@ -16,6 +16,7 @@ import time
 from collections import Counter
 from collections.abc import Callable, Iterable, Iterator, Mapping, Sequence
 from dataclasses import dataclass, field
+from functools import partial
 from operator import attrgetter
 from typing import Any
 
@@ -23,13 +24,12 @@ from flask import Blueprint, abort, g, render_template, request, url_for
 from markupsafe import Markup
 from werkzeug.wrappers import Response
 
-from exam_desk import (changing, consequences, facts, files, lodging, logbook, overlaps, private, refusals,
-                       second_sitting, telling)
+from exam_desk import (changing, consequences, copies, facts, files, lodging, logbook, overlaps, private, refusals,
+                       second_sitting, telling, words)
 from exam_desk.changing import Answered, Step
 from exam_desk.office import Office
 from exam_desk.reading import Member, Person, Reading
 from exam_desk.trouble import Stale, Trouble
-from exam_desk.words import FEATURES
 from exam_web.desk import PATIENCE, Desk, View, desk, office, sums, two_papers, unseated, view
 from exam_web.forms import Asked, Form, Page, Wrong, attached, keep, lead
 from exam_web.wording import said
@@ -39,6 +39,7 @@ MOST_PROPOSALS = 20  # of a visit
 MOST_ROWS = 250  # of a list on the page; all who must be told are in the CSV file
 MOST_LINES = 20  # of the log, where the office was another
 MOST_CLASHES = 100  # new ones that are named
+CHANGED = ["sessions", "papers", "halls", "openings"]  # the kinds of rows of which a page says what is another
 COMPARING, LODGING = "Both states are compared", "The appeal is lodged"
 OTHER_OFFICE = ("the office has changed since the page that you came from, so nothing was done: go back to the form, "
                 "and ask once more")
@@ -46,6 +47,8 @@ WRONG_DESK = "the desk is wrong here; the office is as the log says"
 TROUBLE = 0  # among the numbers of refusals: what the desk refuses itself
 APPEALS = ("SELECT appeal.*, day, session.start AS start, name FROM appeal JOIN session ON session.code = session "
            "JOIN candidate ON candidate.number = appeal.number ")
+ARRANGED = "SELECT number, needs, extra FROM arrangement"
+OF_GRANTED = f"{ARRANGED} WHERE number IN (SELECT number FROM appeal WHERE kind = 3 AND state = 2)"
 BY_DAY = "ORDER BY day, session.start, lodged, appeal.number"
 KINDS = ["short", *consequences.KINDS, "codes"]  # the gravest first; their words are in templates/effects.html
 NUMBERS = attrgetter("members", "desks", "short", "clashes")  # of a session
@@ -69,6 +72,10 @@ class Effects:
                                                 if codes.get(number, code) != code])
         self.sessions = [(was.get(code), each) for code, each in sums(after).items()
                          if code not in was or NUMBERS(was[code]) != NUMBERS(each)]
+        self.rows = [*itertools.islice((each for kind in CHANGED for each in changed(kind, then, now)), MOST_ROWS)]
+        arranged = {*map(tuple, then.rows.execute(ARRANGED))}
+        self.granted = [(now.person(row[0]), found) for row in now.rows.execute(OF_GRANTED).fetchall()
+                        if tuple(row) not in arranged and (found := granted(now, row[0]))]
         self.clashes, self.overlaps = new_clashes(before, after), named(now, overlaps.new(then, now, [*met]))
         self.out_of_date = consequences.out_of_date(now, changes)
         short = set() if changes else unseated(after) - unseated(before)
@@ -84,6 +91,22 @@ class Effects:
 
     def csv(self, name: str) -> Response:
         return attached(telling.csv_text(self.changes, self.titles).encode("utf-8", "surrogateescape"), name)
+
+
+def changed(kind: str, before: Reading, after: Reading) -> Iterator[tuple[str, str, str, str]]:
+    """Of each row of a kind that was there before: its key, and the columns that are others, each as it was and is."""
+    keys = files.KEYS.get(kind, 1)
+    old = {tuple(row[:keys]): row for row in files.rows_of(before.rows, kind)}
+    for row in files.rows_of(after.rows, kind):
+        pairs = zip(files.HEADERS[kind], old.get(tuple(row[:keys]), row), row)
+        yield from ((" ".join(row[:keys]), column, was, now) for column, was, now in pairs if was != now)
+
+
+def granted(reading: Reading, number: int) -> list[str]:
+    """The sessions in which the program says another arrangement than the imported one: a grant is in force there."""
+    _, needs, extra = reading.rows.execute(f"{ARRANGED} WHERE number = ?", [number]).fetchone() or (number, 0, 0)
+    return [session for session, sits in reading.all_of(f"{number:07}").items()
+            if (sits.needs, sits.extra) != (tuple(words.features(needs)), extra)]
 
 
 def by_session(view: View, found: set[tuple[str, int]]) -> Iterator[tuple[str, Person]]:
@@ -132,7 +155,6 @@ class Plan:
     lock: threading.Lock = field(default_factory=threading.Lock)  # of who does it
     working: threading.Thread | None = None
     began: float = 0
-    seconds: float = 0
     stage: str = ""
     since: str = ""  # when the state was read
     made_from: str = ""  # the states from before the rehearsal, and after it
@@ -172,9 +194,6 @@ class Plan:
         return [(step.words[1], int(said[1]), int(said[3]), int(said[5])) for step, said in parts
                 if said[::2] == ["added", "changed", "same"]]
 
-    def tell(self, stage: str) -> None:
-        self.stage = stage
-
     def refuse(self, line: str, explained: list[str]) -> None:
         self.refusal, self.against = line, explained or [line]
 
@@ -210,7 +229,7 @@ def import_step(kind: str, values: Mapping[str, str]) -> Step:
 
 
 def features(form: Form, field: str = "needs") -> str:
-    return "+".join(name for name in FEATURES if name in form.getlist(field)) or "-"
+    return "+".join(name for name in words.FEATURES if name in form.getlist(field)) or "-"
 
 
 @pages.post("/propose/<what>")
@@ -222,7 +241,7 @@ def propose(what: str) -> Response:
     name = plan.fields.get(refusals.number_of(plan.refusal) or TROUBLE)
     if name and plan.against and not plan.is_working:
         del g.visit.proposals[plan.key]
-        raise Wrong(plan.page, **{name: Markup("; ").join(plan.words())})
+        raise Wrong(plan.form_page or plan.page, **{name: Markup("; ").join(plan.words())})
     return lead("proposals.page", key=plan.key)
 
 
@@ -239,8 +258,6 @@ def work(plan: Plan, task: Callable[[Plan, Desk, Office], None]) -> None:
         except Exception:
             plan.against = [WRONG_DESK]
             raise
-        finally:
-            plan.seconds = time.monotonic() - plan.began
     plan.against, plan.began = [], time.monotonic()
     plan.working = threading.Thread(target=run, daemon=True)
     plan.working.start()
@@ -253,19 +270,19 @@ def rehearse(plan: Plan, here: Desk, who: Office) -> None:
     plan.since, steps = datetime.datetime.now().isoformat(" ", "seconds"), plan.steps
     with contextlib.ExitStack() as stack:
         if plan.lodge:
-            plan.tell(LODGING)
+            plan.stage = LODGING
             who = dataclasses.replace(who, path=stack.enter_context(private.private_copy(who.path, who.path)))
             steps = plan.grant(who)
         if plan.refusal:
             return
-        rehearsal = stack.enter_context(changing.rehearse(who, steps, plan.tell))
+        rehearsal = stack.enter_context(changing.rehearse(who, steps, partial(setattr, plan, "stage")))
         before = here.fresh() or View(here.office, rehearsal.before)
         if plan.made_for not in ("", before.name):
             raise Trouble(OTHER_OFFICE)
         if not plan.lodge:  # a grant may be refused where a lodging is not
             plan.take(who, rehearsal.answers)
         if not plan.refusal:
-            plan.tell(COMPARING)
+            plan.stage = COMPARING
             after = View(here.office, rehearsal.after)
             plan.lines = plan.look(before.reading, after.reading)
             plan.effects = Effects(before, after)
@@ -280,7 +297,8 @@ def carry_out(plan: Plan, here: Desk, who: Office) -> None:
         plan.is_done = plan.grant(who) != []
         return
     try:
-        carried = changing.carry_out(who, plan.steps, plan.made_from, plan.promised, plan.command, plan.tell)
+        carried = changing.carry_out(who, plan.steps, plan.made_from, plan.promised, plan.command,
+                                     partial(setattr, plan, "stage"))
     except Stale:
         since = plan.since
         rehearse(plan, here, who)
@@ -303,11 +321,12 @@ def page(key: str) -> str:
     plan: Plan = g.visit.proposals.get(key) or abort(404)
     if plan.is_working:
         return render_template("working.html", p=plan, seconds=int(time.monotonic() - plan.began))
-    following = None
+    kept, following = copies.listed(desk().office) if plan.copy else [], None
     if plan.is_done and plan.asked.form == "decide":
-        today = desk().office.today().isoformat()
-        following = view().row(f"{APPEALS} WHERE state = 1 AND day > ? {BY_DAY}", [today])
-    return render_template("proposal.html", p=plan, most=MOST_ROWS, next_appeal=following)
+        following = view().row(f"{APPEALS} WHERE state = 1 AND day > ? {BY_DAY}", [desk().office.today().isoformat()])
+    since = [copies.when_and_what(each) for each in itertools.takewhile(lambda each: each != plan.copy, kept)]
+    return render_template("proposal.html", p=plan, most=MOST_ROWS, next_appeal=following, since=since,
+                           has_copy=plan.copy in kept)
 
 
 @pages.post("/proposals/<key>/do")

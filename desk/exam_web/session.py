@@ -1,17 +1,19 @@
-"""A session: its numbers, its shortage and what could help, its halls as pictures, its appeals and what is printed."""
+"""A session: its numbers, its shortage and what could help, its halls as pictures, its appeals and what is printed; and
+the forms that move it, its papers and its halls."""
 import math
-import re
 import sqlite3
 from collections.abc import Callable, Sequence
+from functools import partial
 from typing import Any, NamedTuple
 
 from flask import Blueprint, abort, g, render_template, request
 from werkzeug.wrappers import Response
 
-from exam_desk import facts, files, lists, notebook, reasons
+from exam_desk import facts, files, lists, notebook, reasons, second_sitting
 from exam_desk.changing import Step
 from exam_desk.facts import Opening
 from exam_desk.notebook import Rows
+from exam_desk.overlaps import of_day
 from exam_desk.reading import Member
 from exam_desk.sheets import papers, slips
 from exam_desk.trouble import Trouble
@@ -29,7 +31,6 @@ WIDTH, HEIGHT, GAP = 78, 38, 5  # of a desk in a picture, and from one to the ne
 RUNNING = dict(zip(notebook.RUNNING, ("along the rows", "along and back", "down the columns", "down and up")))
 MOST_SUPPOSED = 14  # desks in a row, where nobody said how many
 SEATS = "session,date,start,finish,number,name,paper,paper title,hall,desk,extra,needs".split(",")
-Values = dict[str, str]
 
 
 class Sheet(NamedTuple):
@@ -61,6 +62,9 @@ class Session:
     def opening(self, hall: str) -> Opening:
         return self.halls.get(hall) or abort(404)
 
+    def hall_page(self, hall: str) -> Page:
+        return "session.hall", {"code": self.code, "hall": hall}
+
     def taken(self) -> dict[str, int]:
         """How many sit in each hall."""
         return dict(view().rows("SELECT hall, count(*) FROM seat WHERE session = ? GROUP BY hall", [self.code]))
@@ -85,9 +89,6 @@ class Session:
         return [(member, missed[member.number]) for member in view().reading.members(self.code, numbers)
                 if member.number in missed]
 
-    def is_to_come(self) -> bool:
-        return notebook.is_to_come(desk().office, self.sums.day)
-
     def absent(self) -> list[Member] | None:
         """Who is noted as absent, if anything is; a copy from before somebody came may have been put back."""
         noted = notebook.absent(desk().office, self.code)
@@ -102,8 +103,8 @@ def page(code: str) -> str:
     lodged = view().rows("SELECT appeal.*, name FROM appeal JOIN candidate ON candidate.number = appeal.number "
                          "WHERE session = ? ORDER BY state, appeal.number, ref LIMIT ?", [code, MOST_PEOPLE + 1])
     return render_template("session.html", shown=shown, s=shown.sums, lodged=lodged, previous=before, next=after,
-                           shortage=shortage(view(), code) if shown.sums.short else None, most=MOST_PEOPLE,
-                           to_come=shown.is_to_come())
+                           seconds=[each for each in codes if second_sitting.is_numbered(each, code)],
+                           shortage=shortage(view(), code) if shown.sums.short else None, most=MOST_PEOPLE)
 
 
 @once
@@ -137,7 +138,7 @@ def hall_page(code: str, hall: str) -> str:
     return render_template("hall.html", s=shown.sums, opening=opening, rows=rows, desks=desks, members=members,
                            by_desk={member.sitting.desk: member for member in members}, desk_width=WIDTH,
                            desk_height=HEIGHT, codes=[row["code"] for row in shown.papers()],
-                           absent=notebook.absent(desk().office, code) or (), to_come=shown.is_to_come())
+                           absent=notebook.absent(desk().office, code) or ())
 
 
 def standing(found: Opening) -> Rows:
@@ -146,24 +147,27 @@ def standing(found: Opening) -> Rows:
     return notebook.rows_of_halls(desk().office).get(found.hall, supposed)
 
 
+@pages.get("/papers/<paper>", endpoint="paper")
+def paper_page(paper: str) -> str:
+    """The form that moves or changes a paper."""
+    row = view().row("SELECT * FROM paper WHERE code = ?", [paper]) or abort(404)
+    return render_template("paper.html", row=row, s=Session(row["session"]).sums, sessions=[*sums(view()).values()])
+
+
 @pages.post("/sessions/<code>/draw")
 def draw(code: str) -> Response:
     """Keeps how the desks of halls stand; nobody moves. It leads to the charts that wait for that, else to the hall."""
     shown = Session(code)
     halls = [shown.opening(hall).hall for hall in request.form.getlist("hall")] or abort(400)
     charts: Page = ("session.sheet", {"code": code, "sheet": "chart", "hall": request.form.getlist("of")})
-    drawn, is_chart = {hall: rows_given(hall) for hall in halls}, "chart" in request.form
+    drawn, is_chart = {hall: Rows(request.form.get(f"across-{hall}", 0, int), request.form.get(f"running-{hall}", ""))
+                       for hall in halls}, "chart" in request.form
     if wrong := {f"across-{hall}": whole(1, notebook.MOST_ACROSS) for hall, rows in drawn.items()
                  if not notebook.can_stand(rows)}:
-        raise Wrong(charts if is_chart else ("session.hall", {"code": code, "hall": halls[0]}), "draw", **wrong)
+        raise Wrong(charts if is_chart else shown.hall_page(halls[0]), "draw", **wrong)
     for hall, rows in drawn.items():
         notebook.keep_rows(desk().office, hall, rows)
     return lead(charts[0], **charts[1]) if is_chart else lead("session.page", code=code, _anchor=f"hall-{halls[0]}")
-
-
-def rows_given(hall: str) -> Rows:
-    across = request.form.get(f"across-{hall}", "")
-    return Rows(int(across) if re.fullmatch("[0-9]{1,4}", across) else 0, request.form.get(f"running-{hall}", ""))
 
 
 @pages.post("/sessions/<code>/absent")
@@ -231,7 +235,7 @@ def note_printed(code: str) -> Response:
     return lead("session.page", told, code=code, _anchor="print")
 
 
-def opening(form: Form, page: Page, code: str) -> tuple[Values, list[Step]]:
+def opening(form: Form, page: Page, code: str) -> tuple[dict[str, str], list[Step]]:
     """A hall that is to be open, which was chosen or which the office does not know yet; and the steps for it."""
     is_new = form.get("new_hall", "").strip() != ""
     names = {"new_hall": "hall", "new_title": "title"} if is_new else {"hall": "hall"}
@@ -246,9 +250,11 @@ def opening(form: Form, page: Page, code: str) -> tuple[Values, list[Step]]:
 
 
 def open_hall(form: Form) -> Plan:
+    """The form of a hall that is open says so by `at`: it stands on the page of that hall."""
     shown = Session(form.get("session", ""))
-    values, steps = opening(form, shown.page, shown.code)
-    return Plan(values, steps, shown.page, {4: "hall", 7: "hall", 20: "desks"})
+    page = shown.hall_page(form.get("hall", "")) if "at" in form else shown.page
+    values, steps = opening(form, page, shown.code)
+    return Plan(values, steps, shown.page, {4: "hall", 7: "hall", 20: "desks"}, form_page=page)
 
 
 def close_hall(form: Form) -> Plan:
@@ -276,4 +282,31 @@ def others(choices: list[tuple[str, str, Opening | None]], lost: str) -> dict[st
             "until": clock(max(each.until for each in needed)) if needed else ""}
 
 
-PLANS.update(open=open_hall, close=close_hall)
+def change_row(kind: str, form: Form) -> Plan:
+    """Another row in the place of one that the office has; `at` is the session whose page leads to its form."""
+    table, *columns = files.HEADERS[kind]
+    shown, code = Session(form.get("at", "")), form.get(table, "")
+    if not view().row(f"SELECT 1 FROM {table} WHERE code = ?", [code]):
+        abort(404)
+    page = {"paper": ("session.paper", {"paper": code}), "hall": shown.hall_page(code)}.get(table, shown.page)
+    sets = [name for name in columns if files.RIGHT[name] is files.is_features]
+    values = checked(page, form, **{name: name for name in columns if name not in sets})
+    values |= {table: code, **{name: features(form, name) for name in sets}}
+    fields = dict.fromkeys((4, 20) if "session" in columns else (), "session")
+    return Plan(values, [import_step(kind, values)], shown.page, fields, form_page=page)
+
+
+def change_session(form: Form) -> Plan:
+    """Another day or start. Where halls close as much later or sooner, nobody loses a desk between the two steps."""
+    shown, plan = Session(form.get("session", "")), change_row("sessions", form)
+    later = of_day(plan.values["start"]) - shown.sums.start
+    if later and shown.halls and form.get("along"):
+        rows = [(shown.code, each.hall, each.desks, clock(min(max(each.until + later, 0), remedies.MIDNIGHT)),
+                 "yes" if each.reserved else "no") for each in shown.halls.values()]
+        halls = Step(("import", "openings", "openings.csv"), files.file_of("openings", rows))
+        plan.steps, plan.made_for = [halls, *plan.steps] if later > 0 else [*plan.steps, halls], view().name
+    return plan
+
+
+PLANS.update(open=open_hall, close=close_hall, session=change_session, paper=partial(change_row, "papers"),
+             hall=partial(change_row, "halls"))

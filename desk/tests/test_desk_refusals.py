@@ -154,7 +154,7 @@ class TestEachPlan(SampleSchool):
         script = pathlib.Path(__file__).parent / "refuse_plans.py"
         line = [PYTHON, "-B", script, self.path, built_program(), *(["--all"] if "REFUSALS" in os.environ else [])]
         done = subprocess.run(line, capture_output=True, text=True, check=False)
-        self.assertRegex(done.stdout, r"\A14 plans, \d+ looks, 0 bad\n\Z", done.stderr[-2000:])
+        self.assertRegex(done.stdout, r"\A17 plans, \d+ looks, 0 bad\n\Z", done.stderr[-2000:])
         if "REFUSALS" in os.environ:
             print(done.stdout)
 

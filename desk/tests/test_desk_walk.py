@@ -52,6 +52,7 @@ class TestWalk(DeskSchool):
         number, paper, session = chance.choice(entries)
         where, person = f"/candidates/{number}", {"number": f"{number:07}"}
         hall, = chance.choice(self.rows("SELECT code FROM hall ORDER BY 1"))
+        at, title = {"at": session}, f"Other {number}"
         needs = {"needs": chance.sample(["screen", "reader", "quiet"], 1)}
         lodged = self.rows("SELECT number, ref, kind FROM appeal WHERE state = 1 ORDER BY 1, 2")
         found = [
@@ -62,6 +63,12 @@ class TestWalk(DeskSchool):
             ("lodge", where, {**person, "session": session, "kind": "hall", "wanted_hall": hall}),
             ("candidate", "/candidates", {"number": f"{number + chance.randint(0, 1) * 9000000:07}", "name": "New"}),
             ("close", f"/sessions/{session}", {"session": session, "lost": hall}),
+            ("session", f"/sessions/{session}", {**at, "session": session, "date": "2027-06-20", "start": "10:00",
+                                                 "along": chance.choice(["", "1"])}),
+            ("paper", f"/papers/{paper}", {**at, "paper": paper, "session": session, "title": title,
+                                           "minutes": chance.randint(30, 90)}),
+            ("hall", f"/sessions/{session}", {**at, "hall": hall, "title": title,
+                                              "features": chance.choice(["", "screen"])}),
             ("open", f"/sessions/{session}", {"session": session, "hall": hall, "desks": chance.randint(1, 9),
                                               "until": "23:30"}),
             ("second", where, {**person, "session": session, "paper": paper, "start": chance.choice(["13:00", "22:00"]),
