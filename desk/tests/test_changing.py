@@ -156,7 +156,7 @@ class Lists(Changing):
 
     def test_an_office_that_cannot_be_read(self):
         self.write("office.db", b"rubbish" * 1000)
-        with self.assertRaisesRegex(changing.NotBegun, "cannot be read, so nothing is changed"):
+        with self.assertRaisesRegex(Trouble, "cannot be read, so nothing is changed"):
             changing.carry_out(self.value, STEPS)
         self.assertEqual((self.kept(), self.log()), ([], []))
 
@@ -251,7 +251,7 @@ class Full(Changing):
         before = self.state()
         for name in ("exam_desk.copies.keep_copy", "exam_desk.copies.in_one_file", "exam_desk.logbook.write"):
             with mock.patch(name, side_effect=OSError(28, "No space left on device", "/x")):
-                with self.assertRaisesRegex(changing.NotBegun, "nothing is changed: /x: No space left on .*; make room"):
+                with self.assertRaisesRegex(Trouble, "nothing is changed: /x: No space left on .*; make room"):
                     changing.carry_out(self.value, STEPS)
             self.assertEqual((self.state(), self.kept()), (before, []), name)
 
@@ -262,7 +262,7 @@ class Full(Changing):
             if status == logbook.STEP and words[0] == "close-hall":
                 raise OSError(28, "No space left on device", "/x")
             real(office, words, status, answer)
-        with mock.patch("exam_desk.logbook.write", write), self.assertRaises(changing.NotBegun):
+        with mock.patch("exam_desk.logbook.write", write), self.assertRaises(Trouble):
             changing.carry_out(self.value, STEPS)
         self.assertEqual((self.state(), self.kept()), (before, []))
 
