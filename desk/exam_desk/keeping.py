@@ -263,30 +263,20 @@ def stop(office: Office) -> None:
 def status(office: Office) -> Status:
     """What `keep` does; it serves only where `serve` answers through it in time. Raises `Trouble` where none runs."""
     state = turns.keep_state(office)
-    while state and state.get("state") == "serving":
-        with contextlib.suppress(OSError):
-            server = asking.Server(state["pid"], state["place"])
-            if asking.status_of(asking.answer(server, QUESTION, QUESTION_SECONDS)) == 404:
-                place = plain(asking.shown(state["place"]))
-                return Status(True, f"serving {place}, for {state['day']}, process {state['pid']}")
-        before, state = state, turns.keep_state(office)
-        if state == before:
-            break
     if state is None:
         journal = beside.folder(office.path, JOURNAL)
         why = f"the last lines of {journal} may say why" if os.path.exists(journal) else "`office keep start` begins it"
         raise Trouble(f"`keep` does not run; {why}")
-    return Status(False, fault_of(state))
-
-
-def fault_of(state: turns.Said) -> str:
-    """Why `keep` does not serve now."""
-    if state["pid"] <= 0:
-        return "`keep` runs in another container or on another machine: ask there"
+    process, what = state["pid"], f"{plain(state.get('state', 'it begins'))}; it tries again by itself"
+    if process <= 0:
+        return Status(False, "`keep` runs in another container or on another machine: ask there")
     if "place" not in state:
-        return f"process {state['pid']} runs, but cannot write down what it does: is the disk full?"
-    what = plain(state.get("state", "it begins"))
-    if what == "serving":
-        return (f"process {state['pid']} does not serve now: no answer came within {QUESTION_SECONDS} seconds; it "
-                "begins anew by itself")
-    return f"process {state['pid']} does not serve now: {what}; it tries again by itself"
+        return Status(False, f"process {process} runs, but cannot write down what it does: is the disk full?")
+    if state.get("state") == "serving":
+        place = state["place"]
+        with contextlib.suppress(OSError):
+            answer = asking.answer(asking.Server(process, place), QUESTION, QUESTION_SECONDS)
+            if asking.status_of(answer) == 404:
+                return Status(True, f"serving {plain(asking.shown(place))}, for {state['day']}, process {process}")
+        what = f"no answer came within {QUESTION_SECONDS} seconds; it begins anew by itself"
+    return Status(False, f"process {process} does not serve now: {what}")

@@ -7,6 +7,7 @@ import re
 import sqlite3
 from collections import Counter, defaultdict
 from collections.abc import Callable, Iterator, Sequence
+from functools import cache, partial
 from typing import NamedTuple
 
 from exam_desk import files, states, words
@@ -76,8 +77,7 @@ class Found:
     def __bool__(self) -> bool:
         return bool(self.counts)
 
-    def add(self, line: int, column: str, cure: str | Callable[[str, bytes], Cure],
-            field: bytes | None = None) -> None:
+    def add(self, line: int, column: str, cure: str | Callable[[], Cure], field: bytes | None = None) -> None:
         """Counts one more on a column, and names the field if one is given. A cure that is long to make is made only
         where it is shown."""
         if column == "code" and field == b"":
@@ -86,7 +86,7 @@ class Found:
         self.count += 1
         self.counts[column] += 1
         if self.counts[column] <= self.most:
-            found = Cure(cure) if isinstance(cure, str) else cure(column, field or b"")
+            found = Cure(cure) if isinstance(cure, str) else cure()
             self.shown.append(Mistake(line, column, "" if field is None else files.shown(field), *found))
 
 
@@ -272,7 +272,7 @@ class File:
             if column in self.missing:
                 continue
             if not right(field):
-                self.wrong.add(record.line, column, cure, field)
+                self.wrong.add(record.line, column, partial(cure, column, field), field)
                 continue
             if table and field not in (self.known.keys[table] or {field}):
                 self.wrong.add(record.line, column, f"is not among the {table}", field)
@@ -307,22 +307,25 @@ class File:
 
     def note_together(self) -> None:
         """Notes what rows say together, and beside what the office knows."""
-        names = {record.fields[0]: record.fields[1] for record in self.first.values()}
-
-        def sharers(_: str, number: bytes) -> Cure:
-            others = [other for other in heapq.nsmallest(4, sharing) if other != number][:3]
-            twins = any(names.get(other) == names[number] for other in sharing if other != number)
-            return Cure(", ".join(files.shown(other)[1:-1] for other in others) + " has the same access code"
-                        + (" and the same name: one candidate under two numbers?" if twins else ""))
+        people = self.first.values() if self.kind == "candidates" else ()
+        twins = Counter(record.fields[1:] for record in people)  # names with access codes
+        least = cache(lambda code: heapq.nsmallest(4, self.known.codes[code]))  # all rows of a file may have one
         for record in self.first.values():
-            code = record.fields[2] if self.kind == "candidates" else b""
-            sharing = self.known.codes[code] if code else ()
-            if len(sharing) > 1:
-                self.notes.add(record.line, "number", sharers, record.fields[0])
+            code = record.fields[2] if people else b""
+            if code and len(self.known.codes[code]) > 1:
+                who = partial(sharers, record.fields[0], least(code), twins[record.fields[1:]] > 1)
+                self.notes.add(record.line, "number", who, record.fields[0])
             elif record.fields in self.known.withdrawn:
                 self.notes.add(record.line, "row", "is withdrawn in the office and stays so until it is reinstated")
             elif self.kind == "arrangements" and record.fields[0] in self.known.standing:
                 self.notes.add(record.line, "row", "a standing grant is in force for this candidate in its place")
+
+
+def sharers(number: bytes, least: Sequence[bytes], is_twin: bool) -> Cure:
+    """Who has the access code of a number, too: the least of the numbers that have it."""
+    others = [files.shown(other)[1:-1] for other in least if other != number][:3]
+    return Cure(f"{', '.join(others)} {'have' if len(others) > 1 else 'has'} the same access code"
+                + (" and the same name: one candidate under two numbers?" if is_twin else ""))
 
 
 def beginning_of(text: bytes) -> str:

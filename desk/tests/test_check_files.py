@@ -3,6 +3,7 @@ import os
 import shutil
 import subprocess
 import tempfile
+import time
 import unittest
 
 import sample
@@ -260,6 +261,18 @@ class Words(unittest.TestCase):
             "0000002 has the same access code and the same name: one candidate under two numbers?",
             "the same as line 3; it counts once",
             "may be what a spreadsheet made of a code such as 1E5, or will make of it"])
+
+    def test_one_access_code_for_all(self):
+        """As where a spreadsheet filled it down: a note on each, and no row is compared with each other one."""
+        text = b"number,name,code\n" + b"".join(b"%07d,A%d,CODE0001\n" % (place, place) for place in range(1, 20_001))
+        began = time.process_time()
+        found, notes = mistakes.looked_through("candidates", text, mistakes.Known())
+        self.assertLess(time.process_time() - began, 10)
+        first, second, *others = (note.text for note in notes)
+        self.assertEqual((found.count, len(others), first, second, others[-1]), (
+            0, 19_998, "0000002, 0000003, 0000004 have the same access code",
+            "0000001, 0000003, 0000004 have the same access code",
+            "0000001, 0000002, 0000003 have the same access code"))
 
     def test_what_cannot_be_compared_is_noted(self):
         text = b"number,paper\n0001000,MA-1\n0001017,MA-1\n"
