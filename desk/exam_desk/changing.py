@@ -187,7 +187,7 @@ def carry_out(office: Office, steps: Sequence[Step], made_from: str | None = Non
                 answers = carried_all(taken, title, steps, copy)
                 is_undone = refused_of(answers) is not None
         except (OSError, sqlite3.Error, running.NotStarted):
-            if copies.is_as_now(office, copy):
+            if copies.is_as_now(office, copy):  # a step that was refused 23 before may be there
                 copies.drop(copy)
             raise
         as_promised = None if promised is None or is_undone else is_in_state(office, promised)
@@ -243,8 +243,9 @@ def run_patiently(office: Office, step: Step, lock: FileIO | None = None) -> run
     until = time.monotonic() + turns.PATIENCE
     while True:
         ran = running.run_over(office, office.path, *step.words, data=step.data, lock=lock)
-        if refusals.number_of(ran.complaint) != 23 or time.monotonic() > until or not refusals.may_pass(office):
-            return ran
+        with contextlib.suppress(OSError):  # what it looks at goes away just then
+            if refusals.number_of(ran.complaint) != 23 or time.monotonic() > until or not refusals.may_pass(office):
+                return ran
         time.sleep(PAUSE)
 
 
