@@ -1,13 +1,12 @@
 """The mistakes of import files: what the program refuses, in words, and what only a human eye can judge."""
 from __future__ import annotations
 
-import heapq
 import itertools
 import re
 import sqlite3
 from collections import Counter, defaultdict
 from collections.abc import Callable, Iterator, Sequence
-from functools import cache, partial
+from functools import partial
 from typing import NamedTuple
 
 from exam_desk import files, states, words
@@ -100,7 +99,7 @@ class Known:
         self.entries: set[tuple[bytes, ...]] = set()
         self.withdrawn: set[tuple[bytes, ...]] = set()
         self.standing: set[bytes] = set()
-        self.codes: defaultdict[bytes, set[bytes]] = defaultdict(set)  # the numbers with an access code
+        self.codes: dict[bytes, bytes] = {}  # the access code of each number
         if connection:
             for kind in files.HEADERS:
                 self.take(kind, [tuple(map(str.encode, row)) for row in files.rows_of(connection, kind)])
@@ -119,8 +118,14 @@ class Known:
         elif kind == "entries":
             self.entries.update(row for row in rows if row not in self.withdrawn)
         elif kind == "candidates":
-            for row in rows:
-                self.codes[row[2]].add(row[0])
+            self.codes.update((row[0], row[2]) for row in rows)
+
+    def sharing(self) -> dict[bytes, list[bytes]]:
+        """The numbers with each access code, the least first."""
+        found = defaultdict[bytes, list[bytes]](list)
+        for number in sorted(self.codes):
+            found[self.codes[number]].append(number)
+        return found
 
     def passed_limit(self) -> str | None:
         """The first limit that is passed, in words, or none."""
@@ -308,12 +313,11 @@ class File:
     def note_together(self) -> None:
         """Notes what rows say together, and beside what the office knows."""
         people = self.first.values() if self.kind == "candidates" else ()
-        twins = Counter(record.fields[1:] for record in people)  # names with access codes
-        least = cache(lambda code: heapq.nsmallest(4, self.known.codes[code]))  # all rows of a file may have one
+        sharing, twins = self.known.sharing() if people else {}, Counter(record.fields[1:] for record in people)
         for record in self.first.values():
             code = record.fields[2] if people else b""
-            if code and len(self.known.codes[code]) > 1:
-                who = partial(sharers, record.fields[0], least(code), twins[record.fields[1:]] > 1)
+            if code and len(sharing[code]) > 1:
+                who = partial(sharers, record.fields[0], sharing[code], twins[record.fields[1:]] > 1)
                 self.notes.add(record.line, "number", who, record.fields[0])
             elif record.fields in self.known.withdrawn:
                 self.notes.add(record.line, "row", "is withdrawn in the office and stays so until it is reinstated")
@@ -321,9 +325,9 @@ class File:
                 self.notes.add(record.line, "row", "a standing grant is in force for this candidate in its place")
 
 
-def sharers(number: bytes, least: Sequence[bytes], is_twin: bool) -> Cure:
-    """Who has the access code of a number, too: the least of the numbers that have it."""
-    others = [files.shown(other)[1:-1] for other in least if other != number][:3]
+def sharers(number: bytes, sharing: Sequence[bytes], is_twin: bool) -> Cure:
+    """Which of those who share an access code have it beside a number, the first three."""
+    others = [files.shown(other)[1:-1] for other in sharing[:4] if other != number][:3]
     return Cure(f"{', '.join(others)} {'have' if len(others) > 1 else 'has'} the same access code"
                 + (" and the same name: one candidate under two numbers?" if is_twin else ""))
 

@@ -274,6 +274,14 @@ class Words(unittest.TestCase):
             "0000001, 0000003, 0000004 have the same access code",
             "0000001, 0000002, 0000003 have the same access code"))
 
+    def test_a_code_that_its_owner_gives_up_is_no_shared_one(self):
+        known = mistakes.Known()
+        known.take("candidates", [(b"0000001", b"Ada", b"CODE0001")])
+        text = b"number,name,code\n0000002,Bo,CODE0001\n"
+        self.assertEqual(self.mistakes_in("candidates", text, known)[1], ["0000001 has the same access code"])
+        text += b"0000001,Ada,CODE0009\n"
+        self.assertEqual(self.mistakes_in("candidates", text, known), ([], []))
+
     def test_what_cannot_be_compared_is_noted(self):
         text = b"number,paper\n0001000,MA-1\n0001017,MA-1\n"
         self.assertEqual(self.mistakes_in("entries", text), ([], [
