@@ -225,7 +225,7 @@ def is_in_state(office: Office, name: str) -> bool:
 
 @contextlib.contextmanager
 def unchanged(office: Office) -> Iterator[None]:
-    """What fails before the first step, or where all is as before again: raises `Trouble` then, which says so."""
+    """Raises `Trouble`, which says that nothing is changed, where what is written before a step fails."""
     try:
         yield
     except OSError as fault:

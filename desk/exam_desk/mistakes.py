@@ -232,7 +232,7 @@ class File:
             self.wrong.add(1, "file", f"more than {files.MOST_BYTES} bytes: split it")
         if text[:2] in (b"\xff\xfe", b"\xfe\xff"):
             self.wrong.add(1, "file", "saved as Unicode text (UTF-16): save it as CSV UTF-8")
-            text = text.decode("utf-16", "replace").encode()
+            text = text.decode("utf-16", "replace").encode()[:files.MOST_BYTES]  # it may be longer in UTF-8
         for comma, why in COMMAS:
             found = files.records(text, comma)
             for place, header in enumerate(itertools.islice(found, 4)):

@@ -310,6 +310,14 @@ class Words(unittest.TestCase):
         self.assertEqual(list(files.records(b'"')), [(1, (b"",), False)])
         self.assertEqual(list(files.records(b'a;"b;c";', b";")), [(1, (b"a", b"b;c", b""), True)])
 
+    def test_a_long_file_of_utf_16(self):
+        """Each letter has two bytes there, and three in UTF-8: more than a field of an import can have."""
+        text = b"\xff\xfe" + "\u6f22".encode("utf-16-le") * 2_000_000
+        found, _ = mistakes.looked_through("halls", text, mistakes.Known())
+        self.assertEqual([each.text for each in found], [
+            "saved as Unicode text (UTF-16): save it as CSV UTF-8",
+            "the first line must be hall,title,features; no such header is found"])
+
     def test_too_many_mistakes_end_it(self):
         found, _ = mistakes.looked_through("entries", b"number,paper\n" + b"a\n" * 100_001, known := mistakes.Known(), 5)
         self.assertEqual(found.counts, {"row": mistakes.MOST_COUNTED, "file": 1})
