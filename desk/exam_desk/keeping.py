@@ -207,8 +207,8 @@ def listener(place: str) -> Iterator[socket.socket]:
 
 
 def make_room(path: str) -> None:
-    """Removes the socket that a killed `keep` left. Raises `Trouble` where its folder is not ours alone or holds anything
-    else, or where another process serves there."""
+    """Removes the socket that a killed `keep` left. Raises `Trouble` where its folder is not ours alone, where that
+    holds anything else, or where another process serves there."""
     folder = os.path.dirname(path)
     beside.refuse_strange(folder)
     if others := sorted(set(os.listdir(folder)) - {SOCKET}):
