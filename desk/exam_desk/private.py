@@ -20,6 +20,7 @@ from typing import BinaryIO
 from exam_desk import beside
 
 PLACE, PREFIX, LOCK, NAME = "tmp", "office-copy-", "lock", "office.db"
+ENDINGS = ("", "-wal")  # of the names of the two files
 ELSEWHERE = {errno.EACCES, errno.EPERM, errno.EROFS, errno.ENOSPC, errno.EDQUOT}  # another folder may do
 TRIES, PAUSE = 200, 0.02  # seconds from one to the next
 
@@ -97,12 +98,10 @@ def copy_files(source: str, target: str) -> None:
     for _ in range(TRIES):
         before = moment(source)
         if before is not None:
-            copy_file(source, target)
-            with contextlib.suppress(FileNotFoundError):
-                copy_file(source + "-wal", target + "-wal")
+            copy_still(source, target)
             if before == moment(source):
                 return
-        for ending in ("", "-wal"):
+        for ending in ENDINGS:
             with contextlib.suppress(FileNotFoundError):
                 os.remove(target + ending)
         time.sleep(PAUSE)
@@ -114,9 +113,12 @@ def no_link(path: str, flags: int) -> int:
     return os.open(path, flags | os.O_NOFOLLOW, 0o600)
 
 
-def copy_file(source: str, target: str) -> None:
-    with open(source, "rb", opener=no_link) as file, open(target, "xb", opener=no_link) as copy:
-        shutil.copyfileobj(file, copy, 1 << 20)
+def copy_still(source: str, target: str) -> None:
+    """Copies the two files of an office that nobody changes meanwhile."""
+    for ending in ENDINGS:
+        with (contextlib.suppress(FileNotFoundError), open(source + ending, "rb", opener=no_link) as file,
+              open(target + ending, "xb", opener=no_link) as copy):
+            shutil.copyfileobj(file, copy, 1 << 20)
 
 
 def moment(path: str) -> tuple[int, int, int, bytes | None] | None:

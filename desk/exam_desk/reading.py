@@ -168,9 +168,7 @@ class Reading(contextlib.AbstractContextManager["Reading"]):
             os.mkdir(folder, 0o700)
             path = os.path.join(folder, os.path.basename(self.copy))  # while it is open nobody can print a sheet of it
             with self.printing:
-                for ending in ("", "-wal"):
-                    with contextlib.suppress(FileNotFoundError):
-                        private.copy_file(self.copy + ending, path + ending)
+                private.copy_still(self.copy, path)
             self.serve = self.stack.enter_context(contextlib.closing(Serve(self.office, path, self.refuse_rows)))
         return self.serve
 
