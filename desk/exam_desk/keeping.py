@@ -273,10 +273,11 @@ def status(office: Office) -> Status:
     if "place" not in state:
         return Status(False, f"process {process} runs, but cannot write down what it does: is the disk full?")
     if state.get("state") == "serving":
-        place = state["place"]
+        place, answered = state["place"], 0
         with contextlib.suppress(OSError):
-            answer = asking.answer(asking.Server(process, place), QUESTION, QUESTION_SECONDS)
-            if asking.status_of(answer) == 404:
-                return Status(True, f"serving {plain(asking.shown(place))}, for {state['day']}, process {process}")
-        what = f"no answer came within {QUESTION_SECONDS} seconds; it begins anew by itself"
+            answered = asking.status_of(asking.answer(asking.Server(process, place), QUESTION, QUESTION_SECONDS))
+        if answered == 404:
+            return Status(True, f"serving {plain(asking.shown(place))}, for {state['day']}, process {process}")
+        what = (f"no answer came within {QUESTION_SECONDS} seconds; it begins anew by itself" if not answered else
+                "it has more clients than it takes at once, or no memory")
     return Status(False, f"process {process} does not serve now: {what}")

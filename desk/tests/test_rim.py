@@ -14,7 +14,7 @@ import unittest
 from unittest import mock
 
 import sample
-from exam_desk import asking, keeping, turns
+from exam_desk import asking, hold, keeping, turns
 from exam_desk.trouble import Trouble
 
 NOBODY = 65534
@@ -63,6 +63,17 @@ class Ending(sample.KeptSchool):
         done = self.run_office("keep", "status")
         self.assertEqual(done.returncode, 1)
         self.assertIn("does not serve now", done.stdout)
+
+
+class Crowded(unittest.TestCase):
+    def test_status_does_not_call_a_refusal_no_answer(self):
+        state = {"pid": 7, "place": "8080", "state": "serving", "day": "2027-05-01"}
+        with mock.patch("exam_desk.turns.keep_state", return_value=state), mock.patch("exam_desk.asking.answer") as answer:
+            for said, why in ((hold.FULL, "it has more clients than it takes at once, or no memory"),
+                              (hold.FULL[:-1], "no answer came within 5 seconds; it begins anew by itself"),
+                              (OSError(), "no answer came within 5 seconds; it begins anew by itself")):
+                answer.side_effect = [said]
+                self.assertEqual(keeping.status(None), (False, f"process 7 does not serve now: {why}"))
 
 
 class Hanging(sample.SampleSchool):
