@@ -68,7 +68,8 @@ class Ending(sample.KeptSchool):
 class Crowded(unittest.TestCase):
     def test_status_does_not_call_a_refusal_no_answer(self):
         state = {"pid": 7, "place": "8080", "state": "serving", "day": "2027-05-01"}
-        with mock.patch("exam_desk.turns.keep_state", return_value=state), mock.patch("exam_desk.asking.answer") as answer:
+        with (mock.patch("exam_desk.turns.keep_state", return_value=state),
+              mock.patch("exam_desk.asking.answer") as answer):
             for said, why in ((hold.FULL, "it has more clients than it takes at once, or no memory"),
                               (hold.FULL[:-1], "no answer came within 5 seconds; it begins anew by itself"),
                               (OSError(), "no answer came within 5 seconds; it begins anew by itself")):
