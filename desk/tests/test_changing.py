@@ -276,6 +276,14 @@ class Full(Changing):
             changing.carry_out(self.value, STEPS)
         self.assertEqual((self.state(), self.kept()), (before, []))
 
+    def test_no_room_before_a_copy_is_put_back(self):
+        copy = changing.carry_out(self.value, STEPS[:1]).copy
+        now = self.state()
+        with (mock.patch("exam_desk.logbook.write", side_effect=OSError(28, "No space left on device", "/x")),
+              self.assertRaisesRegex(Trouble, "nothing is changed: /x: No space left on .*; make room")):
+            changing.go_back(self.value, ["back", "1"], copy, lambda lines: True)
+        self.assertEqual((self.state(), self.kept()), (now, [copy]))
+
     def test_what_cannot_be_put_back_is_said_and_its_copy_stays(self):
         with mock.patch("exam_desk.copies.move_in", side_effect=OSError(5, "Input/output error")):
             with self.assertRaisesRegex(Trouble, "could not be put back as it was .*`office back` lists the copy of"):
