@@ -89,11 +89,11 @@ class Wait:
 
     def pause(self, whom: Callable[[], str]) -> None:
         waited = time.monotonic() - self.began
-        if waited > PATIENCE:
-            raise Trouble(f"{whom()} has the office, and {PATIENCE} seconds are over; nothing is changed, try again")
         if self.silent and waited > SILENCE:
             self.silent = False
             self.office.warn(f"waiting for {whom()}")
+        if waited > PATIENCE:
+            raise Trouble(f"{whom()} has the office, and {PATIENCE} seconds are over; nothing is changed, try again")
         time.sleep(PAUSE)
 
 
