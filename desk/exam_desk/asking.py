@@ -13,7 +13,6 @@ import contextlib
 import itertools
 import os
 import re
-import signal
 import socket
 import struct
 import subprocess
@@ -74,7 +73,7 @@ class Serve:
         """Begins `serve` where none runs, and does not wait until it has opened the office."""
         if self.child is None:
             self.port = free_port()
-            self.child = running.begun(self.office, self.path, self.port, signal.SIGKILL)
+            self.child = running.begun(self.office, self.path, self.port)
         return self.child
 
     def started(self) -> Server:

@@ -15,7 +15,8 @@ import sqlite3
 import time
 from collections.abc import Callable, Iterable, Iterator, Sequence
 from dataclasses import dataclass
-from typing import NamedTuple, TypeVar
+from io import FileIO
+from typing import NamedTuple
 
 from exam_desk import beside, copies, files, logbook, private, refusals, running, states, turns
 from exam_desk.office import Office
@@ -25,7 +26,6 @@ CHANGES = ["import", "withdraw", "reinstate", "close-hall", "decide", "migrate"]
 PAUSE = 0.2  # seconds from one try to the next
 MOST_NAMED = 3  # sessions, candidates, papers or halls in the title of a change
 Tell = Callable[[str], None]  # hears which step begins
-Value = TypeVar("Value")
 
 
 @dataclass(frozen=True)
@@ -62,10 +62,6 @@ class Answered(NamedTuple):
 
     def first_line(self) -> str:
         return (self.ran.answer + self.ran.complaint).split("\n")[0]
-
-
-class NotBegun(Trouble):
-    """There is no room for the copy or the log, or the office cannot be read, so nothing is changed."""
 
 
 @dataclass
@@ -113,13 +109,14 @@ class Back(NamedTuple):
 class Turn(NamedTuple):
     """The office for this process alone."""
     office: Office
-    lock: int
+    lock: FileIO
     tell: Tell
 
     def carried(self, step: Step, status: str) -> Answered:
-        """Carries out one step, which the program does whole or not at all; `status` begins its line in the log."""
+        """Carries out one step, which the program does whole or not at all; `status` begins its line in the log. Raises
+        OSError where nothing can be written there, and nothing is done."""
         self.tell(step.title())
-        with begun(self.office, logbook.logged(self.office, [*step.words, *step.about], status)) as outcome:
+        with logbook.logged(self.office, [*step.words, *step.about], status) as outcome:
             answered = Answered(step, run_patiently(self.office, step, self.lock))
             outcome.status, outcome.answer = answered.ran.status, answered.first_line()
         return answered
@@ -180,8 +177,8 @@ def carry_out(office: Office, steps: Sequence[Step], made_from: str | None = Non
     if not os.path.isfile(office.path):  # the program says so
         return Carried([Answered(steps[0], run_patiently(office, steps[0]))], None, None)
     title = title or ", ".join(step.title() for step in steps)
-    with turn(office, title, made_from, tell) as taken:
-        copy = kept_copy(office, title)
+    with unchanged(office), turn(office, title, made_from, tell) as taken:
+        copy = copies.keep_copy(office, title)
         try:
             if len(steps) == 1:
                 answers = [taken.carried(steps[0], logbook.BEGINS)]
@@ -189,8 +186,9 @@ def carry_out(office: Office, steps: Sequence[Step], made_from: str | None = Non
             else:
                 answers = carried_all(taken, title, steps, copy)
                 is_undone = refused_of(answers) is not None
-        except (NotBegun, running.NotStarted):
-            copies.drop(copy)
+        except (OSError, sqlite3.Error, running.NotStarted):
+            if copies.is_as_now(office, copy):  # a step that was refused 23 before may be there
+                copies.drop(copy)
             raise
         as_promised = None if promised is None or is_undone else is_in_state(office, promised)
         if is_undone or copies.is_as_now(office, copy):
@@ -209,8 +207,8 @@ def has_done_nothing(office: Office, answered: Answered, copy: str) -> bool:
 @contextlib.contextmanager
 def turn(office: Office, title: str, made_from: str | None = None, tell: Tell = lambda title: None) -> Iterator[Turn]:
     """The office for this process alone, in the state that was looked at. Says of a change without an end what is known
-    of it. Raises `Stale` where it is in another state, and `Trouble` where it cannot be had."""
-    with begun(office, turns.alone(office, [title])) as lock:
+    of it. Raises `Stale` where it is in another state, and `Trouble` or OSError where it cannot be had."""
+    with turns.alone(office, [title]) as lock:
         if made_from is not None and not is_in_state(office, made_from):
             raise Stale("the office has changed since you looked at it, so nothing is changed: look again")
         if found := logbook.unfinished(office):
@@ -225,42 +223,29 @@ def is_in_state(office: Office, name: str) -> bool:
         return False
 
 
-def kept_copy(office: Office, title: str) -> str:
-    with beginning(office):
-        return copies.keep_copy(office, title)
-
-
 @contextlib.contextmanager
-def beginning(office: Office) -> Iterator[None]:
-    """What comes before the first step. Raises `NotBegun` where it fails."""
+def unchanged(office: Office) -> Iterator[None]:
+    """Raises `Trouble`, which says that nothing is changed, where what is written before a step fails."""
     try:
         yield
     except OSError as fault:
         place, days = fault.filename or beside.folder(office.path), beside.folder(office.path, copies.DAYS)
         room = f"; make room, for example in {days}" if fault.errno == errno.ENOSPC else ""
-        raise NotBegun(f"no copy of the office can be kept, so nothing is changed: {place}: {fault.strerror}{room}"
-                       ) from fault
+        raise Trouble(f"no copy of the office can be kept, so nothing is changed: {place}: {fault.strerror}{room}"
+                      ) from fault
     except sqlite3.Error as fault:
-        raise NotBegun(f"{office.path} cannot be read, so nothing is changed: {fault}; `office check` says more"
-                       ) from fault
+        raise Trouble(f"{office.path} cannot be read, so nothing is changed: {fault}; `office check` says more"
+                      ) from fault
 
 
-@contextlib.contextmanager
-def begun(office: Office, context: contextlib.AbstractContextManager[Value]) -> Iterator[Value]:
-    """A context of a change. Raises `NotBegun` where it does not begin."""
-    with contextlib.ExitStack() as stack:
-        with beginning(office):
-            value = stack.enter_context(context)
-        yield value
-
-
-def run_patiently(office: Office, step: Step, lock: int | None = None) -> running.Ran:
+def run_patiently(office: Office, step: Step, lock: FileIO | None = None) -> running.Ran:
     """Runs the program over the office, and tries again for some time while another command has the file."""
     until = time.monotonic() + turns.PATIENCE
     while True:
         ran = running.run_over(office, office.path, *step.words, data=step.data, lock=lock)
-        if refusals.number_of(ran.complaint) != 23 or time.monotonic() > until or not refusals.may_pass(office):
-            return ran
+        with contextlib.suppress(OSError):  # what it looks at goes away just then
+            if refusals.number_of(ran.complaint) != 23 or time.monotonic() > until or not refusals.may_pass(office):
+                return ran
         time.sleep(PAUSE)
 
 
@@ -268,8 +253,8 @@ def carried_all(taken: Turn, title: str, steps: Sequence[Step], copy: str) -> li
     """Carries out steps up to the first that is refused; then, or where one cannot be saved, the copy is put back."""
     answers: list[Answered] = []
     office = taken.office
-    with (begun(office, copies.ready(office, copy)) as ready,  # it can be moved in when the disk is full
-          begun(office, logbook.logged(office, [title], answer=os.path.basename(copy))) as outcome):
+    with (copies.ready(office, copy) as ready,  # it can be moved in when the disk is full
+          logbook.logged(office, [title], answer=os.path.basename(copy)) as outcome):
         try:
             for step in steps:
                 answers.append(taken.carried(step, logbook.STEP))
@@ -293,16 +278,18 @@ def go_back(office: Office, words: Sequence[str], copy: str, may_go: Callable[[l
             made_from: str | None = None) -> Back:
     """Puts a copy in the place of the office, in one turn, where `may_go` agrees to the appeals and decisions that this
     takes away. Raises as `turn`, and `Trouble` where the copy is gone or no good office."""
-    with turn(office, " ".join(words), made_from):
-        if not os.path.isdir(copy):
-            raise Trouble("this copy is gone by now: `office back` lists what is there; nothing is changed")
-        lines = copies.taken_away(office, copy)
-        if not may_go(lines):
-            return Back(False, lines, None)
-        when, what = copies.when_and_what(copy)
-        with begun(office, logbook.logged(office, words)) as outcome:
-            kept = copies.put_back(office, copy)
-            outcome.status, outcome.answer = 0, "; ".join([f"as it was on {when}, before {what}", *lines])
+    with contextlib.ExitStack() as stack:
+        with unchanged(office):
+            stack.enter_context(turn(office, " ".join(words), made_from))
+            if not os.path.isdir(copy):
+                raise Trouble("this copy is gone by now: `office back` lists what is there; nothing is changed")
+            lines = copies.taken_away(office, copy)
+            if not may_go(lines):
+                return Back(False, lines, None)
+            when, what = copies.when_and_what(copy)
+            outcome = stack.enter_context(logbook.logged(office, words))
+        kept = copies.put_back(office, copy)
+        outcome.status, outcome.answer = 0, "; ".join([f"as it was on {when}, before {what}", *lines])
     return Back(True, lines, kept)
 
 

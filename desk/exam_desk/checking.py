@@ -42,7 +42,7 @@ def office_knows(office: Office) -> mistakes.Known:
 
 def texts_in(folder: str) -> dict[str, bytes]:
     """The import files of a folder by kind, in the order in which they are imported, as far as an import reads them.
-    Raises `Trouble` where none is there, or where one is no file."""
+    Raises `Trouble` where one is no file."""
     names = os.listdir(folder)
     paths = {kind: os.path.join(folder, f"{kind}.csv") for kind in files.HEADERS if f"{kind}.csv" in names}
     for path in paths.values():

@@ -12,6 +12,7 @@ import datetime
 import fcntl
 import json
 import os
+import pathlib
 import signal
 import socket
 import stat
@@ -19,6 +20,7 @@ import subprocess
 import sys
 import time
 from collections.abc import Iterator, Sequence
+from io import FileIO
 from typing import NamedTuple
 
 from exam_desk import asking, beside, copies, hold, running, turns
@@ -35,7 +37,6 @@ MOST_LINE = 1 << 12  # bytes of what `serve` complains of
 MOST_FAULT = 60  # letters of a fault that others are shown
 LONGEST_PAUSE = 5  # seconds from a `serve` that failed to the next
 TURN_SECONDS = 3  # that commands wait at most until candidates who waited have their answers
-ENDING_SECONDS = 5  # in which `serve` ends by itself
 DAY_PAUSE = 0.5  # seconds from one look at the date to the next
 START_SECONDS, STOP_SECONDS, QUESTION_SECONDS = 60, 20, 5  # that who begins `keep`, ends it or asks it waits at most
 QUESTION = b"GET / HTTP/1.0\r\n\r\n"  # `serve` answers it by 404
@@ -61,7 +62,7 @@ def say(text: object) -> None:
 class Keep:
     """Serves through a `Hold` until it is told to end."""
 
-    def __init__(self, office: Office, place: str, days: int, lock: int) -> None:
+    def __init__(self, office: Office, place: str, days: int, lock: FileIO) -> None:
         self.office, self.place, self.days, self.lock = office, place, days, lock
         self.hold = hold.Hold()
         self.ending = False
@@ -94,77 +95,62 @@ class Keep:
         failures = 0
         while not self.ending:
             began = time.monotonic()
-            failed = await self.served()
-            failures = failures + 1 if failed and time.monotonic() - began < LONGEST_PAUSE else 0
+            try:
+                fault = await self.served()
+            except Exception as wrong:  # whatever it is, candidates wait
+                fault = f"serve cannot begin: {wrong or type(wrong).__name__}"
+            if fault:
+                self.show_fault(fault)
+            failures = failures + 1 if fault and time.monotonic() - began < LONGEST_PAUSE else 0
             if failures and not self.ending:
                 await asyncio.sleep(min(0.1 * 2 ** failures, LONGEST_PAUSE))
 
-    async def served(self) -> bool:
-        """Serves until a command wants the office, the day ends, `keep` ends, or `serve` fails: then it gives True."""
-        failed = False
-        try:
-            with (contextlib.ExitStack() as turn, contextlib.ExitStack() as want,
-                  turns.opened(self.office, "office.lock") as office):
-                first = turn.enter_context(turns.opened(self.office, "turn.lock"))
-                await self.locked(want.enter_context(turns.opened(self.office, "want.lock")), first)
-                await self.locked(office, first)
-                if not self.ending:
-                    failed = await self.serve_once(want, turn) != ""
-        except Exception as fault:  # whatever it is, candidates wait
-            self.show_fault(f"serve cannot begin: {fault or type(fault).__name__}")
-            failed = True
-        return failed
+    async def served(self) -> str:
+        """Serves until a command wants the office, the day ends, `keep` ends, or `serve` fails; gives the fault, or
+        ""."""
+        with (turns.lock_file(self.office, "turn.lock") as turn, turns.lock_file(self.office, "want.lock") as want,
+              turns.lock_file(self.office, "office.lock") as office):
+            await self.locked(want, turn)
+            await self.locked(office, turn)
+            return "" if self.ending else await self.serve_once(want, turn)
 
-    async def locked(self, file: int, first: int) -> None:
+    async def locked(self, file: FileIO, first: FileIO) -> None:
         """Waits until a lock is had or `keep` ends; takes the lock of who goes first while candidates wait."""
         while not self.ending and not turns.try_lock(file):
             if self.hold.waiting():
                 turns.try_lock(first)
             await asyncio.sleep(turns.PAUSE)
 
-    async def serve_once(self, want: contextlib.ExitStack, turn: contextlib.ExitStack) -> str:
-        """Runs one `serve`, with the office alone; frees want.lock once it has begun. Gives its fault, or ""."""
+    async def serve_once(self, want: FileIO, turn: FileIO) -> str:
+        """Runs one `serve`, with the office alone; frees want.lock once it has begun. Gives its fault, or "". No length
+        of a night is reckoned, so a missing midnight or a set clock does no harm."""
         self.hold.over.clear()  # a command wants the office only while it holds want.lock
         self.hold.fault = ""
         day = self.office.today()
         self.keep_day(day)
-        with running.begun(self.office, self.office.path, port := asking.free_port(), signal.SIGTERM) as process:
-            ended = asyncio.create_task(asyncio.to_thread(process.wait))
-            complaint = asyncio.create_task(asyncio.to_thread(last_complaint, process))
+        with running.begun(self.office, self.office.path, port := asking.free_port()) as process:
+            ended = asyncio.create_task(asyncio.to_thread(last_complaint, process))
+            ended.add_done_callback(lambda _: self.hold.over.set())
+            opening = asyncio.create_task(self.open(process, asking.Server(process.pid, str(port)), day, turn))
             fault = "serve cannot be watched"
             try:
                 want.close()
-                opening = self.open(process, asking.Server(process.pid, str(port)), day, turn)
-                fault = await self.until_over(asyncio.create_task(opening), ended, day)
+                while not self.hold.over.is_set() and self.office.today() == day:
+                    with contextlib.suppress(TimeoutError):
+                        await asyncio.wait_for(self.hold.over.wait(), DAY_PAUSE)
+                    if opening.done():
+                        opening.result()  # raises what went wrong
+                fault = self.hold.fault or (f"serve ended with status {process.returncode}" if ended.done() else "")
             finally:
+                opening.cancel()
                 self.hold.close()
                 self.show(state=fault[:MOST_FAULT] or "aside")
-                process.kill() if self.hold.fault else process.terminate()  # what it answered is kept in any case
-                if not (await asyncio.wait([ended], timeout=ENDING_SECONDS))[0]:
-                    process.kill()
-                last = await complaint
-        if fault:
-            self.show_fault(": ".join(filter(None, [fault, last])))
-        return fault
-
-    async def until_over(self, opening: asyncio.Task[None], ended: asyncio.Task[int], day: datetime.date) -> str:
-        """Waits until `serve` is to end, or has ended; gives its fault, "" without one. No length of a night is
-        reckoned, so a missing midnight or a set clock does no harm."""
-        over = asyncio.create_task(self.hold.over.wait())
-        try:
-            while not (over.done() or ended.done()) and self.office.today() == day:
-                await asyncio.wait([over, ended], timeout=DAY_PAUSE, return_when=asyncio.FIRST_COMPLETED)
-                if opening.done():
-                    opening.result()  # raises what went wrong
-        finally:
-            over.cancel()
-            opening.cancel()
-        if self.hold.fault:
-            return self.hold.fault
-        return f"serve ended with status {ended.result()}" if ended.done() else ""
+                process.kill()  # what it answered is kept in any case
+                last = await ended
+        return ": ".join(filter(None, [fault, last])) if fault else ""
 
     async def open(self, process: subprocess.Popen[bytes], server: asking.Server, day: datetime.date,
-                   turn: contextlib.ExitStack) -> None:
+                   turn: FileIO) -> None:
         """Hands requests on once `serve` has said that it serves. Frees turn.lock once those candidates have their
         answers who wait then."""
         assert process.stdout
@@ -189,35 +175,40 @@ class Keep:
 
 
 def last_complaint(process: subprocess.Popen[bytes]) -> str:
-    """Reads what `serve` complains of, which would stop at a full pipe, and says it; gives what came last."""
+    """Waits until `serve` has ended. Says what it complains of, since it would stop at a full pipe; gives what came
+    last."""
     last = ""
     assert process.stderr
     while line := process.stderr.readline(MOST_LINE):
         last = line.decode("utf-8", "replace").strip()
         say(last)
+    process.wait()
     return last
 
 
 @contextlib.contextmanager
 def listener(place: str) -> Iterator[socket.socket]:
-    """A socket that listens at a place. Raises `Trouble` where it cannot be had."""
+    """A socket that listens at a place; the group of its folder may use it. Raises `Trouble` where it cannot be had."""
     family, where = asking.address(place)
     with socket.socket(family) as listening, contextlib.ExitStack() as undo:
         try:
+            listening.setsockopt(socket.SOL_SOCKET, socket.SO_REUSEADDR, 1)
             if family == socket.AF_UNIX:
-                undo.enter_context(bound_in_folder(listening, place))
-            else:
-                listening.setsockopt(socket.SOL_SOCKET, socket.SO_REUSEADDR, 1)
-                listening.bind(where)
+                make_room(place)
+            listening.bind(where)
+            if family == socket.AF_UNIX:
+                undo.callback(pathlib.Path(place).unlink, missing_ok=True)
+                os.chown(place, -1, os.stat(os.path.dirname(place)).st_gid)
+                os.chmod(place, 0o660)
             listening.listen(BACKLOG)
         except OSError as fault:
             raise Trouble(f"{asking.shown(place)} cannot be had: {fault.strerror or fault}") from fault
         yield listening
 
 
-@contextlib.contextmanager
-def bound_in_folder(listening: socket.socket, path: str) -> Iterator[None]:
-    """Binds a socket in a folder that is ours alone and holds nothing else. The folder's group may use it."""
+def make_room(path: str) -> None:
+    """Removes the socket that a killed `keep` left. Raises `Trouble` where its folder is not ours alone, where that
+    holds anything else, or where another process serves there."""
     folder = os.path.dirname(path)
     beside.refuse_strange(folder)
     if others := sorted(set(os.listdir(folder)) - {SOCKET}):
@@ -225,26 +216,16 @@ def bound_in_folder(listening: socket.socket, path: str) -> Iterator[None]:
     with socket.socket(socket.AF_UNIX) as other:
         if other.connect_ex(path) == 0:
             raise Trouble(f"{path} cannot be had: another process serves there")
-    with contextlib.suppress(FileNotFoundError):
-        os.remove(path)  # a `keep` that was killed left it
-    listening.bind(path)
-    try:
-        group = os.stat(folder).st_gid
-        os.chown(path, -1, group)
-        os.chmod(path, 0o660)
-        yield
-    finally:
-        with contextlib.suppress(OSError):
-            os.remove(path)
+    pathlib.Path(path).unlink(missing_ok=True)
 
 
 def run(office: Office, place: str, days: int) -> None:
     """Serves until a signal ends it. Raises `Trouble` where another `keep` serves the office."""
     signal.signal(signal.SIGUSR1, signal.SIG_IGN)  # a command that comes before the handler need not step it aside
-    lock = turns.open_lock(office, "keep.lock")
-    if not turns.try_lock(lock, fcntl.lockf):
-        raise Trouble(RUNS)
-    asyncio.run(Keep(office, place, days, lock).run())
+    with turns.lock_file(office, "keep.lock") as lock:
+        if not turns.try_lock(lock, lock=fcntl.lockf):
+            raise Trouble(RUNS)
+        asyncio.run(Keep(office, place, days, lock).run())
 
 
 def start(office: Office, line: Sequence[str]) -> Status:
@@ -282,30 +263,21 @@ def stop(office: Office) -> None:
 def status(office: Office) -> Status:
     """What `keep` does; it serves only where `serve` answers through it in time. Raises `Trouble` where none runs."""
     state = turns.keep_state(office)
-    while state and state.get("state") == "serving":
-        with contextlib.suppress(OSError):
-            server = asking.Server(state["pid"], state["place"])
-            if asking.status_of(asking.answer(server, QUESTION, QUESTION_SECONDS)) == 404:
-                place = plain(asking.shown(state["place"]))
-                return Status(True, f"serving {place}, for {state['day']}, process {state['pid']}")
-        before, state = state, turns.keep_state(office)
-        if state == before:
-            break
     if state is None:
         journal = beside.folder(office.path, JOURNAL)
         why = f"the last lines of {journal} may say why" if os.path.exists(journal) else "`office keep start` begins it"
         raise Trouble(f"`keep` does not run; {why}")
-    return Status(False, fault_of(state))
-
-
-def fault_of(state: turns.Said) -> str:
-    """Why `keep` does not serve now."""
-    if state["pid"] <= 0:
-        return "`keep` runs in another container or on another machine: ask there"
+    process, what = state["pid"], f"{plain(state.get('state', 'it begins'))}; it tries again by itself"
+    if process <= 0:
+        return Status(False, "`keep` runs in another container or on another machine: ask there")
     if "place" not in state:
-        return f"process {state['pid']} runs, but cannot write down what it does: is the disk full?"
-    what = plain(state.get("state", "it begins"))
-    if what == "serving":
-        return (f"process {state['pid']} does not serve now: no answer came within {QUESTION_SECONDS} seconds; it "
-                "begins anew by itself")
-    return f"process {state['pid']} does not serve now: {what}; it tries again by itself"
+        return Status(False, f"process {process} runs, but cannot write down what it does: is the disk full?")
+    if state.get("state") == "serving":
+        place, answered = state["place"], 0
+        with contextlib.suppress(OSError):
+            answered = asking.status_of(asking.answer(asking.Server(process, place), QUESTION, QUESTION_SECONDS))
+        if answered == 404:
+            return Status(True, f"serving {plain(asking.shown(place))}, for {state['day']}, process {process}")
+        what = (f"no answer came within {QUESTION_SECONDS} seconds; it begins anew by itself" if not answered else
+                "it has more clients than it takes at once, or no memory")
+    return Status(False, f"process {process} does not serve now: {what}")

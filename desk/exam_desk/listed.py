@@ -45,8 +45,8 @@ def carry_out(office: Office, title: str, rows: Rows, tell: Tell) -> changing.Ca
     left = iter(rows.items())
     try:
         while len(answers) < len(rows) and not is_hopeless(answers):
-            with changing.turn(office, title) as taken:
-                copy = copy or changing.kept_copy(office, title)
+            with changing.unchanged(office), changing.turn(office, title) as taken:
+                copy = copy or copies.keep_copy(office, title)
                 until = time.monotonic() + TURN
                 for line, step in left:
                     answers.append(taken.carried(step, logbook.BEGINS))

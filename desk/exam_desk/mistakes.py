@@ -1,12 +1,12 @@
 """The mistakes of import files: what the program refuses, in words, and what only a human eye can judge."""
 from __future__ import annotations
 
-import heapq
 import itertools
 import re
 import sqlite3
 from collections import Counter, defaultdict
 from collections.abc import Callable, Iterator, Sequence
+from functools import partial
 from typing import NamedTuple
 
 from exam_desk import files, states, words
@@ -76,8 +76,7 @@ class Found:
     def __bool__(self) -> bool:
         return bool(self.counts)
 
-    def add(self, line: int, column: str, cure: str | Callable[[str, bytes], Cure],
-            field: bytes | None = None) -> None:
+    def add(self, line: int, column: str, cure: str | Callable[[], Cure], field: bytes | None = None) -> None:
         """Counts one more on a column, and names the field if one is given. A cure that is long to make is made only
         where it is shown."""
         if column == "code" and field == b"":
@@ -86,7 +85,7 @@ class Found:
         self.count += 1
         self.counts[column] += 1
         if self.counts[column] <= self.most:
-            found = Cure(cure) if isinstance(cure, str) else cure(column, field or b"")
+            found = Cure(cure) if isinstance(cure, str) else cure()
             self.shown.append(Mistake(line, column, "" if field is None else files.shown(field), *found))
 
 
@@ -100,7 +99,7 @@ class Known:
         self.entries: set[tuple[bytes, ...]] = set()
         self.withdrawn: set[tuple[bytes, ...]] = set()
         self.standing: set[bytes] = set()
-        self.codes: defaultdict[bytes, set[bytes]] = defaultdict(set)  # the numbers with an access code
+        self.codes: dict[bytes, bytes] = {}  # the access code of each number
         if connection:
             for kind in files.HEADERS:
                 self.take(kind, [tuple(map(str.encode, row)) for row in files.rows_of(connection, kind)])
@@ -119,8 +118,14 @@ class Known:
         elif kind == "entries":
             self.entries.update(row for row in rows if row not in self.withdrawn)
         elif kind == "candidates":
-            for row in rows:
-                self.codes[row[2]].add(row[0])
+            self.codes.update((row[0], row[2]) for row in rows)
+
+    def sharing(self) -> dict[bytes, list[bytes]]:
+        """The numbers with each access code, the least first."""
+        found = defaultdict[bytes, list[bytes]](list)
+        for number in sorted(self.codes):
+            found[self.codes[number]].append(number)
+        return found
 
     def passed_limit(self) -> str | None:
         """The first limit that is passed, in words, or none."""
@@ -227,7 +232,7 @@ class File:
             self.wrong.add(1, "file", f"more than {files.MOST_BYTES} bytes: split it")
         if text[:2] in (b"\xff\xfe", b"\xfe\xff"):
             self.wrong.add(1, "file", "saved as Unicode text (UTF-16): save it as CSV UTF-8")
-            text = text.decode("utf-16", "replace").encode()
+            text = text.decode("utf-16", "replace").encode()[:files.MOST_BYTES]  # it may be longer in UTF-8
         for comma, why in COMMAS:
             found = files.records(text, comma)
             for place, header in enumerate(itertools.islice(found, 4)):
@@ -272,7 +277,7 @@ class File:
             if column in self.missing:
                 continue
             if not right(field):
-                self.wrong.add(record.line, column, cure, field)
+                self.wrong.add(record.line, column, partial(cure, column, field), field)
                 continue
             if table and field not in (self.known.keys[table] or {field}):
                 self.wrong.add(record.line, column, f"is not among the {table}", field)
@@ -307,22 +312,24 @@ class File:
 
     def note_together(self) -> None:
         """Notes what rows say together, and beside what the office knows."""
-        names = {record.fields[0]: record.fields[1] for record in self.first.values()}
-
-        def sharers(_: str, number: bytes) -> Cure:
-            others = [other for other in heapq.nsmallest(4, sharing) if other != number][:3]
-            twins = any(names.get(other) == names[number] for other in sharing if other != number)
-            return Cure(", ".join(files.shown(other)[1:-1] for other in others) + " has the same access code"
-                        + (" and the same name: one candidate under two numbers?" if twins else ""))
+        people = self.first.values() if self.kind == "candidates" else ()
+        sharing, twins = self.known.sharing() if people else {}, Counter(record.fields[1:] for record in people)
         for record in self.first.values():
-            code = record.fields[2] if self.kind == "candidates" else b""
-            sharing = self.known.codes[code] if code else ()
-            if len(sharing) > 1:
-                self.notes.add(record.line, "number", sharers, record.fields[0])
+            code = record.fields[2] if people else b""
+            if code and len(sharing[code]) > 1:
+                who = partial(sharers, record.fields[0], sharing[code], twins[record.fields[1:]] > 1)
+                self.notes.add(record.line, "number", who, record.fields[0])
             elif record.fields in self.known.withdrawn:
                 self.notes.add(record.line, "row", "is withdrawn in the office and stays so until it is reinstated")
             elif self.kind == "arrangements" and record.fields[0] in self.known.standing:
                 self.notes.add(record.line, "row", "a standing grant is in force for this candidate in its place")
+
+
+def sharers(number: bytes, sharing: Sequence[bytes], is_twin: bool) -> Cure:
+    """Which of those who share an access code have it beside a number, the first three."""
+    others = [files.shown(other)[1:-1] for other in sharing[:4] if other != number][:3]
+    return Cure(f"{', '.join(others)} {'have' if len(others) > 1 else 'has'} the same access code"
+                + (" and the same name: one candidate under two numbers?" if is_twin else ""))
 
 
 def beginning_of(text: bytes) -> str:

@@ -15,10 +15,12 @@ import stat
 import tempfile
 import time
 from collections.abc import Iterator
+from typing import BinaryIO
 
 from exam_desk import beside
 
 PLACE, PREFIX, LOCK, NAME = "tmp", "office-copy-", "lock", "office.db"
+ENDINGS = ("", "-wal")  # of the names of the two files
 ELSEWHERE = {errno.EACCES, errno.EPERM, errno.EROFS, errno.ENOSPC, errno.EDQUOT}  # another folder may do
 TRIES, PAUSE = 200, 0.02  # seconds from one to the next
 
@@ -59,20 +61,18 @@ def private_folder(place: str) -> Iterator[str]:
         yield folder
     finally:
         shutil.rmtree(folder, ignore_errors=True)
-        os.close(lock)
+        lock.close()
 
 
-def claim(folder: str) -> int | None:
-    """The lock of a private folder, held; None where another process holds it, or the folder is gone."""
-    try:
-        lock = os.open(os.path.join(folder, LOCK), os.O_RDWR | os.O_CREAT | os.O_NOFOLLOW, 0o600)
-    except FileNotFoundError:
-        return None
-    with contextlib.suppress(BlockingIOError):
-        fcntl.flock(lock, fcntl.LOCK_EX | fcntl.LOCK_NB)
-        if os.fstat(lock).st_nlink:  # else it was removed before it was held
+def claim(folder: str) -> BinaryIO | None:
+    """The lock of a private folder, held until it is closed; None where another process holds it, or the folder is
+    gone."""
+    with contextlib.ExitStack() as stack, contextlib.suppress(FileNotFoundError, BlockingIOError):
+        lock = stack.enter_context(open(os.path.join(folder, LOCK), "ab", opener=no_link))
+        fcntl.flock(lock.fileno(), fcntl.LOCK_EX | fcntl.LOCK_NB)
+        if os.fstat(lock.fileno()).st_nlink:  # else it was removed before it was held
+            stack.pop_all()
             return lock
-    os.close(lock)
     return None
 
 
@@ -83,9 +83,9 @@ def sweep(place: str) -> None:
             with contextlib.suppress(OSError):
                 is_private = (entry.name.startswith(PREFIX) and entry.is_dir(follow_symlinks=False)
                               and entry.stat(follow_symlinks=False).st_uid == os.geteuid())
-                if is_private and (lock := claim(entry.path)) is not None:
-                    shutil.rmtree(entry.path, ignore_errors=True)
-                    os.close(lock)
+                if is_private and (lock := claim(entry.path)):
+                    with lock:
+                        shutil.rmtree(entry.path, ignore_errors=True)
 
 
 def copy_files(source: str, target: str) -> None:
@@ -98,12 +98,10 @@ def copy_files(source: str, target: str) -> None:
     for _ in range(TRIES):
         before = moment(source)
         if before is not None:
-            copy_file(source, target)
-            with contextlib.suppress(FileNotFoundError):
-                copy_file(source + "-wal", target + "-wal")
+            copy_still(source, target)
             if before == moment(source):
                 return
-        for ending in ("", "-wal"):
+        for ending in ENDINGS:
             with contextlib.suppress(FileNotFoundError):
                 os.remove(target + ending)
         time.sleep(PAUSE)
@@ -115,9 +113,12 @@ def no_link(path: str, flags: int) -> int:
     return os.open(path, flags | os.O_NOFOLLOW, 0o600)
 
 
-def copy_file(source: str, target: str) -> None:
-    with open(source, "rb", opener=no_link) as file, open(target, "xb", opener=no_link) as copy:
-        shutil.copyfileobj(file, copy, 1 << 20)
+def copy_still(source: str, target: str) -> None:
+    """Copies the two files of an office that nobody changes meanwhile."""
+    for ending in ENDINGS:
+        with (contextlib.suppress(FileNotFoundError), open(source + ending, "rb", opener=no_link) as file,
+              open(target + ending, "xb", opener=no_link) as copy):
+            shutil.copyfileobj(file, copy, 1 << 20)
 
 
 def moment(path: str) -> tuple[int, int, int, bytes | None] | None:

@@ -69,7 +69,7 @@ class Person(NamedTuple):
         return f"{self.number} {plain(self.name)}"
 
 
-class Reading:
+class Reading(contextlib.AbstractContextManager["Reading"]):
     """A context. Several threads may use it; the first that asks must live as long as it."""
 
     def __init__(self, office: Office, path: str | None = None, progress: Progress = lambda done, of: None,
@@ -93,9 +93,6 @@ class Reading:
                 raise snapshot.unreadable(self.path, fault) from fault
             self.rows = stack.enter_context(contextlib.closing(snapshot.rows_of(self.copy, self.path)))
             self.stack = stack.pop_all()
-
-    def __enter__(self) -> Reading:
-        return self
 
     def __exit__(self, *_: object) -> None:
         self.stack.close()
@@ -171,9 +168,7 @@ class Reading:
             os.mkdir(folder, 0o700)
             path = os.path.join(folder, os.path.basename(self.copy))  # while it is open nobody can print a sheet of it
             with self.printing:
-                for ending in ("", "-wal"):
-                    with contextlib.suppress(FileNotFoundError):
-                        private.copy_file(self.copy + ending, path + ending)
+                private.copy_still(self.copy, path)
             self.serve = self.stack.enter_context(contextlib.closing(Serve(self.office, path, self.refuse_rows)))
         return self.serve
 

@@ -2,15 +2,21 @@
 from __future__ import annotations
 
 import contextlib
+import functools
 import os
 import re
 import shutil
+import signal
 import subprocess
-from collections.abc import Callable, Iterator
-from typing import NamedTuple
+from collections.abc import Iterator
+from io import FileIO
+from typing import TYPE_CHECKING, NamedTuple
 
 from exam_desk.office import Office
 from exam_desk.trouble import Trouble
+
+if TYPE_CHECKING:
+    from ctypes import CDLL
 
 PR_SET_PDEATHSIG = 1
 INPUT = "/dev/stdin"
@@ -44,7 +50,7 @@ def starting(office: Office) -> Iterator[None]:
         raise NotStarted(said) from fault
 
 
-def run_over(office: Office, path: str, *words: str, data: bytes | None = None, lock: int | None = None,
+def run_over(office: Office, path: str, *words: str, data: bytes | None = None, lock: FileIO | None = None,
              output: int | None = subprocess.PIPE) -> Ran:
     """Runs a command over a file. Bytes stand in the place of the file that its last word names: they are whole before
     it begins, whoever is killed then, and on no disk. The program holds the lock too. Its answer goes to an output
@@ -57,7 +63,7 @@ def run_over(office: Office, path: str, *words: str, data: bytes | None = None, 
             given.flush()
             words = (*words[:-1], INPUT)
         done = subprocess.run(office.line_over(path, *words), stdin=given, stdout=output, stderr=subprocess.PIPE,
-                              pass_fds=() if lock is None else (lock,), check=False)
+                              pass_fds=[lock.fileno()] if lock else [], check=False)
     status = done.returncode if done.returncode >= 0 else 128 - done.returncode
     return Ran(status, (done.stdout or b"").decode("utf-8", "replace"), done.stderr.decode("utf-8", "replace"))
 
@@ -77,22 +83,20 @@ def takes(text: str) -> list[str]:
     return re.findall("<([a-z]+)>", text[text.find("Usage: "):].partition("\n")[0])
 
 
-def begun(office: Office, path: str, port: int, number: int) -> subprocess.Popen[bytes]:
-    """`serve` over a file at a port, as a child that a signal ends where this process is killed. The thread that begins
-    it must live as long: the system asks for that thread. Raises `NotStarted`."""
+def begun(office: Office, path: str, port: int) -> subprocess.Popen[bytes]:
+    """`serve` over a file at a port, as a child that is killed with this process. It saves what it answers before it
+    answers, so nothing is lost. The thread that begins it must live as long: the system asks for that thread. Raises
+    `NotStarted`."""
+    import ctypes  # here, since most commands begin sooner without it
+    ends = functools.partial(end_with, os.getpid(), ctypes.CDLL(None))
     with starting(office):
         return subprocess.Popen(
             office.line_over(path, "serve", str(port)), stdin=subprocess.DEVNULL, stdout=subprocess.PIPE,
-            stderr=subprocess.PIPE, preexec_fn=end_with(os.getpid(), number))
+            stderr=subprocess.PIPE, preexec_fn=ends)
 
 
-def end_with(parent: int, number: int) -> Callable[[], None]:
-    """What a child does first, so that a signal ends it where its parent is killed."""
-    import ctypes  # here, since most commands begin sooner without it
-    library = ctypes.CDLL(None)
-
-    def arrange() -> None:
-        library.prctl(PR_SET_PDEATHSIG, number)
-        if os.getppid() != parent:
-            os._exit(1)
-    return arrange
+def end_with(parent: int, library: CDLL) -> None:
+    """What a child does first, so that it is killed where its parent is."""
+    library.prctl(PR_SET_PDEATHSIG, signal.SIGKILL)
+    if os.getppid() != parent:
+        os._exit(1)

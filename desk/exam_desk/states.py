@@ -13,7 +13,6 @@ DECIDING = {  # of each table that decides or shows seats which rows; so candida
     "session": "", "paper": "", "hall": "", "opening": "", "candidate": "", "entry": "", "arrangement": "",
     "appeal": f"WHERE state = {GRANTED}", "standing": "", "seat": "",
 }
-AT_ONCE = 10_000  # rows
 
 
 def name_of(rows: sqlite3.Connection) -> str:
@@ -21,10 +20,8 @@ def name_of(rows: sqlite3.Connection) -> str:
     found = hashlib.sha256()
     for table, which in DECIDING.items():
         found.update(f"{table}\n".encode())
-        cursor = rows.execute(f"SELECT * FROM {table} {which} ORDER BY 1, 2")
-        while part := cursor.fetchmany(AT_ONCE):
-            for row in part:
-                found.update(f"{tuple(row)!r}\n".encode("utf-8", "surrogatepass"))
+        for row in rows.execute(f"SELECT * FROM {table} {which} ORDER BY 1, 2"):
+            found.update(f"{tuple(row)!r}\n".encode("utf-8", "surrogatepass"))
     return found.hexdigest()
 
 

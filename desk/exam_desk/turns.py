@@ -22,6 +22,7 @@ import signal
 import struct
 import time
 from collections.abc import Callable, Iterator, Sequence
+from io import FileIO
 from typing import TypedDict, cast
 
 from exam_desk import beside
@@ -44,41 +45,38 @@ class Said(TypedDict, total=False):
     day: str
 
 
-def open_lock(office: Office, name: str) -> int:
-    return beside.open_file(office.path, name, flags=os.O_RDWR | os.O_CREAT)
+def lock_file(office: Office, name: str) -> FileIO:
+    """A context; the lock on the file goes with it, or with `close`."""
+    return open(beside.open_file(office.path, name, flags=os.O_RDWR | os.O_CREAT), "r+b", buffering=0)
 
 
-def try_lock(file: int, lock: Callable[[int, int], None] = fcntl.flock) -> bool:
+def try_lock(file: FileIO, kind: int = fcntl.LOCK_EX, lock: Callable[[FileIO, int], None] = fcntl.flock) -> bool:
     try:
-        lock(file, fcntl.LOCK_EX | fcntl.LOCK_NB)
+        lock(file, kind | fcntl.LOCK_NB)
     except (BlockingIOError, PermissionError):
         return False
     return True
 
 
-def is_free(file: int) -> bool:
+def is_free(file: FileIO) -> bool:
     """Whether nobody has a lock now; many may look at once."""
-    try:
-        fcntl.flock(file, fcntl.LOCK_SH | fcntl.LOCK_NB)
-    except BlockingIOError:
-        return False
+    is_so = try_lock(file, fcntl.LOCK_SH)
     fcntl.flock(file, fcntl.LOCK_UN)
-    return True
+    return is_so
 
 
-def note(file: int, text: str) -> None:
+def note(file: FileIO, text: str) -> None:
     """Writes into a lock file who holds it, always as many bytes, so that it needs no room the second time."""
     with contextlib.suppress(OSError):  # on a full disk the lock holds without a text
-        os.pwrite(file, text.encode("utf-8", "surrogateescape")[:NOTE_BYTES].ljust(NOTE_BYTES), 0)
+        os.pwrite(file.fileno(), text.encode("utf-8", "surrogateescape")[:NOTE_BYTES].ljust(NOTE_BYTES), 0)
 
 
 def text_of(office: Office, name: str) -> str:
-    try:
+    with contextlib.suppress(OSError, beside.Strange):
         lock = beside.open_file(office.path, name, flags=os.O_RDONLY)
         with open(lock, encoding="utf-8", errors="replace") as file:
             return file.read(NOTE_BYTES).strip()
-    except (OSError, beside.Strange):
-        return ""
+    return ""
 
 
 class Wait:
@@ -91,25 +89,16 @@ class Wait:
 
     def pause(self, whom: Callable[[], str]) -> None:
         waited = time.monotonic() - self.began
-        if waited > PATIENCE:
-            raise Trouble(f"{whom()} has the office, and {PATIENCE} seconds are over; nothing is changed, try again")
         if self.silent and waited > SILENCE:
             self.silent = False
             self.office.warn(f"waiting for {whom()}")
+        if waited > PATIENCE:
+            raise Trouble(f"{whom()} has the office, and {PATIENCE} seconds are over; nothing is changed, try again")
         time.sleep(PAUSE)
 
 
 @contextlib.contextmanager
-def opened(office: Office, name: str) -> Iterator[int]:
-    file = open_lock(office, name)
-    try:
-        yield file
-    finally:
-        os.close(file)
-
-
-@contextlib.contextmanager
-def alone(office: Office, words: Sequence[str]) -> Iterator[int]:
+def alone(office: Office, words: Sequence[str]) -> Iterator[FileIO]:
     """The office for this process alone, and office.lock: waits up to PATIENCE seconds for others, then raises
     `Trouble`.
 
@@ -117,14 +106,14 @@ def alone(office: Office, words: Sequence[str]) -> Iterator[int]:
     whoever has want.lock looks at turn.lock again.
     """
     wait = Wait(office)
-    with opened(office, "turn.lock") as turn, opened(office, "want.lock") as want:
+    with lock_file(office, "turn.lock") as turn, lock_file(office, "want.lock") as want:
         while not (is_free(turn) and try_lock(want) and is_free(turn)):
             fcntl.flock(want, fcntl.LOCK_UN)
             wait.pause(lambda: f"another command ({text_of(office, 'want.lock')})" if is_free(turn) else
                        "`keep` (it answers candidates who wait)")
         note(want, f"process {os.getpid()}, {' '.join(words)}")
         ask_keep_aside(office)
-        with opened(office, "office.lock") as lock:
+        with lock_file(office, "office.lock") as lock:
             while not try_lock(lock):
                 wait.pause(lambda: f"`keep` (it does not step aside: {state})" if (state := keep_state(office)) else
                            "the program (a command that began it was killed)")  # this process has want.lock
@@ -132,7 +121,7 @@ def alone(office: Office, words: Sequence[str]) -> Iterator[int]:
 
 
 def is_taken(office: Office) -> bool:
-    with opened(office, "want.lock") as want:
+    with lock_file(office, "want.lock") as want:
         return not is_free(want)
 
 
@@ -141,15 +130,13 @@ def keep_state(office: Office) -> Said | None:
 
     In a folder that is not ours alone it does not run, whatever lies there.
     """
-    try:
-        file = beside.open_file(office.path, "keep.lock", flags=os.O_RDONLY)
-    except (OSError, beside.Strange):
-        return None
-    with open(file, "rb") as lock:
+    with (contextlib.suppress(OSError, beside.Strange),
+          open(beside.open_file(office.path, "keep.lock", flags=os.O_RDONLY), "rb") as lock):
         asked = fcntl.fcntl(lock, fcntl.F_GETLK, struct.pack(FLOCK, fcntl.F_WRLCK, os.SEEK_SET, 0, 0, 0))
         kind, *_, process = struct.unpack(FLOCK, asked)
-        text = lock.read(NOTE_BYTES)
-    return None if kind == fcntl.F_UNLCK else said_by(process, text)
+        if kind != fcntl.F_UNLCK:
+            return said_by(process, lock.read(NOTE_BYTES))
+    return None
 
 
 def said_by(process: int, text: bytes) -> Said:

@@ -5,8 +5,9 @@ import os
 import secrets
 import socket
 from collections.abc import Callable, Iterator
+from io import FileIO
 
-from exam_desk import beside, turns
+from exam_desk import turns
 from exam_desk.office import Office
 from exam_desk.trouble import Trouble
 
@@ -29,10 +30,9 @@ def import_waitress() -> None:
 
 
 @contextlib.contextmanager
-def lock_of(office: Office) -> Iterator[int | None]:
+def lock_of(office: Office) -> Iterator[FileIO | None]:
     """The lock of the office's desk; None where another desk has it."""
-    beside.make_folder(office.path)
-    with turns.opened(office, LOCK) as file:
+    with turns.lock_file(office, LOCK) as file:
         yield file if turns.try_lock(file) else None
 
 
@@ -78,7 +78,7 @@ def serve(office: Office, port: int | None, pretended: bool, ready: Callable[[st
         desk = Desk(office, address, prefix, pretended)
         stack.callback(desk.close)  # behind the two below
         stack.callback(guard.drop_links, office.path)
-        stack.callback(os.ftruncate, lock, 0)
+        stack.callback(lock.truncate, 0)
         door = application.make(desk).extensions["guard"].door
         turns.note(lock, f"{address} {prefix}")
         guard.drop_links(office.path)

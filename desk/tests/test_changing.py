@@ -150,13 +150,23 @@ class Lists(Changing):
             changing.carry_out(office, STEPS, tell=tell)
         self.assertEqual((self.state(), self.kept()), (before, []))
 
+    def test_a_step_that_may_be_there_keeps_its_copy(self):
+        """The program does it, says 23, and is gone when it is asked again: `back` takes it back."""
+        before, line = self.state(), f'{sample.built_program()} --db "$2" --today "$4" withdraw 0001000 MA-1'
+        program = self.program(f'{line} >/dev/null; rm "$0"; echo refused 23 >&2; exit 1')
+        with self.assertRaisesRegex(Trouble, "there is no program"):
+            changing.carry_out(Office(self.path, program, self.value.today, "tester"), STEPS[:1])
+        self.assertNotEqual(self.state(), before)
+        self.office("back", "1", "--yes")
+        self.assertEqual(self.state(), before)
+
     def test_a_single_command_that_is_refused_leaves_no_copy(self):
         carried = changing.carry_out(self.value, [Step(("reinstate", "0001000", "MA-1"))])
         self.assertEqual((carried.refused.first_line(), carried.copy, self.kept()), ("refused 10", None, []))
 
     def test_an_office_that_cannot_be_read(self):
         self.write("office.db", b"rubbish" * 1000)
-        with self.assertRaisesRegex(changing.NotBegun, "cannot be read, so nothing is changed"):
+        with self.assertRaisesRegex(Trouble, "cannot be read, so nothing is changed"):
             changing.carry_out(self.value, STEPS)
         self.assertEqual((self.kept(), self.log()), ([], []))
 
@@ -251,7 +261,7 @@ class Full(Changing):
         before = self.state()
         for name in ("exam_desk.copies.keep_copy", "exam_desk.copies.in_one_file", "exam_desk.logbook.write"):
             with mock.patch(name, side_effect=OSError(28, "No space left on device", "/x")):
-                with self.assertRaisesRegex(changing.NotBegun, "nothing is changed: /x: No space left on .*; make room"):
+                with self.assertRaisesRegex(Trouble, "nothing is changed: /x: No space left on .*; make room"):
                     changing.carry_out(self.value, STEPS)
             self.assertEqual((self.state(), self.kept()), (before, []), name)
 
@@ -262,9 +272,17 @@ class Full(Changing):
             if status == logbook.STEP and words[0] == "close-hall":
                 raise OSError(28, "No space left on device", "/x")
             real(office, words, status, answer)
-        with mock.patch("exam_desk.logbook.write", write), self.assertRaises(changing.NotBegun):
+        with mock.patch("exam_desk.logbook.write", write), self.assertRaises(Trouble):
             changing.carry_out(self.value, STEPS)
         self.assertEqual((self.state(), self.kept()), (before, []))
+
+    def test_no_room_before_a_copy_is_put_back(self):
+        copy = changing.carry_out(self.value, STEPS[:1]).copy
+        now = self.state()
+        with (mock.patch("exam_desk.logbook.write", side_effect=OSError(28, "No space left on device", "/x")),
+              self.assertRaisesRegex(Trouble, "nothing is changed: /x: No space left on .*; make room")):
+            changing.go_back(self.value, ["back", "1"], copy, lambda lines: True)
+        self.assertEqual((self.state(), self.kept()), (now, [copy]))
 
     def test_what_cannot_be_put_back_is_said_and_its_copy_stays(self):
         with mock.patch("exam_desk.copies.move_in", side_effect=OSError(5, "Input/output error")):

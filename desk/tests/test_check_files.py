@@ -3,6 +3,7 @@ import os
 import shutil
 import subprocess
 import tempfile
+import time
 import unittest
 
 import sample
@@ -261,6 +262,26 @@ class Words(unittest.TestCase):
             "the same as line 3; it counts once",
             "may be what a spreadsheet made of a code such as 1E5, or will make of it"])
 
+    def test_one_access_code_for_all(self):
+        """As where a spreadsheet filled it down: a note on each, and no row is compared with each other one."""
+        text = b"number,name,code\n" + b"".join(b"%07d,A%d,CODE0001\n" % (place, place) for place in range(1, 20_001))
+        began = time.process_time()
+        found, notes = mistakes.looked_through("candidates", text, mistakes.Known())
+        self.assertLess(time.process_time() - began, 10)
+        first, second, *others = (note.text for note in notes)
+        self.assertEqual((found.count, len(others), first, second, others[-1]), (
+            0, 19_998, "0000002, 0000003, 0000004 have the same access code",
+            "0000001, 0000003, 0000004 have the same access code",
+            "0000001, 0000002, 0000003 have the same access code"))
+
+    def test_a_code_that_its_owner_gives_up_is_no_shared_one(self):
+        known = mistakes.Known()
+        known.take("candidates", [(b"0000001", b"Ada", b"CODE0001")])
+        text = b"number,name,code\n0000002,Bo,CODE0001\n"
+        self.assertEqual(self.mistakes_in("candidates", text, known)[1], ["0000001 has the same access code"])
+        text += b"0000001,Ada,CODE0009\n"
+        self.assertEqual(self.mistakes_in("candidates", text, known), ([], []))
+
     def test_what_cannot_be_compared_is_noted(self):
         text = b"number,paper\n0001000,MA-1\n0001017,MA-1\n"
         self.assertEqual(self.mistakes_in("entries", text), ([], [
@@ -288,6 +309,14 @@ class Words(unittest.TestCase):
             (7, (b'e"',), False)])
         self.assertEqual(list(files.records(b'"')), [(1, (b"",), False)])
         self.assertEqual(list(files.records(b'a;"b;c";', b";")), [(1, (b"a", b"b;c", b""), True)])
+
+    def test_a_long_file_of_utf_16(self):
+        """Each letter has two bytes there, and three in UTF-8: more than a field of an import can have."""
+        text = b"\xff\xfe" + "\u6f22".encode("utf-16-le") * 2_000_000
+        found, _ = mistakes.looked_through("halls", text, mistakes.Known())
+        self.assertEqual([each.text for each in found], [
+            "saved as Unicode text (UTF-16): save it as CSV UTF-8",
+            "the first line must be hall,title,features; no such header is found"])
 
     def test_too_many_mistakes_end_it(self):
         found, _ = mistakes.looked_through("entries", b"number,paper\n" + b"a\n" * 100_001, known := mistakes.Known(), 5)

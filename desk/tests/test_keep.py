@@ -157,7 +157,7 @@ class NewDay(sample.SampleSchool):
         self.assertEqual(sorted(os.listdir(os.path.join(self.desk, "days"))), ["2027-05-02", "2027-05-03"])
 
     async def two_days(self, office, today):
-        keep = keeping.Keep(office, str(sample.free_port()), 2, turns.open_lock(office, "keep.lock"))
+        keep = keeping.Keep(office, str(sample.free_port()), 2, turns.lock_file(office, "keep.lock"))
         served = asyncio.create_task(keep.run())
         for day in (1, 2, 3):
             today.return_value = datetime.date(2027, 5, day)
@@ -165,7 +165,7 @@ class NewDay(sample.SampleSchool):
                 await asyncio.sleep(0.02)
         keep.end()
         await served
-        os.close(keep.lock)
+        keep.lock.close()
 
 
 class Lodged(sample.SampleSchool):

@@ -11,7 +11,7 @@ from unittest import mock
 
 import sample
 import test_changing
-from exam_desk import listed
+from exam_desk import listed, logbook
 from exam_desk.office import Office
 from exam_desk.trouble import Trouble
 
@@ -154,6 +154,18 @@ class Listed(test_changing.Changing):
         with self.assertRaisesRegex(Trouble, "^there is no program "):
             listed.carry_out(value, "withdraw --list x", rows, lambda line, answered: None)
         self.assertEqual(len(self.kept()), 1)
+
+    def test_no_room_for_a_line_in_the_middle(self):
+        real = logbook.write
+
+        def write(office, words, status, answer):
+            if status == logbook.BEGINS and words[1] == "0001017":
+                raise OSError(28, "No space left on device", "/x")
+            real(office, words, status, answer)
+        with (mock.patch("exam_desk.logbook.write", write),
+              self.assertRaisesRegex(Trouble, "^the rows from line 3 on are not carried out: .*/x: No space left ")):
+            self.carried(GOOD)
+        self.assertEqual((len(self.kept()), self.log()[1:]), (1, [["withdraw 0001000 MA-1", "0", "withdrawn"]]))
 
     def test_whoever_reads_may_go(self):
         """The output cannot be written, and all rows are done."""

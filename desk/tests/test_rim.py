@@ -14,7 +14,7 @@ import unittest
 from unittest import mock
 
 import sample
-from exam_desk import asking, keeping, turns
+from exam_desk import asking, hold, keeping, turns
 from exam_desk.trouble import Trouble
 
 NOBODY = 65534
@@ -65,6 +65,18 @@ class Ending(sample.KeptSchool):
         self.assertIn("does not serve now", done.stdout)
 
 
+class Crowded(unittest.TestCase):
+    def test_status_does_not_call_a_refusal_no_answer(self):
+        state = {"pid": 7, "place": "8080", "state": "serving", "day": "2027-05-01"}
+        with (mock.patch("exam_desk.turns.keep_state", return_value=state),
+              mock.patch("exam_desk.asking.answer") as answer):
+            for said, why in ((hold.FULL, "it has more clients than it takes at once, or no memory"),
+                              (hold.FULL[:-1], "no answer came within 5 seconds; it begins anew by itself"),
+                              (OSError(), "no answer came within 5 seconds; it begins anew by itself")):
+                answer.side_effect = [said]
+                self.assertEqual(keeping.status(None), (False, f"process 7 does not serve now: {why}"))
+
+
 class Hanging(sample.SampleSchool):
     def test_a_serve_that_hangs_is_replaced_and_its_client_is_answered(self):
         with (mock.patch("exam_desk.hold.ANSWER_SECONDS", 1), mock.patch("exam_desk.keeping.say") as say,
@@ -80,12 +92,12 @@ class Hanging(sample.SampleSchool):
 
     async def hangs(self):
         self.asked = []
-        keep = keeping.Keep(self.value, str(sample.free_port()), 2, turns.open_lock(self.value, "keep.lock"))
+        keep = keeping.Keep(self.value, str(sample.free_port()), 2, turns.lock_file(self.value, "keep.lock"))
         served = asyncio.create_task(keep.run())
         answer = await keep.hold.answer(b"GET / HTTP/1.0\r\n\r\n")
         keep.end()
         await served
-        os.close(keep.lock)
+        keep.lock.close()
         self.assertGreater(len(set(self.asked)), 1)
         return answer
 
@@ -96,7 +108,7 @@ class Hidden(sample.SampleSchool):
             asyncio.run(self.is_refused(say))
 
     async def is_refused(self, say):
-        keep = keeping.Keep(self.value, str(sample.free_port()), 2, turns.open_lock(self.value, "keep.lock"))
+        keep = keeping.Keep(self.value, str(sample.free_port()), 2, turns.lock_file(self.value, "keep.lock"))
         served = asyncio.create_task(keep.run())
         async with asyncio.timeout(sample.PATIENCE):
             while "/proc does not show that serve has port" not in str(say.mock_calls):
@@ -104,7 +116,7 @@ class Hidden(sample.SampleSchool):
                 await asyncio.sleep(0.02)
         keep.end()
         await served
-        os.close(keep.lock)
+        keep.lock.close()
 
 
 class Starting(sample.SampleSchool):
@@ -125,10 +137,10 @@ class Starting(sample.SampleSchool):
 
     def test_a_long_fault_is_cut_and_a_cut_text_is_none(self):
         with mock.patch("exam_desk.keeping.say"):
-            lock = turns.open_lock(self.value, "keep.lock")
+            lock = turns.lock_file(self.value, "keep.lock")
             keeping.Keep(self.value, "8080", 2, lock).show_fault("\u6f22\"\n" * 1000)
             self.assertEqual(json.loads(turns.text_of(self.value, "keep.lock"))["place"], "8080")
-            os.close(lock)
+            lock.close()
         for said in (b'{"pid": 7, "place": "8080", "state": "serve ended: \xc3', b"[1, 2]", b"[" * 1000, b"\xff\x00", b"7"):
             self.assertEqual(turns.said_by(7, said), {"pid": 7})
 
@@ -208,9 +220,9 @@ class Turns(sample.SampleSchool):
     def test_a_command_lets_candidates_go_first(self):
         """No command begins while `keep` holds the lock for candidates who wait; it says behind whom it waits."""
         with mock.patch("exam_desk.turns.SILENCE", 0.1):
-            turn = turns.open_lock(self.value, "turn.lock")
+            turn = turns.lock_file(self.value, "turn.lock")
             turns.try_lock(turn)
-            timer = threading.Timer(0.5, os.close, [turn])
+            timer = threading.Timer(0.5, turn.close)
             timer.start()
             began = time.monotonic()
             with turns.alone(self.value, ["withdraw"]):
@@ -221,14 +233,14 @@ class Turns(sample.SampleSchool):
     def test_no_command_is_refused_before_a_minute(self):
         self.assertGreaterEqual(turns.PATIENCE, 60)
         with mock.patch("exam_desk.turns.PATIENCE", 0.5), mock.patch("exam_desk.turns.SILENCE", 0.2):
-            want = turns.open_lock(self.value, "want.lock")
+            want = turns.lock_file(self.value, "want.lock")
             turns.try_lock(want)
             turns.note(want, "process 7, import entries")
             began = time.monotonic()
             with self.assertRaises(Trouble) as raised, turns.alone(self.value, ["withdraw"]):
                 self.fail("it began")
             self.assertGreater(time.monotonic() - began, 0.5)
-            os.close(want)
+            want.close()
         whom = "another command (process 7, import entries)"
         self.assertEqual([*self.said, str(raised.exception)],
                          [f"waiting for {whom}", f"{whom} has the office, and 0.5 seconds are over; nothing is changed, "
@@ -239,7 +251,7 @@ class Waiting(sample.KeptSchool):
     def test_keep_takes_the_turn_for_a_candidate_who_waits_and_gives_it_back(self):
         said = []
         client = threading.Thread(target=lambda: said.append(self.ask()[0]))
-        with turns.opened(self.value, "turn.lock") as turn:
+        with turns.lock_file(self.value, "turn.lock") as turn:
             with turns.alone(self.value, ["check"]):
                 self.assertTrue(turns.is_free(turn))
                 client.start()

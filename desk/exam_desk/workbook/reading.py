@@ -96,8 +96,7 @@ def read_sheets(job: Job, sheets: list[Sheet], progress: Progress) -> dict[str, 
 
 def keep_codes(job: Job, candidates: list[Record]) -> None:
     """A candidate without a code keeps the one that the office has. One line tells of all others of a sheet."""
-    have = {number.decode(): code.decode() for code, numbers in job.known.codes.items() for number in numbers
-            if code}
+    have = {number.decode(): code.decode() for number, code in job.known.codes.items() if code}
     for record in candidates:
         if not record.fields[2] and record.fields[0] in have:
             record.fields[2] = have[record.fields[0]]
