@@ -52,8 +52,8 @@ class Sheet:
     merged: list[Sequence[int]] = field(default_factory=list)  # first row and column, last row and column
     comments: list[Sequence[int]] = field(default_factory=list)  # row and column
 
-    def merge(self, areas: Iterable[Sequence[int]]) -> None:
-        self.merged += areas
+    def merge(self, *area: int) -> None:
+        self.merged.append(area)
         if len(self.merged) > MOST_MERGED:
             raise Trouble(f"it has more than {MOST_MERGED:,} merged cells")
 
@@ -109,14 +109,6 @@ def unpacked(lines: Iterable[str | bytes]) -> Book:
             known += [Cell(*cell) for cell in new]
             book.sheets[-1].rows[row] = {column: known[number] for column, number in zip(columns, numbers)}
     return book
-
-
-def place_of(text: str) -> tuple[int, int]:
-    """A reference such as AB12 as row and column."""
-    match = re.fullmatch(r"\$?([A-Z]{1,3})\$?([0-9]{1,7})", text)
-    if not match:
-        raise Trouble(f"it has a cell {text[:20]!r}")
-    return int(match[2]), sum((ord(letter) - 64) * 26 ** place for place, letter in enumerate(reversed(match[1])))
 
 
 @functools.cache
@@ -211,3 +203,8 @@ def refuse_type(*_: object) -> None:
 
 def local(element: Element) -> str:
     return element.tag.rpartition("}")[2]
+
+
+def whole_day(text: str) -> str:
+    """A moment without its time where that is midnight."""
+    return re.sub(r"T00:00:00(\.0+)?$", "", text)

@@ -7,7 +7,7 @@ from xml.etree.ElementTree import Element
 
 from exam_desk.trouble import Trouble
 from exam_desk.workbook.cells import (MOST_COLUMN, MOST_ROW, MOST_SHEETS, OPEN_AND_SAVE, PASSWORD, Book, Budget, Cell,
-                                      Parts, Sheet, local)
+                                      Parts, Sheet, local, whole_day)
 from exam_desk.workbook.numberformats import number_cell, whole_seconds
 
 ASIDE = ("tracked-changes", "shapes", "dde-links", "forms")  # what stands among sheets and rows, and has no cells
@@ -154,7 +154,7 @@ class OdsReader:
         """Keeps whether a cell is merged with others, and its comment."""
         rows, columns = int(given.get("number-rows-spanned", 1)), int(given.get("number-columns-spanned", 1))
         if rows > 1 or columns > 1:
-            sheet.merge([(self.row + 1, column + 1, self.row + rows, column + columns)])
+            sheet.merge(self.row + 1, column + 1, self.row + rows, column + columns)
         if any(local(inside) == "annotation" for inside in part.iter()):
             self.budget.keep("")
             sheet.comments.append((self.row + 1, column + 1))
@@ -174,7 +174,7 @@ class OdsReader:
         elif kind == "boolean":
             found = Cell("bool", value, shown)
         elif kind == "date":
-            found = Cell("date", re.sub(r"T00:00:00(\.0+)?$", "", value), shown)
+            found = Cell("date", whole_day(value), shown)
         elif kind == "time" and (match := DURATION.fullmatch(value)):
             days, hours, minutes, rest = (decimal.Decimal((part or "0").replace(",", ".")) for part in match.groups())
             seconds = ((days * 24 + hours) * 60 + minutes) * 60 + rest
