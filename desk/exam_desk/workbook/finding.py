@@ -1,7 +1,7 @@
 """Which sheet of a workbook is what."""
 from exam_desk import files
 from exam_desk.workbook.cells import Book, Sheet, place_name
-from exam_desk.workbook.headers import (HEADER_WORDS, WITHIN, find_header, folded, match_header, named_kind,
+from exam_desk.workbook.headers import (HEADER_WORDS, WITHIN, find_header, folded, named_kind, possible_headers,
                                         text_cells)
 from exam_desk.workbook.rows import Table
 from exam_desk.workbook.tables import Job
@@ -89,31 +89,23 @@ def find_tables(job: Job, sheets: list[Sheet]) -> tuple[list[Table], list[Sheet]
     rest: list[Sheet] = []
     found: dict[str, list[Table]] = {}
     for sheet in sheets:
-        kinds, named = kinds_of(job, sheet), named_kind(sheet)
-        if named and not kinds_by_name(job, sheet):
+        kinds, by_name, named = kinds_of(job, sheet), kinds_by_name(job, sheet), named_kind(sheet)
+        if named and not by_name:
             job.report.note(f"is not read: the file of columns says another sheet of {named}", sheet)
-        elif not kinds:
-            rest.append(sheet)
         elif len(kinds) > 1 and not all(kind in job.given for kind in kinds):
             job.report.mistake(f"could be {' or '.join(kinds)}: call the sheet, or the CSV file, so", sheet)
         else:
             headers = {kind: find_header(kind, sheet, job.of_kind(kind)) for kind in kinds}
-            if not kinds_by_name(job, sheet) and not set(kinds) & {*job.together, *job.given}:
+            if kinds and not by_name and not set(kinds) & {*job.together, *job.given}:
                 job.report.note(f"is read as {kinds[0]}, by its header", sheet)
             for kind, header in headers.items():
                 if header:
                     found.setdefault(kind, []).append(Table(job, kind, sheet, header))
-                elif kind == "entries":
-                    rest.append(sheet)
-                else:
+                elif kind != "entries":
                     tell_no_header(job, kind, sheet)
-    return [table for tables in found.values() if not tell_both(tables, 1) for table in told(tables)], rest
-
-
-def told(tables: list[Table]) -> list[Table]:
-    for table in tables:
-        table.tell_header()
-    return tables
+            if not kinds or "entries" in kinds and not headers["entries"]:
+                rest.append(sheet)
+    return [table for tables in found.values() if not tell_both(tables, 1) for table in tables], rest
 
 
 def tell_both(tables: list[Table], place: int) -> bool:
@@ -128,8 +120,7 @@ def tell_both(tables: list[Table], place: int) -> bool:
 
 
 def tell_no_header(job: Job, kind: str, sheet: Sheet) -> None:
-    headers = [match_header(kind, row, sheet.rows[row], job.of_kind(kind)) for row in sorted(sheet.rows)[:WITHIN]]
-    nearest = max(headers, key=lambda header: len(header.columns))
+    nearest = max(possible_headers(kind, sheet, job.of_kind(kind)), key=lambda header: len(header.columns))
     row, columns = min(sheet.rows), files.HEADERS[kind]
     have = {folded(text) for text in text_cells(sheet.rows[row]).values()}
     lacks_session = kind == "openings" and not HEADER_WORDS[kind, "session"] & have
@@ -166,13 +157,12 @@ def find_entries(job: Job, rest: list[Sheet], tables: list[Table]) -> list[Table
     several = listed or len(crossed) > 1 or crossed and len(crossed) < len(lists)
     if lists and several and tell_both(listed + lists, len(listed)):
         return []
-    return told(lists)
+    return lists
 
 
 def list_table(job: Job, sheet: Sheet) -> Table | None:
     """A sheet that lists candidates below a header of the column number, with the columns of papers that it has."""
-    found = (match_header("entries", row, sheet.rows[row], job.of_kind("entries"), ["number"])
-             for row in sorted(sheet.rows)[:WITHIN])
+    found = possible_headers("entries", sheet, job.of_kind("entries"), "number")
     header = next((header for header in found if header.columns), None)
     table = header and Table(job, "entries", sheet, header, job.paper(sheet.name))
     if table and not table.paper:

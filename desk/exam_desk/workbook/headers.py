@@ -128,16 +128,17 @@ def join_names(header: Header, heads: Mapping[int, str]) -> None:
         header.columns["name"] = first + last
 
 
+def possible_headers(kind: str, sheet: Sheet, given: Given, *names: str) -> list[Header]:
+    """The first rows of a sheet, each as the header of a kind."""
+    return [match_header(kind, row, sheet.rows[row], given, names) for row in sorted(sheet.rows)[:WITHIN]]
+
+
 def find_header(kind: str, sheet: Sheet, given: Given, whole: bool = False) -> Header | None:
     """The header of a kind among the first rows of a sheet; `whole` asks for every column of the kind."""
     needed = set(files.HEADERS[kind]) - {"code"} if whole else files.needed_columns(kind)
-    found: list[Header] = []
-    for row in sorted(sheet.rows)[:WITHIN]:
-        header = match_header(kind, row, sheet.rows[row], given)
-        have = {*header.columns, *given.fixed}
-        if header.columns and needed <= have and len(have) > 1:
-            found.append(header)
-    return max(found, key=lambda header: len(header.columns)) if found else None
+    found = [header for header in possible_headers(kind, sheet, given)
+             if header.columns and needed <= (have := {*header.columns, *given.fixed}) and len(have) > 1]
+    return max(found, key=lambda header: len(header.columns), default=None)
 
 
 # -- the file of columns

@@ -33,6 +33,7 @@ class Table(Headed):
     """A table, whose rows are read."""
 
     def records(self, progress: Progress) -> list[Record]:
+        self.tell_header()
         self.look_at_hidden()
         for row, column in sorted((row, column) for row, column in self.sheet.comments if row > self.header.row):
             self.note(row, column, "has a comment, which is not read")
