@@ -59,7 +59,7 @@ MARKED = {"papers": "requires", "halls": "features", "arrangements": "needs"}  #
 class Given(NamedTuple):
     """What the file of columns says of a kind."""
 
-    headers: Mapping[str, str | list[str]] = MappingProxyType({})  # of a column its header, or those that are joined
+    headers: Mapping[str, list[str]] = MappingProxyType({})  # of a column its header, or those that are joined
     fixed: Mapping[str, str] = MappingProxyType({})  # of a column the value that all rows have
     sheet: str = ""  # the name of the sheet that has the kind
 
@@ -102,9 +102,7 @@ def match_header(kind: str, row: int, cells: Mapping[int, Cell], given: Given, n
     heads = {column: folded(text) for column, text in text_cells(cells).items()}
     header = Header(row, {}, {})
     for name in names or files.HEADERS[kind]:
-        asked = given.headers.get(name, [])
-        joined = [asked] if isinstance(asked, str) else asked
-        words = [{folded(each)} for each in joined] or [HEADER_WORDS[kind, name]]
+        words = [{folded(each)} for each in given.headers.get(name, [])] or [HEADER_WORDS[kind, name]]
         places = [sorted((column for column, head in heads.items() if head in these),
                          key=lambda column: (heads[column] != name, column)) for these in words]
         if all(places):
@@ -164,7 +162,7 @@ def read_columns(path: str) -> tuple[dict[str, Given], Way]:
 def given_of(kind: str, said: object) -> Given:
     if kind not in files.HEADERS or not isinstance(said, dict):
         raise Trouble(f"{kind} is none of the seven kinds, nor `words` nor `dates`")
-    headers, fixed = dict[str, str | list[str]](), dict[str, str]()
+    headers, fixed = dict[str, list[str]](), dict[str, str]()
     for name, value in said.items():
         texts = value if isinstance(value, list) else [value]
         if name != "sheet" and name not in files.HEADERS[kind]:
@@ -179,8 +177,8 @@ def given_of(kind: str, said: object) -> Given:
         elif value is texts and name not in ("name", "title"):
             raise Trouble(f"[{kind}] {name}: one header; only names and titles are joined of several")
         else:
-            headers[name] = value
-    sheet = str(headers.pop("sheet", ""))
+            headers[name] = texts
+    [sheet] = headers.pop("sheet", [""])
     return Given(headers, fixed, sheet)
 
 

@@ -12,7 +12,7 @@ from exam_desk import files, mistakes
 from exam_desk.workbook.cells import Cell, Sheet, letters_of, place_name
 from exam_desk.workbook.headers import (HEADER_WORDS, MARKED, OF_PEOPLE, Given, Header, folded, is_called_list, seen,
                                         text_cells)
-from exam_desk.workbook.values import SHORT_FEATURES, Value, Way, Wrong, is_mark, read_value, shown_of
+from exam_desk.workbook.values import SHORT_FEATURES, UNREAD, Value, Way, Wrong, is_mark, read_value, shown_of
 
 WORDS = {"change": "", "note": "NOTE: ", "mistake": "MISTAKE: "}  # in the order in which they are printed
 MOST_PLACES = 5  # of lines that stand together
@@ -134,18 +134,21 @@ class Headed:
 
     def __post_init__(self) -> None:
         self.head = self.sheet.rows[self.header.row]
-        self.fixed = self.job.of_kind(self.kind).fixed  # of a column of the office a value for all rows
-        self.marked = MARKED.get(self.kind, "paper")  # the column for which columns of crosses may stand
-        self.features = {place: SHORT_FEATURES[folded(text)] for place, text in text_cells(self.head).items()
-                         if self.kind in MARKED and folded(text) in SHORT_FEATURES and place not in self.places()
-                         and self.marked not in self.fixed}
-        if self.marked not in self.header.columns:
-            self.marks = self.features
+        fixed = self.job.of_kind(self.kind).fixed
+        self.fixed = {**fixed, "paper": self.paper} if self.paper else fixed  # of a column a value for all rows
+        self.marked = MARKED.get(self.kind, "paper")  # the column in place of which columns of crosses may stand
+        self.crossed = self.columns_of_crosses()
+        if self.marked not in {*self.header.columns, *self.fixed}:
+            self.marks = self.crossed
 
-    def find_papers(self) -> None:
-        """Takes the columns below the codes of papers as columns of crosses."""
-        codes = {place: self.job.said("paper", cell) for place, cell in self.head.items() if place not in self.places()}
-        self.marks = {place: code for place, code in codes.items() if code in self.job.papers}
+    def columns_of_crosses(self) -> dict[int, str]:
+        """The columns below features, for entries those below the codes of papers, which may have crosses."""
+        free = {place: cell for place, cell in self.head.items() if place not in self.places()}
+        if self.kind == "entries":
+            codes = {place: self.job.said("paper", cell) for place, cell in free.items()}
+            return {place: code for place, code in codes.items() if code in self.job.papers}
+        words = {place: folded(text) for place, text in text_cells(free).items() if self.kind in MARKED}
+        return {place: SHORT_FEATURES[word] for place, word in words.items() if word in SHORT_FEATURES}
 
     def tell(self, sort: str, row: int | None, column: int | None, text: str, what: str = "") -> None:
         self.job.report.add(sort, text, self.sheet, row, column, what)
@@ -211,13 +214,14 @@ class Headed:
     def tell_lacking(self) -> None:
         """The columns of the kind that the sheet does not have."""
         asked, there = self.job.of_kind(self.kind).headers, {*self.header.columns, *self.fixed}
-        if self.marks or self.paper:
+        if self.marks:
             there.add(self.marked)
         for name in [name for name in files.HEADERS[self.kind] if name not in there]:
             if name == "code" and name not in asked:
                 self.note(self.header.row, None, "there is no column code")
             else:
-                why = f"; no header is {asked[name]!r}, as the file of columns says" if name in asked else ""
+                said = " with ".join(map(repr, asked.get(name, [])))
+                why = f"; no header is {said}, as the file of columns says" if said else ""
                 text = f"the column {name} is missing{why}: add it ({mistakes.CURES[name]})"
                 self.mistake(self.header.row, None, text)
 
@@ -239,14 +243,16 @@ class Headed:
     def fault_of(self, place: int, cell: Cell | None, crosses: Mapping[int, int]) -> str:
         """What is wrong with a column that has this header, or none, and perhaps crosses; or ''."""
         said, name = cell.text.strip() if cell else "", self.marks.get(place)
+        if cell and cell.kind in UNREAD:
+            return f"its header is {UNREAD[cell.kind]}"
         if place in self.places():
             if cell and cell.struck:
                 return f"the header {shown_of(cell)!r} is struck out: delete the column, or take the line away if it " \
                     "counts"
             is_second = name in [other for at, other in self.marks.items() if at < place]
-            return f"the {'feature' if self.features else 'paper'} {name} has two columns" if is_second else ""
-        if place in self.features and place in crosses:
-            return f"{self.features[place]} has crosses beside the column {self.marked}: keep one of the two"
+            return f"the {'paper' if self.kind == 'entries' else 'feature'} {name} has two columns" if is_second else ""
+        if self.kind in MARKED and place in self.crossed and place in crosses and self.marked in self.header.columns:
+            return f"{self.crossed[place]} has crosses beside the column {self.marked}: keep one of the two"
         if self.kind == "entries" and place in crosses and folded(said) not in OF_PEOPLE:
             what = f"{said!r} is no paper that is known" if cell else "the column has no header"
             where = place_name(self.sheet, crosses[place], place)

@@ -56,7 +56,7 @@ NO_DAY = ("1899-12-30", "1904-01-01", *NEXT_DAYS)  # what stands in front of a t
 HOURS = re.compile(r"([0-9]{1,2})(?::([0-5][0-9])(?::00)?|"
                    r" ?(?:h|hrs?|hours?|Std\.?) ?(?:([0-5]?[0-9]) ?(?:min|mins|minutes|m)?)?)", re.I)
 MINUTES = re.compile(r"([0-9]{1,3}) ?(min|mins|minutes|Minuten|')\.?", re.I)
-PERCENT = re.compile(r"([0-9]{1,3})(?:[.,]0+)? ?(%|percent|per cent|Prozent)", re.I)
+PERCENT = re.compile(r"([0-9]{1,3})(?:[.,]0+)? ?(?:%|percent|per cent|Prozent)", re.I)
 TIMES = [re.compile(form) for form in (
     r"(?P<hour>[0-9]{1,2}):(?P<minute>[0-9]{2})(?::00(?:\.0+)?)?",
     r"(?i)(?P<hour>0?[1-9]|1[0-2])(?:[:.](?P<minute>[0-5][0-9]))?(?::00)? ?(?P<half>[ap])\.?m\.?",
