@@ -136,7 +136,7 @@ def find_header(kind: str, sheet: Sheet, given: Given, whole: bool = False) -> H
     needed = set(files.HEADERS[kind]) - {"code"} if whole else files.needed_columns(kind)
     found = [header for header in possible_headers(kind, sheet, given)
              if header.columns and needed <= (have := {*header.columns, *given.fixed}) and len(have) > 1]
-    return max(found, key=lambda header: len(header.columns), default=None)
+    return max(found, key=lambda header: len(header.columns)) if found else None
 
 
 # -- the file of columns
