@@ -72,9 +72,8 @@ def named_papers(job: Job, sheets: list[Sheet]) -> set[str]:
     asked = job.of_kind("papers")
     codes = {code.decode() for code in job.known.keys["papers"] or ()} | {asked.fixed.get("paper", "")}
     for sheet in sheets:
-        kinds, is_told = kinds_by_name(job, sheet), asked.headers and not asked.sheet
-        header = find_header("papers", sheet, asked, not kinds and not is_told)
-        if header and "paper" in header.columns and (not kinds or "papers" in kinds):
+        header = find_header("papers", sheet, asked) if "papers" in kinds_of(job, sheet) else None
+        if header and "paper" in header.columns:
             [place, *_] = header.columns["paper"]
             codes |= {job.said("paper", cells[place]) for row, cells in sheet.rows.items()
                       if row > header.row and place in cells}

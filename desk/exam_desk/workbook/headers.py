@@ -13,15 +13,14 @@ from exam_desk.workbook.cells import Cell, Sheet
 from exam_desk.workbook.values import Way, bare
 
 WITHIN = 20  # rows of a sheet in which its header is looked for
-SHEET_NAMES = {
+KINDS = {name: kind for kind, names in {  # by the name of a sheet, as `folded`
     "sessions": "sessions sittings prüfungstermine termine",
     "papers": "papers exams subjects examinations prüfungen fächer",
     "halls": "halls rooms venues räume",
     "openings": "openings hallopenings roomopenings openhalls",
     "candidates": "candidates students pupils learners prüflinge schüler",
     "arrangements": "arrangements accessarrangements nachteilsausgleich",
-    "entries": "entries registrations examentries anmeldungen",
-}
+    "entries": "entries registrations examentries anmeldungen"}.items() for name in names.split()}
 WORDS = {  # of a column what else its header may say, as `folded`
     "number": "candidatenumber candidateno candidateid number no candno studentnumber studentid pupilnumber nummer "
               "candidate prüfungsnummer",
@@ -89,7 +88,7 @@ def text_cells(cells: Mapping[int, Cell]) -> dict[int, str]:
 
 
 def named_kind(sheet: Sheet) -> str | None:
-    return next((kind for kind, names in SHEET_NAMES.items() if folded(sheet.name) in names.split()), None)
+    return KINDS.get(folded(sheet.name))
 
 
 def is_called_list(name: str) -> bool:

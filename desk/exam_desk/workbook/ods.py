@@ -182,8 +182,8 @@ class OdsReader:
             found = Cell("text", shown or value or given.get("string-value", ""), shown)
         else:
             return None
-        struck = struck or any(self.is_struck(style, family) for inside in paragraphs
-                               for family, style in styles_in(inside))
+        struck = struck or any(self.is_struck(attributes(inside).get("style-name"), FAMILIES.get(local(inside), ""))
+                               for paragraph in paragraphs for inside in in_letters(paragraph))
         return found and found._replace(formula=formula, struck=struck, unseen=bool(paragraphs) and not shown)
 
 
@@ -210,10 +210,9 @@ def pieces(element: Element) -> Iterator[str]:
         yield inside.tail or ""
 
 
-def styles_in(element: Element) -> Iterator[Style]:
-    """The styles of a paragraph and of what stands in it."""
-    if (name := local(element)) in FAMILIES and (style := attributes(element).get("style-name")):
-        yield FAMILIES[name], style
+def in_letters(element: Element) -> Iterator[Element]:
+    """The elements of a paragraph whose letters are its own, itself first."""
+    yield element
     for inside in element:
         if local(inside) not in IN_LETTERS:
-            yield from styles_in(inside)
+            yield from in_letters(inside)
