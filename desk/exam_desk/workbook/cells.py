@@ -32,12 +32,11 @@ PASSWORD = "it has a password: save it without one"
 
 
 class Cell(NamedTuple):
-    kind: str  # text, number, percent, date, time, bool, error, or pending: a formula without a result
+    kind: str  # text, number, percent, date, time, bool; or as `values.UNREAD` has them
     text: str  # a text; the digits of a number; 2027-06-07 or 2027-06-07T09:00:00; the seconds of a time
     shown: str  # what the officer sees, as far as that is known, else ''
     formula: bool = False
     struck: bool = False  # all of it, or a part
-    unseen: bool = False  # its number format shows nothing
 
 
 @dataclass
@@ -148,11 +147,10 @@ class Parts:
         """What is said of a workbook whose macros stand in parts with names of this pattern."""
         return ["it holds macros; they are not run"] if any(re.match(macros, name) for name in self.names) else []
 
-    def elements(self, name: str, *events: str) -> Iterator[tuple[str, str, Element]]:
-        """The elements of a part that was looked at, with their events and their names without namespaces."""
+    def elements(self, name: str, *events: str) -> Iterator[tuple[str, Element]]:
+        """The elements of a part that was looked at, with their events."""
         with self.archive.open(name) as stream:
-            for event, element in iterparse(stream, events):
-                yield event, local(element), element
+            yield from iterparse(stream, events)
 
     def look(self, name: str) -> str:
         """Looks through a part, and gives the name of its first element, behind its namespace."""

@@ -43,7 +43,7 @@ def number_cell(raw: str, form: str, epoch: datetime.datetime = WINDOWS) -> Cell
         return moment_cell(number, plain, form, marks, epoch)
     shown = shown_number(form, tidy * 100 if "percent" in marks else tidy)
     if shown is None:
-        return Cell("number", plain, "", unseen=True) if tidy else None
+        return Cell("unseen", plain, "") if tidy else None
     if "percent" in marks:
         times = format((tidy * 100).normalize(), "f") if tidy else "0"
         return Cell("percent", times, shown or f"{times}%")

@@ -26,13 +26,13 @@ def read_ods(archive: zipfile.ZipFile) -> Book:
     names = [name for name in ("META-INF/manifest.xml", "styles.xml", "content.xml") if name in parts.names]
     for name in names:
         parts.look(name)
-        if any(found == "encryption-data" for _, found, _ in parts.elements(name, "start")):
+        if any(local(element) == "encryption-data" for _, element in parts.elements(name, "start")):
             raise Trouble(PASSWORD)
     reader = OdsReader()
     try:
         for name in names[-2:]:
-            for event, found, element in parts.elements(name, "start", "end"):
-                reader.take(event == "start", found, element)
+            for event, element in parts.elements(name, "start", "end"):
+                reader.take(event == "start", local(element), element)
     except (ValueError, LookupError, ArithmeticError) as fault:
         raise Trouble(f"a part of it is broken ({fault}): {OPEN_AND_SAVE}") from fault
     if not reader.spreadsheet:
@@ -184,7 +184,8 @@ class OdsReader:
             return None
         struck = struck or any(self.is_struck(attributes(inside).get("style-name"), FAMILIES.get(local(inside), ""))
                                for paragraph in paragraphs for inside in in_letters(paragraph))
-        return found and found._replace(formula=formula, struck=struck, unseen=bool(paragraphs) and not shown)
+        is_unseen = paragraphs and not shown
+        return found and found._replace(kind="unseen" if is_unseen else found.kind, formula=formula, struck=struck)
 
 
 def repeated(sheet: Sheet, given: dict[str, str], what: str) -> int:

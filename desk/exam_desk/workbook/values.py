@@ -67,7 +67,8 @@ SECONDS = re.compile(r":[0-9]{2}:[0-9.]*[1-9]")
 AGAIN = "type it again in a column of the format text"
 UNREAD = {  # the kinds that no column takes
     "pending": "a formula that no spreadsheet has computed: open the workbook in one and save it, or type the value",
-    "error": "an error of a formula: mend it, or type the value"}
+    "error": "an error of a formula: mend it, or type the value",
+    "unseen": "a value whose number format shows nothing: delete it, or give it another format"}
 REFUSED = UNREAD | {  # what is said of a kind where a column does not take it
     "date": f"a spreadsheet made a date of it: {AGAIN}", "time": f"a spreadsheet made a time of it: {AGAIN}",
     "bool": f"a spreadsheet made TRUE or FALSE of it: {AGAIN}", "percent": f"it is a percentage: {AGAIN}",
@@ -111,8 +112,6 @@ def read_value(column: str, cell: Cell | None, way: Way) -> Value:
         raise Wrong(f"has {len(found.text):,} letters; at most {MOST_LETTERS} are looked at")
     if found.struck:
         raise Wrong(STRUCK)
-    if found.unseen:
-        raise Wrong("is in the cell, but its number format shows nothing: delete it, or give it another format")
     text, done = cleaned(found.text)
     if cell and cell.kind == "text" and text in way.words.get(column, {}):
         return Value(way.words[column][text], "by the file of columns")
@@ -174,7 +173,7 @@ def is_mark(cell: Cell | None) -> bool | None:
     """Whether a cell of a table of crosses holds a cross; none where that cannot be said."""
     if cell is None:
         return False
-    if cell.kind not in ("text", "number", "bool") or cell.struck or cell.unseen or len(cell.text) > 20:
+    if cell.kind not in ("text", "number", "bool") or cell.struck or len(cell.text) > 20:
         return None
     if cell.kind == "bool":
         return cell.text == "true"

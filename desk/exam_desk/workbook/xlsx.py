@@ -24,6 +24,8 @@ from exam_desk.workbook.numberformats import BUILT_IN, MACINTOSH, WINDOWS, numbe
 STRICT = "http://purl.oclc.org/ooxml/"  # begins the names of the elements of another form
 STYLES = "xl/styles.xml"  # the only place where openpyxl looks for them
 MAIN = f"{{{SHEET_MAIN_NS}}}"  # before the names of the elements of a sheet
+TAGS = {MAIN + name: name for name in ("row", "col", "mergeCell", "sheetFormatPr")}
+CELL, VALUE, FORMULA, INLINE = MAIN + "c", MAIN + "v", MAIN + "f", MAIN + "is"
 TEXTS = ("s", "str", "inlineStr")  # shared, the result of a formula, in the cell
 relations: Any = relationship  # openpyxl is typed in part, and only where python3-typeshed is there
 styles_reader: Any = stylesheet
@@ -87,8 +89,8 @@ class Reader:
 
     def elements(self, parts: list[str], name: str) -> Iterator[Element]:
         for part in parts:
-            for _, found, element in self.parts.elements(part, "end"):
-                if found == name:
+            for _, element in self.parts.elements(part, "end"):
+                if local(element) == name:
                     yield element
                     element.clear()
 
@@ -114,8 +116,8 @@ class Reader:
     def sheet(self, sheet: Sheet, part: str) -> Sheet:
         """The sheet with what its part holds."""
         row, height = 0, "1"  # of the rows without one of their own
-        for _, _, element in self.parts.elements(part, "end"):
-            tag = element.tag.removeprefix(MAIN)
+        for _, element in self.parts.elements(part, "end"):
+            tag = TAGS.get(element.tag)
             if tag == "row":
                 row = int(element.get("r", str(row + 1)).removesuffix(".0"))
                 self.keep_row(sheet, row, element)
@@ -133,7 +135,7 @@ class Reader:
 
     def keep_row(self, sheet: Sheet, row: int, element: Element) -> None:
         column = 0
-        for part in element.iterfind(f"{MAIN}c"):
+        for part in element.iterfind(CELL):
             try:
                 at, column = places.coordinate_to_tuple(part.attrib["r"]) if part.get("r") else (row, column + 1)
                 cell = self.cell(part)
@@ -151,12 +153,12 @@ class Reader:
 
     def cell(self, part: Element) -> Cell | None:
         """The cell of an element <c>: no day is computed, a formula is its last result."""
-        kind, text, struck = part.get("t", "n"), part.findtext(f"{MAIN}v"), False
-        formula = part.find(f"{MAIN}f") is not None
+        kind, text, struck = part.get("t", "n"), part.findtext(VALUE), False
+        formula = part.find(FORMULA) is not None
         if formula and not text and (text is None or kind not in TEXTS):
             return PENDING
         if kind == "inlineStr":
-            text, struck = letters_of(part.find(f"{MAIN}is") or ())
+            text, struck = letters_of(part.find(INLINE) or ())
         elif kind == "s" and text:
             if int(text) not in self.texts:
                 raise Trouble("refers to a text that is not there")
@@ -169,7 +171,7 @@ class Reader:
         elif kind in TEXTS:
             text = unescaped(text) if kind == "str" else text
             shown = shown_text(form, text)
-            found = Cell("text", text, shown or "", unseen=shown is None)
+            found = Cell("unseen" if shown is None else "text", text, shown or "")
         elif kind == "e":
             found = Cell("error", text, text)
         elif kind == "b":
