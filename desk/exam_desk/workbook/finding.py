@@ -129,10 +129,9 @@ def list_table(job: Job, sheet: Sheet, is_named: bool) -> Table | None:
 
 def chosen(job: Job, kind: str, tables: list[Table]) -> list[Table]:
     """The tables of a kind that are read. That more than one has rows is a mistake, unless they are one list."""
-    filled = [table for table in tables if table.below()] or tables[:1]
-    for table in tables:
-        if not table.below() and table is not filled[0]:
-            table.note(None, None, f"has no {kind}; it is not read")
+    filled = [table for table in tables if max(table.sheet.rows) > table.header.row] or tables[:1]
+    for table in [table for table in tables if table not in filled]:
+        table.note(None, None, f"has no {kind}; it is not read")
     if len(filled) < 2 or kind in job.together or all(table.paper for table in filled):
         return filled
     names = " and ".join(place_name(table.sheet) for table in filled)

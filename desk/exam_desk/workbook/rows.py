@@ -210,13 +210,15 @@ class Table(Headed):
     def read_field(self, row: int, name: str, here: Row) -> Field:
         """The field of a row, which may be joined of several cells."""
         places = self.header.columns.get(name, [])
-        found = [self.read_one(row, name, here, place) for place in places if here[place] or len(places) == 1]
+        if len(places) < 2:
+            return self.read_one(row, name, here, places[0]) if places else (self.fixed.get(name, ""), False)
+        found = [self.read_one(row, name, here, place) for place in places if here[place]]
         text, is_wrong = " ".join(text for text, _ in found), any(wrong for _, wrong in found)
         said = text.encode("utf-8", "replace")
-        if len(places) > 1 and not is_wrong and not mistakes.RIGHT[name](said):
-            self.mistake(row, places[0], f"{name} {files.shown(said)}: {mistakes.needed(name, said)}", name)
-            is_wrong = True
-        return (text, is_wrong) if places else (self.fixed.get(name, ""), False)
+        if is_wrong or mistakes.RIGHT[name](said):
+            return text, is_wrong
+        self.mistake(row, places[0], f"{name} {files.shown(said)}: {mistakes.needed(name, said)}", name)
+        return text, True
 
     def read_one(self, row: int, name: str, here: Row, place: int) -> Field:
         """The field of one cell. A time is taken beside a day if that is the day of the session, or no day."""

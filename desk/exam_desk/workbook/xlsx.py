@@ -160,9 +160,9 @@ class Reader:
         if kind == "inlineStr":
             text, struck = letters_of(part.find(INLINE) or ())
         elif kind == "s" and text:
-            if int(text) not in self.texts:
+            if (number := int(text)) not in self.texts:
                 raise Trouble("refers to a text that is not there")
-            text, struck = self.texts[int(text)]
+            text, struck = self.texts[number]
         if not text:
             return None
         form, all_struck = self.styles[int(part.get("s", "0"))]
@@ -181,7 +181,8 @@ class Reader:
             found = Cell("date", whole_day(text.removesuffix("Z")), "")
         else:
             raise Trouble(f"is of the kind {kind}, which is not known here")
-        return found and found._replace(formula=formula, struck=struck or all_struck)
+        is_plain = not (formula or struck or all_struck)
+        return found if is_plain else found and found._replace(formula=formula, struck=struck or all_struck)
 
     def comments(self, part: str) -> Iterator[str]:
         beside = relations.get_rels_path(part)
