@@ -13,6 +13,7 @@ from openpyxl.reader.excel import ExcelReader
 from openpyxl.styles import stylesheet
 from openpyxl.styles.numbers import BUILTIN_FORMATS
 from openpyxl.utils import cell as places
+from openpyxl.utils.datetime import from_ISO8601
 from openpyxl.worksheet.cell_range import CellRange
 from openpyxl.xml.constants import COMMENTS_NS, SHEET_MAIN_NS
 
@@ -178,6 +179,7 @@ class Reader:
             shown = str(bool(int(text)))
             found = Cell("bool", shown.lower(), shown.upper())
         elif kind == "d":
+            from_ISO8601(text)  # raises ValueError where it is none
             found = Cell("date", whole_day(text.removesuffix("Z")), "")
         else:
             raise Trouble(f"is of the kind {kind}, which is not known here")

@@ -385,3 +385,5 @@ case("iso-times", xlsx(sheet("Sessions", SESSIONS, ["S1", "2027-06-01", ("raw", 
      files={"sessions": ["S1,2027-06-01,09:00", "S2,2027-06-02,13:30"]}, told=[["Sessions!C3", "13:30"]])
 case("row-number-with-point", own_sheet(row_xml(1, *CANDIDATES) + row_xml(2, *ADA).replace('row r="2"', 'row r="2.0"')),
      files=A, quiet=True)
+case("iso-nonsense", xlsx(candidates(["0000001", "Ada Lin", ("raw", '<c r="{ref}" t="d"><v>2027</v></c>')])), 1,
+     stderr=["Candidates!C2 is broken"])
