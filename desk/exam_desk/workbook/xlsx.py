@@ -13,7 +13,7 @@ from openpyxl.reader.excel import ExcelReader
 from openpyxl.styles import stylesheet
 from openpyxl.styles.numbers import BUILTIN_FORMATS
 from openpyxl.utils import cell as places
-from openpyxl.utils.datetime import from_ISO8601
+from openpyxl.utils import datetime as days
 from openpyxl.worksheet.cell_range import CellRange
 from openpyxl.xml.constants import COMMENTS_NS, SHEET_MAIN_NS
 
@@ -30,6 +30,7 @@ CELL, VALUE, FORMULA, INLINE = MAIN + "c", MAIN + "v", MAIN + "f", MAIN + "is"
 TEXTS = ("s", "str", "inlineStr")  # shared, the result of a formula, in the cell
 relations: Any = relationship  # openpyxl is typed in part, and only where python3-typeshed is there
 styles_reader: Any = stylesheet
+moments: Any = days
 PENDING = Cell("pending", "", "", True)  # a formula that nobody has computed
 Letters = tuple[str, bool]  # a text in which nothing is left to be turned, and whether a part of it is struck out
 
@@ -81,9 +82,10 @@ class Reader:
                        for number, cell in enumerate(styled)}
         if len(tables := self.of_root("sst")) > 1:
             raise Trouble(f"it has two tables of texts, as no spreadsheet writes it: {OPEN_AND_SAVE}")
-        self.texts = dict(enumerate(map(letters_of, self.elements(tables, "si"))))
-        for text, _ in self.texts.values():
-            self.budget.keep(text)
+        self.texts: dict[int, Letters] = {}
+        for number, element in enumerate(self.elements(tables, "si")):
+            self.texts[number] = letters_of(element)
+            self.budget.keep(self.texts[number][0])
 
     def of_root(self, root: str) -> list[str]:
         return [name for name, (_, _, found) in self.roots.items() if found == root]
@@ -179,7 +181,7 @@ class Reader:
             shown = str(bool(int(text)))
             found = Cell("bool", shown.lower(), shown.upper())
         elif kind == "d":
-            from_ISO8601(text)  # raises ValueError where it is none
+            moments.from_ISO8601(text)  # raises ValueError where it is none
             found = Cell("date", whole_day(text.removesuffix("Z")), "")
         else:
             raise Trouble(f"is of the kind {kind}, which is not known here")
