@@ -32,12 +32,11 @@ PASSWORD = "it has a password: save it without one"
 
 
 class Cell(NamedTuple):
-    kind: str  # text, number, percent, date, time, bool, error, or pending: a formula without a result
+    kind: str  # text, number, percent, date, time, bool; or as `values.UNREAD` has them
     text: str  # a text; the digits of a number; 2027-06-07 or 2027-06-07T09:00:00; the seconds of a time
     shown: str  # what the officer sees, as far as that is known, else ''
     formula: bool = False
     struck: bool = False  # all of it, or a part
-    unseen: bool = False  # its number format shows nothing
 
 
 @dataclass
@@ -52,8 +51,8 @@ class Sheet:
     merged: list[Sequence[int]] = field(default_factory=list)  # first row and column, last row and column
     comments: list[Sequence[int]] = field(default_factory=list)  # row and column
 
-    def merge(self, areas: Iterable[Sequence[int]]) -> None:
-        self.merged += areas
+    def merge(self, *area: int) -> None:
+        self.merged.append(area)
         if len(self.merged) > MOST_MERGED:
             raise Trouble(f"it has more than {MOST_MERGED:,} merged cells")
 
@@ -111,14 +110,6 @@ def unpacked(lines: Iterable[str | bytes]) -> Book:
     return book
 
 
-def place_of(text: str) -> tuple[int, int]:
-    """A reference such as AB12 as row and column."""
-    match = re.fullmatch(r"\$?([A-Z]{1,3})\$?([0-9]{1,7})", text)
-    if not match:
-        raise Trouble(f"it has a cell {text[:20]!r}")
-    return int(match[2]), sum((ord(letter) - 64) * 26 ** place for place, letter in enumerate(reversed(match[1])))
-
-
 @functools.cache
 def letters_of(column: int) -> str:
     """A column as its letters: 28 is AB."""
@@ -156,11 +147,10 @@ class Parts:
         """What is said of a workbook whose macros stand in parts with names of this pattern."""
         return ["it holds macros; they are not run"] if any(re.match(macros, name) for name in self.names) else []
 
-    def elements(self, name: str, *events: str) -> Iterator[tuple[str, str, Element]]:
-        """The elements of a part that was looked at, with their events and their names without namespaces."""
+    def elements(self, name: str, *events: str) -> Iterator[tuple[str, Element]]:
+        """The elements of a part that was looked at, with their events."""
         with self.archive.open(name) as stream:
-            for event, element in iterparse(stream, events):
-                yield event, local(element), element
+            yield from iterparse(stream, events)
 
     def look(self, name: str) -> str:
         """Looks through a part, and gives the name of its first element, behind its namespace."""
@@ -211,3 +201,8 @@ def refuse_type(*_: object) -> None:
 
 def local(element: Element) -> str:
     return element.tag.rpartition("}")[2]
+
+
+def whole_day(text: str) -> str:
+    """A moment without its time where that is midnight."""
+    return re.sub(r"T00:00:00(\.0+)?$", "", text)

@@ -1,7 +1,7 @@
 """Which sheet of a workbook is what."""
 from exam_desk import files
 from exam_desk.workbook.cells import Book, Sheet, place_name
-from exam_desk.workbook.headers import (HEADER_WORDS, WITHIN, find_header, folded, match_header, named_kind,
+from exam_desk.workbook.headers import (HEADER_WORDS, WITHIN, find_header, folded, named_kind, possible_headers,
                                         text_cells)
 from exam_desk.workbook.rows import Table
 from exam_desk.workbook.tables import Job
@@ -67,69 +67,81 @@ def kinds_of(job: Job, sheet: Sheet) -> list[str]:
     return [kind for kind in read if not any(read[kind] < read[other] for other in read)]  # that leave out least
 
 
-def known_papers(job: Job) -> set[str]:
-    return {code.decode() for code in job.known.keys["papers"] or ()}
-
-
 def named_papers(job: Job, sheets: list[Sheet]) -> set[str]:
     """The codes of papers that the office has or a sheet of papers names, before anything is read."""
-    codes = known_papers(job)
+    asked = job.of_kind("papers")
+    codes = {code.decode() for code in job.known.keys["papers"] or ()} | {asked.fixed.get("paper", "")}
     for sheet in sheets:
-        kinds = kinds_by_name(job, sheet)
-        header = find_header("papers", sheet, job.of_kind("papers"), not kinds)
-        if header and "paper" in header.columns and (not kinds or "papers" in kinds):
+        header = find_header("papers", sheet, asked) if "papers" in kinds_of(job, sheet) else None
+        if header and "paper" in header.columns:
             [place, *_] = header.columns["paper"]
             codes |= {job.said("paper", cells[place]) for row, cells in sheet.rows.items()
                       if row > header.row and place in cells}
     return codes - {""}
 
 
-def find_tables(job: Job, sheets: list[Sheet]) -> tuple[list[Table], list[Sheet]]:
-    """The tables of the sheets, and the sheets that are none of them."""
-    rest: list[Sheet] = []
-    found: dict[str, list[Table]] = {}
-    for sheet in sheets:
-        kinds, named = kinds_of(job, sheet), named_kind(sheet)
-        if named and not kinds_by_name(job, sheet):
-            job.report.note(f"is not read: the file of columns says another sheet of {named}", sheet)
-        elif not kinds:
-            rest.append(sheet)
-        elif len(kinds) > 1 and not all(kind in job.given for kind in kinds):
-            job.report.mistake(f"could be {' or '.join(kinds)}: call the sheet, or the CSV file, so", sheet)
-        else:
-            headers = {kind: find_header(kind, sheet, job.of_kind(kind)) for kind in kinds}
-            if not kinds_by_name(job, sheet) and not set(kinds) & {*job.together, *job.given}:
-                job.report.note(f"is read as {kinds[0]}, by its header", sheet)
-            for kind, header in headers.items():
-                if header:
-                    found.setdefault(kind, []).append(Table(job, kind, sheet, header))
-                elif kind == "entries":
-                    rest.append(sheet)
-                else:
-                    tell_no_header(job, kind, sheet)
-    return [table for tables in found.values() if not tell_both(tables, 1) for table in told(tables)], rest
+def find_tables(job: Job, sheets: list[Sheet]) -> list[Table]:
+    """The tables of the sheets; a line says which sheet is none."""
+    found = [table for sheet in sheets for table in tables_of(job, sheet)]
+    return [table for kind in files.HEADERS
+            for table in chosen(job, kind, [table for table in found if table.kind == kind])]
 
 
-def told(tables: list[Table]) -> list[Table]:
-    for table in tables:
-        table.tell_header()
-    return tables
+def tables_of(job: Job, sheet: Sheet) -> list[Table]:
+    """The tables of a sheet, which the file of columns may read as several kinds."""
+    kinds, by_name, named = kinds_of(job, sheet), kinds_by_name(job, sheet), named_kind(sheet)
+    if named and not by_name:
+        job.report.note(f"is not read: the file of columns says another sheet of {named}", sheet)
+        return []
+    if len(kinds) > 1 and not all(kind in job.given for kind in kinds):
+        job.report.mistake(f"could be {' or '.join(kinds)}: call the sheet, or the CSV file, so", sheet)
+        return []
+    if kinds and not by_name and not {*kinds} & {*job.together, *job.given}:
+        job.report.note(f"is read as {kinds[0]}, by its header", sheet)
+    found = {kind: Table(job, kind, sheet, header) for kind in kinds
+             if (header := find_header(kind, sheet, job.of_kind(kind)))}
+    for kind in [kind for kind in kinds if kind not in found and kind != "entries"]:
+        tell_no_header(job, kind, sheet)
+    if not kinds or "entries" in kinds and "entries" not in found:
+        found |= {"entries": table for table in [list_table(job, sheet, "entries" in by_name)] if table}
+    return [*found.values()]
 
 
-def tell_both(tables: list[Table], place: int) -> bool:
-    """Whether only one of the tables of a kind may count, which is a mistake on the sheet of this one."""
-    job, kind = tables[0].job, tables[0].kind
-    if len(tables) < 2 or kind in job.together:
-        return False
-    names = " and ".join(place_name(table.sheet) for table in tables)
+def list_table(job: Job, sheet: Sheet, is_named: bool) -> Table | None:
+    """A sheet that lists candidates below a header of the column number: by papers, or for the paper whose code is its
+    name. A line says why it is none."""
+    found, paper = possible_headers("entries", sheet, job.of_kind("entries"), "number"), job.paper(sheet.name)
+    header = next((header for header in found if header.columns), None)
+    table = header and Table(job, "entries", sheet, header, paper)
+    if table and (paper or table.marks):
+        return table
+    if is_named:
+        cure = "" if job.papers else "; no papers are known: put them into the workbook, or import them first"
+        text = f"neither a header number, paper nor one of number and the codes of papers is found{cure}"
+        job.report.mistake(text, sheet, min(sheet.rows))
+    elif paper:
+        text = "bears the name of a paper, but no row is a header with the column number"
+        job.report.mistake(text, sheet, min(sheet.rows))
+    else:
+        job.report.note("is not read: no row is the header of one of the seven kinds", sheet)
+    return None
+
+
+def chosen(job: Job, kind: str, tables: list[Table]) -> list[Table]:
+    """The tables of a kind that are read. That more than one has rows is a mistake, unless they are one list."""
+    filled = [table for table in tables if max(table.sheet.rows) > table.header.row] or tables[:1]
+    for table in [table for table in tables if table not in filled]:
+        table.note(None, None, f"has no {kind}; it is not read")
+    if len(filled) < 2 or kind in job.together or all(table.paper for table in filled):
+        return filled
+    names = " and ".join(place_name(table.sheet) for table in filled)
     options = job.way.or_say(f"--together {kind} to read them as one list, or --leave NAME")
-    job.report.mistake(f"{names} could both be the {kind}: keep one{options}", tables[place].sheet)
-    return True
+    job.report.mistake(f"{names} could both be the {kind}: keep one{options}", filled[1].sheet)
+    return []
 
 
 def tell_no_header(job: Job, kind: str, sheet: Sheet) -> None:
-    headers = [match_header(kind, row, sheet.rows[row], job.of_kind(kind)) for row in sorted(sheet.rows)[:WITHIN]]
-    nearest = max(headers, key=lambda header: len(header.columns))
+    nearest = max(possible_headers(kind, sheet, job.of_kind(kind)), key=lambda header: len(header.columns))
     row, columns = min(sheet.rows), files.HEADERS[kind]
     have = {folded(text) for text in text_cells(sheet.rows[row]).values()}
     lacks_session = kind == "openings" and not HEADER_WORDS[kind, "session"] & have
@@ -141,40 +153,3 @@ def tell_no_header(job: Job, kind: str, sheet: Sheet) -> None:
     else:
         cure = f"no row of the first {WITHIN} is a header of {kind}; it needs "
     job.report.mistake(cure + f"the columns {', '.join(columns)}", sheet, row)
-
-
-# -- entries in other forms
-
-def find_entries(job: Job, rest: list[Sheet], tables: list[Table]) -> list[Table]:
-    """Tables of candidates by papers, and sheets that bear the name of a paper; a line says which sheet is neither."""
-    lists: list[Table] = []
-    for sheet in rest:
-        table = list_table(job, sheet)
-        if table and (table.paper or table.marks):
-            lists.append(table)
-        elif "entries" in kinds_by_name(job, sheet):
-            cure = "" if job.papers else "; no papers are known: put them into the workbook, or import them first"
-            text = f"neither a header number, paper nor one of number and the codes of papers is found{cure}"
-            job.report.mistake(text, sheet, min(sheet.rows))
-        elif job.paper(sheet.name):
-            text = "bears the name of a paper, but no row is a header with the column number"
-            job.report.mistake(text, sheet, min(sheet.rows))
-        else:
-            job.report.note("is not read: no row is the header of one of the seven kinds", sheet)
-    crossed = [table for table in lists if table.marks]
-    listed = [table for table in tables if table.kind == "entries"]
-    several = listed or len(crossed) > 1 or crossed and len(crossed) < len(lists)
-    if lists and several and tell_both(listed + lists, len(listed)):
-        return []
-    return told(lists)
-
-
-def list_table(job: Job, sheet: Sheet) -> Table | None:
-    """A sheet that lists candidates below a header of the column number, with the columns of papers that it has."""
-    found = (match_header("entries", row, sheet.rows[row], job.of_kind("entries"), ["number"])
-             for row in sorted(sheet.rows)[:WITHIN])
-    header = next((header for header in found if header.columns), None)
-    table = header and Table(job, "entries", sheet, header, job.paper(sheet.name))
-    if table and not table.paper:
-        table.find_papers()
-    return table

@@ -13,15 +13,14 @@ from exam_desk.workbook.cells import Cell, Sheet
 from exam_desk.workbook.values import Way, bare
 
 WITHIN = 20  # rows of a sheet in which its header is looked for
-SHEET_NAMES = {
+KINDS = {name: kind for kind, names in {  # by the name of a sheet, as `folded`
     "sessions": "sessions sittings prüfungstermine termine",
     "papers": "papers exams subjects examinations prüfungen fächer",
     "halls": "halls rooms venues räume",
     "openings": "openings hallopenings roomopenings openhalls",
     "candidates": "candidates students pupils learners prüflinge schüler",
     "arrangements": "arrangements accessarrangements nachteilsausgleich",
-    "entries": "entries registrations examentries anmeldungen",
-}
+    "entries": "entries registrations examentries anmeldungen"}.items() for name in names.split()}
 WORDS = {  # of a column what else its header may say, as `folded`
     "number": "candidatenumber candidateno candidateid number no candno studentnumber studentid pupilnumber nummer "
               "candidate prüfungsnummer",
@@ -59,7 +58,7 @@ MARKED = {"papers": "requires", "halls": "features", "arrangements": "needs"}  #
 class Given(NamedTuple):
     """What the file of columns says of a kind."""
 
-    headers: Mapping[str, str | list[str]] = MappingProxyType({})  # of a column its header, or those that are joined
+    headers: Mapping[str, list[str]] = MappingProxyType({})  # of a column its header, or those that are joined
     fixed: Mapping[str, str] = MappingProxyType({})  # of a column the value that all rows have
     sheet: str = ""  # the name of the sheet that has the kind
 
@@ -89,7 +88,7 @@ def text_cells(cells: Mapping[int, Cell]) -> dict[int, str]:
 
 
 def named_kind(sheet: Sheet) -> str | None:
-    return next((kind for kind, names in SHEET_NAMES.items() if folded(sheet.name) in names.split()), None)
+    return KINDS.get(folded(sheet.name))
 
 
 def is_called_list(name: str) -> bool:
@@ -102,9 +101,7 @@ def match_header(kind: str, row: int, cells: Mapping[int, Cell], given: Given, n
     heads = {column: folded(text) for column, text in text_cells(cells).items()}
     header = Header(row, {}, {})
     for name in names or files.HEADERS[kind]:
-        asked = given.headers.get(name, [])
-        joined = [asked] if isinstance(asked, str) else asked
-        words = [{folded(each)} for each in joined] or [HEADER_WORDS[kind, name]]
+        words = [{folded(each)} for each in given.headers.get(name, [])] or [HEADER_WORDS[kind, name]]
         places = [sorted((column for column, head in heads.items() if head in these),
                          key=lambda column: (heads[column] != name, column)) for these in words]
         if all(places):
@@ -128,15 +125,16 @@ def join_names(header: Header, heads: Mapping[int, str]) -> None:
         header.columns["name"] = first + last
 
 
+def possible_headers(kind: str, sheet: Sheet, given: Given, *names: str) -> list[Header]:
+    """The first rows of a sheet, each as the header of a kind."""
+    return [match_header(kind, row, sheet.rows[row], given, names) for row in sorted(sheet.rows)[:WITHIN]]
+
+
 def find_header(kind: str, sheet: Sheet, given: Given, whole: bool = False) -> Header | None:
     """The header of a kind among the first rows of a sheet; `whole` asks for every column of the kind."""
     needed = set(files.HEADERS[kind]) - {"code"} if whole else files.needed_columns(kind)
-    found: list[Header] = []
-    for row in sorted(sheet.rows)[:WITHIN]:
-        header = match_header(kind, row, sheet.rows[row], given)
-        have = {*header.columns, *given.fixed}
-        if header.columns and needed <= have and len(have) > 1:
-            found.append(header)
+    found = [header for header in possible_headers(kind, sheet, given)
+             if header.columns and needed <= (have := {*header.columns, *given.fixed}) and len(have) > 1]
     return max(found, key=lambda header: len(header.columns)) if found else None
 
 
@@ -163,7 +161,7 @@ def read_columns(path: str) -> tuple[dict[str, Given], Way]:
 def given_of(kind: str, said: object) -> Given:
     if kind not in files.HEADERS or not isinstance(said, dict):
         raise Trouble(f"{kind} is none of the seven kinds, nor `words` nor `dates`")
-    headers, fixed = dict[str, str | list[str]](), dict[str, str]()
+    headers, fixed = dict[str, list[str]](), dict[str, str]()
     for name, value in said.items():
         texts = value if isinstance(value, list) else [value]
         if name != "sheet" and name not in files.HEADERS[kind]:
@@ -178,8 +176,8 @@ def given_of(kind: str, said: object) -> Given:
         elif value is texts and name not in ("name", "title"):
             raise Trouble(f"[{kind}] {name}: one header; only names and titles are joined of several")
         else:
-            headers[name] = value
-    sheet = str(headers.pop("sheet", ""))
+            headers[name] = texts
+    [sheet] = headers.pop("sheet", [""])
     return Given(headers, fixed, sheet)
 
 

@@ -20,8 +20,7 @@ PAINTED = {  # the words of a format of dates, in python's; n is a minute
     "d": "%-d", "hh": "%H", "h": "%-H", "nn": "%M", "n": "%-M", "ss": "%S", "s": "%-S", "am/pm": "%p", ".": ".",
     ",": ","}
 NUMBER = re.compile(r"\s*[+-]?([0-9]+\.?[0-9]*|\.[0-9]+)([eE][+-]?[0-9]+)?\s*")
-TOKEN = re.compile(r'"[^"]*"|\\.|_.|\*.|\[[^\]]*\]|General|[0#?]+(?:[0#?,.]*[0#?])?,*|.', re.I)
-DATE_TOKEN = re.compile(r'\[[^\]]*\]|yy\?|AM/PM|([ymdhs])\1*|[\\_*].|"[^"]*"|.', re.I)
+TOKEN = re.compile(r'"[^"]*"|\\.|_.|\*.|\[[^\]]*\]|General|AM/PM|yy\?|([ymdhs])\1*|[0#?]+(?:[0#?,.]*[0#?])?,*|.', re.I)
 LOCALE = re.compile(r"\[\$[^\]-]*-([0-9A-F]+)\]", re.I)  # a language in the last ten bits, digits in the first
 GREGORIAN = (0, 1, 2)  # calendars, in the eight bits between
 OTHER_DIGITS = 2 << 24  # the first number of a language and its digits where these are of another script
@@ -44,12 +43,12 @@ def number_cell(raw: str, form: str, epoch: datetime.datetime = WINDOWS) -> Cell
         return moment_cell(number, plain, form, marks, epoch)
     shown = shown_number(form, tidy * 100 if "percent" in marks else tidy)
     if shown is None:
-        return Cell("number", plain, "", unseen=True) if tidy else None
+        return Cell("unseen", plain, "") if tidy else None
     if "percent" in marks:
         times = format((tidy * 100).normalize(), "f") if tidy else "0"
         return Cell("percent", times, shown or f"{times}%")
     if "power" in marks:
-        shown = f"{float(number):.2E}" if sections(form)[0] == "0.00E+00" else ""
+        shown = f"{float(number):.2E}" if form.split(";")[0] == "0.00E+00" else ""
     return Cell("number", plain, shown)
 
 
@@ -85,38 +84,39 @@ def clock_text(seconds: decimal.Decimal) -> str:
 
 
 @functools.cache
-def sections(form: str) -> list[str]:
-    """The sections of a number format: for numbers above 0, below 0, for 0, and for texts."""
-    return "".join("\0" if token == ";" else token for token in TOKEN.findall(form)).split("\0")
+def sections(form: str) -> list[list[str]]:
+    """The pieces of the sections of a number format: for numbers above 0, below 0, for 0, and for texts."""
+    parts = "".join("\0" if match[0] == ";" else match[0] for match in TOKEN.finditer(form)).split("\0")
+    return [[match[0] for match in TOKEN.finditer(part)] for part in parts]
 
 
 @functools.cache
 def format_marks(form: str) -> frozenset[str]:
     """What a number format makes of a number: date, time, elapsed (time), percent, power (of ten)."""
-    bare = re.sub(r'"[^"]*"|\\.|_.|\*.', "", sections(form)[0])
-    elapsed = re.search(r"\[(h+|m+|s+)\]", bare, re.I)
-    bare = re.sub(r"\[[^\]]*\]", "", bare).lower()
+    tokens = sections(form)[0]
+    elapsed = any(re.fullmatch(r"\[(h+|m+|s+)\]", token, re.I) for token in tokens)
+    bare = "".join(token for token in tokens if token[0] not in '"\\_*[').lower()
     digits = re.search("[0#?]", re.sub(r"s[.,]0+", "s", bare).replace("yy?", "yy"))
-    clock = re.search("[hs]", bare) or elapsed
-    of_moments = {"date": re.search("[ydge]|b[12]", bare) or "m" in bare and not clock or "mmm" in bare,
-                  "time": clock, "elapsed": elapsed} if bare not in ("general", "@") and not digits else {}
-    marks = {**of_moments, "percent": "%" in bare, "power": digits and re.search(r"e[+-]", bare)}
+    clock = elapsed or re.search("[hs]", bare)
+    marks = {"percent": "%" in bare, "power": digits and re.search(r"e[+-]", bare)}
+    if bare not in ("general", "@") and not digits:
+        is_date = re.search("[ydge]|b[12]", bare) or "m" in bare and not clock or "mmm" in bare
+        marks |= {"date": is_date, "time": clock, "elapsed": elapsed}
     return frozenset(mark for mark, has in marks.items() if has)
 
 
 def shown_number(form: str, number: decimal.Decimal) -> str | None:
     """How a number is shown: '' where that is not known, none where nothing is shown."""
     parts = sections(form)
-    if locale_of(form) >= OTHER_DIGITS or any(re.match(r"\[[<>=]", token) for token in TOKEN.findall(form)):
+    if locale_of(form) >= OTHER_DIGITS or any(re.match(r"\[[<>=]", token) for part in parts for token in part):
         return ""
-    numeric = parts[:3] if len(parts) > 1 or "@" not in parts[0] else ["General"]
+    numeric = parts[:3] if len(parts) > 1 or "@" not in parts[0] else [["General"]]
     place = 0 if number > 0 else 1 if number < 0 else 2
     section = numeric[place] if place < len(numeric) else numeric[0]
-    if not section.strip() and len(parts) > 1:
+    if not "".join(section).strip() and len(parts) > 1:
         return None
-    tokens = TOKEN.findall(section or "General")
-    pieces = [shown_token(token, abs(number)) for token in tokens]
-    if None in pieces or sum(token.lower() == "general" or token[0] in "0#?" for token in tokens) > 1:
+    pieces = [shown_token(token, abs(number)) for token in section or ["General"]]
+    if None in pieces or sum(token.lower() == "general" or token[0] in "0#?" for token in section) > 1:
         return ""
     return ("-" if number < 0 and place >= len(numeric) else "") + "".join(map(str, pieces)).strip()
 
@@ -151,9 +151,9 @@ def shown_text(form: str, text: str) -> str | None:
     if form in ("General", "@"):
         return text
     parts = sections(form)
-    section = parts[3] if len(parts) > 3 else next((part for part in parts if "@" in part), "@")
-    pieces = [text if token == "@" else literal(token) for token in TOKEN.findall(section)]
-    return "".join(piece or "" for piece in pieces) if pieces else None
+    section = parts[3] if len(parts) > 3 else next((part for part in parts if "@" in part), ["@"])
+    pieces = [text if token == "@" else literal(token) or "" for token in section]
+    return "".join(pieces) if pieces else None
 
 
 def locale_of(form: str) -> int:
@@ -164,22 +164,15 @@ def locale_of(form: str) -> int:
 
 def painted(form: str, when: datetime.datetime) -> str:
     """How a date is shown, where the format is plain; '' where that is not known."""
-    words = [match[0] if match[0][0] in '"\\_*' else match[0].lower()
-             for match in DATE_TOKEN.finditer(sections(form)[0])]
+    words = [token if token[0] in '"\\_*' else token.lower() for token in sections(form)[0]]
     locale = locale_of(form)
     foreign = locale & 0x3ff not in (0, 9) and {"mmm", "mmmm", "ddd", "dddd"} & set(words)
     if foreign or locale >= OTHER_DIGITS or locale >> 16 & 0xff not in GREGORIAN:
         return ""
     known = PAINTED | ({"h": "%-I", "hh": "%I"} if "am/pm" in words else {})
-    out, after_hour = "", False
-    for place, word in enumerate(words):
-        later = next((other for other in words[place + 1:] if other[0] in "hsdy"), "")
-        if word in ("m", "mm") and (after_hour or later in ("s", "ss")):
-            word = word.replace("m", "n")
-        text = "" if word[0] == "[" else when.strftime(known[word]) if word in known else literal(word)
-        if text is None:
-            return ""
-        out += text
-        if word[0] in "hsdy":
-            after_hour = word[0] == "h"
-    return out.strip()
+    letters = "".join(word[0] if word[0] in "ymdhs" else " " for word in words)
+    for near in ("h[^hsdy]*", "[^hsdy]*s"):  # behind hours and before seconds a month is a minute
+        letters = re.sub(near, lambda match: match[0].replace("m", "n"), letters)
+    words = [word.replace("m", letter) if word in ("m", "mm") else word for word, letter in zip(words, letters)]
+    shown = ["" if word[0] == "[" else when.strftime(known[word]) if word in known else literal(word) for word in words]
+    return "" if None in shown else "".join(map(str, shown)).strip()

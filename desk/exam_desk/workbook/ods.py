@@ -7,7 +7,7 @@ from xml.etree.ElementTree import Element
 
 from exam_desk.trouble import Trouble
 from exam_desk.workbook.cells import (MOST_COLUMN, MOST_ROW, MOST_SHEETS, OPEN_AND_SAVE, PASSWORD, Book, Budget, Cell,
-                                      Parts, Sheet, local)
+                                      Parts, Sheet, local, whole_day)
 from exam_desk.workbook.numberformats import number_cell, whole_seconds
 
 ASIDE = ("tracked-changes", "shapes", "dde-links", "forms")  # what stands among sheets and rows, and has no cells
@@ -26,13 +26,13 @@ def read_ods(archive: zipfile.ZipFile) -> Book:
     names = [name for name in ("META-INF/manifest.xml", "styles.xml", "content.xml") if name in parts.names]
     for name in names:
         parts.look(name)
-        if any(found == "encryption-data" for _, found, _ in parts.elements(name, "start")):
+        if any(local(element) == "encryption-data" for _, element in parts.elements(name, "start")):
             raise Trouble(PASSWORD)
     reader = OdsReader()
     try:
         for name in names[-2:]:
-            for event, found, element in parts.elements(name, "start", "end"):
-                reader.take(event == "start", found, element)
+            for event, element in parts.elements(name, "start", "end"):
+                reader.take(event == "start", local(element), element)
     except (ValueError, LookupError, ArithmeticError) as fault:
         raise Trouble(f"a part of it is broken ({fault}): {OPEN_AND_SAVE}") from fault
     if not reader.spreadsheet:
@@ -53,10 +53,10 @@ class OdsReader:
         self.sheet: Sheet | None = None
         self.parents: dict[Style, str | None] = {}
         self.struck: dict[Style, bool] = {}  # of the styles that say so whether they strike out
-        self.invisible: set[str | None] = set()  # the styles of hidden sheets and rows
+        self.invisible: set[Style] = set()  # the styles of hidden sheets and rows
         self.aside = 0  # how deep inside of what has no cells
         self.spreadsheet = False
-        self.row = self.columns = 0
+        self.row = self.column = 1  # the next ones
         self.groups: list[bool] = []  # of rows or columns, and whether they are hidden
         self.struck_columns: list[tuple[int, int]] = []
 
@@ -64,11 +64,15 @@ class OdsReader:
         """Takes the beginning or the end of an element."""
         if name in ASIDE or self.aside:
             self.aside += (1 if start else -1) if name in ASIDE else 0
-        elif start:
-            self.begin(name, attributes(element))
-        elif name == "style" and self.sheet is None:
+        elif start and name == "spreadsheet":
+            self.spreadsheet = True
+        elif start and name in GROUPS:
+            self.groups.append(attributes(element).get("display") == "false")
+        elif start and name == "table" and self.spreadsheet:
+            self.begin_sheet(attributes(element))
+        elif not start and name == "style" and self.sheet is None:
             self.keep_style(element)
-        elif self.sheet is None:
+        elif start or self.sheet is None:
             return
         elif name == "table-column":
             self.keep_columns(self.sheet, attributes(element))
@@ -80,20 +84,14 @@ class OdsReader:
         elif name == "table":
             self.sheet = None
 
-    def begin(self, name: str, given: dict[str, str]) -> None:
-        if name == "spreadsheet":
-            self.spreadsheet = True
-        elif name in GROUPS:
-            self.groups.append(given.get("display") == "false")
-        elif name == "table" and self.spreadsheet:
-            if self.sheet is not None:
-                raise Trouble(f"the sheet {self.sheet.name} holds a table in a cell: give it a sheet of its own")
-            self.sheet = Sheet(given.get("name", "?"), given.get("style-name") in self.invisible)
-            self.sheets.append(self.sheet)
-            if len(self.sheets) > MOST_SHEETS:
-                raise Trouble(f"it has more than {MOST_SHEETS} sheets")
-            self.row = self.columns = 0
-            self.struck_columns, self.groups = [], []
+    def begin_sheet(self, given: dict[str, str]) -> None:
+        if self.sheet is not None:
+            raise Trouble(f"the sheet {self.sheet.name} holds a table in a cell: give it a sheet of its own")
+        self.sheet = Sheet(given.get("name", "?"), ("table", given.get("style-name")) in self.invisible)
+        self.sheets.append(self.sheet)
+        if len(self.sheets) > MOST_SHEETS:
+            raise Trouble(f"it has more than {MOST_SHEETS} sheets")
+        self.row, self.column, self.struck_columns, self.groups = 1, 1, [], []
 
     def keep_style(self, element: Element) -> None:
         given = attributes(element)
@@ -105,7 +103,7 @@ class OdsReader:
             self.struck[style] = lines != {"none"}
         height = looks.get("table-row-properties", {}).get("row-height", "")
         if looks.get("table-properties", {}).get("display") == "false" or re.match(r"0(\.0*)?[a-z]", height):
-            self.invisible.add(style[1])
+            self.invisible.add(style)
 
     def is_struck(self, name: str | None, family: str = "table-cell") -> bool:
         """Whether a style, or one that it is made from, strikes out."""
@@ -115,49 +113,50 @@ class OdsReader:
             name = self.parents.get((family, name))
         return self.struck.setdefault((family, name), False)
 
+    def is_hidden(self, given: dict[str, str], family: str) -> bool:
+        """Whether a row or columns are hidden: alone, with their group, or by their style."""
+        is_alone = given.get("visibility") in ("collapse", "filter")
+        return is_alone or any(self.groups) or (family, given.get("style-name")) in self.invisible
+
     def keep_columns(self, sheet: Sheet, given: dict[str, str]) -> None:
         count = int(given.get("number-columns-repeated", 1))
-        reach = (self.columns + 1, self.columns + count)
-        if given.get("visibility") in ("collapse", "filter") or any(self.groups):
-            sheet.hidden_columns.append(reach)
-        if self.is_struck(given.get("default-cell-style-name")):
-            self.struck_columns.append(reach)
-        self.columns += count
+        reach = (self.column, self.column + count - 1)
+        sheet.hidden_columns += [reach] * self.is_hidden(given, "table-column")
+        self.struck_columns += [reach] * self.is_struck(given.get("default-cell-style-name"))
+        self.column += count
 
     def keep_row(self, sheet: Sheet, element: Element) -> None:
         given = attributes(element)
         repeat = repeated(sheet, given, "row")
-        is_hidden = given.get("visibility") in ("collapse", "filter") or given.get("style-name") in self.invisible
-        if is_hidden or any(self.groups):
-            sheet.hidden_rows.append((self.row + 1, self.row + repeat))
+        sheet.hidden_rows += [(self.row, self.row + repeat - 1)] * self.is_hidden(given, "table-row")
         struck_row = self.is_struck(given.get("default-cell-style-name"))
-        column, found = 0, dict[int, Cell]()
+        column, found = 1, dict[int, Cell]()
         for part in element:
             given = attributes(part)
             count = repeated(sheet, given, "column")
             self.keep_beside(sheet, part, given, column)
             style = given.get("style-name")
             struck = self.is_struck(style) or style is None and (struck_row or any(
-                first <= column + 1 <= last for first, last in self.struck_columns))
+                first <= column <= last for first, last in self.struck_columns))
             if cell := self.cell(part, given, struck):
-                if column + count > MOST_COLUMN or self.row + repeat > MOST_ROW:
+                if column + count - 1 > MOST_COLUMN or self.row + repeat - 1 > MOST_ROW:
                     raise Trouble(f"the sheet {sheet.name} repeats a cell beyond its last row or column")
                 self.budget.keep(cell.text, count)
-                found.update({column + 1 + step: cell for step in range(count)})
+                found |= dict.fromkeys(range(column, column + count), cell)
             column += count
         if found:
             self.budget.keep("", len(found) * (repeat - 1))
-            sheet.rows.update({self.row + 1 + step: found for step in range(repeat)})
+            sheet.rows |= dict.fromkeys(range(self.row, self.row + repeat), found)
         self.row += repeat
 
     def keep_beside(self, sheet: Sheet, part: Element, given: dict[str, str], column: int) -> None:
         """Keeps whether a cell is merged with others, and its comment."""
         rows, columns = int(given.get("number-rows-spanned", 1)), int(given.get("number-columns-spanned", 1))
         if rows > 1 or columns > 1:
-            sheet.merge([(self.row + 1, column + 1, self.row + rows, column + columns)])
+            sheet.merge(self.row, column, self.row + rows - 1, column + columns - 1)
         if any(local(inside) == "annotation" for inside in part.iter()):
             self.budget.keep("")
-            sheet.comments.append((self.row + 1, column + 1))
+            sheet.comments.append((self.row, column))
 
     def cell(self, part: Element, given: dict[str, str], struck: bool) -> Cell | None:
         paragraphs = [inside for inside in part if local(inside) == "p"]
@@ -174,7 +173,7 @@ class OdsReader:
         elif kind == "boolean":
             found = Cell("bool", value, shown)
         elif kind == "date":
-            found = Cell("date", re.sub(r"T00:00:00(\.0+)?$", "", value), shown)
+            found = Cell("date", whole_day(value), shown)
         elif kind == "time" and (match := DURATION.fullmatch(value)):
             days, hours, minutes, rest = (decimal.Decimal((part or "0").replace(",", ".")) for part in match.groups())
             seconds = ((days * 24 + hours) * 60 + minutes) * 60 + rest
@@ -183,9 +182,10 @@ class OdsReader:
             found = Cell("text", shown or value or given.get("string-value", ""), shown)
         else:
             return None
-        struck = struck or any(self.is_struck(style, family) for inside in paragraphs
-                               for family, style in styles_in(inside))
-        return found and found._replace(formula=formula, struck=struck, unseen=bool(paragraphs) and not shown)
+        struck = struck or any(self.is_struck(attributes(inside).get("style-name"), FAMILIES.get(local(inside), ""))
+                               for paragraph in paragraphs for inside in in_letters(paragraph))
+        is_unseen = paragraphs and not shown
+        return found and found._replace(kind="unseen" if is_unseen else found.kind, formula=formula, struck=struck)
 
 
 def repeated(sheet: Sheet, given: dict[str, str], what: str) -> int:
@@ -211,10 +211,9 @@ def pieces(element: Element) -> Iterator[str]:
         yield inside.tail or ""
 
 
-def styles_in(element: Element) -> Iterator[Style]:
-    """The styles of a paragraph and of what stands in it."""
-    if (name := local(element)) in FAMILIES and (style := attributes(element).get("style-name")):
-        yield FAMILIES[name], style
+def in_letters(element: Element) -> Iterator[Element]:
+    """The elements of a paragraph whose letters are its own, itself first."""
+    yield element
     for inside in element:
         if local(inside) not in IN_LETTERS:
-            yield from styles_in(inside)
+            yield from in_letters(inside)

@@ -28,11 +28,14 @@ ALSO = {"xlsx": ("xlsx", "xlsm", "xltx", "xltm"), "ods": ("ods", "ots"), "csv": 
 
 
 def open_book(path: str, encoding: str | None = None) -> Book:
-    """The workbook at a path; raises `Trouble` as `book_of`."""
-    if not stat.S_ISREG(os.stat(path).st_mode):
-        raise Trouble("it is no file")
-    with open(path, "rb") as file:
-        return book_of(file.read(MOST_FILE + 1), os.path.basename(path), encoding)
+    """The workbook at a path; raises `Trouble` with the path where it cannot be read whole."""
+    try:
+        if not stat.S_ISREG(os.stat(path).st_mode):
+            raise Trouble("it is no file")
+        with open(path, "rb") as file:
+            return book_of(file.read(MOST_FILE + 1), os.path.basename(path), encoding)
+    except Trouble as trouble:
+        raise Trouble(f"{path} cannot be read: {trouble.sentence}") from trouble
 
 
 def book_of(data: bytes, name: str, encoding: str | None = None) -> Book:

@@ -14,7 +14,7 @@ from typing import NamedTuple
 from exam_desk import files, mistakes
 from exam_desk.trouble import Trouble
 from exam_desk.workbook.cells import Book, Sheet, place_name
-from exam_desk.workbook.finding import find_entries, find_tables, known_papers, usable_sheets
+from exam_desk.workbook.finding import find_tables, usable_sheets
 from exam_desk.workbook.opening import ask_child, open_book
 from exam_desk.workbook.rows import Record
 from exam_desk.workbook.tables import Job, Line, Progress, Report
@@ -34,14 +34,7 @@ class Reading(NamedTuple):
 def read_workbook(path: str, job: Job, encoding: str | None, progress: Progress) -> Reading:
     """Reads a workbook or a CSV export beside what the office has; raises `Trouble` where it cannot be read."""
     progress("opening")
-    return read_book(opened(path, encoding), job, progress)
-
-
-def opened(path: str, encoding: str | None) -> Book:
-    try:
-        return open_book(path, encoding)
-    except Trouble as trouble:
-        raise Trouble(f"{path} cannot be read: {trouble.sentence}") from trouble
+    return read_book(open_book(path, encoding), job, progress)
 
 
 def mend_folder(folder: str, job: Job, encoding: str | None, progress: Progress) -> Reading:
@@ -49,7 +42,7 @@ def mend_folder(folder: str, job: Job, encoding: str | None, progress: Progress)
     book, together = Book("csv", [], []), list[str]()
     for name in sorted(os.listdir(folder), key=lambda name: (len(name), name)):
         if match := re.fullmatch(rf"({'|'.join(files.HEADERS)})(-[0-9]+)?\.csv", name):
-            found = opened(os.path.join(folder, name), encoding)
+            found = open_book(os.path.join(folder, name), encoding)
             book.sheets.extend(found.sheets)
             book.notes.extend(f"{name}: {note}" for note in found.notes)
             together.append(match[1])
@@ -76,19 +69,13 @@ def read_book(book: Book, job: Job, progress: Progress = lambda text: None) -> R
 
 
 def read_sheets(job: Job, sheets: list[Sheet], progress: Progress) -> dict[str, list[Record]]:
-    """The records of each kind that has some. Entries are last: the codes of papers say which sheets are tables of
-    them."""
-    tables, rest = find_tables(job, sheets)
+    """The records of each kind that has some."""
     records: dict[str, list[Record]] = {}
-    for kind in files.HEADERS:
-        if kind == "entries":
-            tables += find_entries(job, rest, tables)
-        if found := [record for table in tables if table.kind == kind for record in table.records(progress)]:
-            records[kind] = found
-        if kind == "sessions":
+    for table in find_tables(job, sheets):
+        if found := table.records(progress):
+            records.setdefault(table.kind, []).extend(found)
+        if table.kind == "sessions":
             job.days |= {record.fields[0]: record.fields[1] for record in found}
-        if kind == "papers":
-            job.papers = known_papers(job) | {record.fields[0] for record in found}
     return records
 
 

@@ -33,6 +33,7 @@ class Table(Headed):
     """A table, whose rows are read."""
 
     def records(self, progress: Progress) -> list[Record]:
+        self.tell_header()
         self.look_at_hidden()
         for row, column in sorted((row, column) for row, column in self.sheet.comments if row > self.header.row):
             self.note(row, column, "has a comment, which is not read")
@@ -41,8 +42,7 @@ class Table(Headed):
         formulas: dict[int, int] = {}
         for count, (row, here) in enumerate(self.counting_rows(self.filled_cells()), 1):
             self.tell_struck(row)
-            results = [place for place, cell in here.items()
-                       if cell and cell.formula and cell.kind not in ("pending", "error")]
+            results = [place for place, cell in here.items() if cell and cell.formula and cell.kind not in UNREAD]
             formulas = dict.fromkeys(results, row) | formulas
             found += self.read_row(row, here)
             if count % EACH == 0:
@@ -191,10 +191,9 @@ class Table(Headed):
         fields, is_wrong = [text for text, _ in read], any(wrong for _, wrong in read)
         places = [columns[name][0] if name in columns else None for name in header]
         crosses = self.read_marks(row, here)
-        if self.kind == "entries" and (self.paper or self.marks):  # a number with a mistake is entered for nothing
-            papers: list[tuple[int | None, str]] = [(place, self.marks[place]) for place in crosses]
-            return [Record(self.sheet, row, [places[0], place], [fields[0], paper])
-                    for place, paper in papers or [(None, self.paper)] if paper and not is_wrong]
+        if self.kind == "entries" and self.marks:  # a number with a mistake is entered for nothing
+            return [Record(self.sheet, row, [places[0], place], [fields[0], self.marks[place]])
+                    for place in crosses if not is_wrong]
         if self.marks:
             named = {self.marks[place] for place in crosses}
             fields[header.index(MARKED[self.kind])] = "+".join(name for name in FEATURES if name in named) or "-"
@@ -209,16 +208,15 @@ class Table(Headed):
         return [place for place, mark in marks.items() if mark]
 
     def read_field(self, row: int, name: str, here: Row) -> Field:
-        places = self.header.columns.get(name)
-        if not places:
-            return self.fixed.get(name, ""), False
-        if len(places) == 1:
-            return self.read_one(row, name, here, places[0])
+        """The field of a row, which may be joined of several cells."""
+        places = self.header.columns.get(name, [])
+        if len(places) < 2:
+            return self.read_one(row, name, here, places[0]) if places else (self.fixed.get(name, ""), False)
         found = [self.read_one(row, name, here, place) for place in places if here[place]]
         text, is_wrong = " ".join(text for text, _ in found), any(wrong for _, wrong in found)
-        if is_wrong or mistakes.RIGHT[name](text.encode("utf-8", "surrogatepass")):
-            return text, is_wrong
         said = text.encode("utf-8", "replace")
+        if is_wrong or mistakes.RIGHT[name](said):
+            return text, is_wrong
         self.mistake(row, places[0], f"{name} {files.shown(said)}: {mistakes.needed(name, said)}", name)
         return text, True
 

@@ -12,7 +12,7 @@ from exam_desk import files, mistakes
 from exam_desk.workbook.cells import Cell, Sheet, letters_of, place_name
 from exam_desk.workbook.headers import (HEADER_WORDS, MARKED, OF_PEOPLE, Given, Header, folded, is_called_list, seen,
                                         text_cells)
-from exam_desk.workbook.values import SHORT_FEATURES, Value, Way, Wrong, is_mark, read_value, shown_of
+from exam_desk.workbook.values import SHORT_FEATURES, UNREAD, Value, Way, Wrong, is_mark, read_value, shown_of
 
 WORDS = {"change": "", "note": "NOTE: ", "mistake": "MISTAKE: "}  # in the order in which they are printed
 MOST_PLACES = 5  # of lines that stand together
@@ -134,7 +134,21 @@ class Headed:
 
     def __post_init__(self) -> None:
         self.head = self.sheet.rows[self.header.row]
-        self.fixed = self.job.of_kind(self.kind).fixed  # of a column of the office a value for all rows
+        fixed = self.job.of_kind(self.kind).fixed
+        self.fixed = {**fixed, "paper": self.paper} if self.paper else fixed  # of a column a value for all rows
+        self.marked = MARKED.get(self.kind, "paper")  # the column in place of which columns of crosses may stand
+        self.crossed = self.columns_of_crosses()
+        if self.marked not in {*self.header.columns, *self.fixed}:
+            self.marks = self.crossed
+
+    def columns_of_crosses(self) -> dict[int, str]:
+        """The columns below features, for entries those below the codes of papers, which may have crosses."""
+        free = {place: cell for place, cell in self.head.items() if place not in self.places()}
+        if self.kind == "entries":
+            codes = {place: self.job.said("paper", cell) for place, cell in free.items()}
+            return {place: code for place, code in codes.items() if code in self.job.papers}
+        words = {place: folded(text) for place, text in text_cells(free).items() if self.kind in MARKED}
+        return {place: SHORT_FEATURES[word] for place, word in words.items() if word in SHORT_FEATURES}
 
     def tell(self, sort: str, row: int | None, column: int | None, text: str, what: str = "") -> None:
         self.job.report.add(sort, text, self.sheet, row, column, what)
@@ -162,45 +176,24 @@ class Headed:
         return {place: row for place, row in self.first_places(is_mark).items()
                 if place not in others or self.sheet.rows[row][place].kind != "number"}
 
-    def find_papers(self) -> None:
-        """The columns below the codes of papers; crosses below another header are a mistake."""
-        head = {place: cell for place, cell in self.head.items() if place not in self.places()}
-        codes = {place: self.job.said("paper", cell) for place, cell in head.items()}
-        marks = {place: code for place, code in codes.items() if code in self.job.papers}
-        wrong = doubled(marks, "paper")
-        crosses = self.first_crosses() if marks else {}
-        names = {place for place, text in text_cells(head).items() if folded(text) in OF_PEOPLE}
-        for place in crosses.keys() - marks.keys() - self.places() - names:
-            what = f"{head[place].text.strip()!r} is no paper that is known" if place in head else \
-                "the column has no header"
-            where = place_name(self.sheet, crosses[place], place)
-            wrong[place] = f"{what}, and has crosses ({where}): correct the code, or delete the column"
-        self.tell_wrong(wrong)
-        self.marks = marks
-
-    def tell_wrong(self, columns: Mapping[int, str]) -> None:
-        for place in sorted(columns):
-            self.mistake(self.header.row, place, columns[place])
-
-    def tell_crosses(self, what: str) -> None:
-        if self.marks:
-            names = ", ".join(self.marks.values())
-            self.note(self.header.row, min(self.marks), f"crosses below {names} are read as {what}")
-
     # -- lines on the header
 
     def tell_header(self) -> None:
+        row = self.header.row
         if self.paper:
             self.note(None, None, f"bears the name of a paper: whom it lists is entered for {self.paper}")
         elif self.kind == "entries" and self.job.way.is_command and is_called_list(self.sheet.name):
             self.mistake(None, None, "is called a list of entries to be withdrawn or reinstated: save it as CSV for "
                          "`office withdraw --list FILE.csv`, or call it Entries if they are to be entered")
-        self.tell_crosses("entries")
+        if self.marks:
+            names = ", ".join(self.marks.values())
+            self.note(row, min(self.marks), f"crosses below {names} are read as {MARKED.get(self.kind, 'entries')}")
         for name, places in self.header.twice.items():
             columns, options = ", ".join(map(letters_of, places)), self.job.way.or_say("which in a file of columns")
-            self.mistake(self.header.row, places[1], f"columns {columns} could all be {name}: keep one header{options}")
-        for tell in (self.tell_names, self.find_features, self.tell_columns, self.tell_lacking, self.tell_unread):
-            tell()
+            self.mistake(row, places[1], f"columns {columns} could all be {name}: keep one header{options}")
+        self.tell_names()
+        self.tell_lacking()
+        self.tell_columns()
 
     def tell_names(self) -> None:
         row = self.header.row
@@ -218,73 +211,57 @@ class Headed:
             verb = "columns {} are" if len(others) > 1 else "the column {} is"
             self.note(row, None, f"{verb.format(', '.join(others))} read from {', '.join(others.values())}")
 
-    def find_features(self) -> None:
-        """Columns of crosses below features are read in place of the column of features."""
-        feature = MARKED.get(self.kind)
-        if not feature or feature in self.fixed:
-            return
-        marks = {place: SHORT_FEATURES[folded(text)] for place, text in text_cells(self.head).items()
-                 if place not in self.places() and folded(text) in SHORT_FEATURES}
-        if feature in self.header.columns:
-            crosses = self.first_crosses()
-            self.tell_wrong({place: f"{name} has crosses beside the column {feature}: keep one of the two"
-                             for place, name in marks.items() if place in crosses})
-        else:
-            self.tell_wrong(doubled(marks, "feature"))
-            self.marks = marks
-            self.tell_crosses(feature)
-
-    def tell_columns(self) -> None:
-        """Columns that are read, and whose header is struck out, or that are hidden."""
-        for place in sorted(self.places()):
-            if place in self.head and self.head[place].struck:
-                text = f"the header {shown_of(self.head[place])!r} is struck out: delete the column, or take the " \
-                       "line away if it counts"
-                self.mistake(self.header.row, place, text)
-            if any(first <= place <= last for first, last in self.sheet.hidden_columns):
-                self.note(self.header.row, place, f"column {letters_of(place)} is hidden; it is read")
-
     def tell_lacking(self) -> None:
         """The columns of the kind that the sheet does not have."""
         asked, there = self.job.of_kind(self.kind).headers, {*self.header.columns, *self.fixed}
-        if self.marks or self.paper:
-            there.add(MARKED.get(self.kind, "paper"))
+        if self.marks:
+            there.add(self.marked)
         for name in [name for name in files.HEADERS[self.kind] if name not in there]:
             if name == "code" and name not in asked:
                 self.note(self.header.row, None, "there is no column code")
             else:
-                why = f"; no header is {asked[name]!r}, as the file of columns says" if name in asked else ""
+                said = " with ".join(map(repr, asked.get(name, [])))
+                why = f"; no header is {said}, as the file of columns says" if said else ""
                 text = f"the column {name} is missing{why}: add it ({mistakes.CURES[name]})"
                 self.mistake(self.header.row, None, text)
 
-    def tell_unread(self) -> None:
-        """Columns with values that are no columns of the office."""
-        there = self.first_places(seen)
-        of_people = self.kind == "candidates"
-        crosses = self.first_crosses() if of_people else {}
-        for place in sorted({*there, *self.head} - self.places()):
-            if place not in self.head:
-                text = f"column {letters_of(place)} has values but no header; it is not read"
-                self.note(there[place], place, text)
-            elif self.paper and folded(self.head[place].text) in NAMES_PAPERS:
-                text = f"{shown_of(self.head[place])!r} names papers, as the sheet does: delete the column, or call " \
-                       "the sheet Entries"
-                self.mistake(self.header.row, place, text)
-            elif of_people and (self.job.said("paper", self.head[place]) in self.job.papers
-                                or place in crosses and is_short(self.head[place].text)):
-                text = f"what stands below {shown_of(self.head[place])} is not read here: put papers on a sheet " \
-                       "Entries, and needs on a sheet Arrangements, with the numbers"
-                self.mistake(self.header.row, place, text)
-            else:
-                self.note(self.header.row, place, f"the column {shown_of(self.head[place]).strip()!r} is not read")
+    def tell_columns(self) -> None:
+        """What is wrong with a column, or that it is hidden or not read."""
+        row, read, there = self.header.row, self.places(), self.first_places(seen)
+        crosses = self.first_crosses() if self.kind != "entries" or self.marks else {}
+        for place in sorted({*there, *self.head}):
+            cell, letter = self.head.get(place), letters_of(place)
+            if wrong := self.fault_of(place, cell, crosses):
+                self.mistake(row, place, wrong)
+            elif place in read and any(first <= place <= last for first, last in self.sheet.hidden_columns):
+                self.note(row, place, f"column {letter} is hidden; it is read")
+            elif cell is None:
+                self.note(there[place], place, f"column {letter} has values but no header; it is not read")
+            elif place not in read:
+                self.note(row, place, f"the column {shown_of(cell).strip()!r} is not read")
 
-
-def is_short(header: str) -> bool:
-    """Whether a header may be the code of a paper, or is a feature."""
-    return bool(files.is_code(header.strip().encode("utf-8", "replace"))) or folded(header) in SHORT_FEATURES
-
-
-def doubled(marks: Mapping[int, str], what: str) -> dict[int, str]:
-    """Of each column of crosses that says what one before it says, that it is a mistake."""
-    return {place: f"the {what} {name} has two columns" for place, name in marks.items()
-            if name in [marks[other] for other in marks if other < place]}
+    def fault_of(self, place: int, cell: Cell | None, crosses: Mapping[int, int]) -> str:
+        """What is wrong with a column that has this header, or none, and perhaps crosses; or ''."""
+        said, name = cell.text.strip() if cell else "", self.marks.get(place)
+        if cell and cell.kind in UNREAD:
+            return f"its header is {UNREAD[cell.kind]}"
+        if place in self.places():
+            if cell and cell.struck:
+                return f"the header {shown_of(cell)!r} is struck out: delete the column, or take the line away if it " \
+                    "counts"
+            is_second = name in [other for at, other in self.marks.items() if at < place]
+            return f"the {'paper' if self.kind == 'entries' else 'feature'} {name} has two columns" if is_second else ""
+        if self.kind in MARKED and place in self.crossed and place in crosses and self.marked in self.header.columns:
+            return f"{self.crossed[place]} has crosses beside the column {self.marked}: keep one of the two"
+        if self.kind == "entries" and place in crosses and folded(said) not in OF_PEOPLE:
+            what = f"{said!r} is no paper that is known" if cell else "the column has no header"
+            where = place_name(self.sheet, crosses[place], place)
+            return f"{what}, and has crosses ({where}): correct the code, or delete the column"
+        if self.paper and folded(said) in NAMES_PAPERS:
+            return f"{shown_of(cell)!r} names papers, as the sheet does: delete the column, or call the sheet Entries"
+        is_paper = cell is not None and self.job.said("paper", cell) in self.job.papers
+        may_be_code = files.is_code(said.encode("utf-8", "replace")) or folded(said) in SHORT_FEATURES
+        if self.kind == "candidates" and (is_paper or place in crosses and may_be_code):
+            return f"what stands below {shown_of(cell)} is not read here: put papers on a sheet Entries, and needs " \
+                "on a sheet Arrangements, with the numbers"
+        return ""

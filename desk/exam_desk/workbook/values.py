@@ -11,7 +11,7 @@ from typing import NamedTuple
 from exam_desk import files, mistakes
 from exam_desk.workbook.cells import Cell
 from exam_desk.workbook.numberformats import clock_text
-from exam_desk.words import FEATURES, plain
+from exam_desk.words import FEATURES, long_day, plain
 
 MOST_LETTERS = 1000  # of a cell: the patterns take long for longer ones
 INVISIBLE = dict.fromkeys([0xad, 0x61c, 0x180e, 0x200b, 0x200e, 0x200f, *range(0x202a, 0x202f), *range(0x2060, 0x2070),
@@ -39,7 +39,6 @@ WEEKDAYS = ["monday montag", "tuesday dienstag", "wednesday mittwoch", "thursday
             "saturday samstag", "sunday sonntag"]
 SHORT_MONTH = "|".join(name for name in MONTHS if len(name) == 3)
 LIKE_A_DAY = re.compile(f"([0-9]{{1,2}}-({SHORT_MONTH})|({SHORT_MONTH})-[0-9]{{2}})", re.I)
-LIKE_A_DATE = re.compile("[0-9]{4}-[0-9]{2}-[0-9]{2}")
 DATES = [re.compile(form) for form in (  # the first form that a text has counts
     r"(?P<year>[0-9]{4})-(?P<month>[0-9]{2})-(?P<day>[0-9]{2})(?:[T ](?P<time>[0-9:.]*)Z?)?",
     r"(?P<year>[0-9]{4})(?P<mark>[/.])(?P<month>[0-9]{1,2})(?P=mark)(?P<day>[0-9]{1,2})",
@@ -57,7 +56,7 @@ NO_DAY = ("1899-12-30", "1904-01-01", *NEXT_DAYS)  # what stands in front of a t
 HOURS = re.compile(r"([0-9]{1,2})(?::([0-5][0-9])(?::00)?|"
                    r" ?(?:h|hrs?|hours?|Std\.?) ?(?:([0-5]?[0-9]) ?(?:min|mins|minutes|m)?)?)", re.I)
 MINUTES = re.compile(r"([0-9]{1,3}) ?(min|mins|minutes|Minuten|')\.?", re.I)
-PERCENT = re.compile(r"([0-9]{1,3})(?:[.,]0+)? ?(%|percent|per cent|Prozent)", re.I)
+PERCENT = re.compile(r"([0-9]{1,3})(?:[.,]0+)? ?(?:%|percent|per cent|Prozent)", re.I)
 TIMES = [re.compile(form) for form in (
     r"(?P<hour>[0-9]{1,2}):(?P<minute>[0-9]{2})(?::00(?:\.0+)?)?",
     r"(?i)(?P<hour>0?[1-9]|1[0-2])(?:[:.](?P<minute>[0-5][0-9]))?(?::00)? ?(?P<half>[ap])\.?m\.?",
@@ -65,11 +64,12 @@ TIMES = [re.compile(form) for form in (
     "(?P<hour>[0-9]{1,2})(?P<doubt>[.h])(?P<minute>[0-5][0-9])( Uhr)?",
     r"(?P<day>[0-9]{4}-[0-9]{2}-[0-9]{2})(?:[T ](?P<hour>[0-9]{2}):(?P<minute>[0-9]{2})(?::00(?:\.0+)?)?)?")]
 SECONDS = re.compile(r":[0-9]{2}:[0-9.]*[1-9]")
+AGAIN = "type it again in a column of the format text"
 UNREAD = {  # the kinds that no column takes
     "pending": "a formula that no spreadsheet has computed: open the workbook in one and save it, or type the value",
-    "error": "an error of a formula: mend it, or type the value"}
-AGAIN = "type it again in a column of the format text"
-MADE = {  # the kinds that a spreadsheet makes of what is typed
+    "error": "an error of a formula: mend it, or type the value",
+    "unseen": "a value whose number format shows nothing: delete it, or give it another format"}
+REFUSED = UNREAD | {  # what is said of a kind where a column does not take it
     "date": f"a spreadsheet made a date of it: {AGAIN}", "time": f"a spreadsheet made a time of it: {AGAIN}",
     "bool": f"a spreadsheet made TRUE or FALSE of it: {AGAIN}", "percent": f"it is a percentage: {AGAIN}",
     "number": "it is a number: type it as text"}
@@ -105,23 +105,21 @@ class Value(NamedTuple):
 def read_value(column: str, cell: Cell | None, way: Way) -> Value:
     """The value of a cell, or of an empty one, as a column of the import files asks for it; raises `Wrong`."""
     found = cell or EMPTY
+    read, kinds = READERS[column]
     if found.kind in UNREAD:
         raise Wrong(UNREAD[found.kind])
     if len(found.text) > MOST_LETTERS:
         raise Wrong(f"has {len(found.text):,} letters; at most {MOST_LETTERS} are looked at")
     if found.struck:
         raise Wrong(STRUCK)
-    if found.unseen:
-        raise Wrong("is in the cell, but its number format shows nothing: delete it, or give it another format")
     text, done = cleaned(found.text)
     if cell and cell.kind == "text" and text in way.words.get(column, {}):
         return Value(way.words[column][text], "by the file of columns")
-    read, refused = READERS[column]
-    if found.kind in refused:
-        raise Wrong(MADE[found.kind])
+    if found.kind not in kinds:
+        raise Wrong(REFUSED[found.kind])
     value = read(column, found, text, way)
-    may_be_empty = column == "code" and not value.text
-    if not mistakes.RIGHT[column](value.text.encode("utf-8", "surrogatepass")) and not may_be_empty:
+    is_none = column == "code" and not value.text
+    if not is_none and not mistakes.RIGHT[column](value.text.encode("utf-8", "surrogatepass")):
         raise Wrong(mistakes.needed(column, value.text.encode("utf-8", "replace")) if cell else "is missing")
     is_as_shown = value.text == ((cell.shown or None) if cell else "")
     return value._replace(why=reason(done, value.why) or " " * (not is_as_shown))
@@ -166,15 +164,16 @@ def reason(*parts: str) -> str:
     return ", ".join(filter(None, parts))
 
 
-def first_match(forms: list[re.Pattern[str]], text: str) -> re.Match[str] | None:
-    return next(filter(None, (form.fullmatch(text) for form in forms)), None)
+def parts_of(text: str, forms: list[re.Pattern[str]]) -> dict[str, str]:
+    """What a text says by the first of the forms that it has; nothing if it has none."""
+    return next((match.groupdict("") for match in (form.fullmatch(text) for form in forms) if match), {})
 
 
 def is_mark(cell: Cell | None) -> bool | None:
     """Whether a cell of a table of crosses holds a cross; none where that cannot be said."""
     if cell is None:
         return False
-    if cell.kind not in ("text", "number", "bool") or cell.struck or cell.unseen or len(cell.text) > 20:
+    if cell.kind not in ("text", "number", "bool") or cell.struck or len(cell.text) > 20:
         return None
     if cell.kind == "bool":
         return cell.text == "true"
@@ -273,19 +272,18 @@ def read_date(column: str, cell: Cell, text: str, way: Way) -> Value:
         day = datetime.date(1899, 12, 30) + datetime.timedelta(days=int(text))
         raise Wrong(f"a number without the format of a date: if {day} is meant, give the column the format date")
     refuse_other_digits(cell)
-    match = first_match(DATES, text)
-    if not match or cell.shown == text and LIKE_A_DATE.fullmatch(text):
+    said = parts_of(text, DATES)
+    if not said or cell.shown == text and "time" in said and len(text) == 10:
         return Value(text)
-    said = match.groupdict("")
     if "short" in said:
         raise Wrong("the year has two digits: write a date as 2027-06-07")
     if "first" in said:
         return slashed(int(said["first"]), int(said["second"]), said["year"], way)
     if said.get("time", "").strip("0:."):
         raise Wrong(f"has a time too, {said['time'][:5]}: leave the date alone in its cell")
-    if "name" in said and said["name"].lower() not in MONTHS:
+    month = said.get("month") or MONTHS.get(said["name"].lower())
+    if not month:
         raise Wrong(mistakes.CURES["date"])
-    month = said["month"] if "month" in said else MONTHS[said["name"].lower()]
     value = day_value(f"{said['year']}-{month:0>2}-{said['day']:0>2}",
                       ", the day first as always with points" * ("point" in said))
     if weekday := said.get("weekday", "").lower():
@@ -298,10 +296,9 @@ def read_date(column: str, cell: Cell, text: str, way: Way) -> Value:
 def day_value(text: str, more: str = "") -> Value:
     """A date that is not written as the files have it, told with its weekday."""
     try:
-        day = datetime.date.fromisoformat(text)
+        return Value(text, long_day(text) + more)
     except ValueError:
         raise Wrong(f"there is no day {text}") from None
-    return Value(text, f"{day:%A}, {day.day} {day:%B} {day.year}{more}")
 
 
 def slashed(first: int, second: int, year: str, way: Way) -> Value:
@@ -310,12 +307,12 @@ def slashed(first: int, second: int, year: str, way: Way) -> Value:
     possible = [order for order, month in (("day-first", second), ("month-first", first)) if month <= 12]
     if first == second:
         return day_value(dates["month-first"])
-    if len(possible) == 1 and way.dates in ("", *possible):
+    if len(possible) < 2 and way.dates in ("", *possible) and possible:
         return day_value(dates[possible[0]], f", as there is no month {max(first, second)}")
-    if len(possible) < 2:
-        raise Wrong(f"is no date with the {way.dates.replace('-', ' ')}" if way.dates else mistakes.CURES["date"])
-    if way.dates:
+    if way.dates in possible:
         return day_value(dates[way.dates], f", {way.dates}")
+    if way.dates or not possible:
+        raise Wrong(f"is no date with the {way.dates.replace('-', ' ')}" if way.dates else mistakes.CURES["date"])
     raise Wrong(f"{' or '.join(dates.values())}{BOTH_DATES}{way.or_say('--dates day-first or --dates month-first')}")
 
 
@@ -329,14 +326,12 @@ def read_time(column: str, cell: Cell, text: str, way: Way) -> Value:
             clock = clock_text(round(minutes) * decimal.Decimal(60))[:5]
             raise Wrong(f"a number without the format of a time: if {clock} is meant, give the column the format time")
         raise Wrong(mistakes.TIME_CURE)
-    if cell.kind == "time":
-        text = clock_text(decimal.Decimal(text))
-    match = first_match(TIMES, text)
-    if not match:
-        if SECONDS.search(text):
-            raise Wrong("has seconds: write a time as 09:00")
+    text = clock_text(decimal.Decimal(text)) if cell.kind == "time" else text
+    said = parts_of(text, TIMES)
+    if not said and SECONDS.search(text):
+        raise Wrong("has seconds: write a time as 09:00")
+    if not said:
         return Value(text)
-    said = match.groupdict("")
     if not said["hour"]:
         raise Wrong("is a date, not a time")
     hour = int(said["hour"]) % 12 + 12 * (said["half"].lower() == "p") if "half" in said else int(said["hour"])
@@ -383,14 +378,12 @@ def read_whole(column: str, cell: Cell, text: str, way: Way) -> Value:
 
 
 Reader = Callable[[str, Cell, str, Way], Value]  # of a column, a cell, its letters and what the officer said
-READERS: dict[str, tuple[Reader, list[str]]] = {  # with the kinds of cells that a column refuses
-    "number": (read_number, ["date", "time", "bool", "percent"]),
-    **dict.fromkeys(["session", "paper", "hall", "code"], (read_code, ["date", "time", "bool", "percent"])),
-    **dict.fromkeys(["name", "title"], (read_name, ["date", "time", "bool", "percent"])),
-    "date": (read_date, ["time", "bool", "percent"]),
-    **dict.fromkeys(["start", "until"], (read_time, ["bool", "percent"])),
-    "minutes": (read_whole, ["date", "bool", "percent"]),
-    "desks": (read_whole, ["date", "time", "bool", "percent"]),
-    "extra": (read_whole, ["date", "time", "bool"]),
-    "reserved": (read_yes, ["date", "time", "percent"]),
-    **dict.fromkeys(["requires", "features", "needs"], (read_features, ["date", "time", "percent", "number", "bool"]))}
+READERS: dict[str, tuple[Reader, str]] = {  # with the kinds of cells that a column takes
+    "number": (read_number, "text number"), "date": (read_date, "text number date"),
+    "reserved": (read_yes, "text number bool"),
+    **dict.fromkeys(["session", "paper", "hall", "code"], (read_code, "text number")),
+    **dict.fromkeys(["name", "title"], (read_name, "text number")),
+    **dict.fromkeys(["start", "until"], (read_time, "text number date time")),
+    "minutes": (read_whole, "text number time"), "desks": (read_whole, "text number"),
+    "extra": (read_whole, "text number percent"),
+    **dict.fromkeys(["requires", "features", "needs"], (read_features, "text"))}

@@ -1,43 +1,44 @@
-"""Reads .xlsx and .xlsm by openpyxl, after a look at each part. No formula and no macro is run, no link followed.
-
-openpyxl's parser of sheets is used without its cells: these are made for each place of a merged area or of a link too.
-"""
-import datetime
+"""Reads .xlsx and .xlsm: the package and its styles by openpyxl, the sheets row by row, after a look at each part. No
+formula and no macro is run, no link followed."""
 import re
 import warnings
 import zipfile
-from collections.abc import Callable, Iterator
+from collections.abc import Iterator
 from typing import Any
-from xml.etree.ElementTree import Element, iterparse
+from xml.etree.ElementTree import Element
 
 from openpyxl.cell import Cell as StyledCell
 from openpyxl.packaging import relationship
 from openpyxl.reader.excel import ExcelReader
 from openpyxl.styles import stylesheet
 from openpyxl.styles.numbers import BUILTIN_FORMATS
-from openpyxl.worksheet import _reader
+from openpyxl.utils import cell as places
+from openpyxl.utils import datetime as days
+from openpyxl.worksheet.cell_range import CellRange
 from openpyxl.xml.constants import COMMENTS_NS, SHEET_MAIN_NS
 
 from exam_desk.trouble import Trouble
 from exam_desk.workbook.cells import (MOST_COLUMN, MOST_ROW, MOST_SHEETS, OPEN_AND_SAVE, Book, Budget, Cell, Parts,
-                                      Sheet, local, place_name, place_of)
+                                      Sheet, local, place_name, whole_day)
 from exam_desk.workbook.numberformats import BUILT_IN, MACINTOSH, WINDOWS, number_cell, shown_text
 
 STRICT = "http://purl.oclc.org/ooxml/"  # begins the names of the elements of another form
 STYLES = "xl/styles.xml"  # the only place where openpyxl looks for them
-sheets_reader: Any = _reader  # openpyxl is typed in part, and only where python3-typeshed is there
-relations: Any = relationship
+MAIN = f"{{{SHEET_MAIN_NS}}}"  # before the names of the elements of a sheet
+TAGS = {MAIN + name: name for name in ("row", "col", "mergeCell", "sheetFormatPr")}
+CELL, VALUE, FORMULA, INLINE = MAIN + "c", MAIN + "v", MAIN + "f", MAIN + "is"
+TEXTS = ("s", "str", "inlineStr")  # shared, the result of a formula, in the cell
+relations: Any = relationship  # openpyxl is typed in part, and only where python3-typeshed is there
 styles_reader: Any = stylesheet
+moments: Any = days
 PENDING = Cell("pending", "", "", True)  # a formula that nobody has computed
-Style = tuple[str, bool]  # a number format, and whether the font is struck out
+Letters = tuple[str, bool]  # a text in which nothing is left to be turned, and whether a part of it is struck out
 
 
 def read_xlsx(archive: zipfile.ZipFile) -> Book:
     """The workbook of a zip; raises `Trouble` where it cannot be read whole."""
     warnings.simplefilter("ignore")  # on what is lost when openpyxl saves
     BUILTIN_FORMATS.update(BUILT_IN)
-    sheets_reader._cast_number = str  # numbers as they are stored
-    sheets_reader.iterparse = iterparse  # the parser in C: each part has been looked at for entities
     parts = Parts(archive)
     roots = {name: parts.look(name) for name in sorted(parts.names) if re.search(r"\.(xml|rels)$", name, re.I)}
     if any(root.startswith(STRICT) for root in roots.values()):
@@ -50,30 +51,16 @@ def read_xlsx(archive: zipfile.ZipFile) -> Book:
         raise Trouble(f"a part of it is broken ({type(fault).__name__}: {fault}): {OPEN_AND_SAVE}") from fault
 
 
-class SharedText(str):
-    """A text in which nothing is left to be turned; `struck`: a part of it is struck out."""
-
-    struck = False
-
-
-class SharedTexts(dict[int, SharedText]):
-    """The texts to which cells refer by number."""
-
-    def __missing__(self, number: int) -> SharedText:
-        raise Trouble("refers to a text that is not there")
-
-
 def unescaped(text: str) -> str:
     """A text in which _x000D_ stands for the letter of this number."""
     return re.sub("_x([0-9A-Fa-f]{4})_", lambda match: chr(int(match[1], 16)), text) if "_x" in text else text
 
 
-def letters_of(element: Element | tuple[()]) -> SharedText:
-    """The text of an element <si> or <is>, without the <rPh> that say how it is spoken."""
+def letters_of(element: Element | tuple[()]) -> Letters:
+    """The letters of an element <si> or <is>, without the <rPh> that say how it is spoken."""
     said = [part for child in element if local(child) != "rPh" for part in child.iter()]
-    text = SharedText(unescaped("".join(part.text or "" for part in said if local(part) == "t")))
-    text.struck = any(local(part) == "strike" and part.get("val", "1") not in ("0", "false") for part in said)
-    return text
+    text = unescaped("".join(part.text or "" for part in said if local(part) == "t"))
+    return text, any(local(part) == "strike" and part.get("val", "1") not in ("0", "false") for part in said)
 
 
 class Reader:
@@ -87,23 +74,26 @@ class Reader:
         self.reader = ExcelReader(self.archive.fp, keep_links=False)
         self.reader.read_manifest()
         self.reader.read_workbook()
-        styles_reader.apply_stylesheet(self.archive, self.reader.wb)
         self.epoch = MACINTOSH if self.reader.wb.epoch.year == 1904 else WINDOWS
-        self.texts = SharedTexts()
+        styles_reader.apply_stylesheet(self.archive, self.reader.wb)
+        parent = self.reader.wb.create_sheet()
+        styled = (StyledCell(parent, style_array=style) for style in self.reader.wb._cell_styles)
+        self.styles = {number: (cell.number_format, bool(cell.font and cell.font.strike))
+                       for number, cell in enumerate(styled)}
         if len(tables := self.of_root("sst")) > 1:
             raise Trouble(f"it has two tables of texts, as no spreadsheet writes it: {OPEN_AND_SAVE}")
+        self.texts: dict[int, Letters] = {}
         for number, element in enumerate(self.elements(tables, "si")):
             self.texts[number] = letters_of(element)
-            self.budget.keep(self.texts[number])
-        self.styles: dict[int, Style] = {}
+            self.budget.keep(self.texts[number][0])
 
     def of_root(self, root: str) -> list[str]:
         return [name for name, (_, _, found) in self.roots.items() if found == root]
 
     def elements(self, parts: list[str], name: str) -> Iterator[Element]:
         for part in parts:
-            for _, found, element in self.parts.elements(part, "end"):
-                if found == name:
+            for _, element in self.parts.elements(part, "end"):
+                if local(element) == name:
                     yield element
                     element.clear()
 
@@ -123,86 +113,80 @@ class Reader:
             elif space != SHEET_MAIN_NS:
                 raise Trouble(f"openpyxl cannot read the sheet {named.name}: {OPEN_AND_SAVE}")
             else:
-                sheets.append(self.sheet(named, part))
+                sheets.append(self.sheet(Sheet(named.name, named.state != "visible"), part))
         return Book("xlsx", sheets, notes)
 
-    def sheet(self, named: Any, part: str) -> Sheet:
-        sheet = Sheet(named.name, named.state != "visible")
-        with self.archive.open(part) as stream:
-            parser: Any = sheets_reader.WorkSheetParser(stream, self.texts, data_only=True, epoch=self.reader.wb.epoch)
-            parse = parser.parse_cell
-            parser.parse_cell = lambda element: self.keep(sheet, element, parse, parser)
-            for _ in parser.parse():
-                pass
-        if parser.merged_cells is not None:
-            sheet.merge((area.min_row, area.min_col, area.max_row, area.max_col)
-                        for area in parser.merged_cells.mergeCell)
-        looks = parser.row_dimensions
-        if getattr(parser, "sheet_format", None) and parser.sheet_format.zeroHeight:  # of rows without one of their own
-            looks = {str(row): {"ht": "0", **looks.get(str(row), {})} for row in sheet.rows}
-        sheet.hidden_rows = [(int(row), int(row)) for row, look in looks.items() if is_hidden(look, "ht")]
-        sheet.hidden_columns = [(int(look["min"]), int(look["max"])) for look in parser.column_dimensions.values()
-                                if is_hidden(look, "width")]
-        sheet.comments = [place_of(ref.partition(":")[0]) for ref in self.comments(part)]
+    def sheet(self, sheet: Sheet, part: str) -> Sheet:
+        """The sheet with what its part holds."""
+        row, height = 0, "1"  # of the rows without one of their own
+        for _, element in self.parts.elements(part, "end"):
+            tag = TAGS.get(element.tag)
+            if tag == "row":
+                row = int(element.get("r", str(row + 1)).removesuffix(".0"))
+                self.keep_row(sheet, row, element)
+                sheet.hidden_rows += [(row, row)] * is_hidden(element, "ht", height)
+                element.clear()
+            elif tag == "sheetFormatPr":
+                height = "0" if element.get("zeroHeight", "0") in ("1", "true") else "1"
+            elif tag == "col" and is_hidden(element, "width"):
+                sheet.hidden_columns.append((int(element.attrib["min"]), int(element.attrib["max"])))
+            elif tag == "mergeCell":
+                area = CellRange(element.attrib["ref"])
+                sheet.merge(area.min_row, area.min_col, area.max_row, area.max_col)
+        sheet.comments = [places.coordinate_to_tuple(ref.partition(":")[0]) for ref in self.comments(part)]
         return sheet
 
-    def keep(self, sheet: Sheet, element: Any, parse: Callable[[Any], dict[str, Any]], parser: Any) -> None:
-        """Puts a cell into the sheet as openpyxl's parser finds it: no day is computed, a formula is its last
-        result."""
-        text = None
-        if element.get("t") == "inlineStr":
-            text = letters_of(element.find(sheets_reader.INLINE_STRING) or ())
-            element.set("t", "n")  # the parser would make a tree of objects of it
-        try:
-            found = parse(element)
-            formula = element.find(sheets_reader.FORMULA_TAG) is not None
-            is_pending = formula and element.find(sheets_reader.VALUE_TAG) is None
-            cell = PENDING if is_pending else self.cell(found, text or found["value"], formula)
-        except (Trouble, ValueError, LookupError, ArithmeticError) as fault:
-            place = place_name(sheet, parser.row_counter, parser.col_counter)
-            why = fault.sentence if isinstance(fault, Trouble) else "is broken"
-            raise Trouble(f"{place} {why}: {OPEN_AND_SAVE}") from fault
-        row, column = found["row"], found["column"]
-        if cell is None:
-            return
-        if not (0 < row <= MOST_ROW and 0 < column <= MOST_COLUMN):
-            raise Trouble("it has a cell beyond the last row or column")
-        if column in sheet.rows.setdefault(row, {}):
-            raise Trouble(f"it has the cell {place_name(sheet, row, column)} twice: {OPEN_AND_SAVE}")
-        self.budget.keep(cell.text)
-        sheet.rows[row][column] = cell
+    def keep_row(self, sheet: Sheet, row: int, element: Element) -> None:
+        column = 0
+        for part in element.iterfind(CELL):
+            try:
+                at, column = places.coordinate_to_tuple(part.attrib["r"]) if part.get("r") else (row, column + 1)
+                cell = self.cell(part)
+            except (Trouble, ValueError, LookupError, ArithmeticError) as fault:
+                why = fault.sentence if isinstance(fault, Trouble) else "is broken"
+                raise Trouble(f"{place_name(sheet, row, column)} {why}: {OPEN_AND_SAVE}") from fault
+            if cell is None:
+                continue
+            if not (0 < at <= MOST_ROW and 0 < column <= MOST_COLUMN):
+                raise Trouble("it has a cell beyond the last row or column")
+            if column in sheet.rows.setdefault(at, {}):
+                raise Trouble(f"it has the cell {place_name(sheet, at, column)} twice: {OPEN_AND_SAVE}")
+            self.budget.keep(cell.text)
+            sheet.rows[at][column] = cell
 
-    def cell(self, found: dict[str, Any], value: Any, formula: bool) -> Cell | None:
-        kind = found["data_type"]
-        if value is None or value == "":
-            return PENDING if formula and kind not in ("s", "str") else None
-        form, struck = self.style(found["style_id"])
-        if kind == "n" and not isinstance(value, SharedText):
-            made = number_cell(value, form, self.epoch)
-        elif kind in ("n", "s"):
-            text = value if isinstance(value, SharedText) else unescaped(value)
+    def cell(self, part: Element) -> Cell | None:
+        """The cell of an element <c>: no day is computed, a formula is its last result."""
+        kind, text, struck = part.get("t", "n"), part.findtext(VALUE), False
+        formula = part.find(FORMULA) is not None
+        if formula and not text and (text is None or kind not in TEXTS):
+            return PENDING
+        if kind == "inlineStr":
+            text, struck = letters_of(part.find(INLINE) or ())
+        elif kind == "s" and text:
+            if (number := int(text)) not in self.texts:
+                raise Trouble("refers to a text that is not there")
+            text, struck = self.texts[number]
+        if not text:
+            return None
+        form, all_struck = self.styles[int(part.get("s", "0"))]
+        if kind == "n":
+            found = number_cell(text, form, self.epoch)
+        elif kind in TEXTS:
+            text = unescaped(text) if kind == "str" else text
             shown = shown_text(form, text)
-            made = Cell("text", str(text), shown or "", unseen=shown is None)
+            found = Cell("unseen" if shown is None else "text", text, shown or "")
         elif kind == "e":
-            made = Cell("error", value, value)
-        elif isinstance(value, bool):
-            made = Cell("bool", str(value).lower(), str(value).upper())
-        elif isinstance(value, datetime.date):
-            made = Cell("date", value.isoformat().removesuffix("T00:00:00"), "")
-        elif isinstance(value, datetime.time):
-            made = Cell("time", str(value.hour * 3600 + value.minute * 60 + value.second), "")
+            found = Cell("error", text, text)
+        elif kind == "b":
+            shown = str(bool(int(text)))
+            found = Cell("bool", shown.lower(), shown.upper())
+        elif kind == "d":
+            moments.from_ISO8601(text)  # raises ValueError where it is none
+            found = Cell("date", whole_day(text.removesuffix("Z")), "")
         else:
-            raise Trouble(f"is read as a {type(value).__name__}, which is not known here")
-        return made and made._replace(formula=formula, struck=struck or getattr(value, "struck", False))
-
-    def style(self, number: int) -> Style:
-        if number not in self.styles:
-            if number < 0:  # python would count from the end
-                raise Trouble("has a style that is not there")
-            style = self.reader.wb._cell_styles[number]
-            cell = StyledCell(self.reader.wb.create_sheet(), style_array=style)
-            self.styles[number] = cell.number_format, bool(cell.font and cell.font.strike)
-        return self.styles[number]
+            raise Trouble(f"is of the kind {kind}, which is not known here")
+        is_plain = not (formula or struck or all_struck)
+        return found if is_plain else found and found._replace(formula=formula, struck=struck or all_struck)
 
     def comments(self, part: str) -> Iterator[str]:
         beside = relations.get_rels_path(part)
@@ -212,5 +196,5 @@ class Reader:
             yield element.attrib["ref"]
 
 
-def is_hidden(look_of: dict[str, str], size: str) -> bool:
-    return look_of.get("hidden", "0") in ("1", "true") or float(look_of.get(size, "1")) == 0
+def is_hidden(element: Element, size: str, usual: str = "1") -> bool:
+    return element.get("hidden", "0") in ("1", "true") or float(element.get(size, usual)) == 0

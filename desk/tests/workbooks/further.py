@@ -371,3 +371,19 @@ case("row-of-another", xlsx(candidates(ADA, [ADA[0], "Another", ADA[2]])), 1, on
 case("times-shown-by-halves", xlsx(sheet("Sessions", SESSIONS, ["S1", "2027-06-01", ("n", "0.60416666666666663", "h:mm AM/PM")],
      ["S2", "2027-06-02", ("n", "0.375", "hh:mm AM/PM")])), files={"sessions": ["S1,2027-06-01,14:30", "S2,2027-06-02,09:00"]},
      told=[["Sessions!C2", "start 2:30 PM became 14:30"], ["Sessions!C3", "start 09:00 AM became 09:00"]])
+case("second-sheet-empty", xlsx(candidates(ADA), sheet("Pupils", CANDIDATES)), files=A,
+     told=[["Pupils", "has no candidates; it is not read"]])
+case("first-sheet-empty", xlsx(sheet("Pupils", CANDIDATES), candidates(ADA)), files=A,
+     told=[["Pupils", "has no candidates; it is not read"]])
+case("header-without-result", xlsx(sheet("Candidates", ["number", "name", ("f", '"code"', None)], ADA)), 1, only=True,
+     mistakes=[["Candidates!C1", "its header is a formula that no spreadsheet has computed"]])
+case("columns-one-paper-crossed", xlsx(sheet("Papers", PAPERS[1:], ["Maths", "S1", 90, "-"]), sheet("Entries",
+     ["number", "MA-1"], ["0000001", "x"])), files={"papers": ["MA-1,Maths,S1,90,-"], "entries": ["0000001,MA-1"]},
+     args=["--columns", "{here}/columns.toml"], beside={"columns.toml": '[papers]\npaper = { always = "MA-1" }\n'})
+case("iso-times", xlsx(sheet("Sessions", SESSIONS, ["S1", "2027-06-01", ("raw", '<c r="{ref}" t="d"><v>09:00:00</v></c>')],
+     ["S2", "2027-06-02", ("raw", '<c r="{ref}" t="d"><v>2027-06-02T13:30:00.000Z</v></c>')])),
+     files={"sessions": ["S1,2027-06-01,09:00", "S2,2027-06-02,13:30"]}, told=[["Sessions!C3", "13:30"]])
+case("row-number-with-point", own_sheet(row_xml(1, *CANDIDATES) + row_xml(2, *ADA).replace('row r="2"', 'row r="2.0"')),
+     files=A, quiet=True)
+case("iso-nonsense", xlsx(candidates(["0000001", "Ada Lin", ("raw", '<c r="{ref}" t="d"><v>2027</v></c>')])), 1,
+     stderr=["Candidates!C2 is broken"])
