@@ -185,10 +185,17 @@ class Words(sample.SampleSchool):
         self.assertIn("sits BI-1 until", text)
         self.assertIn("  LIB      suits, but 2 of 2 desks are taken: ", text)
         self.assertIn("  AULA     no reader\n", text)
+        tried = text.partition("what could help; only the program knows what it comes to, so try it:\n")[2].split("\n")
+        self.assertEqual(tried[0], "  office what-if open-hall TUE-AM LIB 4 14:00 --reserved  # could seat 2 of 2; now 2 desks "
+                                   "until 14:00, reserved")
+        self.assertIn("\n2 get desks\n", self.office(*tried[0].partition("#")[0].split()[1:]))
+        self.assertEqual(tried[-1:], [""])
+        self.assertNotIn("what could help", self.office("why", "TUE-AM", "0001272"))
         self.assertIn("  PC1      sits here, at desk 1\n", self.office("why", "MON-AM", "0001051"))
         self.assertEqual(self.office("why", "MON-AM", "1051"), self.office("why", "MON-AM", "0001051"))
         self.assertIn("no session", self.refused("why", "XX"))
         self.assertIn("sits nothing", self.refused("why", "MON-AM", "0009999"))
+        self.assertIn("'Ferrari' is no candidate number: that has seven digits", self.refused("why", "MON-AM", "Ferrari"))
 
 
 class Causes(sample.SampleSchool):
