@@ -11,7 +11,7 @@ from exam_desk.words import few, plain
 if TYPE_CHECKING:
     from argparse import ArgumentParser
 
-    from exam_desk.notebook import Desk, Move
+    from exam_desk.notebook import Desk
     from exam_desk.reading import Reading
 
 MOST_BYTES = 1 << 16  # of numbers on standard input
@@ -117,15 +117,11 @@ def compared(reading: Reading, session: str) -> list[str]:
     if found is None:
         raise Trouble(f"nobody noted which desks are printed for {session}; `office printed {session}` does")
     again = "; ".join(filter(None, [", ".join(hall for hall in found.halls if hall not in found.empty), WHOLE]))
-    return [*(f"{move.number} {move.name}: {place(move.now)}, {other(move)}" for move in found.moves),
+    return [*(f"{move.number} {move.name}: {place(move.now)}, "
+              f"{OTHERWISE if move.now == move.printed else 'was ' + place(move.printed)}" for move in found.moves),
             *([f"to print again: {again}"] if found.halls else []),
             *([f"to take away, as nobody sits there now: {', '.join(found.empty)}"] if found.empty else []),
             *([] if found.halls else ["the papers are up to date"])]
-
-
-def other(move: Move) -> str:
-    """What is another than on paper."""
-    return OTHERWISE if move.now == move.printed else f"was {place(move.printed)}"
 
 
 def place(desk: Desk | None) -> str:

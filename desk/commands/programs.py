@@ -135,7 +135,7 @@ class Back(Change):
         """Says what is taken away, and what is left as it is beside the office though the copy has it otherwise."""
         when, what = copies.when_and_what(self.copy)
         print(f"the office {verb} as it was on {when}, before {plain(what)}")
-        print_taken(taken)
+        command.say_lines(f"taken away: {line}" for line in taken)
         if others:
             print(f"left as they are now, and otherwise in the copy: {', '.join(map(plain, others))}")
 
@@ -296,14 +296,14 @@ def printed(ran: Ran) -> Ran:
 
 def outcome(words: Sequence[str], ran: Ran, data: bytes | None = None) -> int:
     """Says what a refusal of a command, or of an import of these bytes, means; the status."""
-    lines = []
+    lines = refusals.idle(command.office(), words, data) if ran.status == 0 else []
     if ran.status == 1:
         lines = refusals.explained(command.office(), words, ran.complaint, data)
     elif ran.status == 2:
         text = running.help_text(command.office(), words[0])
         wrong = typed.wrong(running.takes(text), [word for word in words[1:] if word != "--"]) if text else []
         usage = [line for line in text.split("\n") if line][1:]
-        if words[0] in LISTED and words[1:2] == ["--list"]:
+        if words[0] in LISTED and "--list" in words[1:2]:
             wrong, usage = ["--list takes one file"], [f"Usage: {OF_A_LIST.format(words[0])}"]
         lines = [f"  {line}" for line in
                  [*wrong, *usage] or [f"`office --help` lists the commands{meant(words[0])}"]]
@@ -320,10 +320,6 @@ def meant(name: str) -> str:
 
 def agreed(question: str, lines: list[str]) -> list[str]:
     """Raises `Trouble` unless the answer is yes; gives the lines of what was asked about."""
-    print_taken(lines)
+    command.say_lines(f"taken away: {line}" for line in lines)
     command.ask(question)
     return lines
-
-
-def print_taken(lines: list[str]) -> None:
-    command.say_lines(f"taken away: {line}" for line in lines)

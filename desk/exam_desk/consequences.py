@@ -29,7 +29,7 @@ KINDS = {  # what may be a slip, who has no desk, what no rule of the office for
 CODES = ("has another access code", "have other access codes")
 LISTED_BY = {OPENED: "", CLASHES: "clashes {}", TWICE: "summary {}", HALLS: "summary {}",
              PRINTED: "printed {} --look"}
-OPEN = "SELECT session, hall FROM opening"
+OPEN = "SELECT session, hall, day FROM opening JOIN session ON code = session ORDER BY day, start, code, hall"
 GRAVEST = 4  # groups that have a line of their own in a short answer
 MOST_NAMED = 3  # candidates in such a line, or sessions
 DESK_ALONE = "desk"  # candidates of this kind are counted, and never named
@@ -74,7 +74,7 @@ def between(before: Reading, after: Reading, at_most: int | None) -> list[str]:
     sessions = [f"session {code}: {lists.count(people, 'candidate')}, {people - seats:,} without a desk"
                 + (f" (before: {was[code][0]:,} and {was[code][0] - was[code][1]:,})" if code in was else "")
                 for code, (people, seats) in other_figures(before, after).items()]
-    return shown + other_codes(before, after) + sessions + notes(after, met)
+    return shown + other_codes(before, after) + sessions + notes(before, after, met)
 
 
 def done(office: Office, copy: str, progress: Progress) -> list[str]:
@@ -92,7 +92,7 @@ def done(office: Office, copy: str, progress: Progress) -> list[str]:
             words = [f"`office {words}` lists them" for words in listing(met, place)]
             words += [f"`office back {place}` takes it back"] if met and met[0].kind in (OVER, OPENED) else []
             shown += ["; ".join(words)] if words else []
-            return shown + other_codes(before, after) + notes(after, met)
+            return shown + other_codes(before, after) + notes(before, after, met)
     except (Trouble, OSError, sqlite3.Error, MemoryError) as fault:
         reason = plain(str(fault)) or "there is no memory"
         return [f"the change is done, but nobody can say what it did to candidates: {reason}"]
@@ -135,14 +135,19 @@ def over(before: Reading, after: Reading, changes: Iterable[Change],
 def opened(before: Reading, after: Reading) -> dict[tuple[str, str], str]:
     """The halls that a change opens again, by session, each with the moment at which `close-hall` closed it by the
     log."""
-    was, now = ({(code, hall) for code, hall in reading.rows.execute(OPEN)} for reading in (before, after))
-    closed = logbook.closings(after.office) if now - was else {}
-    return {each: closed[each] for each in sorted(now - was) if each in closed}
+    new = openings(after).keys() - openings(before).keys()
+    closed = logbook.closings(after.office) if new else {}
+    return {each: closed[each] for each in sorted(new) if each in closed}
 
 
-def notes(after: Reading, met: list[Group]) -> list[str]:
-    """Of who leaves a session on its day or later: how it is noted that somebody did not come; and who was noted so,
-    and is gone from the list for the exam board."""
+def openings(reading: Reading) -> dict[tuple[str, str], str]:
+    """The open halls, by session and hall, in the order of the sessions, each with the day."""
+    return {(code, hall): day for code, hall, day in reading.rows.execute(OPEN)}
+
+
+def notes(before: Reading, after: Reading, met: list[Group]) -> list[str]:
+    """Where halls are open yet that are closed. Of who leaves a session on its day or later how it is noted that somebody
+    did not come, and who was noted so, and is gone from the list for the exam board."""
     days, left = {code: day for code, day, _ in facts.sessions(after.rows)}, defaultdict[str, list[str]](list)
     for each in (each for group in met if group.kind == LEAVES for each in group.people):
         if not notebook.is_to_come(after.office, days.get(each.session, "9")):
@@ -151,7 +156,20 @@ def notes(after: Reading, met: list[Group]) -> list[str]:
             for number in sorted((notebook.absent(after.office, session) or set()).intersection(numbers))]
     found = [f"NOTE: who only did not come stays entered: `office absent {session} {' '.join(numbers[:MOST_NAMED])}` "
              "notes it" for session, numbers in itertools.islice(left.items(), 1)]
-    return found + [f"NOTE: noted as absent, and not in the list for the exam board any more: {few(gone)}"] * bool(gone)
+    if gone:
+        found.append(f"NOTE: noted as absent, and not in the list for the exam board any more: {few(gone)}")
+    return found + still_open(before, after)
+
+
+def still_open(before: Reading, after: Reading) -> list[str]:
+    """Where halls that a change closes are open in other sessions, from today on."""
+    now, today, others = openings(after), after.office.today().isoformat(), defaultdict[str, list[str]](list)
+    closed = {hall for _, hall in openings(before).keys() - now.keys()}
+    for (code, hall), day in now.items():
+        if hall in closed and day >= today:
+            others[hall].append(code)
+    found = [f"{hall} in {few(codes)}" for hall, codes in sorted(others.items())]
+    return [f"NOTE: still open: {'; '.join(found[:MOST_NAMED])}"] if found else []
 
 
 def out_of_date(after: Reading, changes: Iterable[Change]) -> dict[str, list[str]]:

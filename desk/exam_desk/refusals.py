@@ -87,15 +87,24 @@ def imported(words: Sequence[str]) -> tuple[str, str] | None:
     return (values[0], values[1]) if words[0] == "import" and len(values) == 2 and values[0] in files.HEADERS else None
 
 
-def mistakes_of(office: Office, words: Sequence[str], data: bytes | None) -> list[str]:
-    """What is wrong with the file of an import, as `office check-files` says it; nothing where it has changed since."""
-    from exam_desk import checking, mistakes  # here, since a refusal alone needs them
+def idle(office: Office, words: Sequence[str], data: bytes | None = None) -> list[str]:
+    """The lines to print below the answer to an import that is done: of rows that do nothing, as an entry that stays
+    withdrawn, or an arrangement in whose place a grant is in force."""
+    found = imported(words)
+    is_looked_at = found is not None and found[0] in ("entries", "arrangements")
+    return [f"  {plain(line)}" for line in mistakes_of(office, words, data, True)] if is_looked_at else []
+
+
+def mistakes_of(office: Office, words: Sequence[str], data: bytes | None, is_done: bool = False) -> list[str]:
+    """What is wrong with the file of an import, as `office check-files` says it, or its notes on one that is done;
+    nothing where it has changed since."""
+    from exam_desk import checking, mistakes  # here, since few commands need them
     with contextlib.suppress(OSError, Trouble):
         if (found := imported(words)) and (data is not None or os.path.isfile(found[1])):
             kind, path = found
             text = files.read(path) if data is None else data
-            wrong, _ = mistakes.looked_through(kind, text, checking.office_knows(office), MOST_LINES)
-            lines = [*checking.lines_on(os.path.basename(path), wrong, "")]
+            wrong, notes = mistakes.looked_through(kind, text, checking.office_knows(office), MOST_LINES)
+            lines = [*checking.lines_on(os.path.basename(path), *((notes, "NOTE: ") if is_done else (wrong, "")))]
             return [*lines, NO_CODE] if mistakes.NO_CODE in wrong.counts else lines
     return []
 
