@@ -296,8 +296,8 @@ def printed(ran: Ran) -> Ran:
 
 def outcome(words: Sequence[str], ran: Ran, data: bytes | None = None) -> int:
     """Says what a refusal of a command, or of an import of these bytes, means; the status."""
-    lines = refusals.idle(command.office(), words, data) if ran.status == 0 else []
-    if ran.status == 1:
+    lines = []
+    if ran.status in (0, 1):
         lines = refusals.explained(command.office(), words, ran.complaint, data)
     elif ran.status == 2:
         text = running.help_text(command.office(), words[0])

@@ -93,9 +93,8 @@ def broken_off(office: Office) -> Unfinished | None:
 
 def closings(office: Office) -> dict[tuple[str, str], str]:
     """When `close-hall` closed a hall for a session, by session and hall: the last time of each."""
-    commands = ((when, command.split()) for when, _, command, status, _ in last_lines(office, ALL_BYTES)
-                if status == "0" and command.startswith("close-hall "))
-    return {(words[-2], words[-1]): when for when, words in commands}
+    done = ((when, command.split()) for when, _, command, status, _ in last_lines(office, ALL_BYTES) if status == "0")
+    return {(words[-2], words[-1]): when for when, words in done if words[:1] == ["close-hall"] and len(words) > 2}
 
 
 def last_lines(office: Office, most: int = LAST_BYTES) -> Iterator[list[str]]:
