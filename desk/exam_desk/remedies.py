@@ -91,7 +91,7 @@ def lines(rows: Rows, why: Reasons, sheet: Shortage) -> list[str]:
     found = [f"  office what-if open-hall {why.session} {then.hall} {then.desks} {clock(then.until)}"
              f"{' --reserved' * then.reserved}  # could seat {seats} of {sheet.unseated}; now {shown(now)}"
              for seats, then, now in (best(rows, why, sheet) if sheet.unseated else [])]
-    return [*(f"no hall of the office has together what {count(people, 'candidate')} of these need: {', '.join(needs)}"
+    return [*(f"no hall of the office has all of {', '.join(needs)}: needed by {count(people, 'candidate')}"
               for needs, people in lacking(rows, why).items()),
             *(["what could help; only the program knows what it comes to, so try it:"] if found else []), *found]
 

@@ -193,6 +193,8 @@ class Words(sample.SampleSchool):
         self.assertIn("sits BI-1 until", text)
         self.assertIn("  LIB      suits, but 2 of 2 desks are taken: ", text)
         self.assertIn("  AULA     no reader\n", text)
+        self.assertIn("\nno hall of the office has all of reader, computer: needed by 1 candidate\nwhat could help",
+                      self.office("why", "MON-AM"))
         tried = text.partition("what could help; only the program knows what it comes to, so try it:\n")[2].split("\n")
         self.assertEqual(tried[0], "  office what-if open-hall TUE-AM LIB 4 14:00 --reserved  # could seat 2 of 2; now 2 desks "
                                    "until 14:00, reserved")

@@ -71,7 +71,7 @@ class WhatIf(test_changing.Changing):
                             (["codes", codes, "--import"], "added 1 changed 0 same 0\n"),
                             (["codes", "--new", "1051", "--import"], "1 has another access code: 0001051"),
                             (["take", facts], "entries.csv: added 2 changed 0 same 172\n"),
-                            (["open-hall", "MON-AM", "PC1", "12", "12:30"], "\n2 get desks\n"),
+                            (["open-hall", "MON-AM", "PC1", "12", "12:30"], "\n1 gets a desk\n"),
                             (["lodge", "1051", "MON-AM", "hall", "PC1", "a draught"], r"\A0001051 D1 open\n\Z")):
             self.assertRegex(self.office("what-if", *words), line)
             self.assertEqual((self.state(), self.kept(), self.log()), (before, [], []), words)
