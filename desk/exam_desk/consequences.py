@@ -136,8 +136,8 @@ def openings(reading: Reading) -> dict[tuple[str, str], str]:
 
 
 def notes(before: Reading, after: Reading, met: Groups) -> list[str]:
-    """Of who leaves a session on its day or later: how it is noted that somebody did not come; and who was noted so, and
-    is gone from the list for the exam board. Then where a hall that is closed is open yet."""
+    """Of who leaves a session on its day or later: how it is noted that somebody did not come; and who was noted so,
+    and is gone from the list for the exam board. Then where a hall that is closed is open yet."""
     days = {code: day for code, day, _ in facts.sessions(after.rows)}
     left = [each for each in met.get(LEAVES, [])
             if not notebook.is_to_come(after.office, days.get(each.session, "9"))]
