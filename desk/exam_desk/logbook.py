@@ -20,6 +20,7 @@ WITH_REASON = ["decide", "lodge"]  # their last value is a reason, which is priv
 BESIDE_OTHERS = ["lodge"]  # it goes the candidates' way, without the office for itself
 BEGINS, STEP = "begins", "step"
 LAST_BYTES = 1 << 16  # of the log, in which the last change is looked for
+ALL_BYTES = 1 << 40
 
 
 @dataclass
@@ -90,11 +91,17 @@ def broken_off(office: Office) -> Unfinished | None:
     return found if found and not turns.is_taken(office) and unfinished(office) == found else None
 
 
-def last_lines(office: Office) -> Iterator[list[str]]:
-    """The columns of the last lines of the log; none where it cannot be read."""
+def closings(office: Office) -> dict[tuple[str, str], str]:
+    """When `close-hall` closed a hall for a session, by session and hall: the last time of each."""
+    done = ((when, command.split()) for when, _, command, status, _ in last_lines(office, ALL_BYTES) if status == "0")
+    return {(words[-2], words[-1]): when for when, words in done if words[:1] == ["close-hall"] and len(words) > 2}
+
+
+def last_lines(office: Office, most: int = LAST_BYTES) -> Iterator[list[str]]:
+    """The columns of the lines in the last so many bytes of the log; none where it cannot be read."""
     with contextlib.suppress(OSError, beside.Strange):
         with open(beside.open_file(office.path, NAME, flags=os.O_RDONLY), "rb") as file:
-            file.seek(max(os.fstat(file.fileno()).st_size - LAST_BYTES, 0))
+            file.seek(max(os.fstat(file.fileno()).st_size - most, 0))
             for line in file.read().decode("utf-8", "replace").split("\n"):
                 if len(columns := line.split("\t")) == 5:
                     yield columns
