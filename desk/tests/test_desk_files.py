@@ -25,20 +25,8 @@ NEW = b"number,name,code\n12001,Nadia,K4WBN7RTQD\n0012008,Tom,\n"
 
 
 class Uploads(DeskSchool):
-    def upload(self, *found, status=303, **fields):
-        border = "b0rder"
-        parts = [("mark", None, re.search(MARK, self.browser.get("/files"))[1].encode()),
-                 *((name, None, value.encode()) for name, value in fields.items()),
-                 *(("files", name, text) for name, text in found)]
-        body = b"".join(
-            f'--{border}\r\nContent-Disposition: form-data; name="{field}"'.encode()
-            + (f'; filename="{name}"'.encode() if name else b"") + b"\r\n\r\n" + text + b"\r\n"
-            for field, name, text in parts) + f"--{border}--\r\n".encode()
-        head = {"Content-Type": f"multipart/form-data; boundary={border}"}
-        answer, text = self.browser.ask("POST", "/files", body, head)
-        self.assertEqual(answer.status, status, text[-500:])
-        return (answer.headers["Location"] or "").removeprefix(self.browser.prefix)
-
+    def upload(self, *found, **fields):
+        return self.browser.send("/files", "/files", "files", *found, **fields)[0]
 
     def test_cells_of_an_upload_that_are_kept_together(self):
         """They are as many as those of one workbook: what goes beyond is named, and the others are read."""
