@@ -28,6 +28,7 @@ from exam_web.wording import said, shown, text
 MOST_MEMBERS = 64  # of a zip
 MOST_NAME = 80  # letters that are shown
 HIDDEN = "hidden"  # stands in the lines of a reading that speak of hidden rows and sheets
+NO_TABLES = (".pdf", ".doc", ".docx", ".odt", ".pages", ".jpg", ".jpeg", ".png", ".heic")
 OPEN = "~$"  # how the name begins of the file that Excel keeps beside a workbook that is open in it
 
 
@@ -131,6 +132,8 @@ def refusal(name: str, content: bytes, most: int) -> Markup | None:
         return text("it only says that a workbook is open: save and close that, then bring it")
     if not content.strip():
         return text("it is empty: save it once more, then bring it again")
+    if name.lower().endswith(NO_TABLES):
+        return text("it is no table: bring what a spreadsheet saves as .xlsx, .ods or CSV")
     if name.lower().endswith(".numbers"):
         return text("Numbers wrote it: export it there as Excel or CSV, and bring that")
     if content.startswith(backups.OFFICE):

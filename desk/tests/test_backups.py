@@ -98,12 +98,13 @@ class TestRefused(Backups):
         with contextlib.closing(sqlite3.connect(self.write("bad.db", self.first))) as file:
             file.execute("DELETE FROM seat WHERE number = 1017")
             file.commit()
+        whole = zipped({"office.db": self.first})
         for said, content in ((backups.NO_OFFICE, b""), (backups.NO_OFFICE, b"%PDF-1.4"),
                               (backups.NO_OFFICE, zipped({"a.csv": b"number,paper\n"})),
                               (backups.SEVERAL, zipped({"a.db": self.first, "b.db": self.first})),
                               (backups.NO_OFFICE, zipped({str(place): b"" for place in range(backups.MOST_PARTS + 1)})),
-                              (backups.BROKEN, zipped({"office.db": self.first})[:-40]),
-                              (backups.BROKEN, zipped({"office.db": self.first}).replace(self.first[:9], b"x" * 9)),
+                              (backups.BROKEN, whole[:-40]),
+                              (backups.BROKEN, whole[:len(whole) // 2] + b"x" * 9 + whole[len(whole) // 2 + 9:]),
                               (r"this copy is no good office \(bad office", self.bytes_of("other.db")),
                               (r"this copy is no good office \(bad seat", self.bytes_of("bad.db"))):
             self.refuses(said, b_zip=content)

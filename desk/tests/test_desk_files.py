@@ -9,6 +9,7 @@ import unittest
 import zipfile
 
 from desk_client import MARK, PYTHON, DeskSchool
+from test_backups import zipped
 from sample import DESK, KINDS
 
 KEPT_TOGETHER = """
@@ -52,7 +53,7 @@ class TestFiles(Uploads):
         self.browser.post(page + "/correct", page, **{"entries:3:paper": "EN-1", "entries:4:row": "drop"})
         self.assertIn("No mistake", self.browser.words(page))
         _, text = self.browser.ask("GET", page + "/entries.csv")
-        self.assertEqual(text, "number,paper\n0012001,EN-1\n0012008,EN-1\n")
+        self.assertEqual(text, '"number","paper"\n"0012001","EN-1"\n"0012008","EN-1"\n')
         before = self.seats()
         proposal = self.propose(page, codes="1", choice="enter")
         self.assertIn("2 would join a session", self.browser.words(proposal))
@@ -184,14 +185,64 @@ class TestFiles(Uploads):
             self.assertEqual(found.removeprefix("\ufeff"), '"number","paper"\n"0001051","EN-1"\n', name)
         png = b"\x89PNG\r\n\x1a\n" + bytes(range(256))
         for name, content, said in (
-                ("x.png", png, "x.png : it is no workbook, whatever its name: open it in a spreadsheet and save it as .xlsx"),
+                ("x.dat", png, "x.dat : it is no workbook, whatever its name: open it in a spreadsheet and save it as .xlsx"),
                 ("entries.csv", png, "it is no workbook, whatever its name"),
                 ("c.csv", b"number;name;code\n1;Zo\xe9;ABCDEFGH\n", "its letters are no UTF-8: save it as CSV UTF-8"),
-                ("readme.txt", b"hello", "no row is the header of one of the seven files, so nothing is taken of it")):
+                ("readme.txt", b"hello", "it has no row below the headers of one of the seven files: fill the empty")):
             words = self.browser.words(self.upload((name, content)))
             self.assertIn(said, words)
             self.assertIn("Nothing could be taken", words)
             self.assertNotIn("--", words)
+
+    def test_what_is_no_table_says_what_to_do(self):
+        """What a hasty officer chooses, also in a zip: each has one line, and no other file suffers from it."""
+        backup = zipped({"o/office.db": b"SQLite format 3\0" + bytes(99), "o/notebook/school.json": '"x"'})
+        for name, content, said in (
+                ("~$school.xlsx", b"\3Ada" + bytes(160), "it only says that a workbook is open: save and close that"),
+                ("school.xlsx", b"", "it is empty: save it once more"), ("entries.csv", b"\r\n \n", "it is empty"),
+                ("Plan.PDF", b"%PDF-1.4", "it is no table: bring what a spreadsheet saves"),
+                ("plan.jpeg", b"\xff\xd8\xff", "it is no table"), ("letter.docx", zipped({"word/x": "x"}), "it is no table"),
+                ("school.numbers", zipped({"Index/Document.iwa": b"x"}), "Numbers wrote it: export it there as Excel"),
+                ("school.xls", b"\xd0\xcf\x11\xe0\xa1\xb1\x1a\xe1" + bytes(99), "it is of the old form .xls"),
+                ("office.db", b"SQLite format 3\0" + bytes(99), "it is an office: the page Office takes a backup back"),
+                ("office-2027-05-01.zip", backup, "office.db : it is an office")):
+            for found in [(name, content)], [("all.zip", zipped({f"a/{name}": content}))]:
+                page = self.upload(*found, ("halls.csv", b"hall,title,features\nR20,Room,-\n"))
+                self.assertIn(said, self.browser.words(page))
+                self.assertIn("No mistake", self.browser.words(page))
+                if name.endswith(".zip"):
+                    break
+        self.assertEqual(self.upload(("._halls.csv", b"\0\5\x16\7")), "/files")
+        page = self.upload(("all.zip", zipped({"__MACOSX/._halls.csv": b"\0\5", ".DS_Store": b"\0", "halls.csv":
+                                               b"hall,title,features\nR20,Room,-\n"})))
+        self.assertNotIn('class="said', self.browser.get(page))
+
+    def test_two_files_of_a_kind(self):
+        rows = b"hall,title,features\nR20,Room,-\n"
+        page = self.upload(("halls.csv", rows), ("old/halls.csv", rows))
+        self.assertIn("halls.csv : it is there twice, and is taken once", self.browser.words(page))
+        page = self.upload(("halls.csv", rows), ("more.csv", rows + b"R21,Room,-\n"))
+        self.assertIn("more.csv : another file has halls too: import that one, then bring this", self.browser.words(page))
+        self.assertNotIn("R21", self.browser.ask("GET", page + "/halls.csv")[1])
+
+    def test_what_is_wrong_or_old_as_a_whole_is_said_as_a_whole(self):
+        (number, name, code), = self.rows("SELECT printf('%07d', number), name, code FROM candidate LIMIT 1")
+        days = [(self.examples / "sessions.csv").read_bytes().replace(b"2027-", year) for year in (b"2026-", b"2027-")]
+        moved = "".join(f"Ada {place},000900{place},CODE000{place}\n" for place in range(3))
+        for name, content, said in (
+                ("candidates.csv", f"number,name,code\n{moved}".encode(), "Every row is wrong in number . Has a column moved"),
+                ("candidates.csv", f"number,name,code\n{moved}0009004,Bo,CODE0004\n".encode(), ""),
+                ("entries.csv", f"number,paper\n{f'{number},X-1{chr(10)}' * 3}".encode(), "Every row is wrong in paper"),
+                ("sessions.csv", days[0], "All these days have passed. Is it a file of last year?"),
+                ("sessions.csv", days[0] + b"NEW,2027-05-01,09:00\n", ""),
+                ("sessions.csv", days[1], "The office has all these rows already: there is nothing to import."),
+                ("sessions.csv", days[1] + b"NEW,2027-06-30,09:00\n", ""),
+                ("candidates.csv", f"number,name,code\n{number},{name},{code}\n".encode(), "The office has all these rows")):
+            words = self.browser.words(self.upload((name, content)))
+            found = [each for each in ("Every row is wrong", "have passed", "there is nothing to import") if each in words]
+            self.assertEqual(found, [each for each in ("Every row is wrong", "have passed", "there is nothing to import")
+                                     if said and each in said or each == "there is nothing to import" and "has all" in said])
+            self.assertIn(said, words)
 
     def test_a_file_that_is_read_as_a_workbook_names_its_lines(self):
         page = self.upload(("entries.csv", b"number;paper\n1051;EN-1\nx;EN-1\n"))
@@ -492,6 +543,26 @@ class TestBegin(Uploads):
         self.assertIn("What changed", self.browser.words(proposal))
         self.assertIn("60 candidates", self.browser.words("/"))
 
+    def test_the_empty_workbook_is_taken_back_once_it_is_filled(self):
+        """It is there before the office is; its examples are never read."""
+        answer, empty = self.browser.fetch("GET", "/files/school.xlsx")
+        self.assertIn('attachment; filename="school.xlsx"', answer.headers["Content-Disposition"])
+        self.browser.post("/init", "/")
+        page = self.upload(("school.xlsx", empty))
+        self.assertIn("it has no row below the headers of one of the seven files", self.browser.words(page))
+        self.assertNotIn("/propose/files", self.browser.get(page))
+        rows = {kind: [line.split(",") for line in (self.examples / "day" / f"{kind}.csv").read_text("utf-8").split()[1:]]
+                for kind in KINDS}
+        rows["candidates"] = [[number, f"Name {number}", ""] for number, *_ in rows["candidates"]]
+        rows["papers"] = [[code, "Title", *rest] for code, _, *rest in rows["papers"]]
+        filled = subprocess.run([PYTHON, "-c", FILL, json.dumps(rows)], input=empty, capture_output=True, check=True).stdout
+        page = self.upload(("school.xlsx", filled))
+        self.assertIn("No mistake", self.browser.words(page))
+        proposal = self.propose(page, codes="1")
+        self.carry_out(proposal)
+        self.assertEqual(self.rows("SELECT printf('%07d', number) FROM candidate"), [(row[0],) for row in rows["candidates"]])
+        self.assertEqual(self.rows("SELECT count(*) FROM paper"), [(len(rows["papers"]),)])
+
     def test_a_first_import_says_who_would_be_without_a_desk(self):
         self.browser.post("/init", "/")
         page = self.upload(*((f"{kind}.csv", (self.examples / "day" / f"{kind}.csv").read_bytes()) for kind in KINDS))
@@ -548,6 +619,16 @@ for name, rows in found.items():
     for row in hidden.get("rows", {}).get(name, []):
         sheet.row_dimensions[row].hidden = True
     sheet.sheet_state = "hidden" if name in hidden.get("sheets", []) else "visible"
+book.save(sys.stdout.buffer)
+"""
+
+
+FILL = """
+import io, json, openpyxl, sys
+book = openpyxl.load_workbook(io.BytesIO(sys.stdin.buffer.read()))
+for kind, rows in json.loads(sys.argv[1]).items():
+    for row in rows:
+        book[kind.capitalize()].append(row)
 book.save(sys.stdout.buffer)
 """
 
