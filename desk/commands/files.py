@@ -116,7 +116,7 @@ letter, so that no spreadsheet takes it for a number.
 """, changes=True)
 def codes(parser: ArgumentParser) -> Plan:
     from commands import programs
-    from exam_desk import coding
+    from exam_desk import coding, files
     from exam_desk.changing import Step
     parser.add_argument("candidates", metavar="CANDIDATES.csv", nargs="?", help="candidates.csv if not given")
     parser.add_argument("--new", metavar="NUMBER", type=typed.number, nargs="+", default=[],
@@ -128,15 +128,15 @@ def codes(parser: ArgumentParser) -> Plan:
     path = given.candidates or "candidates.csv"
     found = coding.coded(command.office(), None if given.new and not given.candidates else path, given.new)
     if given.at_once:
-        step = Step(("import", "candidates", "rows with new codes"), coding.file_of(found.rows))
+        step = Step(("import", "candidates", "rows with new codes"), files.file_of("candidates", found.rows))
         return programs.Change([step], " ".join(["codes", *(["--new", *given.new] if given.new else [])]))
     output = given.output or f"{os.path.splitext(path)[0]}-with-codes.csv"
     return partial(write_codes, output, found)
 
 
 def write_codes(path: str, found: Coded) -> None:
-    from exam_desk import coding, files, lists
-    files.put(path, coding.file_of(found.rows))
+    from exam_desk import files, lists
+    files.put(path, files.file_of("candidates", found.rows))
     kept = f", {found.kept} filled from the office" if found.kept else ""
     made, rows = lists.count(found.made, "code"), lists.count(len(found.rows), "row")
     command.say(f"{plain(path)}: {made} made for {rows}{kept}\n")

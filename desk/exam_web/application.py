@@ -52,7 +52,7 @@ def make(here: Desk) -> Flask:
         app.register_blueprint(screen)
     app.before_request(begin)
     app.context_processor(everywhere)
-    app.teardown_request(lambda _: g.pop("view", None))  # a template holds `g` for longer
+    app.teardown_request(let_go)
     app.register_error_handler(forms.Wrong, forms.wrong_page)
     app.register_error_handler(StillReading, still_reading)
     for kind in (HTTPException, Trouble, OSError, sqlite3.Error):
@@ -63,6 +63,12 @@ def make(here: Desk) -> Flask:
 def begin() -> Response | None:
     """Where there is no office yet, all other screens lead to the first page, which makes one or takes a backup."""
     return None if request.endpoint in FIRST or desk().is_there() else redirect(url_for("season.page"), 303)
+
+
+def let_go(_: BaseException | None) -> None:
+    """A template holds `g` for longer than the request: what that held would never be closed."""
+    g.pop("view", None)
+    g.pop("visit", None)
 
 
 def everywhere() -> dict[str, Any]:

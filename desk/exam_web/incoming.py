@@ -205,7 +205,8 @@ def take_book(upload: Upload, book: Book, opened: OpenBook, reading: Reading) ->
     """Takes the sheets of a workbook where no line is a mistake."""
     report = reading.report
     if not any(line.sheet for line in report.lines if line.sort == "mistake") and not reading.records:
-        upload.note(book.name, text("it has no row below the headers of one of the seven files: fill the empty workbook of the page Files"))
+        upload.note(book.name, text("it has no row below the header of one of the seven files: take the empty "
+                                    "workbook of the page Files"))
         return
     upload.workbooks.append(book)
     book.lines = sorted((line for line in together(report.lines) if line.what != mistakes.NO_CODE),

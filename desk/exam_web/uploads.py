@@ -68,7 +68,8 @@ def looked_at(kind: str, content: bytes, known: mistakes.Known) -> Looked:
     here = {tuple(map(str.encode, row)) for row in files.rows_of(view().reading.rows, kind)}
     return Looked(
         faults, list(notes)[:MOST_SHOWN], total=wrong.count, cures=sum(each.write != "" for each in faults),
-        fields={row.line: [part.decode("utf-8", "replace") for part in row.fields] for row in rows if row.line in lines},
+        fields={row.line: [part.decode("utf-8", "replace") for part in row.fields]
+                for row in rows if row.line in lines},
         moved=[column for column in files.HEADERS[kind] if wrong.counts[column] == len(rows) > 2],
         rows=len(rows), known=sum(row.fields in here for row in rows),
         is_over=days != [] and all(files.is_date(day) and day < today for day in days))
@@ -225,7 +226,7 @@ def with_codes(upload: Upload, page: Page, form: Form) -> dict[str, bytes]:
     coded = coding.filled(coding.read(content, "candidates.csv"), known, set())
     if coded.made and not form.get("codes"):
         raise Wrong(page, codes=text("without an access code no candidate is imported: tick this"))
-    return {"candidates": coding.file_of(coded.rows)}
+    return {"candidates": files.file_of("candidates", coded.rows)}
 
 
 def withdraw_list(upload: Upload, choice: str, page: Page) -> Plan:

@@ -42,7 +42,8 @@ class Backups(sample.SampleSchool):
     @contextlib.contextmanager
     def brought(self, **given):
         """The files of the copy of a backup, by their paths in it; and the copy."""
-        with backups.brought(self.value, {name.replace("_", "."): io.BytesIO(text) for name, text in given.items()}) as copy:
+        streams = {name.replace("_", "."): io.BytesIO(text) for name, text in given.items()}
+        with backups.brought(self.value, streams) as copy:
             yield copy, {os.path.relpath(os.path.join(place, name), copy): os.path.join(place, name)
                          for place, _, names in os.walk(copy) for name in names}
 
@@ -143,13 +144,13 @@ class TestPutBack(Backups):
             return changing.go_back(self.value, ["back"], copy, lambda lost: True, state)
 
     def test_into_an_empty_folder_with_its_notebook(self):
-        given = {"b_zip": zipped({"office.db": self.first, "office.db-wal": self.second, "notebook/school.json": '"Hill"'})}
+        parts = {"office.db": self.first, "office.db-wal": self.second, "notebook/school.json": '"Hill"'}
         before = states.name_now(self.value)
         for ending in ("", "-wal"):
             os.remove(self.path + ending)
         with open(self.path + "-wal", "wb") as old:  # of another office
             old.write(self.second or b"x" * 4000)
-        self.assertEqual(self.put_back("", **given), (True, [], None))
+        self.assertEqual(self.put_back("", b_zip=zipped(parts)), (True, [], None))
         self.assertEqual((states.name_now(self.value), self.office("check")), (before, "good\n"))
         self.assertEqual((self.office("school"), notebook.school_name(self.value)), ("Hill\n", "Hill"))
         self.assertEqual(stat.S_IMODE(os.stat(self.path).st_mode), 0o600)
@@ -171,7 +172,8 @@ class TestPutBack(Backups):
     def test_the_log_and_the_copy_say_what_it_was(self):
         before = states.name_now(self.value)
         self.office("withdraw", "0001051", "PH-1")
-        done = self.put_back(states.name_now(self.value), b_zip=zipped({"office.db": self.first, "office.db-wal": self.second}))
+        parts = {"office.db": self.first, "office.db-wal": self.second}
+        done = self.put_back(states.name_now(self.value), b_zip=zipped(parts))
         self.assertEqual(states.name_now(self.value), before)
         self.assertEqual(copies.when_and_what(done.copy)[1], "back to b.zip")
         self.assertRegex(pathlib.Path(self.desk, "log").read_text("utf-8"),

@@ -3,16 +3,15 @@ there is none, or where it cannot be read, too."""
 import glob
 import html
 import os
-import pathlib
 import re
 import unittest
 
 from desk_client import MARK, DeskSchool
 from exam_desk import states
-from test_backups import zipped
 
 BRING = ("/office/bring", "/office", "backup")
 FIRST = ("/office/bring", "/", "backup")
+LOST = "appeal 0001119 D1 for MON-AM: open -> gone"
 
 
 class Backups(DeskSchool):
@@ -43,15 +42,14 @@ class TestBroughtBack(Backups):
         later = states.name_now(self.value)
         page, _ = self.browser.send(*BRING, (name, content))
         words = self.browser.words(page)
-        for said in (name, "What would change", "1 would join a session", "1 appeal or decision would be undone: tick it",
-                     "appeal 0001119 D1 for MON-AM: open -> gone"):
+        for said in (name, "What would change", "1 would join a session", f"undone: tick it {LOST}"):
             self.assertIn(said, words)
         self.assertIn(f"{name} a backup that you brought", self.browser.words("/office"))
         self.put_back(page, 422)
-        self.put_back(page, state="0" * 64, lost="appeal 0001119 D1 for MON-AM: open -> gone")
+        self.put_back(page, state="0" * 64, lost=LOST)
         self.assertIn("Nothing is changed", self.browser.words(page))
         self.assertEqual((states.name_now(self.value), len(self.rows("SELECT * FROM appeal"))), (later, 1))
-        self.put_back(page, lost="appeal 0001119 D1 for MON-AM: open -> gone")
+        self.put_back(page, lost=LOST)
         self.assertEqual((states.name_now(self.value), self.rows("SELECT * FROM appeal")), (before, []))
         words = self.browser.words("/office")
         self.assertIn(f"The office is as in {name} . The office from before is the newest copy.", words)
@@ -64,7 +62,8 @@ class TestBroughtBack(Backups):
 
     def test_what_is_none_is_refused_at_its_field(self):
         before = states.name_now(self.value)
-        for content, said in ((b"number,paper\n", "there is no office in it"), (b"PK\3\4 no zip", "it is broken"), (b"", "there is no office"),
+        for content, said in ((b"number,paper\n", "there is no office in it"), (b"", "there is no office in it"),
+                              (b"PK\3\4 no zip", "it is broken"),
                               (b"SQLite format 3\0" + bytes(5000), "this copy is no good office")):
             _, text = self.browser.send(*BRING, ("<b>x.zip", content), status=422)
             self.assertRegex(text, 'name="backup"[^>]*aria-invalid="true"')

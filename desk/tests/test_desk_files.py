@@ -10,6 +10,7 @@ import zipfile
 
 from desk_client import MARK, PYTHON, DeskSchool
 from test_backups import zipped
+from exam_desk import files
 from sample import DESK, KINDS
 
 KEPT_TOGETHER = """
@@ -185,10 +186,10 @@ class TestFiles(Uploads):
             self.assertEqual(found.removeprefix("\ufeff"), '"number","paper"\n"0001051","EN-1"\n', name)
         png = b"\x89PNG\r\n\x1a\n" + bytes(range(256))
         for name, content, said in (
-                ("x.dat", png, "x.dat : it is no workbook, whatever its name: open it in a spreadsheet and save it as .xlsx"),
+                ("x.dat", png, "x.dat : it is no workbook, whatever its name: open it in a spreadsheet and save it"),
                 ("entries.csv", png, "it is no workbook, whatever its name"),
                 ("c.csv", b"number;name;code\n1;Zo\xe9;ABCDEFGH\n", "its letters are no UTF-8: save it as CSV UTF-8"),
-                ("readme.txt", b"hello", "it has no row below the headers of one of the seven files: fill the empty")):
+                ("readme.txt", b"hello", "it has no row below the header of one of the seven files: take the empty")):
             words = self.browser.words(self.upload((name, content)))
             self.assertIn(said, words)
             self.assertIn("Nothing could be taken", words)
@@ -201,7 +202,8 @@ class TestFiles(Uploads):
                 ("~$school.xlsx", b"\3Ada" + bytes(160), "it only says that a workbook is open: save and close that"),
                 ("school.xlsx", b"", "it is empty: save it once more"), ("entries.csv", b"\r\n \n", "it is empty"),
                 ("Plan.PDF", b"%PDF-1.4", "it is no table: bring what a spreadsheet saves"),
-                ("plan.jpeg", b"\xff\xd8\xff", "it is no table"), ("letter.docx", zipped({"word/x": "x"}), "it is no table"),
+                ("plan.jpeg", b"\xff\xd8\xff", "it is no table"),
+                ("letter.docx", zipped({"word/x": "x"}), "it is no table"),
                 ("school.numbers", zipped({"Index/Document.iwa": b"x"}), "Numbers wrote it: export it there as Excel"),
                 ("school.xls", b"\xd0\xcf\x11\xe0\xa1\xb1\x1a\xe1" + bytes(99), "it is of the old form .xls"),
                 ("office.db", b"SQLite format 3\0" + bytes(99), "it is an office: the page Office takes a backup back"),
@@ -222,27 +224,30 @@ class TestFiles(Uploads):
         page = self.upload(("halls.csv", rows), ("old/halls.csv", rows))
         self.assertIn("halls.csv : it is there twice, and is taken once", self.browser.words(page))
         page = self.upload(("halls.csv", rows), ("more.csv", rows + b"R21,Room,-\n"))
-        self.assertIn("more.csv : another file has halls too: import that one, then bring this", self.browser.words(page))
+        self.assertIn("more.csv : another file has halls too: import that one, then", self.browser.words(page))
         self.assertNotIn("R21", self.browser.ask("GET", page + "/halls.csv")[1])
 
+    WHOLE = {"moved": "Every row is wrong in number . Has a column moved", "unknown": "Every row is wrong in paper",
+             "old": "All these days have passed. Is it a file of last year?",
+             "known": "The office has all these rows already: there is nothing to import."}
+
     def test_what_is_wrong_or_old_as_a_whole_is_said_as_a_whole(self):
-        (number, name, code), = self.rows("SELECT printf('%07d', number), name, code FROM candidate LIMIT 1")
-        days = [(self.examples / "sessions.csv").read_bytes().replace(b"2027-", year) for year in (b"2026-", b"2027-")]
-        moved = "".join(f"Ada {place},000900{place},CODE000{place}\n" for place in range(3))
-        for name, content, said in (
-                ("candidates.csv", f"number,name,code\n{moved}".encode(), "Every row is wrong in number . Has a column moved"),
-                ("candidates.csv", f"number,name,code\n{moved}0009004,Bo,CODE0004\n".encode(), ""),
-                ("entries.csv", f"number,paper\n{f'{number},X-1{chr(10)}' * 3}".encode(), "Every row is wrong in paper"),
-                ("sessions.csv", days[0], "All these days have passed. Is it a file of last year?"),
-                ("sessions.csv", days[0] + b"NEW,2027-05-01,09:00\n", ""),
-                ("sessions.csv", days[1], "The office has all these rows already: there is nothing to import."),
-                ("sessions.csv", days[1] + b"NEW,2027-06-30,09:00\n", ""),
-                ("candidates.csv", f"number,name,code\n{number},{name},{code}\n".encode(), "The office has all these rows")):
-            words = self.browser.words(self.upload((name, content)))
-            found = [each for each in ("Every row is wrong", "have passed", "there is nothing to import") if each in words]
-            self.assertEqual(found, [each for each in ("Every row is wrong", "have passed", "there is nothing to import")
-                                     if said and each in said or each == "there is nothing to import" and "has all" in said])
-            self.assertIn(said, words)
+        """And not where it is so of all rows but one."""
+        people = self.rows("SELECT printf('%07d', number), name, code FROM candidate LIMIT 3")
+        now = (self.examples / "sessions.csv").read_text("utf-8")
+        rows = {"candidates": "".join(f"{name},{number},{code}\n" for number, name, code in people),
+                "known": "".join(f"{','.join(row)}\n" for row in people),
+                "entries": "".join(f"{number},X-1\n" for number, *_ in people)}
+        for kind, text, said in (
+                ("candidates", rows["candidates"], "moved"), ("candidates", f"{rows['candidates']}0009004,Bo,CODE0004\n", ""),
+                ("entries", rows["entries"], "unknown"), ("entries", f"{rows['entries']}{people[0][0]},EN-1\n", ""),
+                ("candidates", rows["known"], "known"), ("candidates", f"{rows['known']}0009004,Bo,CODE0004\n", ""),
+                ("sessions", now.partition("\n")[2].replace("2027", "2026"), "old"),
+                ("sessions", now.partition("\n")[2].replace("2027", "2026") + "NEW,2027-05-01,09:00\n", ""),
+                ("sessions", now.partition("\n")[2], "known")):
+            page = self.upload((f"{kind}.csv", f"{','.join(files.HEADERS[kind])}\n{text}".encode()))
+            words = self.browser.words(page)
+            self.assertEqual([name for name, each in self.WHOLE.items() if each in words], [said] * (said != ""), text)
 
     def test_a_file_that_is_read_as_a_workbook_names_its_lines(self):
         page = self.upload(("entries.csv", b"number;paper\n1051;EN-1\nx;EN-1\n"))
@@ -549,19 +554,20 @@ class TestBegin(Uploads):
         self.assertIn('attachment; filename="school.xlsx"', answer.headers["Content-Disposition"])
         self.browser.post("/init", "/")
         page = self.upload(("school.xlsx", empty))
-        self.assertIn("it has no row below the headers of one of the seven files", self.browser.words(page))
+        self.assertIn("it has no row below the header of one of the seven files", self.browser.words(page))
         self.assertNotIn("/propose/files", self.browser.get(page))
-        rows = {kind: [line.split(",") for line in (self.examples / "day" / f"{kind}.csv").read_text("utf-8").split()[1:]]
-                for kind in KINDS}
-        rows["candidates"] = [[number, f"Name {number}", ""] for number, *_ in rows["candidates"]]
-        rows["papers"] = [[code, "Title", *rest] for code, _, *rest in rows["papers"]]
-        filled = subprocess.run([PYTHON, "-c", FILL, json.dumps(rows)], input=empty, capture_output=True, check=True).stdout
-        page = self.upload(("school.xlsx", filled))
+        rows = {"sessions": [["S1", "2027-06-01", "09:00"]], "papers": [["MA-1", "Maths", "S1", "60", "-"]],
+                "halls": [["A", "Hall A", "step-free"]], "openings": [["S1", "A", "1", "11:00", "no"]],
+                "candidates": [["0000001", "Bo", ""], ["0000002", "Ada", ""]],
+                "arrangements": [["0000002", "step-free", "0"]], "entries": [["0000001", "MA-1"], ["0000002", "MA-1"]]}
+        done = subprocess.run([PYTHON, "-c", FILL, json.dumps(rows)], input=empty, capture_output=True, check=True)
+        page = self.upload(("school.xlsx", done.stdout))
         self.assertIn("No mistake", self.browser.words(page))
-        proposal = self.propose(page, codes="1")
-        self.carry_out(proposal)
-        self.assertEqual(self.rows("SELECT printf('%07d', number) FROM candidate"), [(row[0],) for row in rows["candidates"]])
-        self.assertEqual(self.rows("SELECT count(*) FROM paper"), [(len(rows["papers"]),)])
+        self.carry_out(self.propose(page, codes="1"))
+        with self.reading() as reading:
+            for kind, wanted in rows.items():
+                found = [*files.rows_of(reading.rows, kind)]
+                self.assertEqual([row[:2] for row in found], [row[:2] for row in wanted], kind)
 
     def test_a_first_import_says_who_would_be_without_a_desk(self):
         self.browser.post("/init", "/")
