@@ -108,4 +108,5 @@ def copy_out(source: IO[bytes], target: str, room: int) -> int:
             if length > room:
                 raise Trouble(TOO_LARGE)
             file.write(piece)
+        os.fsync(file.fileno())
     return length

@@ -52,25 +52,19 @@ def keep_day(office: Office, day: datetime.date, most: int) -> str | None:
 
 
 def make(office: Office, place: str, name: str) -> str:
-    """Copies the office's two files, and the notebook beside it, into a new folder in a place; its path."""
+    """Copies the office's two files, and the notebook beside it, into a new folder in a place, whole and on the disk,
+    or not at all; its path."""
     target = os.path.join(beside.make_folder(office.path, place), name)
-    with whole(office, target) as making:
-        private.copy_files(os.path.realpath(office.path), file_in(office, making))
-        notebook.copy_into(office, making)
-    return target
-
-
-@contextlib.contextmanager
-def whole(office: Office, target: str) -> Iterator[str]:
-    """A new folder to be filled; it gets its name once all of it is on the disk."""
     with workplace(office) as folder:
         making = os.path.join(folder, PLACE)
         os.mkdir(making, 0o700)
-        yield making
+        private.copy_files(os.path.realpath(office.path), file_in(office, making))
+        notebook.copy_into(office, making)
         for path in (*(entry.path for entry in os.scandir(making)), making):
             beside.sync(path)
         os.rename(making, target)
     beside.sync(os.path.dirname(target))
+    return target
 
 
 def workplace(office: Office) -> contextlib.AbstractContextManager[str]:
@@ -220,24 +214,15 @@ def move_in(office: Office, path: str) -> None:
 
 def put_back(office: Office, copy: str) -> str | None:
     """Puts a copy in the place of the office, with the office alone; both are on the disk at each moment. Gives the
-    copy of what was there; None where nothing was: then the copy's notebook comes too. Raises `Trouble` where the copy
-    is no good office."""
+    copy of what was there; None where nothing was: then a backup brings its notebook. Raises `Trouble` where the copy is
+    no good office."""
     with ready(office, copy) as path:
         check(office, path)
-        if not os.path.exists(os.path.realpath(office.path)):
-            put_notebook(office, copy)
-            move_in(office, path)
-            return None
-        _, what = when_and_what(copy)
-        kept = keep_copy(office, f"back to {what}" if is_brought(copy) else f"back to before {what}")
+        kept, (_, what) = None, when_and_what(copy)
+        if os.path.exists(os.path.realpath(office.path)):
+            kept = keep_copy(office, f"back to {what}" if is_brought(copy) else f"back to before {what}")
+        elif is_brought(copy):
+            with contextlib.suppress(OSError):  # it has none, or one is here already
+                os.rename(os.path.join(copy, notebook.PLACE), beside.folder(office.path, notebook.PLACE))
         move_in(office, path)
     return kept
-
-
-def put_notebook(office: Office, copy: str) -> None:
-    """Copies the notebook of a copy to where the office's will lie; one that lies there stays."""
-    source, target = os.path.join(copy, notebook.PLACE), beside.folder(office.path, notebook.PLACE)
-    if os.path.isdir(source) and not os.path.lexists(target):
-        with whole(office, target) as making:
-            for name in os.listdir(source):
-                private.copy_file(os.path.join(source, name), os.path.join(making, name))

@@ -62,19 +62,14 @@ def page() -> str:
 def copy(key: str) -> str:
     path = copy_of(key)
     when, what = copies.when_and_what(path)
-    now = view_if_readable()
+    now: View | None = None
+    with contextlib.suppress(Trouble):  # the office is not there, or cannot be read
+        now = view()
     return render_template("copy.html", key=key, when=when, what=what, is_brought=copies.is_brought(path),
                            e=compared(now, path) if now else None,
                            held=[] if now else [*sums(view_of(path)).values()],
                            most=MOST_ROWS, lost=copies.taken_away(desk().office, path),
                            log=[line for line in log_since(when) if line[3] not in (logbook.BEGINS, logbook.STEP)])
-
-
-def view_if_readable() -> View | None:
-    """The office as this request shows it; none where it is not there, or cannot be read."""
-    with contextlib.suppress(Trouble):
-        return view()
-    return None
 
 
 def view_of(path: str) -> View:
