@@ -29,8 +29,8 @@ PROBLEMS = {
     413: "The upload is larger than 32 MB. Nothing was taken.",
 }
 NO_ROOM = {errno.ENOSPC, errno.EDQUOT}
-FIRST = {*guard.OPEN, "entering.leave", "season.page", "season.init", "files.template", "office.bring", "office.copy",
-         "office.back"}  # what can be asked where there is no office
+FIRST = {*guard.OPEN, "entering.leave", "season.page", "season.init", "files.template", "office.page", "office.bring",
+         "office.copy", "office.back"}  # what can be asked where there is no office
 
 
 class Number(IntegerConverter):

@@ -109,6 +109,15 @@ class TestWithoutAnOffice(Backups):
         self.assertIn(f"The office is as in {self.zip[0]} .", words)
         self.assertNotIn("newest copy", words)
 
+    def test_the_copies_of_an_office_that_was_there_are_put_back(self):
+        """As where somebody removed its file."""
+        self.put_back(self.browser.send(*FIRST, self.zip)[0])
+        self.office("withdraw", "0001051", "PH-1")
+        self.lose()
+        [link] = set(re.findall(f'href="{self.browser.prefix}(/office)">', self.browser.get("/").partition("<main")[2]))
+        self.put_back(re.search(r'/office/copies/[0-9a-f]{16}(?=")', self.browser.get(link))[0])
+        self.assertEqual(states.name_now(self.value), self.before)
+
     def test_an_office_that_somebody_makes_meanwhile_stays(self):
         page, _ = self.browser.send(*FIRST, self.zip)
         state = re.search('name="state" value="([^"]*)"', self.browser.get(page))[1]

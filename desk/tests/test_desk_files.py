@@ -534,7 +534,7 @@ class TestBegin(Uploads):
 
     def test_from_nothing(self):
         self.assertIn("There is no office yet", self.browser.words("/"))
-        for path in ("/files", "/office", "/candidates", "/appeals", "/clashes", "/overlaps", "/sessions/MON-AM"):
+        for path in ("/files", "/candidates", "/appeals", "/clashes", "/overlaps", "/sessions/MON-AM"):
             answer, _ = self.browser.ask("GET", path)
             self.assertEqual((answer.status, answer.headers["Location"]), (303, self.browser.prefix + "/"), path)
         self.browser.post("/files", "/", dates="")
