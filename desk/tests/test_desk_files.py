@@ -358,6 +358,7 @@ class TestFiles(Uploads):
         numbers, page = self.listed()
         before = self.live()
         self.assertIn("The office has all 3 entries already", self.browser.words(page))
+        self.assertNotIn("there is nothing to import", self.browser.words(page))
         self.assertNotIn("checked", self.browser.get(page))
         self.propose(page, 422)
         proposal = self.propose(page, choice="withdraw")
