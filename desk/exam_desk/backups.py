@@ -39,14 +39,15 @@ def brought(office: Office, given: Mapping[str, IO[bytes]]) -> Iterator[str]:
     with copies.workplace(office) as folder:
         copy = os.path.join(folder, copies.named(0, next(iter(given), "")))
         os.mkdir(copy, 0o700)
+        path = copies.file_in(office, copy)
         try:
             with contextlib.ExitStack() as stack:
-                unpack(parts_of(given, stack), copies.file_in(office, copy))
+                unpack(parts_of(given, stack), path)
         except UNREADABLE as fault:
             if isinstance(fault, OSError) and fault.errno in private.ELSEWHERE:  # of this disk
                 raise
             raise Trouble(BROKEN) from fault
-        copies.check(office, path := copies.file_in(office, copy))
+        copies.check(office, path)
         running.run_over(office, path, "migrate")
         yield copy
 
