@@ -28,7 +28,7 @@ from exam_web.wording import said, shown, text
 MOST_MEMBERS = 64  # of a zip
 MOST_NAME = 80  # letters that are shown
 HIDDEN = "hidden"  # stands in the lines of a reading that speak of hidden rows and sheets
-NO_TABLES = (".pdf", ".doc", ".docx", ".odt", ".pages", ".jpg", ".jpeg", ".png", ".heic")
+NO_TABLES = (".pdf", ".doc", ".docx", ".odt", ".rtf", ".pages", ".jpg", ".jpeg", ".png", ".gif", ".webp", ".heic")
 OPEN = "~$"  # how the name begins of the file that Excel keeps beside a workbook that is open in it
 
 
