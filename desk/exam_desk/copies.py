@@ -218,7 +218,8 @@ def put_back(office: Office, copy: str) -> str | None:
     no good office."""
     with ready(office, copy) as path:
         check(office, path)
-        kept, (_, what) = None, when_and_what(copy)
+        kept: str | None = None
+        _, what = when_and_what(copy)
         if os.path.exists(os.path.realpath(office.path)):
             kept = keep_copy(office, f"back to {what}" if is_brought(copy) else f"back to before {what}")
         elif is_brought(copy):
