@@ -19,6 +19,7 @@ from typing import IO
 from exam_desk import copies, files, notebook, private, running
 from exam_desk.office import Office
 from exam_desk.trouble import Trouble
+from exam_desk.workbook.cells import PASSWORD
 
 OFFICE, ZIP = b"SQLite format 3\0", b"PK\3\4"  # how their bytes begin
 MOST_PARTS = 2000
@@ -58,6 +59,8 @@ def parts_of(given: Mapping[str, IO[bytes]], stack: contextlib.ExitStack) -> Par
     for name, stream in given.items():
         if stream.read(len(ZIP)) == ZIP:
             archive = stack.enter_context(zipfile.ZipFile(stream))
+            if any(part.flag_bits & 1 for part in archive.infolist()):
+                raise Trouble(PASSWORD)
             found |= {part.filename: functools.partial(archive.open, part) for part in archive.infolist()}
         else:
             found[name] = functools.partial(from_the_start, stream)

@@ -100,11 +100,13 @@ class TestRefused(Backups):
             file.execute("DELETE FROM seat WHERE number = 1017")
             file.commit()
         whole = zipped({"office.db": self.first})
+        locked = bytearray(whole)
+        locked[locked.find(b"PK\1\2") + 8] |= 1  # says that the part is encrypted
         for said, content in ((backups.NO_OFFICE, b""), (backups.NO_OFFICE, b"%PDF-1.4"),
                               (backups.NO_OFFICE, zipped({"a.csv": b"number,paper\n"})),
                               (backups.SEVERAL, zipped({"a.db": self.first, "b.db": self.first})),
                               (backups.NO_OFFICE, zipped({str(place): b"" for place in range(backups.MOST_PARTS + 1)})),
-                              (backups.BROKEN, whole[:-40]),
+                              (backups.BROKEN, whole[:-40]), ("it has a password", bytes(locked)),
                               (backups.BROKEN, whole[:len(whole) // 2] + b"x" * 9 + whole[len(whole) // 2 + 9:]),
                               (r"this copy is no good office \(bad office", self.bytes_of("other.db")),
                               (r"this copy is no good office \(bad seat", self.bytes_of("bad.db"))):
