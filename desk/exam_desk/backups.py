@@ -86,8 +86,10 @@ def unpack(parts: Parts, path: str) -> None:
 
 def office_of(parts: Parts, path: str) -> Parts:
     """The two files of the one office among the parts, by the paths that they get."""
+    if len(parts) > MOST_PARTS:
+        raise Trouble(TOO_LARGE)
     found = [name for name, opened in parts.items() if opened().read(len(OFFICE)) == OFFICE]
-    if len(found) != 1 or len(parts) > MOST_PARTS:
+    if len(found) != 1:
         raise Trouble(SEVERAL if found else NO_OFFICE)
     return {path + ending: parts[found[0] + ending] for ending in ("", "-wal") if found[0] + ending in parts}
 

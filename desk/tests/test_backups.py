@@ -105,7 +105,6 @@ class TestRefused(Backups):
         for said, content in ((backups.NO_OFFICE, b""), (backups.NO_OFFICE, b"%PDF-1.4"),
                               (backups.NO_OFFICE, zipped({"a.csv": b"number,paper\n"})),
                               (backups.SEVERAL, zipped({"a.db": self.first, "b.db": self.first})),
-                              (backups.NO_OFFICE, zipped({str(place): b"" for place in range(backups.MOST_PARTS + 1)})),
                               (backups.BROKEN, whole[:-40]), ("it has a password", bytes(locked)),
                               (backups.BROKEN, whole[:len(whole) // 2] + b"x" * 9 + whole[len(whole) // 2 + 9:]),
                               (r"this copy is no good office \(bad office", self.bytes_of("other.db")),
@@ -118,9 +117,11 @@ class TestRefused(Backups):
                          b_zip=zipped({"office.db": self.first, "notebook/notes.json": text}))
 
     def test_more_comes_out_of_it_than_an_office_can_have(self):
-        for parts in ({"office.db": self.first + bytes(1 << 21)}, {"o.db": self.first, "o.db-wal": bytes(1 << 21)},
-                      {"o.db": self.first, "notebook/notes.json": b'"' + b"x" * (1 << 21) + b'"'}):
-            with mock.patch("exam_desk.copies.MOST_BYTES", len(self.first) + (1 << 20)):
+        more = len(self.first) + 1
+        for parts in ({"office.db": self.first + bytes(more)}, {"o.db": self.first, "o.db-wal": bytes(more)},
+                      {"o.db": self.first, "notebook/notes.json": b'"' + b"x" * more + b'"'},
+                      {"o.db": self.first} | dict.fromkeys(map(str, range(backups.MOST_PARTS)), b"")):
+            with mock.patch("exam_desk.copies.MOST_BYTES", 2 * len(self.first)):
                 self.refuses(backups.TOO_LARGE, b_zip=zipped(parts))
 
     def test_no_name_becomes_a_path(self):

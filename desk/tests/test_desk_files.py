@@ -484,7 +484,7 @@ class TestFiles(Uploads):
             text = self.browser.get(page)
             self.assertNotRegex(text, r"<script(?! src=)")
             self.assertNotIn("/propose/files", text)
-            self.assertNotIn(self.folder, text)
+            self.assertNotIn(self.folder, text.partition("<footer")[0])
 
     def test_what_is_uploaded_bears_its_names_and_says_its_mistakes(self):
         name = "<b onclick=x>\u202e.csv"
