@@ -89,9 +89,8 @@ The status is 1 if `office import` would refuse a file: for a mistake, or for a 
 def check_files(parser: ArgumentParser) -> bool:
     from exam_desk import checking, lists
     gc.disable()  # a file can have a million rows, and no row refers to itself
-    parser.add_argument("folder")
-    folder = parser.parse_args().folder
-    lines, counts = checking.check_folder(command.office(), folder, command.progress, command.show_asked)
+    given = command.given(parser, "folder")
+    lines, counts = checking.check_folder(command.office(), given.folder, command.progress, command.show_asked)
     command.say_lines(lines)
     if not counts["files"]:
         raise Trouble("none of the seven files is there")
@@ -117,7 +116,7 @@ letter, so that no spreadsheet takes it for a number.
 """, changes=True)
 def codes(parser: ArgumentParser) -> Plan:
     from commands import programs
-    from exam_desk import coding
+    from exam_desk import coding, files
     from exam_desk.changing import Step
     parser.add_argument("candidates", metavar="CANDIDATES.csv", nargs="?", help="candidates.csv if not given")
     parser.add_argument("--new", metavar="NUMBER", type=typed.number, nargs="+", default=[],
@@ -129,15 +128,15 @@ def codes(parser: ArgumentParser) -> Plan:
     path = given.candidates or "candidates.csv"
     found = coding.coded(command.office(), None if given.new and not given.candidates else path, given.new)
     if given.at_once:
-        step = Step(("import", "candidates", "rows with new codes"), coding.file_of(found.rows))
+        step = Step(("import", "candidates", "rows with new codes"), files.file_of("candidates", found.rows))
         return programs.Change([step], " ".join(["codes", *(["--new", *given.new] if given.new else [])]))
     output = given.output or f"{os.path.splitext(path)[0]}-with-codes.csv"
     return partial(write_codes, output, found)
 
 
 def write_codes(path: str, found: Coded) -> None:
-    from exam_desk import coding, files, lists
-    files.put(path, coding.file_of(found.rows))
+    from exam_desk import files, lists
+    files.put(path, files.file_of("candidates", found.rows))
     kept = f", {found.kept} filled from the office" if found.kept else ""
     made, rows = lists.count(found.made, "code"), lists.count(len(found.rows), "row")
     command.say(f"{plain(path)}: {made} made for {rows}{kept}\n")
@@ -158,17 +157,12 @@ column has the format text. With --workbook it writes one .xlsx instead, of seve
 """)
 def dump(parser: ArgumentParser) -> None:
     from exam_desk import dumping
-    parser.add_argument("folder", nargs="?")
     parser.add_argument("--workbook", metavar="FILE.xlsx", help="write a workbook in place of a folder")
-    given = parser.parse_args()
+    given = command.given(parser, "folder?")
     if (given.folder is None) == (given.workbook is None):
         parser.error("name a folder, or --workbook FILE.xlsx")
-    office = command.office()
-    if given.workbook:
-        said = dumping.write_workbook(office, given.workbook)
-    else:
-        said = dumping.write_folder(office, given.folder)
-    command.say("\n".join([*said, ""]))
+    write = dumping.write_workbook if given.workbook else dumping.write_folder
+    command.say("\n".join([*write(command.office(), given.workbook or given.folder), ""]))
 
 
 @command.named("""Mends import files that a spreadsheet broke: mend FOLDER [NEW]
@@ -184,9 +178,7 @@ folder is for its owner alone, and has besides the files all these lines, in men
 def mend(parser: ArgumentParser) -> int:
     add_reading(parser)
     parser.set_defaults(columns=None, sheet=None, leave=[], together=[], hidden="")
-    parser.add_argument("folder")
-    parser.add_argument("new", nargs="?")
-    given = parser.parse_args()
+    given = command.given(parser, "folder", "new?")
     return made(given.folder, given.new or os.path.abspath(given.folder) + "-mended", given, True, "mend.txt")
 
 
@@ -204,10 +196,8 @@ last save.
 """)
 def read(parser: ArgumentParser) -> int:
     add_reading(parser)
-    parser.add_argument("workbook")
-    parser.add_argument("folder", nargs="?")
     add_choices(parser)
-    given = parser.parse_args()
+    given = command.given(parser, "workbook", "folder?")
     new = given.folder or os.path.splitext(os.path.basename(given.workbook))[0]
     return made(given.workbook, new, given, False, "read.txt")
 
@@ -228,10 +218,8 @@ def take(parser: ArgumentParser) -> Plan:
     from exam_desk import coding
     add_reading(parser)
     parser.add_argument("source", metavar="WORKBOOK|FOLDER")
-    parser.add_argument("--yes", action="store_true", help="do not ask")
-    parser.add_argument("--codes", action="store_true", help="make access codes for candidates who have none")
     add_choices(parser)
-    given = parser.parse_args()
+    given = command.given(parser, "--yes: do not ask", "--codes: make access codes for candidates who have none")
     reading = read_source(command.existing_office(), given.source, given, os.path.isdir(given.source))
     if given.codes:
         coding.add_codes(command.office(), reading)
@@ -251,7 +239,5 @@ leaves out.
 """)
 def template(parser: ArgumentParser) -> None:
     from exam_desk.workbook.reading import put_workbook
-    parser.add_argument("file")
-    path = parser.parse_args().file
-    put_workbook(path)
+    put_workbook(path := command.given(parser, "file").file)
     command.say(f"{plain(path)}: fill it, then office read {plain(path)}\n")

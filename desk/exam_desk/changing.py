@@ -217,10 +217,11 @@ def turn(office: Office, title: str, made_from: str | None = None, tell: Tell = 
 
 
 def is_in_state(office: Office, name: str) -> bool:
+    """Whether the office has the state of this name; one that cannot be read, or is not there, has the name ''."""
     try:
         return states.name_now(office) == name
-    except Trouble:  # it cannot be read
-        return False
+    except Trouble:
+        return name == ""
 
 
 @contextlib.contextmanager
@@ -286,10 +287,9 @@ def go_back(office: Office, words: Sequence[str], copy: str, may_go: Callable[[l
             lines = copies.taken_away(office, copy)
             if not may_go(lines):
                 return Back(False, lines, None)
-            when, what = copies.when_and_what(copy)
             outcome = stack.enter_context(logbook.logged(office, words))
         kept = copies.put_back(office, copy)
-        outcome.status, outcome.answer = 0, "; ".join([f"as it was on {when}, before {what}", *lines])
+        outcome.status, outcome.answer = 0, "; ".join([copies.state_of(copy), *lines])
     return Back(True, lines, kept)
 
 

@@ -63,7 +63,8 @@ def check_folder(office: Office, folder: str, tell: Tell, progress: Progress) ->
     if texts and not counts["mistakes"]:
         if codes:
             people = coding.read(texts["candidates"], "candidates.csv")
-            texts["candidates"] = coding.file_of(coding.filled(people, coding.in_office(office), set()).rows)
+            coded = coding.filled(people, coding.in_office(office), set())
+            texts["candidates"] = files.file_of("candidates", coded.rows)
         tried = would_do(office, texts, tell, progress)
     counts["notes"] = sum(notes.count for _, notes in found.values()) + len(tried)
     lines = [line for name, (wrong, notes) in found.items()

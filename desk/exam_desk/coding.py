@@ -82,11 +82,6 @@ def coded(office: Office, path: str | None, new: list[str]) -> Coded:
     return filled(rows, known, set(new))
 
 
-def file_of(rows: list[list[str]]) -> bytes:
-    """The rows as a file of candidates."""
-    return files.file_of("candidates", rows)
-
-
 def renamed(office: Office, number: str, name: str) -> Step:
     """The import of a candidate's row with another name and the same code. Raises `Trouble` where there is no such
     candidate, or the name has another form."""
@@ -97,8 +92,8 @@ def renamed(office: Office, number: str, name: str) -> Step:
         raise Trouble(f"the office has no candidate {number}; a number has seven digits, `office look NAME` finds it")
     if not files.is_name(name.encode("utf-8", "surrogateescape")):
         raise Trouble("a name has 1 to 80 bytes and no control characters")
-    rows = [files.HEADERS["candidates"], [number, name, known[number][2]]]
-    return Step(("import", "candidates", f"name of {number}"), files.written(rows).encode())
+    return Step(("import", "candidates", f"name of {number}"),
+                files.file_of("candidates", [[number, name, known[number][2]]]))
 
 
 def add_codes(office: Office, reading: Reading) -> None:

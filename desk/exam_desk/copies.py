@@ -29,11 +29,15 @@ def keep_copy(office: Office, command: str) -> str:
 
     Its running number is one more than the highest, so that the order does not depend on the clock.
     """
-    number = max(map(number_of, listed(office)), default=0) + 1
-    what = re.sub(r"[^A-Za-z0-9 .+-]", "_", command.replace(":", "."))[:MOST_LETTERS]
-    copy = make(office, PLACE, f"{number:06} {datetime.datetime.now():%Y-%m-%d %H.%M.%S} {what}")
+    copy = make(office, PLACE, named(max(map(number_of, listed(office)), default=0) + 1, command))
     prune(office)
     return copy
+
+
+def named(number: int, what: str) -> str:
+    """The name of a copy that is made now."""
+    what = re.sub(r"[^A-Za-z0-9 .+-]", "_", what.replace(":", "."))[:MOST_LETTERS]
+    return f"{number:06} {datetime.datetime.now():%Y-%m-%d %H.%M.%S.%f} {what}"
 
 
 def keep_day(office: Office, day: datetime.date, most: int) -> str | None:
@@ -51,10 +55,10 @@ def make(office: Office, place: str, name: str) -> str:
     """Copies the office's two files, and the notebook beside it, into a new folder in a place, whole and on the disk,
     or not at all; its path."""
     target = os.path.join(beside.make_folder(office.path, place), name)
-    with private.private_folder(beside.make_folder(office.path, private.PLACE)) as folder:
+    with workplace(office) as folder:
         making = os.path.join(folder, PLACE)
         os.mkdir(making, 0o700)
-        private.copy_files(os.path.realpath(office.path), os.path.join(making, office.base_name()))
+        private.copy_files(os.path.realpath(office.path), file_in(office, making))
         notebook.copy_into(office, making)
         for path in (*(entry.path for entry in os.scandir(making)), making):
             beside.sync(path)
@@ -63,9 +67,14 @@ def make(office: Office, place: str, name: str) -> str:
     return target
 
 
-def file_in(office: Office, copy: str) -> str:
-    """The path of the office's first file in a copy."""
-    return os.path.join(copy, office.base_name())
+def workplace(office: Office) -> contextlib.AbstractContextManager[str]:
+    """A private folder on the disk of the office."""
+    return private.private_folder(beside.make_folder(office.path, private.PLACE))
+
+
+def file_in(office: Office, folder: str) -> str:
+    """The path of the office's first file in a folder, such as a copy."""
+    return os.path.join(folder, office.base_name())
 
 
 def drop(copy: str) -> None:
@@ -132,9 +141,20 @@ def prune(office: Office) -> None:
 
 
 def when_and_what(copy: str) -> tuple[str, str]:
-    """When a copy was made, and before which command: its name, readable."""
-    _, day, time, command = parts(copy).groups()
-    return f"{day} {time[:8].replace('.', ':')}", command
+    """When a copy was made, and before which command; or when a backup was brought, and its name."""
+    _, day, time, what = parts(copy).groups()
+    return f"{day} {time[:8].replace('.', ':')}", what
+
+
+def is_brought(copy: str) -> bool:
+    """Whether a copy is a backup that somebody brought."""
+    return os.path.basename(os.path.dirname(copy)) != PLACE
+
+
+def state_of(copy: str) -> str:
+    """Which state a copy has, in words."""
+    when, what = when_and_what(copy)
+    return f"as in {what}, brought on {when}" if is_brought(copy) else f"as it was on {when}, before {what}"
 
 
 def check(office: Office, path: str) -> None:
@@ -148,8 +168,11 @@ def check(office: Office, path: str) -> None:
 
 
 def taken_away(office: Office, copy: str) -> list[str]:
-    """A line for each appeal and decision that the office has and a copy has not."""
-    now, then = appeals.read(office, os.path.realpath(office.path)), appeals.read(office, file_in(office, copy))
+    """A line for each appeal and decision that the office has and a copy has not; none where there is no office."""
+    place = os.path.realpath(office.path)
+    if not os.path.exists(place):
+        return []
+    now, then = appeals.read(office, place), appeals.read(office, file_in(office, copy))
     return [UNKNOWN] if now is None else appeals.lost(now, then or {})
 
 
@@ -169,8 +192,8 @@ def remove_second(path: str) -> None:
 @contextlib.contextmanager
 def ready(office: Office, copy: str) -> Iterator[str]:
     """The path of a copy as one file that is on the disk, to be moved into the place of the office."""
-    with private.private_folder(beside.make_folder(office.path, private.PLACE)) as folder:
-        path = os.path.join(folder, office.base_name())
+    with workplace(office) as folder:
+        path = file_in(office, folder)
         private.copy_files(file_in(office, copy), path)
         in_one_file(path)
         beside.sync(path)
@@ -191,11 +214,16 @@ def move_in(office: Office, path: str) -> None:
 
 def put_back(office: Office, copy: str) -> str | None:
     """Puts a copy in the place of the office, with the office alone; both are on the disk at each moment. Gives the
-    copy of what was there; None where nothing was. Raises `Trouble` where the copy is no good office."""
+    copy of what was there; None where nothing was: then a backup brings its notebook. Raises `Trouble` where the copy is
+    no good office."""
     with ready(office, copy) as path:
         check(office, path)
-        is_there = os.path.exists(os.path.realpath(office.path))
+        kept: str | None = None
         _, what = when_and_what(copy)
-        kept = keep_copy(office, f"back to before {what}") if is_there else None
+        if os.path.exists(os.path.realpath(office.path)):
+            kept = keep_copy(office, f"back to {what}" if is_brought(copy) else f"back to before {what}")
+        elif is_brought(copy):
+            with contextlib.suppress(OSError):  # it has none, or one is here already
+                os.rename(os.path.join(copy, notebook.PLACE), beside.folder(office.path, notebook.PLACE))
         move_in(office, path)
     return kept

@@ -1,5 +1,6 @@
 """The application: its screens, what all pages have, and faults in words."""
 import errno
+import os
 import sqlite3
 from typing import Any
 
@@ -28,6 +29,8 @@ PROBLEMS = {
     413: "The upload is larger than 32 MB. Nothing was taken.",
 }
 NO_ROOM = {errno.ENOSPC, errno.EDQUOT}
+FIRST = {*guard.OPEN, "entering.leave", "season.page", "season.init", "files.template", "office.page", "office.bring",
+         "office.copy", "office.back"}  # what can be asked where there is no office
 
 
 class Number(IntegerConverter):
@@ -49,7 +52,7 @@ def make(here: Desk) -> Flask:
         app.register_blueprint(screen)
     app.before_request(begin)
     app.context_processor(everywhere)
-    app.teardown_request(lambda _: g.pop("view", None))  # a template holds `g` for longer
+    app.teardown_request(let_go)
     app.register_error_handler(forms.Wrong, forms.wrong_page)
     app.register_error_handler(StillReading, still_reading)
     for kind in (HTTPException, Trouble, OSError, sqlite3.Error):
@@ -58,9 +61,14 @@ def make(here: Desk) -> Flask:
 
 
 def begin() -> Response | None:
-    """Where there is no office yet, every screen leads to the first page, which makes one."""
-    is_first = request.endpoint in {*guard.OPEN, "entering.leave", "season.page", "season.init"}
-    return None if is_first or desk().is_there() else redirect(url_for("season.page"), 303)
+    """Where there is no office yet, all other screens lead to the first page, which makes one or takes a backup."""
+    return None if request.endpoint in FIRST or desk().is_there() else redirect(url_for("season.page"), 303)
+
+
+def let_go(_: BaseException | None) -> None:
+    """A template holds `g` for longer than the request: what that held would never be closed."""
+    g.pop("view", None)
+    g.pop("visit", None)
 
 
 def everywhere() -> dict[str, Any]:
@@ -72,7 +80,7 @@ def everywhere() -> dict[str, Any]:
     asked = g.get("asked") or (left.asked if left else forms.Asked())
     return {"mark": visit.mark, "initials": visit.initials, "said": said,
             "today": here.office.today().isoformat(), "pretended": here.pretended,
-            "office_name": here.office.base_name(), "state": g.view.name if "view" in g else "",
+            "office_file": os.path.realpath(here.office.path), "state": g.view.name if "view" in g else "",
             "layout": "piece.html" if "piece" in request.args else "base.html",
             "wrong": asked.wrong, "given": asked.given, "asked_form": asked.form,
             "direction": "rtl" if wording.language() in wording.RIGHT_TO_LEFT else "ltr"}

@@ -55,6 +55,7 @@ class Visit:
     said: list[tuple[str, Any]] = field(default_factory=list)  # what the next page says once
     proposals: dict[str, Any] = field(default_factory=dict)
     uploads: dict[str, Any] = field(default_factory=dict)
+    backup: Any = None  # the one that was brought last
 
 
 def digest(secret: str) -> str:

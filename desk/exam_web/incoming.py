@@ -5,7 +5,6 @@ No name that a browser sends becomes a path: it is compared and shown. A zip is 
 import datetime
 import itertools
 import zipfile
-import zlib
 from collections.abc import Iterable, Iterator
 from dataclasses import dataclass, field, replace
 from pathlib import PureWindowsPath
@@ -14,7 +13,7 @@ from typing import IO
 from markupsafe import Markup
 from werkzeug.datastructures import FileStorage
 
-from exam_desk import files, mistakes
+from exam_desk import backups, files, mistakes
 from exam_desk.trouble import Trouble
 from exam_desk.workbook.cells import MOST_CELLS, MOST_FILE
 from exam_desk.workbook.cells import Book as OpenBook
@@ -29,7 +28,8 @@ from exam_web.wording import said, shown, text
 MOST_MEMBERS = 64  # of a zip
 MOST_NAME = 80  # letters that are shown
 HIDDEN = "hidden"  # stands in the lines of a reading that speak of hidden rows and sheets
-UNREADABLE = (zipfile.BadZipFile, zipfile.LargeZipFile, zlib.error, RuntimeError, EOFError, OSError, ValueError)
+NO_TABLES = (".pdf", ".doc", ".docx", ".odt", ".rtf", ".pages", ".jpg", ".jpeg", ".png", ".gif", ".webp", ".heic")
+OPEN = "~$"  # how the name begins of the file that Excel keeps beside a workbook that is open in it
 
 
 @dataclass(eq=False)
@@ -71,8 +71,10 @@ class Upload:
 
     def take(self, kind: str, content: bytes, name: str, *sheets: str) -> None:
         """Takes a file of a kind, and the names of its sheets."""
-        if kind in self.texts:
-            self.note(name, text("there are two files of {kind}; the first is taken", kind=kind))
+        if content == self.texts.get(kind):
+            self.note(name, text("it is there twice, and is taken once"))
+        elif kind in self.texts:
+            self.note(name, text("another file has {kind} too: import that one, then bring this by itself", kind=kind))
         else:
             self.texts[kind] = content
             self.is_called_list |= kind == "entries" and any(map(is_called_list, (name, *sheets)))
@@ -82,7 +84,7 @@ def taken(storages: Iterable[FileStorage], way: Way) -> Upload:
     """The files that come together."""
     upload = Upload()
     for storage in storages:
-        name = PureWindowsPath(storage.filename or "").name
+        name = bare(storage.filename or "")
         upload.names += [name[-MOST_NAME:]] * (name != "")
         if name.lower().endswith(".zip"):
             take_zip(upload, name, storage.stream, way)
@@ -93,29 +95,50 @@ def taken(storages: Iterable[FileStorage], way: Way) -> Upload:
     return upload
 
 
+def bare(path: str) -> str:
+    """The name of a file without its folders; "" for one that is hidden, as those that macOS adds."""
+    name = PureWindowsPath(path).name
+    return "" if name.startswith(".") else name
+
+
 def take_zip(upload: Upload, name: str, stream: IO[bytes], way: Way) -> None:
     try:
         with zipfile.ZipFile(stream) as archive:
-            members = [each for each in archive.infolist() if not each.is_dir() and "__MACOSX" not in each.filename]
+            members = [each for each in archive.infolist() if not each.is_dir() and bare(each.filename)]
             if len(members) > MOST_MEMBERS:
                 upload.note(name, text("it holds {count} files; give the seven alone", count=len(members)))
                 return
             for member in members:
                 with archive.open(member) as file:
-                    take(upload, PureWindowsPath(member.filename).name, file.read(files.MOST_BYTES + 1), way)
-    except UNREADABLE as fault:
+                    take(upload, bare(member.filename), file.read(files.MOST_BYTES + 1), way)
+    except backups.UNREADABLE as fault:
         upload.note(name, text("it cannot be read: {why}", why=str(fault)))
 
 
 def take(upload: Upload, name: str, content: bytes, way: Way, most: int = files.MOST_BYTES) -> None:
     """Puts one of the seven files, as an import takes them, under its kind; all else is to be read as a workbook."""
     first = next(files.records(content[:1 << 12]), None)
-    if len(content) > most:
-        upload.note(name, text("it has more than {most} bytes: split it", most=most))
+    if why := refusal(name, content, most):
+        upload.note(name, why)
     elif kind := next((kind for kind in files.HEADERS if files.is_header(kind, first)), None):
         upload.take(kind, content, name)
     else:
         upload.workbooks.append(Book(name[-MOST_NAME:], content, way))
+
+
+def refusal(name: str, content: bytes, most: int) -> Markup | None:
+    """Why a file is not looked through, as far as its name, its length and its first bytes say."""
+    if name.startswith(OPEN):
+        return text("it only says that a workbook is open: save and close that, then bring it")
+    if not content.strip():
+        return text("it is empty: save it once more, then bring it again")
+    if name.lower().endswith(NO_TABLES):
+        return text("it is no table: bring what a spreadsheet saves as .xlsx, .ods or CSV")
+    if name.lower().endswith(".numbers"):
+        return text("Numbers wrote it: export it there as Excel or CSV, and bring that")
+    if content.startswith(backups.OFFICE):
+        return text("it is an office: the page Office takes a backup back")
+    return text("it has more than {most} bytes: split it", most=most) if len(content) > most else None
 
 
 def take_books(upload: Upload, books: list[Book]) -> None:
@@ -182,7 +205,8 @@ def take_book(upload: Upload, book: Book, opened: OpenBook, reading: Reading) ->
     """Takes the sheets of a workbook where no line is a mistake."""
     report = reading.report
     if not any(line.sheet for line in report.lines if line.sort == "mistake") and not reading.records:
-        upload.note(book.name, text("no row is the header of one of the seven files, so nothing is taken of it"))
+        upload.note(book.name, text("it has no row below the header of one of the seven files: take the empty "
+                                    "workbook of the page Files"))
         return
     upload.workbooks.append(book)
     book.lines = sorted((line for line in together(report.lines) if line.what != mistakes.NO_CODE),

@@ -1,16 +1,20 @@
-"""The office: whether it serves, its copies and how one is put back, its log, a backup."""
+"""The office: whether it serves, its copies and how one is put back, its log; a backup, and one that is brought."""
+import contextlib
 import os
 import pathlib
 import re
 import sys
+import weakref
+from collections.abc import Mapping
+from typing import IO
 
-from flask import Blueprint, abort, render_template, request
+from flask import Blueprint, abort, g, render_template, request
 from markupsafe import Markup, escape
 from werkzeug.wrappers import Response
 
-from exam_desk import beside, changing, copies, keeping, logbook, notebook, private, turns
-from exam_desk.trouble import Stale
-from exam_web.desk import View, desk, office, once, view
+from exam_desk import backups, beside, changing, copies, keeping, logbook, notebook, private, turns
+from exam_desk.trouble import Stale, Trouble
+from exam_web.desk import View, desk, office, once, sums, view
 from exam_web.forms import Wrong, archive, lead, whole
 from exam_web.proposals import MOST_ROWS, Effects, copy_key
 from exam_web.wording import said, text
@@ -25,8 +29,22 @@ PLACE_IN_IT = re.compile(r"\[([^][]+)\]\((#[a-z0-9-]+)\)")  # a link to a chapte
 LOWEST_PORT, HIGHEST_PORT = 1024, 65535
 
 
+class Backup:
+    """A backup that was brought, as a copy. That goes when nobody holds the backup any more."""
+
+    def __init__(self, given: Mapping[str, IO[bytes]]) -> None:
+        stack = contextlib.ExitStack()
+        self.path = stack.enter_context(backups.brought(desk().office, given))
+        weakref.finalize(self, stack.close)
+
+
+def paths() -> list[str]:
+    """The paths of the backup that this visit brought, if it did, and of the copies."""
+    return [*([g.visit.backup.path] if g.visit.backup else []), *copies.listed(desk().office)]
+
+
 def copy_of(key: str) -> str:
-    return next((path for path in copies.listed(desk().office) if copy_key(path) == key), "") or abort(404)
+    return next((path for path in paths() if copy_key(path) == key), "") or abort(404)
 
 
 def log_since(when: str = "") -> list[list[str]]:
@@ -36,49 +54,74 @@ def log_since(when: str = "") -> list[list[str]]:
 
 @pages.get("/office")
 def page() -> str:
-    here = desk().office
-    found = [(copy_key(path), *copies.when_and_what(path)) for path in copies.listed(here)]
-    return render_template("office.html", copies=found, log=log_since(), keep=turns.keep_state(here))
+    found = [(copy_key(path), *copies.when_and_what(path), copies.is_brought(path)) for path in paths()]
+    return render_template("office.html", copies=found, log=log_since(), keep=turns.keep_state(desk().office))
 
 
 @pages.get("/office/copies/<key>")
 def copy(key: str) -> str:
     path = copy_of(key)
     when, what = copies.when_and_what(path)
-    return render_template("copy.html", key=key, when=when, what=what, e=since(view(), path), most=MOST_ROWS,
-                           lost=copies.taken_away(desk().office, path),
+    now: View | None = None
+    with contextlib.suppress(Trouble):  # the office is not there, or cannot be read
+        now = view()
+    return render_template("copy.html", key=key, when=when, what=what, is_brought=copies.is_brought(path),
+                           e=compared(now, path) if now else None,
+                           held=[] if now else [*sums(view_of(path)).values()],
+                           most=MOST_ROWS, lost=copies.taken_away(desk().office, path),
                            log=[line for line in log_since(when) if line[3] not in (logbook.BEGINS, logbook.STEP)])
 
 
+def view_of(path: str) -> View:
+    return View(desk().office, copies.file_in(desk().office, path))
+
+
 @once
-def since(now: View, path: str) -> Effects:
-    """What is another since a copy was made."""
+def compared(now: View, path: str) -> Effects:
+    """What is another since a copy was made; of a backup that was brought, what it would change."""
     with desk().rehearsing:
-        return Effects(View(desk().office, copies.file_in(desk().office, path)), now)
+        then = view_of(path)
+        return Effects(now, then) if copies.is_brought(path) else Effects(then, now)
 
 
 @pages.get("/office/copies/<key>/changes.csv")
 def copy_csv(key: str) -> Response:
-    return since(view(), copy_of(key)).csv("changes-since.csv")
+    return compared(view(), copy_of(key)).csv("changes-since.csv")
 
 
 @pages.post("/office/copies/<key>/back")
 def back(key: str) -> Response:
     """Puts a copy back, if the office is as the page showed it and each appeal that would be lost has its tick."""
     path, ticked = copy_of(key), set(request.form.getlist("lost"))
-    when, _ = copies.when_and_what(path)
+    when, what = copies.when_and_what(path)
     try:
         with desk().rehearsing:
-            is_back, *_ = changing.go_back(office(), ["back"], path, lambda lost: ticked.issuperset(lost),
-                                           request.form.get("state", ""))
+            is_back, _, kept = changing.go_back(office(), ["back"], path, lambda lost: ticked.issuperset(lost),
+                                                request.form.get("state", ""))
     except Stale:
         said = text("Nothing is changed: the office is another than the page showed. This is how it stands now.")
         return lead("office.copy", said, "bad", key=key)
     if not is_back:
         wrong = text("tick each of these, or leave the office as it is")
         raise Wrong(("office.copy", {"key": key}), "back", lost=wrong)
-    return lead("office.page", text("The office is as it was on {when}. The office from before is the newest copy.",
-                                    when=when))
+    g.visit.backup = None
+    done = [text("The office is as in {name}.", name=what) if copies.is_brought(path) else
+            text("The office is as it was on {when}.", when=when)]
+    return lead("office.page", Markup(" ").join(
+        [*done, *([text("The office from before is the newest copy.")] if kept else [])]))
+
+
+@pages.post("/office/bring")
+def bring() -> Response:
+    """Takes a backup in, for a look; the office stays as it is."""
+    given = {pathlib.PureWindowsPath(each.filename or "").name: each.stream for each in request.files.getlist("backup")}
+    try:
+        with desk().rehearsing:
+            g.visit.backup = Backup(given)
+    except Trouble as trouble:
+        page = "office.page" if desk().is_there() else "season.page"
+        raise Wrong((page, {}), "bring", backup=said(trouble.sentence)) from trouble
+    return lead("office.copy", key=copy_key(g.visit.backup.path))
 
 
 @pages.get("/handbook")

@@ -1,6 +1,4 @@
 """Files: what the office has; what a browser brings, its mistakes with cures, and corrections on the spot."""
-import csv
-import io
 from collections.abc import Mapping
 from functools import partial
 from typing import NamedTuple
@@ -11,8 +9,9 @@ from werkzeug.wrappers import Response
 from exam_desk import coding, dumping, facts, files, mistakes
 from exam_desk.changing import Step
 from exam_desk.mistakes import Mistake
+from exam_desk.workbook.reading import workbook_of
 from exam_desk.workbook.values import Way
-from exam_web.desk import view
+from exam_web.desk import desk, view
 from exam_web.forms import Form, Page, Wrong, archive, attached, keep, lead
 from exam_web.incoming import Book, Upload, below_header, take_books, taken
 from exam_web.proposals import PLANS, Plan
@@ -26,6 +25,7 @@ MOST_VALUE = 400  # letters of a value that is typed
 MOST_LINES = 300  # of a workbook, on the page
 MOST_LISTED = 300  # rows that are withdrawn or reinstated one by one, while nobody else has the office
 CHOICES = ("withdraw", "reinstate")  # what else may become of entries
+WORKBOOK = "application/vnd.openxmlformats-officedocument.spreadsheetml.sheet"
 
 
 class Looked(NamedTuple):
@@ -35,32 +35,44 @@ class Looked(NamedTuple):
     fields: dict[int, list[str]]  # of the rows of these, by line
     total: int  # of all mistakes
     cures: int  # that are clear
+    moved: list[str]  # columns that are wrong in every row
     rows: int
+    known: int  # rows that the office has
     codes: int = 0  # candidates without an access code, here and in the office
-    known: int = 0  # rows that are entries which the office has
     asks: bool = False  # they may be a list of withdrawals or of reinstatements
+    is_over: bool = False  # these are sessions, and the day of each has passed
 
 
 def looked_through(upload: Upload, alone: bool = False) -> dict[str, Looked]:
     """The files with their mistakes, each beside the office and the files before it; also beside the workbooks of which
     nothing is taken yet, if they are not to stand alone."""
-    known, looked = mistakes.Known(view().reading.rows), {}
+    known = mistakes.Known(view().reading.rows)
     had, asks = may_be_list(upload, known)
     for book in upload.workbooks if not alone else ():
         for kind, rows in book.rows.items():
             known.take(kind, rows)
-    lacking = without_codes(upload)
-    for kind in upload.kinds:
-        content = upload.texts[kind]
-        wrong, notes = mistakes.looked_through(kind, content, known)
-        found = list(wrong)[:MOST_CURED], list(notes)[:MOST_SHOWN]
-        lines = {each.line for each in found[0]}
-        fields = {record.line: [part.decode("utf-8", "replace") for part in record.fields]
-                  for record in files.records(content) if record.line in lines}
-        looked[kind] = Looked(*found, fields, wrong.count, sum(each.write != "" for each in found[0]),
-                              sum(1 for _ in below_header(content)), lacking if kind == "candidates" else 0,
-                              had if kind == "entries" else 0, asks and kind == "entries")
+    looked = {kind: looked_at(kind, upload.texts[kind], known) for kind in upload.kinds}
+    if "candidates" in looked:
+        looked["candidates"] = looked["candidates"]._replace(codes=without_codes(upload))
+    if "entries" in looked:
+        looked["entries"] = looked["entries"]._replace(known=had, asks=asks)
     return looked
+
+
+def looked_at(kind: str, content: bytes, known: mistakes.Known) -> Looked:
+    """A file beside what is known, which has its rows, too, afterwards."""
+    wrong, notes = mistakes.looked_through(kind, content, known)
+    faults, rows = list(wrong)[:MOST_CURED], [*below_header(content)]
+    lines, today = {each.line for each in faults}, desk().office.today().isoformat().encode()
+    days = [row.fields[1] for row in rows if kind == "sessions" and len(row.fields) == len(files.HEADERS[kind])]
+    here = {tuple(map(str.encode, row)) for row in files.rows_of(view().reading.rows, kind)}
+    return Looked(
+        faults, list(notes)[:MOST_SHOWN], total=wrong.count, cures=sum(each.write != "" for each in faults),
+        fields={row.line: [part.decode("utf-8", "replace") for part in row.fields]
+                for row in rows if row.line in lines},
+        moved=[column for column in files.HEADERS[kind] if wrong.counts[column] == len(rows) > 2],
+        rows=len(rows), known=sum(row.fields in here for row in rows),
+        is_over=days != [] and all(files.is_date(day) and day < today for day in days))
 
 
 def without_codes(upload: Upload) -> int:
@@ -100,16 +112,15 @@ def corrections(kind: str, looked: Looked, form: Mapping[str, str]) -> Correctio
     return wanted
 
 
-def corrected(content: bytes, wanted: Corrections) -> bytes:
-    out = io.StringIO()
-    lines = csv.writer(out, lineterminator="\n")
-    for record in files.records(content):
+def corrected(kind: str, content: bytes, wanted: Corrections) -> bytes:
+    rows = [files.HEADERS[kind]]
+    for record in below_header(content):
         fields = [part.decode("utf-8", "surrogateescape") for part in record.fields]
         for place, value in wanted.get(record.line, {}).items():
             fields[place] = value
         if wanted.get(record.line) != {}:
-            lines.writerow(fields)
-    return out.getvalue().encode("utf-8", "surrogateescape")
+            rows.append(fields)
+    return files.written(rows).encode("utf-8", "surrogateescape")
 
 
 @pages.get("/files")
@@ -150,7 +161,7 @@ def correct(key: str) -> Response:
     rows = 0
     for kind, looked in looked_through(found).items():
         if wanted := corrections(kind, looked, request.form):
-            found.texts[kind] = corrected(found.texts[kind], wanted)
+            found.texts[kind] = corrected(kind, found.texts[kind], wanted)
             rows += len(wanted)
     found.edits += rows
     said = many(rows, "{count} row is corrected in what was uploaded; your own files are as they were.",
@@ -177,6 +188,12 @@ def again(key: str) -> Response:
 def download(key: str, kind: str) -> Response:
     found: Upload = g.visit.uploads.get(key) or abort(404)
     return attached(found.texts[kind], f"{kind}.csv") if kind in found.texts else abort(404)
+
+
+@pages.get("/files/school.xlsx")
+def template() -> Response:
+    """The empty workbook of `office template`."""
+    return attached(workbook_of(None), "school.xlsx", WORKBOOK)
 
 
 @pages.post("/files/dump")
@@ -209,7 +226,7 @@ def with_codes(upload: Upload, page: Page, form: Form) -> dict[str, bytes]:
     coded = coding.filled(coding.read(content, "candidates.csv"), known, set())
     if coded.made and not form.get("codes"):
         raise Wrong(page, codes=text("without an access code no candidate is imported: tick this"))
-    return {"candidates": coding.file_of(coded.rows)}
+    return {"candidates": files.file_of("candidates", coded.rows)}
 
 
 def withdraw_list(upload: Upload, choice: str, page: Page) -> Plan:

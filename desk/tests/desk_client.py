@@ -35,8 +35,13 @@ class Browser:
         port, self.prefix, self.token = re.match(LINK, link).groups()
         self.port, self.cookie, self.asked = int(port), "", 0
 
-    def ask(self, method, path, body=None, headers=None, prefix=None):
-        """The answer and its text. A header that is None is not sent."""
+    def ask(self, *words, **more):
+        """The answer and its text."""
+        answer, content = self.fetch(*words, **more)
+        return answer, content.decode("utf-8", "replace")
+
+    def fetch(self, method, path, body=None, headers=None, prefix=None):
+        """The answer and its bytes. A header that is None is not sent."""
         self.asked += 1
         connection = http.client.HTTPConnection("127.0.0.1", self.port, timeout=sample.PATIENCE)
         head = {"Host": f"127.0.0.1:{self.port}", "Cookie": self.cookie}
@@ -46,9 +51,9 @@ class Browser:
         connection.request(method, (self.prefix if prefix is None else prefix) + path, body,
                            {name: value for name, value in head.items() if value is not None})
         answer = connection.getresponse()
-        text = answer.read().decode("utf-8", "replace")
+        content = answer.read()
         connection.close()
-        return answer, text
+        return answer, content
 
     def enter(self, initials="ab"):
         answer, _ = self.ask("POST", "/enter", urllib.parse.urlencode({"token": self.token, "initials": initials}))
@@ -62,6 +67,19 @@ class Browser:
             answer, text = self.ask("GET", path)
         assert answer.status == status, (path, answer.status, text[-800:])
         return text
+
+    def send(self, path, page, field, *found, status=303, **values):
+        """Sends files as the form of a page does, by a field, each with its name; gives where it leads, and the text."""
+        parts = [("mark", None, re.search(MARK, self.get(page))[1].encode()),
+                 *((name, None, value.encode()) for name, value in values.items()),
+                 *((field, name, text) for name, text in found)]
+        body = b"".join(
+            f'--b0rder\r\nContent-Disposition: form-data; name="{field}"'.encode()
+            + (f'; filename="{name}"'.encode() if name else b"") + b"\r\n\r\n" + text + b"\r\n"
+            for field, name, text in parts) + b"--b0rder--\r\n"
+        answer, text = self.ask("POST", path, body, {"Content-Type": "multipart/form-data; boundary=b0rder"})
+        assert answer.status == status, (path, answer.status, text[-800:])
+        return (answer.headers["Location"] or "").removeprefix(self.prefix), text
 
     def post(self, path, page, status=303, **values):
         """Posts as the form of a page does, with its mark and its state; gives where it leads, and the text."""

@@ -17,7 +17,7 @@ from jinja2 import nodes
 
 DESK = pathlib.Path(__file__).resolve().parent.parent
 sys.path.insert(0, str(DESK))
-from exam_desk import appeals, keeping, mistakes, refusals  # noqa: E402
+from exam_desk import appeals, backups, keeping, mistakes, refusals  # noqa: E402
 from exam_desk.workbook import cells, opening  # noqa: E402
 from exam_web import application, desk, forms, proposals, session, wording  # noqa: E402
 
@@ -30,7 +30,8 @@ RAISED = [call.args[0].value for path in (DESK / "exam_desk").glob("*.py")  # se
 OTHERWISE = wording.LANGUAGES["en"].keys() & {*RAISED, keeping.RUNS, refusals.NO_CODE}  # said as no command says them
 SAID = [*refusals.SENTENCES.values(), *refusals.OTHER.values(), *OTHERWISE]
 CURES = [cure.removesuffix(forms.SHEET_HINT) for cure in mistakes.CURES.values()]
-OPENED = [cells.PASSWORD, opening.NO_UTF_8, opening.NO_WORKBOOK, opening.OLD_FORM]  # why a file is not read
+OPENED = [cells.PASSWORD, opening.NO_UTF_8, opening.NO_WORKBOOK, opening.OLD_FORM,  # why a file is not read
+          backups.NO_OFFICE, backups.SEVERAL, backups.BROKEN, backups.TOO_LARGE]
 OWN = [proposals.OTHER_OFFICE, proposals.WRONG_DESK]
 TABLES = {  # by what stands in the call
     "word": session.RUNNING.values(),

@@ -9,6 +9,8 @@ import unittest
 import zipfile
 
 from desk_client import MARK, PYTHON, DeskSchool
+from test_backups import zipped
+from exam_desk import files
 from sample import DESK, KINDS
 
 KEPT_TOGETHER = """
@@ -25,20 +27,8 @@ NEW = b"number,name,code\n12001,Nadia,K4WBN7RTQD\n0012008,Tom,\n"
 
 
 class Uploads(DeskSchool):
-    def upload(self, *found, status=303, **fields):
-        border = "b0rder"
-        parts = [("mark", None, re.search(MARK, self.browser.get("/files"))[1].encode()),
-                 *((name, None, value.encode()) for name, value in fields.items()),
-                 *(("files", name, text) for name, text in found)]
-        body = b"".join(
-            f'--{border}\r\nContent-Disposition: form-data; name="{field}"'.encode()
-            + (f'; filename="{name}"'.encode() if name else b"") + b"\r\n\r\n" + text + b"\r\n"
-            for field, name, text in parts) + f"--{border}--\r\n".encode()
-        head = {"Content-Type": f"multipart/form-data; boundary={border}"}
-        answer, text = self.browser.ask("POST", "/files", body, head)
-        self.assertEqual(answer.status, status, text[-500:])
-        return (answer.headers["Location"] or "").removeprefix(self.browser.prefix)
-
+    def upload(self, *found, **fields):
+        return self.browser.send("/files", "/files", "files", *found, **fields)[0]
 
     def test_cells_of_an_upload_that_are_kept_together(self):
         """They are as many as those of one workbook: what goes beyond is named, and the others are read."""
@@ -64,7 +54,7 @@ class TestFiles(Uploads):
         self.browser.post(page + "/correct", page, **{"entries:3:paper": "EN-1", "entries:4:row": "drop"})
         self.assertIn("No mistake", self.browser.words(page))
         _, text = self.browser.ask("GET", page + "/entries.csv")
-        self.assertEqual(text, "number,paper\n0012001,EN-1\n0012008,EN-1\n")
+        self.assertEqual(text, '"number","paper"\n"0012001","EN-1"\n"0012008","EN-1"\n')
         before = self.seats()
         proposal = self.propose(page, codes="1", choice="enter")
         self.assertIn("2 would join a session", self.browser.words(proposal))
@@ -196,14 +186,68 @@ class TestFiles(Uploads):
             self.assertEqual(found.removeprefix("\ufeff"), '"number","paper"\n"0001051","EN-1"\n', name)
         png = b"\x89PNG\r\n\x1a\n" + bytes(range(256))
         for name, content, said in (
-                ("x.png", png, "x.png : it is no workbook, whatever its name: open it in a spreadsheet and save it as .xlsx"),
+                ("x.dat", png, "x.dat : it is no workbook, whatever its name: open it in a spreadsheet and save it"),
                 ("entries.csv", png, "it is no workbook, whatever its name"),
                 ("c.csv", b"number;name;code\n1;Zo\xe9;ABCDEFGH\n", "its letters are no UTF-8: save it as CSV UTF-8"),
-                ("readme.txt", b"hello", "no row is the header of one of the seven files, so nothing is taken of it")):
+                ("readme.txt", b"hello", "it has no row below the header of one of the seven files: take the empty")):
             words = self.browser.words(self.upload((name, content)))
             self.assertIn(said, words)
             self.assertIn("Nothing could be taken", words)
             self.assertNotIn("--", words)
+
+    def test_what_is_no_table_says_what_to_do(self):
+        """What a hasty officer chooses, also in a zip: each has one line, and no other file suffers from it."""
+        backup = zipped({"o/office.db": b"SQLite format 3\0" + bytes(99), "o/notebook/school.json": '"x"'})
+        for name, content, said in (
+                ("~$school.xlsx", b"\3Ada" + bytes(160), "it only says that a workbook is open: save and close that"),
+                ("school.xlsx", b"", "it is empty: save it once more"), ("entries.csv", b"\r\n \n", "it is empty"),
+                ("Plan.PDF", b"%PDF-1.4", "it is no table: bring what a spreadsheet saves"),
+                ("plan.jpeg", b"\xff\xd8\xff", "it is no table"),
+                ("letter.docx", zipped({"word/x": "x"}), "it is no table"),
+                ("school.numbers", zipped({"Index/Document.iwa": b"x"}), "Numbers wrote it: export it there as Excel"),
+                ("school.xls", b"\xd0\xcf\x11\xe0\xa1\xb1\x1a\xe1" + bytes(99), "it is of the old form .xls"),
+                ("office.db", b"SQLite format 3\0" + bytes(99), "it is an office: the page Office takes a backup back"),
+                ("office-2027-05-01.zip", backup, "office.db : it is an office")):
+            for found in [(name, content)], [("all.zip", zipped({f"a/{name}": content}))]:
+                page = self.upload(*found, ("halls.csv", b"hall,title,features\nR20,Room,-\n"))
+                self.assertIn(said, self.browser.words(page))
+                self.assertIn("No mistake", self.browser.words(page))
+                if name.endswith(".zip"):
+                    break
+        self.assertEqual(self.upload(("._halls.csv", b"\0\5\x16\7")), "/files")
+        page = self.upload(("all.zip", zipped({"__MACOSX/._halls.csv": b"\0\5", ".DS_Store": b"\0", "halls.csv":
+                                               b"hall,title,features\nR20,Room,-\n"})))
+        self.assertNotIn('class="said', self.browser.get(page))
+
+    def test_two_files_of_a_kind(self):
+        rows = b"hall,title,features\nR20,Room,-\n"
+        page = self.upload(("halls.csv", rows), ("old/halls.csv", rows))
+        self.assertIn("halls.csv : it is there twice, and is taken once", self.browser.words(page))
+        page = self.upload(("halls.csv", rows), ("more.csv", rows + b"R21,Room,-\n"))
+        self.assertIn("more.csv : another file has halls too: import that one, then", self.browser.words(page))
+        self.assertNotIn("R21", self.browser.ask("GET", page + "/halls.csv")[1])
+
+    WHOLE = {"moved": "Every row is wrong in number . Has a column moved", "unknown": "Every row is wrong in paper",
+             "old": "All these days have passed. Is it a file of last year?",
+             "known": "The office has all these rows already: there is nothing to import."}
+
+    def test_what_is_wrong_or_old_as_a_whole_is_said_as_a_whole(self):
+        """And not where it is so of all rows but one."""
+        people = self.rows("SELECT printf('%07d', number), name, code FROM candidate LIMIT 3")
+        now = (self.examples / "sessions.csv").read_text("utf-8")
+        rows = {"candidates": "".join(f"{name},{number},{code}\n" for number, name, code in people),
+                "known": "".join(f"{','.join(row)}\n" for row in people),
+                "entries": "".join(f"{number},X-1\n" for number, *_ in people)}
+        for kind, text, said in (
+                ("candidates", rows["candidates"], "moved"), ("candidates", f"{rows['candidates']}0009004,Bo,CODE0004\n", ""),
+                ("entries", rows["entries"], "unknown"), ("entries", f"{rows['entries']}{people[0][0]},EN-1\n", ""),
+                ("candidates", rows["known"], "known"), ("candidates", f"{rows['known']}0009004,Bo,CODE0004\n", ""),
+                ("sessions", now.partition("\n")[2].replace("2027", "2026"), "old"),
+                ("sessions", now.partition("\n")[2].replace("2027", "2026") + "NEW,2027-05-01,09:00\n", ""),
+                ("sessions", now.partition("\n")[2], "known")):
+            page = self.upload((f"{kind}.csv", f"{','.join(files.HEADERS[kind])}\n{text}".encode()))
+            words = self.browser.words(page)
+            self.assertEqual([name for name, each in self.WHOLE.items() if each in words], [said] * (said != ""), text)
 
     def test_a_file_that_is_read_as_a_workbook_names_its_lines(self):
         page = self.upload(("entries.csv", b"number;paper\n1051;EN-1\nx;EN-1\n"))
@@ -314,6 +358,7 @@ class TestFiles(Uploads):
         numbers, page = self.listed()
         before = self.live()
         self.assertIn("The office has all 3 entries already", self.browser.words(page))
+        self.assertNotIn("there is nothing to import", self.browser.words(page))
         self.assertNotIn("checked", self.browser.get(page))
         self.propose(page, 422)
         proposal = self.propose(page, choice="withdraw")
@@ -439,7 +484,7 @@ class TestFiles(Uploads):
             text = self.browser.get(page)
             self.assertNotRegex(text, r"<script(?! src=)")
             self.assertNotIn("/propose/files", text)
-            self.assertNotIn(self.folder, text)
+            self.assertNotIn(self.folder, text.partition("<footer")[0])
 
     def test_what_is_uploaded_bears_its_names_and_says_its_mistakes(self):
         name = "<b onclick=x>\u202e.csv"
@@ -490,7 +535,7 @@ class TestBegin(Uploads):
 
     def test_from_nothing(self):
         self.assertIn("There is no office yet", self.browser.words("/"))
-        for path in ("/files", "/office", "/candidates", "/appeals", "/clashes", "/overlaps", "/sessions/MON-AM"):
+        for path in ("/files", "/candidates", "/appeals", "/clashes", "/overlaps", "/sessions/MON-AM"):
             answer, _ = self.browser.ask("GET", path)
             self.assertEqual((answer.status, answer.headers["Location"]), (303, self.browser.prefix + "/"), path)
         self.browser.post("/files", "/", dates="")
@@ -503,6 +548,27 @@ class TestBegin(Uploads):
         self.browser.post(proposal + "/do", proposal)
         self.assertIn("What changed", self.browser.words(proposal))
         self.assertIn("60 candidates", self.browser.words("/"))
+
+    def test_the_empty_workbook_is_taken_back_once_it_is_filled(self):
+        """It is there before the office is; its examples are never read."""
+        answer, empty = self.browser.fetch("GET", "/files/school.xlsx")
+        self.assertIn('attachment; filename="school.xlsx"', answer.headers["Content-Disposition"])
+        self.browser.post("/init", "/")
+        page = self.upload(("school.xlsx", empty))
+        self.assertIn("it has no row below the header of one of the seven files", self.browser.words(page))
+        self.assertNotIn("/propose/files", self.browser.get(page))
+        rows = {"sessions": [["S1", "2027-06-01", "09:00"]], "papers": [["MA-1", "Maths", "S1", "60", "-"]],
+                "halls": [["A", "Hall A", "step-free"]], "openings": [["S1", "A", "1", "11:00", "no"]],
+                "candidates": [["0000001", "Bo", ""], ["0000002", "Ada", ""]],
+                "arrangements": [["0000002", "step-free", "0"]], "entries": [["0000001", "MA-1"], ["0000002", "MA-1"]]}
+        done = subprocess.run([PYTHON, "-c", FILL, json.dumps(rows)], input=empty, capture_output=True, check=True)
+        page = self.upload(("school.xlsx", done.stdout))
+        self.assertIn("No mistake", self.browser.words(page))
+        self.carry_out(self.propose(page, codes="1"))
+        with self.reading() as reading:
+            for kind, wanted in rows.items():
+                found = [*files.rows_of(reading.rows, kind)]
+                self.assertEqual([row[:2] for row in found], [row[:2] for row in wanted], kind)
 
     def test_a_first_import_says_who_would_be_without_a_desk(self):
         self.browser.post("/init", "/")
@@ -560,6 +626,16 @@ for name, rows in found.items():
     for row in hidden.get("rows", {}).get(name, []):
         sheet.row_dimensions[row].hidden = True
     sheet.sheet_state = "hidden" if name in hidden.get("sheets", []) else "visible"
+book.save(sys.stdout.buffer)
+"""
+
+
+FILL = """
+import io, json, openpyxl, sys
+book = openpyxl.load_workbook(io.BytesIO(sys.stdin.buffer.read()))
+for kind, rows in json.loads(sys.argv[1]).items():
+    for row in rows:
+        book[kind.capitalize()].append(row)
 book.save(sys.stdout.buffer)
 """
 

@@ -71,11 +71,14 @@ if (halls.length && halls.length <= 12 && ![...halls].some((each) => each.open))
 const drop = document.getElementById("drop");
 if (drop) {
   const wanted = /\.(csv|zip|xlsx|xlsm|ods)$/i;
+  const tables = (found) => {  // a folder has other files, too
+    const some = found.filter((file) => wanted.test(file.name));
+    return some.length ? some : found.slice(0, 10);
+  };
   const send = async (found) => {
     const form = new FormData(drop);
     form.delete("files");
-    const tables = found.filter((file) => wanted.test(file.name));  // a folder has other files, too
-    for (const file of tables.length ? tables : found.slice(0, 10)) form.append("files", file, file.name);
+    for (const file of found) form.append("files", file, file.name);
     const line = drop.querySelector(".big");
     line.textContent = drop.dataset.working;
     line.setAttribute("role", "status");
@@ -89,7 +92,9 @@ if (drop) {
     }
   };
   for (const input of drop.querySelectorAll("[type=file]")) {
-    input.addEventListener("change", () => { if (input.files.length) send([...input.files]); });
+    input.addEventListener("change", () => {
+      if (input.files.length) send(input.webkitdirectory ? tables([...input.files]) : [...input.files]);
+    });
   }
   drop.addEventListener("dragover", (event) => { event.preventDefault(); drop.classList.add("over"); });
   drop.addEventListener("dragleave", () => drop.classList.remove("over"));
@@ -106,6 +111,6 @@ if (drop) {
     event.preventDefault();
     drop.classList.remove("over");
     const entries = [...event.dataTransfer.items].map((item) => item.webkitGetAsEntry()).filter(Boolean);
-    send((await Promise.all(entries.map(read))).flat());
+    send((await Promise.all(entries.map(async (each) => each.isFile ? read(each) : tables(await read(each))))).flat());
   });
 }

@@ -1,0 +1,187 @@
+"""Backups that somebody brings: what becomes of their bytes, whoever made them."""
+import contextlib
+import io
+import os
+import pathlib
+import sqlite3
+import stat
+import unittest
+import zipfile
+from unittest import mock
+
+import sample
+from exam_desk import backups, changing, copies, notebook, snapshot, states
+from exam_desk.trouble import Stale, Trouble
+
+APPEAL = "INSERT INTO appeal VALUES (1051, 'HA1', 'MON-AM', 1, 'PC1', 0, 0, 'x', 1, NULL, '2027-05-01')"
+
+
+def zipped(parts):
+    """A zip of these parts, by name."""
+    out = io.BytesIO()
+    with zipfile.ZipFile(out, "w", zipfile.ZIP_DEFLATED) as archive:
+        for name, content in parts.items():
+            archive.writestr(name, content)
+    return out.getvalue()
+
+
+class Backups(sample.SampleSchool):
+    def setUp(self):
+        super().setUp()
+        os.makedirs(self.tmp)  # where the copy of what is brought lies
+        os.chmod(self.desk, 0o700)
+        self.first, self.second = (self.bytes_of(f"office.db{ending}") for ending in ("", "-wal"))
+
+    @property
+    def tmp(self):
+        return os.path.join(self.desk, "tmp")
+
+    def bytes_of(self, name):
+        return pathlib.Path(self.folder, name).read_bytes()
+
+    @contextlib.contextmanager
+    def brought(self, **given):
+        """The files of the copy of a backup, by their paths in it; and the copy."""
+        streams = {name.replace("_", "."): io.BytesIO(text) for name, text in given.items()}
+        with backups.brought(self.value, streams) as copy:
+            yield copy, {os.path.relpath(os.path.join(place, name), copy): os.path.join(place, name)
+                         for place, _, names in os.walk(copy) for name in names}
+
+    def refuses(self, said, **given):
+        with self.assertRaisesRegex(Trouble, said):
+            with self.brought(**given):
+                pass
+        self.assertEqual(os.listdir(self.tmp), [], "something is left")
+
+
+class TestTaken(Backups):
+    def test_the_two_files_and_the_notebook_of_a_zip(self):
+        """Wherever they lie in it, and whatever the office is called there."""
+        for place, slash in ("", "/"), ("office-2027-05-01/", "/"), ("C:\\x\\", "\\"):
+            parts = {f"{place}exams.db": self.first, f"{place}exams.db-wal": self.second,
+                     f"{place}desk-exams.db{slash}notebook{slash}school.json": '"Hill"',
+                     f"{place}desk-exams.db{slash}notebook{slash}printed.MON-AM.json": "{}", f"{place}README": "x"}
+            with self.brought(b_zip=zipped(parts)) as (copy, found):
+                self.assertEqual({*found} - {"office.db-wal"}, {"office.db", "notebook/school.json",
+                                                                "notebook/printed.MON-AM.json"})
+                self.assertEqual(states.name_now(self.value, found["office.db"]), states.name_now(self.value))
+                self.assertEqual(copies.when_and_what(copy)[1], "b.zip")
+                for path in found.values():
+                    self.assertEqual(stat.S_IMODE(os.stat(path).st_mode) & 0o077, 0, path)
+            self.assertEqual(os.listdir(self.tmp), [])
+
+    def test_the_second_file_counts(self):
+        """What a stopped program left there, such as the last appeals."""
+        with contextlib.closing(sqlite3.connect(self.path)) as file:
+            file.execute("PRAGMA journal_mode = WAL")
+            file.execute("PRAGMA wal_autocheckpoint = 0")
+            file.execute(APPEAL)
+            file.commit()
+            first, second = self.bytes_of("office.db"), self.bytes_of("office.db-wal")
+        for given, count in ({"office_db": first, "office_db-wal": second}, 1), ({"office_db": first}, 0):
+            with self.brought(**given) as (copy, found), contextlib.closing(
+                    snapshot.rows(self.value, found["office.db"])) as rows:
+                self.assertEqual([*map(tuple, rows.execute("SELECT count(*) FROM appeal"))], [(count,)])
+
+    def test_an_office_of_an_earlier_version_is_carried_over(self):
+        with contextlib.closing(sqlite3.connect(self.path)) as file:
+            file.execute("UPDATE office SET version = 2")
+            file.commit()
+        with self.brought(office_db=self.bytes_of("office.db")) as (_, found):
+            self.assertNotEqual(states.name_now(self.value, found["office.db"]), "")  # it can be read
+        self.assertTrue(self.refused("check").startswith("refused 27"))
+
+
+class TestRefused(Backups):
+    def test_what_is_no_office(self):
+        with contextlib.closing(sqlite3.connect(os.path.join(self.folder, "other.db"))) as file:
+            file.execute("CREATE TABLE office (version)")
+        with contextlib.closing(sqlite3.connect(self.write("bad.db", self.first))) as file:
+            file.execute("DELETE FROM seat WHERE number = 1017")
+            file.commit()
+        whole = zipped({"office.db": self.first})
+        locked = bytearray(whole)
+        locked[locked.find(b"PK\1\2") + 8] |= 1  # says that the part is encrypted
+        for said, content in ((backups.NO_OFFICE, b""), (backups.NO_OFFICE, b"%PDF-1.4"),
+                              (backups.NO_OFFICE, zipped({"a.csv": b"number,paper\n"})),
+                              (backups.SEVERAL, zipped({"a.db": self.first, "b.db": self.first})),
+                              (backups.BROKEN, whole[:-40]), ("it has a password", bytes(locked)),
+                              (backups.BROKEN, whole[:len(whole) // 2] + b"x" * 9 + whole[len(whole) // 2 + 9:]),
+                              (r"this copy is no good office \(bad office", self.bytes_of("other.db")),
+                              (r"this copy is no good office \(bad seat", self.bytes_of("bad.db"))):
+            self.refuses(said, b_zip=content)
+
+    def test_a_notebook_that_the_desk_could_not_read(self):
+        for text in b"{", b"[" * 100_000, b"\xff", b'"' + b"x" * backups.MOST_NOTES + b'"':
+            self.refuses(f"{backups.BROKEN}|{backups.TOO_LARGE}",
+                         b_zip=zipped({"office.db": self.first, "notebook/notes.json": text}))
+
+    def test_more_comes_out_of_it_than_an_office_can_have(self):
+        more = len(self.first) + 1
+        for parts in ({"office.db": self.first + bytes(more)}, {"o.db": self.first, "o.db-wal": bytes(more)},
+                      {"o.db": self.first, "notebook/notes.json": b'"' + b"x" * more + b'"'},
+                      {"o.db": self.first} | dict.fromkeys(map(str, range(backups.MOST_PARTS)), b"")):
+            with mock.patch("exam_desk.copies.MOST_BYTES", 2 * len(self.first)):
+                self.refuses(backups.TOO_LARGE, b_zip=zipped(parts))
+
+    def test_no_name_becomes_a_path(self):
+        """Paths that lead out of it, links, names of a notebook's form and none."""
+        link = zipfile.ZipInfo("notebook/rows.json")
+        link.external_attr = (stat.S_IFLNK | 0o777) << 16
+        out = io.BytesIO(zipped({"../../office.db": self.first, "/etc/notebook/../../school.json": '"x"',
+                                 "notebook/../notes.json": "{}", "notebook/printed.../../x.json": "{}",
+                                 "notebook/absent.MON AM.json": "{}", "notebook/other.json": "{}",
+                                 "notebook/absent.\nX.json": "{}"}))
+        with zipfile.ZipFile(out, "a") as archive:
+            archive.writestr(link, '"/etc/passwd"')
+        before = sorted(os.listdir(self.folder))
+        with self.brought(b_zip=out.getvalue()) as (_, found):
+            self.assertEqual({*found} - {"office.db-wal"}, {"office.db", "notebook/rows.json"})
+            self.assertFalse(os.path.islink(found["notebook/rows.json"]))
+        self.assertEqual(sorted(os.listdir(self.folder)), before)
+
+
+class TestPutBack(Backups):
+    def put_back(self, state, **given):
+        with self.brought(**given) as (copy, _):
+            return changing.go_back(self.value, ["back"], copy, lambda lost: True, state)
+
+    def test_into_an_empty_folder_with_its_notebook(self):
+        parts = {"office.db": self.first, "office.db-wal": self.second, "notebook/school.json": '"Hill"'}
+        before = states.name_now(self.value)
+        for ending in ("", "-wal"):
+            os.remove(self.path + ending)
+        with open(self.path + "-wal", "wb") as old:  # of another office
+            old.write(self.second or b"x" * 4000)
+        self.assertEqual(self.put_back("", b_zip=zipped(parts)), (True, [], None))
+        self.assertEqual((states.name_now(self.value), self.office("check")), (before, "good\n"))
+        self.assertEqual((self.office("school"), notebook.school_name(self.value)), ("Hill\n", "Hill"))
+        self.assertEqual(stat.S_IMODE(os.stat(self.path).st_mode), 0o600)
+
+    def test_a_notebook_that_is_there_stays(self):
+        self.office("school", "Dale")
+        os.remove(self.path)
+        self.put_back("", b_zip=zipped({"office.db": self.first, "notebook/school.json": '"Hill"'}))
+        self.assertEqual(notebook.school_name(self.value), "Dale")
+
+    def test_an_office_that_came_meanwhile_stays(self):
+        os.remove(self.path)
+        with self.brought(office_db=self.first) as (copy, _):
+            self.office("init")
+            with self.assertRaises(Stale):
+                changing.go_back(self.value, ["back"], copy, lambda lost: True, "")
+        self.assertEqual(self.office("summary").count("MON-AM"), 0)
+
+    def test_the_log_and_the_copy_say_what_it_was(self):
+        before = states.name_now(self.value)
+        self.office("withdraw", "0001051", "PH-1")
+        parts = {"office.db": self.first, "office.db-wal": self.second}
+        done = self.put_back(states.name_now(self.value), b_zip=zipped(parts))
+        self.assertEqual(states.name_now(self.value), before)
+        self.assertEqual(copies.when_and_what(done.copy)[1], "back to b.zip")
+        self.assertRegex(pathlib.Path(self.desk, "log").read_text("utf-8"),
+                         r"\ttester\tback\t0\tas in b\.zip, brought on \d{4}-\d\d-\d\d [0-9:]{8}\n$")
+
+
+if __name__ == "__main__":
+    unittest.main()

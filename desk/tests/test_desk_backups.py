@@ -1,0 +1,168 @@
+"""A backup at the desk in a browser: handed out, brought back, looked at, and put in the place of the office; where
+there is none, or where it cannot be read, too."""
+import glob
+import html
+import os
+import re
+import unittest
+
+from desk_client import MARK, DeskSchool
+from exam_desk import states
+
+BRING = ("/office/bring", "/office", "backup")
+FIRST = ("/office/bring", "/", "backup")
+LOST = "appeal 0001119 D1 for MON-AM: open -> gone"
+
+
+class Backups(DeskSchool):
+    def handed_out(self):
+        """The zip that the desk hands out, and its name."""
+        mark = re.search(MARK, self.browser.get("/office"))[1]
+        answer, content = self.browser.fetch("POST", "/office/backup", f"mark={mark}")
+        return re.search('filename="([^"]+)"', answer.headers["Content-Disposition"])[1], content
+
+    def put_back(self, page, status=303, **values):
+        return self.browser.post(page + "/back", page, status, **values)
+
+    def left(self):
+        """What lies here of backups that were brought."""
+        return glob.glob(os.path.join(self.desk, "tmp", "*", "000000 *"))
+
+    def lose(self):
+        """The office's files are gone."""
+        for name in glob.glob(self.path + "*"):
+            os.remove(name)
+
+
+class TestBroughtBack(Backups):
+    def test_it_is_looked_at_and_put_back_and_that_is_taken_back_too(self):
+        before, (name, content) = states.name_now(self.value), self.handed_out()
+        self.office("withdraw", "0001051", "PH-1")
+        self.office("lodge", "0001119", "MON-AM", "arrangement", "quiet", "0", "")
+        later = states.name_now(self.value)
+        page, _ = self.browser.send(*BRING, (name, content))
+        words = self.browser.words(page)
+        for said in (name, "What would change", "1 would join a session", f"undone: tick it {LOST}"):
+            self.assertIn(said, words)
+        self.assertIn(f"{name} a backup that you brought", self.browser.words("/office"))
+        self.put_back(page, 422)
+        self.put_back(page, state="0" * 64, lost=LOST)
+        self.assertIn("Nothing is changed", self.browser.words(page))
+        self.assertEqual((states.name_now(self.value), len(self.rows("SELECT * FROM appeal"))), (later, 1))
+        self.put_back(page, lost=LOST)
+        self.assertEqual((states.name_now(self.value), self.rows("SELECT * FROM appeal")), (before, []))
+        words = self.browser.words("/office")
+        self.assertIn(f"The office is as in {name} . The office from before is the newest copy.", words)
+        self.assertRegex(words, f" back to {name} What changed since")
+        self.assertEqual(self.left(), [])
+        self.browser.get(page, 404)
+        copy = re.search(r'/office/copies/[0-9a-f]{16}(?=")', self.browser.get("/office"))[0]
+        self.put_back(copy)
+        self.assertEqual((states.name_now(self.value), len(self.rows("SELECT * FROM appeal"))), (later, 1))
+
+    def test_what_is_none_is_refused_at_its_field(self):
+        before = states.name_now(self.value)
+        for content, said in ((b"number,paper\n", "there is no office in it"), (b"", "there is no office in it"),
+                              (b"PK\3\4 no zip", "it is broken"),
+                              (b"SQLite format 3\0" + bytes(5000), "this copy is no good office")):
+            _, text = self.browser.send(*BRING, ("<b>x.zip", content), status=422)
+            self.assertRegex(text, 'name="backup"[^>]*aria-invalid="true"')
+            self.assertRegex(text, f'id="fault-bring-backup"[^>]*>[^<]*(<bdi>)?{said}')
+        self.assertEqual((states.name_now(self.value), self.left()), (before, []))
+
+    def test_it_goes_with_the_visit_and_with_the_desk(self):
+        page, _ = self.browser.send(*BRING, self.handed_out())
+        self.assertEqual(len(self.left()), 1)
+        other = self.another()
+        other.enter("cd")
+        other.get(page, 404)
+        self.browser.send(*BRING, self.handed_out())
+        self.assertEqual(len(self.left()), 1)  # the one before is gone
+        self.browser.post("/leave", "/office")
+        self.assertEqual(self.left(), [])
+        self.browser = other
+        self.browser.send(*BRING, self.handed_out())
+        self.end()
+        self.assertEqual((self.left(), os.listdir(os.path.join(self.desk, "tmp"))), ([], []))
+
+
+class TestWithoutAnOffice(Backups):
+    def setUp(self):
+        super().setUp()
+        self.office("school", "Hill School")
+        self.before, self.zip = states.name_now(self.value), self.handed_out()
+        self.lose()
+
+    def test_the_first_page_takes_one(self):
+        os.rename(os.path.join(self.desk, "notebook"), os.path.join(self.folder, "old"))
+        _, text = self.browser.send(*FIRST, ("x.zip", b"no"), status=422)
+        self.assertIn("There is no office yet", text)
+        self.assertIn("there is no office in it", text)
+        page, _ = self.browser.send(*FIRST, self.zip)
+        words = self.browser.words(page)
+        self.assertIn("What is in it 3 sessions Mon 7 Jun 2027 – ", words)
+        self.assertNotIn("tick", words)
+        self.put_back(page)
+        self.assertEqual(states.name_now(self.value), self.before)
+        self.assertEqual(self.office("school"), "Hill School\n")
+        words = self.browser.words("/office")
+        self.assertIn(f"The office is as in {self.zip[0]} .", words)
+        self.assertNotIn("newest copy", words)
+
+    def test_the_copies_of_an_office_that_was_there_are_put_back(self):
+        """As where somebody removed its file."""
+        self.put_back(self.browser.send(*FIRST, self.zip)[0])
+        self.office("withdraw", "0001051", "PH-1")
+        self.lose()
+        [link] = set(re.findall(f'href="{self.browser.prefix}(/office)">', self.browser.get("/").partition("<main")[2]))
+        self.put_back(re.search(r'/office/copies/[0-9a-f]{16}(?=")', self.browser.get(link))[0])
+        self.assertEqual(states.name_now(self.value), self.before)
+
+    def test_an_office_that_somebody_makes_meanwhile_stays(self):
+        page, _ = self.browser.send(*FIRST, self.zip)
+        state = re.search('name="state" value="([^"]*)"', self.browser.get(page))[1]
+        self.office("init")
+        self.put_back(page, state=state)
+        self.assertEqual(self.rows("SELECT * FROM candidate"), [])
+        self.assertIn("Nothing is changed", self.browser.words(page))
+
+
+class TestDamaged(Backups):
+    def test_a_copy_and_a_backup_are_put_in_the_place_of_what_cannot_be_read(self):
+        before, backup = states.name_now(self.value), self.handed_out()
+        self.office("withdraw", "0001051", "PH-1")
+        copy = re.search(r'/office/copies/[0-9a-f]{16}(?=")', self.browser.get("/office"))[0]
+        for bring in (lambda: copy), (lambda: self.browser.send(*BRING, backup)[0]):
+            self.lose()
+            self.write("office.db", b"rubbish" * 1000)
+            page = bring()
+            text = self.browser.get(page)
+            self.assertIn("What is in it", text)
+            [lost] = re.findall('name="lost" value="([^"]+)"', text)
+            self.assertIn("nobody can say which appeals", lost)
+            self.put_back(page, 422)
+            self.put_back(page, lost=html.unescape(lost))
+            self.assertEqual(states.name_now(self.value), before)
+
+
+class TestWhichFile(DeskSchool):
+    def test_each_page_says_which_file_it_shows(self):
+        folder = os.path.join(self.folder, "<b>backup")
+        os.mkdir(folder)
+        os.symlink(self.path, os.path.join(self.folder, "link.db"))
+        for path in ("/", "/files", "/candidates/1051", "/nothing"):
+            _, text = self.browser.ask("GET", path)
+            foot = text.partition("<footer")[2]
+            self.assertIn(f'title="{self.path}"', foot, path)
+            self.assertIn(f"<bdi>{os.path.basename(self.folder)}/office.db</bdi>", foot, path)
+        self.end()
+        self.environment["OFFICE"] = os.path.join(folder, "office.db")
+        self.start()
+        text = self.browser.get("/")
+        self.assertIn("<bdi>&lt;b&gt;backup/office.db</bdi>", text.partition("<footer")[2])
+        self.assertNotIn("<b>backup", text)
+        self.assertIn(html.escape(os.path.join(folder, "office.db")), text.partition("<footer")[0])
+
+
+if __name__ == "__main__":
+    unittest.main()
