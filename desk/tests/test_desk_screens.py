@@ -238,7 +238,7 @@ class TestHandbook(DeskSchool):
         for place in re.findall(r"\]\(#([^()]+)\)", HANDBOOK):
             self.assertIn(f'<a href="#{place}">', book)
             self.assertEqual(book.count(f'id="{place}"'), 1, place)
-        self.assertIn("S1,C,1,12:00,no\\n", book)  # as it stands there
+        self.assertIn("hall,title,features\\nC,Hall C,-\\n", book)  # as it stands there
         self.assertIn("\n    SHORTAGE session S1\n    unseated 1\n", book)
 
 
