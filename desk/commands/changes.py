@@ -38,13 +38,13 @@ def back(parser: ArgumentParser) -> Plan:
 
 
 def list_copies(office: Office) -> None:
-    from exam_desk import copies
-    found = copies.listed(office)
+    from exam_desk import copies, logbook
+    found, made = copies.listed(office), logbook.made(office)
     if not found:
         print("no copies")
     for number, copy in enumerate(found, 1):
         when, what = copies.when_and_what(copy)
-        print(f"{number:3}  {when}  before {plain(what)}")
+        print(f"{number:3}  {when}  before {plain(what)}{'  (older than the last `office init`)' * (when < made)}")
 
 
 @command.named("""\

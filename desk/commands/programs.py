@@ -207,7 +207,10 @@ def run(office: Office, words: list[str]) -> int:
 def dispatch(office: Office, words: list[str]) -> Ran:
     """Runs another command of the program; its answer is printed already where it is empty. The bytes of a sheet go out
     as they are; only a terminal gets what hides in names as `?`."""
-    if words[0] in CHECKING and (os.path.isfile(office.path) or words[0] == "init" and not os.path.exists(office.path)):
+    if words == ["init"] and not os.path.exists(office.path):
+        from exam_desk import new_office  # here, since it alone needs it
+        return new_office.make(office)
+    if words[0] in CHECKING and os.path.isfile(office.path):
         with if_possible(turns.alone(office, words), None):
             return changing.run_patiently(office, changing.Step(tuple(words)))
     if words[0] not in running.SHEETS:
