@@ -22,9 +22,9 @@ if TYPE_CHECKING:
     office back 1 --yes    without a question, for scripts
 
 It names each appeal and each decision that is taken away: in the question, in the answer and in the log. If more came
-while the question stood, it asks again. A copy of the office as it is now is kept first, so that can be taken back too.
-Notes, the name of the school, rows of desks, printed desks and absences stay as they are: it names those that were
-others in the copy.
+while the question stood, or somebody changed the office, it asks again. A copy of the office as it is now is kept
+first, so that can be taken back too. Notes, the name of the school, rows of desks, printed desks and absences stay as
+they are: it names those that were others in the copy.
 """, changes=True)
 def back(parser: ArgumentParser) -> Plan:
     from commands import programs

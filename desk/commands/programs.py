@@ -136,15 +136,21 @@ class Back(Change):
             print(f"left as they are now, and otherwise in the copy: {', '.join(map(plain, others))}")
 
     def __call__(self) -> int:
-        """It asks again where more appeals and decisions would be taken away than it asked about."""
+        """It asks again where the office changed while the question stood, or appeals and decisions came."""
         office = command.office()
         when, what = copies.when_and_what(self.copy)
         others = notebook.others_than_in(office, self.copy)
         question = f"put back the office of {when}, before `{plain(what)}`? What was done since then is undone."
-        asked = None if self.is_agreed else agreed(question, copies.taken_away(office, self.copy))
-        while not (done := changing.go_back(office, self.title.split(), self.copy,
-                                            lambda lines: asked in (None, lines))).is_done:
-            asked = agreed(f"this has changed since the question, and nothing is done yet: {question}", done.lines)
+        seen = changing.state_of(office)
+        asked = None if self.is_agreed else (seen, agreed(question, copies.taken_away(office, self.copy)))
+        while not (done := changing.go_back(
+                office, self.title.split(), self.copy,
+                lambda lines: asked is None or asked == (changing.state_of(office), lines))).is_done:
+            before, seen = seen, changing.state_of(office)
+            _, last = copies.when_and_what(copies.listed(office)[0])
+            by = f" by `{plain(last)}`" * (seen != before)
+            asked = seen, agreed(f"the office has changed since the question{by}, and nothing is done yet: {question}",
+                                 done.lines)
         self.tell("is", done.lines, others)
         sys.stdout.flush()
         command.tell_consequences(done.copy)

@@ -218,11 +218,16 @@ def turn(office: Office, title: str, made_from: str | None = None, tell: Tell = 
         yield Turn(office, lock, tell)
 
 
-def is_in_state(office: Office, name: str) -> bool:
+def state_of(office: Office) -> str:
+    """The name of the state of the office now; nothing where it cannot be read."""
     try:
-        return states.name_now(office) == name
-    except Trouble:  # it cannot be read
-        return False
+        return states.name_now(office)
+    except Trouble:
+        return ""
+
+
+def is_in_state(office: Office, name: str) -> bool:
+    return bool(name) and state_of(office) == name
 
 
 def kept_copy(office: Office, title: str) -> str:
