@@ -51,6 +51,7 @@ OTHER = {
                    "not give it again; a sheet can be printed again",
     "net fault": "the port is taken, or the system gives no more connections; take another one, from 1024 on",
 }
+WITHDRAWN = 9  # the refusal of a second withdrawal
 OF_A_FILE = [1, 2, 3, 4, 5, 6, 7, 20]  # refusals that rows of an import file can bring
 NO_CODE = ("`office codes FILE` fills in the codes that the office has, and new ones; for another name alone take "
            "`office name NUMBER NAME`")
@@ -76,9 +77,20 @@ def explained(office: Office, words: Sequence[str], complaint: str, data: bytes 
         lines = [str(NoOffice(office.path))]
     elif answer == "file fault" and words[0] == "import":
         lines.append(f"it was looked for as {plain(os.path.abspath(words[-1]))}")
+    elif number == WITHDRAWN:
+        lines += sat_later(office, *words[-2:])
     elif number in OF_A_FILE:
         lines += mistakes_of(office, words, data)
     return [f"  {plain(line)}" for line in lines]
+
+
+def sat_later(office: Office, number: str, paper: str) -> list[str]:
+    """What is said of an entry that is withdrawn, since the candidate has a second sitting of the paper."""
+    from exam_desk import second_sitting, snapshot  # here, since a refusal alone needs them
+    with contextlib.suppress(Trouble), contextlib.closing(snapshot.rows(office)) as rows:
+        return [f"{number} sits it in {row['session']}, as {row['code']}: `office withdraw {number} {row['code']}` "
+                "withdraws that" for row in second_sitting.sat_later(rows, number, paper)]
+    return []
 
 
 def imported(words: Sequence[str]) -> tuple[str, str] | None:
