@@ -29,7 +29,10 @@ With the entries of a file, whose header is number,paper: office {0} --list FILE
   One copy of the office is kept, and each row has a line in the log. Where a number or a paper is not known nothing is
   changed. A row that is refused is printed, and the others are carried out; `office back 1` takes all of it back.
 """
-MOST_NAMED = 20  # of those who lose a desk, move or sit otherwise, where a question follows
+ALL_HELP = """
+Each entry of a candidate who leaves, in the same way: office withdraw NUMBER --all
+"""
+MOST_NAMED = 20  # of those who lose a desk, move or sit otherwise
 Value = TypeVar("Value")
 
 
@@ -197,7 +200,8 @@ def run(office: Office, words: list[str]) -> int:
             os.execv(office.program, ["examoffice", *words])
     if not {"-h", "--help"}.isdisjoint(itertools.takewhile(lambda word: word != "--", words)):
         found = running.help_text(office, words[0])
-        command.say(found + (LIST_HELP.format(words[0]) if words[0] in LISTED else ""))
+        command.say(found + (LIST_HELP.format(words[0]) if words[0] in LISTED else "")
+                    + ALL_HELP * (words[0] == "withdraw"))
         return 0 if found else outcome(words, Ran(2, "", "line not understood\n"))
     if words[0] == "serve" and len(words) > 1:
         beside.refuse_stranger(office.path)
@@ -242,6 +246,9 @@ def of_program(words: list[str]) -> Change | None:
     with a mistake. A number comes first, where the program takes one; it says so."""
     if words[0] in LISTED and len(words) == 3 and words[1] == "--list":
         return of_list(words[0], words[2])
+    if words[0] == "withdraw" and words[2:] == ["--all"]:
+        rows = listed.of_candidate(command.office(), words[1])
+        return List([*rows.values()], f"withdraw {rows[1].words[1]} --all", rows=rows)
     if words[0] not in CHANGES:
         return None
     first = 2 if words[1:2] == ["--"] else 1
