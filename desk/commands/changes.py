@@ -104,9 +104,8 @@ def second_sitting(parser: ArgumentParser) -> Plan:
     with command.reading() as now:
         plan = (second_sitting.plan_back(now, given.number, given.paper) if given.undo else second_sitting.plan(
             now, second_sitting.Asked(given.number, given.paper, given.start, given.hall)))
-        return programs.Asked(plan.steps, plan.title, most=programs.MOST_NAMED, own=partial(second_sitting.lines, plan),
-                              question="do this?", done="done", is_agreed=given.yes,
-                              made_for=states.name_of(now.rows))
+        return programs.Asked(plan.steps, plan.title, own=partial(second_sitting.lines, plan), question="do this?",
+                              done="done", is_agreed=given.yes, made_for=states.name_of(now.rows))
 
 
 @command.named("""Says what a change would do, and does not do it: what-if COMMAND ..
@@ -119,7 +118,7 @@ def second_sitting(parser: ArgumentParser) -> Plan:
     office what-if back 1         what `office back 1` would do, and which appeals and decisions it would take away
 
 It takes each command that changes the office, carries it out on a private copy, asks nothing, and prints what came of
-it; then who would lose a desk, move, get one, join or leave. The status is that of the command.
+it; then who would lose a desk, move, get one, join or leave, at most 20 of each. The status is that of the command.
 """)
 def what_if(parser: ArgumentParser) -> int:
     from commands import programs

@@ -42,7 +42,7 @@ class Change:
     steps: Sequence[Step] = ()
     title: str = ""  # in the log and the list of copies; where it is empty that of the steps
     copy: str | None = None  # which is in the place of the office before the steps
-    most: int | None = None  # of those whom it meets in one way, who are named behind a rehearsal
+    most: int | None = MOST_NAMED  # of those whom it meets in one way, who are named behind a rehearsal
     is_over: Callable[[list[Answered]], object] = changing.refused_of  # whether a rehearsal ends behind these answers
     own: Callable[[Reading, Reading], list[str]] | None = None  # what it says itself of the office before and after it
 

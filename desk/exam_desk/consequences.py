@@ -88,7 +88,7 @@ def done(office: Office, copy: str, progress: Progress) -> list[str]:
             return shown + other_codes(before, after)
     except (Trouble, OSError, sqlite3.Error, MemoryError) as fault:
         reason = plain(str(fault)) or "there is no memory"
-        return [f"the change is done, but nobody can say what it did to candidates: {reason}"]
+        return [f"the change is done, but nobody can say what it did to candidates: {reason}; try `office changes 1`"]
 
 
 def groups(before: Reading, after: Reading) -> list[Group]:

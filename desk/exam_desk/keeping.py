@@ -292,8 +292,9 @@ def status(office: Office) -> Status:
         if state == before:
             break
     if state is None:
-        journal = beside.folder(office.path, JOURNAL)
-        why = f"the last lines of {journal} may say why" if os.path.exists(journal) else "`office keep start` begins it"
+        journal, why = beside.folder(office.path, JOURNAL), "`office keep start` begins it"
+        with contextlib.suppress(OSError, IndexError), open(journal, encoding="utf-8", errors="replace") as file:
+            why = f"the last line of {journal}: {plain(file.read().splitlines()[-1]).removeprefix('office: ')}"
         raise Trouble(f"`keep` does not run; {why}")
     return Status(False, fault_of(state))
 
