@@ -229,16 +229,11 @@ def turn(office: Office, title: str, made_from: str | None = None, tell: Tell = 
         yield Turn(office, lock, tell)
 
 
-def state_of(office: Office) -> str:
-    """The name of the state of the office now; nothing where it cannot be read."""
-    try:
-        return states.name_now(office)
-    except Trouble:
-        return ""
-
-
 def is_in_state(office: Office, name: str) -> bool:
-    return bool(name) and state_of(office) == name
+    try:
+        return states.name_now(office) == name
+    except Trouble:  # it cannot be read
+        return False
 
 
 def kept_copy(office: Office, title: str) -> str:
@@ -320,6 +315,13 @@ def go_back(office: Office, words: Sequence[str], copy: str, may_go: Callable[[l
             kept = copies.put_back(office, copy)
             outcome.status, outcome.answer = 0, "; ".join([f"as it was on {when}, before {what}", *lines])
     return Back(True, lines, kept)
+
+
+def state_of(office: Office) -> str:
+    """The name of the state of the office now; nothing where it cannot be read."""
+    with contextlib.suppress(Trouble):
+        return states.name_now(office)
+    return ""
 
 
 def restore(office: Office, ready: str, copy: str) -> None:

@@ -51,11 +51,11 @@ OTHER = {
                    "not give it again; a sheet can be printed again",
     "net fault": "the port is taken, or the system gives no more connections; take another one, from 1024 on",
 }
-WITHDRAWN = 9  # the refusal of a second withdrawal
 OF_A_FILE = [1, 2, 3, 4, 5, 6, 7, 20]  # refusals that rows of an import file can bring
 NO_CODE = ("`office codes FILE` fills in the codes that the office has, and new ones; for another name alone take "
            "`office name NUMBER NAME`")
 MOST_LINES = 5  # on one column of an import file
+WITHDRAWN = 9  # the refusal of a second withdrawal
 WHOLE_OR_NOT = "a command is there whole or not at all: look, or give it again"
 
 
@@ -73,12 +73,12 @@ def explained(office: Office, words: Sequence[str], complaint: str, data: bytes 
     lines = [sentence] if sentence else []
     if number == 23:
         lines = [f"{sentence}: {cause(office)}", WHOLE_OR_NOT]
+    elif number == WITHDRAWN:
+        lines += sat_later(office, *words[-2:])
     elif number == 24 and not os.path.exists(office.path):
         lines = [str(NoOffice(office.path))]
     elif answer == "file fault" and words[0] == "import":
         lines.append(f"it was looked for as {plain(os.path.abspath(words[-1]))}")
-    elif number == WITHDRAWN:
-        lines += sat_later(office, *words[-2:])
     elif number in OF_A_FILE:
         lines += mistakes_of(office, words, data)
     return [f"  {plain(line)}" for line in lines]

@@ -92,6 +92,16 @@ class Listed(test_changing.Changing):
         self.assertIn("there is no office here", self.run_list(GOOD, OFFICE=self.path + ".none").stderr)
         self.assertEqual((self.state(), self.kept(), self.log()), (self.before, [], []))
 
+    def test_all_of_a_candidate(self):
+        self.office("withdraw", "0001017", "EN-2")
+        said = self.run_office("withdraw", "1017", "--all").stdout
+        for line in ("line 1: withdraw 0001017 MA-1: withdrawn\n", "withdraw 0001017 BI-1: withdrawn\n", "2 of 2 rows "):
+            self.assertIn(line, said)
+        self.assertEqual(self.log()[-1], ["withdraw 0001017 --all", "0", "2 of 2 rows"])
+        self.assertIn("1017 is entered for no paper; nothing is changed", self.refused("withdraw", "1017", "--all"))
+        self.office("back", "2", "--yes")
+        self.assertEqual(self.state(), self.before)
+
     def test_words(self):
         self.assertEqual(self.run_office("withdraw", "--list").returncode, 2)
         self.assertEqual(self.run_office("withdraw", "--list", "a", "b").returncode, 2)
@@ -167,16 +177,6 @@ class Listed(test_changing.Changing):
         with self.assertRaisesRegex(Trouble, "^there is no program "):
             listed.carry_out(value, "withdraw --list x", rows, lambda line, answered: None)
         self.assertEqual(len(self.kept()), 1)
-
-    def test_all_of_a_candidate(self):
-        self.office("withdraw", "0001017", "EN-2")
-        said = self.run_office("withdraw", "1017", "--all").stdout
-        for line in ("line 1: withdraw 0001017 MA-1: withdrawn\n", "withdraw 0001017 BI-1: withdrawn\n", "2 of 2 rows "):
-            self.assertIn(line, said)
-        self.assertEqual(self.log()[-1], ["withdraw 0001017 --all", "0", "2 of 2 rows"])
-        self.assertIn("1017 is entered for no paper; nothing is changed", self.refused("withdraw", "1017", "--all"))
-        self.office("back", "2", "--yes")
-        self.assertEqual(self.state(), self.before)
 
     def test_whoever_reads_may_go(self):
         """The output cannot be written, and all rows are done."""
