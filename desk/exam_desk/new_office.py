@@ -23,9 +23,10 @@ def make(office: Office) -> running.Ran:
             return changing.run_patiently(office, STEP, lock)
         aside, held = notebook.set_aside(office)
         try:
-            return changing.Turn(office, lock, lambda title: None).carried(STEP, logbook.BEGINS).ran
+            ran = changing.Turn(office, lock, lambda title: None).carried(STEP, logbook.BEGINS).ran
         finally:
             if aside and os.path.exists(office.path):
                 office.warn(f"NOTE what an office that is gone left here is set aside: {few(held)}, now in {aside}")
             elif aside:
                 os.rename(aside, beside.folder(office.path, notebook.PLACE))
+    return ran
