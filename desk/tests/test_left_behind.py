@@ -68,7 +68,8 @@ class Many(unittest.TestCase):
         said = left_behind(self.reading(), self.reading(90))
         self.assertEqual([line.split(" ")[1] for line in said], ["A-2", "B-2", "C-2", "D-2", "E-2", ".."])
         self.assertEqual(said[5], "NOTE: .. and 2 more second sittings that stay as they are")
-        self.assertEqual(left_behind(self.reading(), self.reading()), [])
+        for before in (60, 90):  # a paper that is again as its second sitting has none left behind
+            self.assertEqual(left_behind(self.reading(before), self.reading()), [])
         self.assertIn(" (the title ?Maths) for 0000001 Ada: ", left_behind(self.reading(), self.reading(title="Sums"))[0])
 
 
