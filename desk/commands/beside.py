@@ -90,24 +90,35 @@ def notes(parser: ArgumentParser) -> None:
     command.say(" ".join(f"{word} {noted[word]}" for word in ("added", "changed", "removed", "same")) + "\n")
 
 
-@command.named("""Notes what is on paper, and says what is otherwise now: printed SESSION [--look]
+@command.named("""Notes what is on paper, and says what is otherwise now: printed [SESSION [--look]]
 
     office printed MON-AM           after printing: the session as it is now is on paper
     office printed MON-AM --look    who is not as on paper any more, and which halls are to be printed again
+    office printed                  of each session that is on paper, whether it still holds
 
 Nothing but this command notes it: to look at a page notes nothing. On the day write *absent* on the paper rather than
 withdraw, since a withdrawal can give others another desk.
 """)
 def printed(parser: ArgumentParser) -> None:
     from exam_desk import lists, notebook
-    given = command.given(parser, "session", "--look: notes nothing, and compares")
+    given = command.given(parser, "session?", "--look: notes nothing, and compares")
     with command.reading() as reading:
-        if given.look:
+        if given.session is None:
+            command.say_lines(on_paper(reading) or ["nobody noted that papers are printed"])
+        elif given.look:
             command.say_lines(compared(reading, given.session))
         else:
             desks, others = notebook.note_printed(reading, given.session)
             more = f", {others} other than before" if others else ""
             command.say(f"{lists.count(desks, 'desk')} noted{more}\n")
+
+
+def on_paper(reading: Reading) -> list[str]:
+    """A line for each session whose papers are printed."""
+    from exam_desk import facts, lists, notebook
+    found = {code: notebook.compared(reading, code) for code, *_ in facts.sessions(reading.rows)}
+    return [f"{code}: the papers are " + (f"out of date for {lists.count(len(each.moves), 'candidate')}; "
+            f"`office printed {code} --look`" if each.moves else "up to date") for code, each in found.items() if each]
 
 
 def compared(reading: Reading, session: str) -> list[str]:

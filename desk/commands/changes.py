@@ -22,9 +22,9 @@ if TYPE_CHECKING:
     office back 1 --yes    without a question, for scripts
 
 It names each appeal and each decision that is taken away: in the question, in the answer and in the log. If more came
-while the question stood, it asks again. A copy of the office as it is now is kept first, so that can be taken back too.
-Notes, the name of the school, rows of desks, printed desks and absences stay as they are: it names those that were
-others in the copy.
+while the question stood, or somebody changed the office, it asks again. A copy of the office as it is now is kept
+first, so that can be taken back too. Notes, the name of the school, rows of desks, printed desks and absences stay as
+they are: it names those that were others in the copy.
 """, changes=True)
 def back(parser: ArgumentParser) -> Plan:
     from commands import programs
@@ -38,13 +38,13 @@ def back(parser: ArgumentParser) -> Plan:
 
 
 def list_copies(office: Office) -> None:
-    from exam_desk import copies
-    found = copies.listed(office)
+    from exam_desk import copies, logbook
+    found, made = copies.listed(office), logbook.made(office)
     if not found:
         print("no copies")
     for number, copy in enumerate(found, 1):
         when, what = copies.when_and_what(copy)
-        print(f"{number:3}  {when}  before {plain(what)}")
+        print(f"{number:3}  {when}  before {plain(what)}{'  (older than the last `office init`)' * (when < made)}")
 
 
 @command.named("""\
@@ -125,9 +125,8 @@ def second_sitting(parser: ArgumentParser) -> Plan:
     with command.reading() as now:
         plan = (second_sitting.plan_back(now, given.number, given.paper) if given.undo else second_sitting.plan(
             now, second_sitting.Asked(given.number, given.paper, given.start, given.hall)))
-        return programs.Asked(plan.steps, plan.title, most=programs.MOST_NAMED, own=partial(second_sitting.lines, plan),
-                              question="do this?", done="done", is_agreed=given.yes,
-                              made_for=states.name_of(now.rows))
+        return programs.Asked(plan.steps, plan.title, own=partial(second_sitting.lines, plan), question="do this?",
+                              done="done", is_agreed=given.yes, made_for=states.name_of(now.rows))
 
 
 @command.named("""Says what a change would do, and does not do it: what-if COMMAND ..
@@ -140,7 +139,7 @@ def second_sitting(parser: ArgumentParser) -> Plan:
     office what-if back 1         what `office back 1` would do, and which appeals and decisions it would take away
 
 It takes each command that changes the office, carries it out on a private copy, asks nothing, and prints what came of
-it; then who would lose a desk, move, get one, join or leave. The status is that of the command.
+it; then who would lose a desk, move, get one, join or leave, at most 20 of each. The status is that of the command.
 """)
 def what_if(parser: ArgumentParser) -> int:
     from commands import programs

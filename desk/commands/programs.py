@@ -31,7 +31,10 @@ With the entries of a file, whose header is number,paper: {0}
   changed; zeros in front of a number may be left out. A row that is refused is printed, and the others are carried out;
   `office back 1` takes all of it back.
 """
-MOST_NAMED = 20  # of those who lose a desk, move or sit otherwise, where a question follows
+ALL_HELP = """
+Each entry of a candidate who leaves, in the same way: office withdraw NUMBER --all
+"""
+MOST_NAMED = 20  # of those who lose a desk, move or sit otherwise
 Value = TypeVar("Value")
 
 
@@ -41,7 +44,7 @@ class Change:
     steps: Sequence[Step] = ()
     title: str = ""  # in the log and the list of copies; where it is empty that of the steps
     copy: str | None = None  # which is in the place of the office before the steps
-    most: int | None = None  # of those whom it meets in one way, who are named behind a rehearsal
+    most: int | None = MOST_NAMED  # of those whom it meets in one way, who are named behind a rehearsal
     is_over: Callable[[list[Answered]], object] = changing.refused_of  # whether a rehearsal ends behind these answers
     own: Callable[[Reading, Reading], list[str]] | None = None  # what it says itself of the office before and after it
 
@@ -140,15 +143,21 @@ class Back(Change):
             print(f"left as they are now, and otherwise in the copy: {', '.join(map(plain, others))}")
 
     def __call__(self) -> int:
-        """It asks again where more appeals and decisions would be taken away than it asked about."""
+        """It asks again where the office changed while the question stood, or appeals and decisions came."""
         office = command.office()
         when, what = copies.when_and_what(self.copy)
         others = notebook.others_than_in(office, self.copy)
         question = f"put back the office of {when}, before `{plain(what)}`? What was done since then is undone."
-        asked = None if self.is_agreed else agreed(question, copies.taken_away(office, self.copy))
-        while not (done := changing.go_back(office, self.title.split(), self.copy,
-                                            lambda lines: asked in (None, lines))).is_done:
-            asked = agreed(f"this has changed since the question, and nothing is done yet: {question}", done.lines)
+        seen = changing.state_of(office)
+        asked = None if self.is_agreed else (seen, agreed(question, copies.taken_away(office, self.copy)))
+        while not (done := changing.go_back(
+                office, self.title.split(), self.copy,
+                lambda lines: asked is None or asked == (changing.state_of(office), lines))).is_done:
+            before, seen = seen, changing.state_of(office)
+            _, last = copies.when_and_what(copies.listed(office)[0])
+            by = f" by `{plain(last)}`" * (seen != before)
+            asked = seen, agreed(f"the office has changed since the question{by}, and nothing is done yet: {question}",
+                                 done.lines)
         self.tell("is", done.lines, others)
         sys.stdout.flush()
         command.tell_consequences(done.copy)
@@ -192,7 +201,8 @@ def run(office: Office, words: list[str]) -> int:
             os.execv(office.program, ["examoffice", *words])
     if not {"-h", "--help"}.isdisjoint(itertools.takewhile(lambda word: word != "--", words)):
         found = running.help_text(office, words[0])
-        command.say(found + (LIST_HELP.format(OF_A_LIST.format(words[0])) if words[0] in LISTED else ""))
+        command.say(found + (LIST_HELP.format(OF_A_LIST.format(words[0])) if words[0] in LISTED else "")
+                    + ALL_HELP * (words[0] == "withdraw"))
         return 0 if found else outcome(words, Ran(2, "", "line not understood\n"))
     if words[0] == "serve" and len(words) > 1:
         beside.refuse_stranger(office.path)
@@ -208,7 +218,10 @@ def run(office: Office, words: list[str]) -> int:
 def dispatch(office: Office, words: list[str]) -> Ran:
     """Runs another command of the program; its answer is printed already where it is empty. The bytes of a sheet go out
     as they are; only a terminal gets what hides in names as `?`."""
-    if words[0] in CHECKING and (os.path.isfile(office.path) or words[0] == "init" and not os.path.exists(office.path)):
+    if words == ["init"] and not os.path.exists(office.path):
+        from exam_desk import new_office  # here, since it alone needs it
+        return new_office.make(office)
+    if words[0] in CHECKING and os.path.isfile(office.path):
         with if_possible(turns.alone(office, words), None):
             return changing.run_patiently(office, changing.Step(tuple(words)))
     if words[0] not in running.SHEETS:
@@ -234,6 +247,9 @@ def of_program(words: list[str]) -> Change | None:
     with a mistake. A number comes first, where the program takes one; it says so."""
     if words[0] in LISTED and len(words) == 3 and words[1] == "--list":
         return of_list(words[0], words[2])
+    if words[0] == "withdraw" and words[2:] == ["--all"]:
+        rows = listed.of_candidate(command.office(), words[1])
+        return List([*rows.values()], f"withdraw {rows[1].words[1]} --all", rows=rows)
     if words[0] not in CHANGES:
         return None
     first = 2 if words[1:2] == ["--"] else 1

@@ -190,6 +190,9 @@ def carry_out(office: Office, steps: Sequence[Step], made_from: str | None = Non
             if copies.is_as_now(office, copy):  # a step that was refused 23 before may be there
                 copies.drop(copy)
             raise
+        except SystemExit:  # a signal
+            office.warn(said_of_stopped(office, copy))
+            raise
         as_promised = None if promised is None or is_undone else is_in_state(office, promised)
         if is_undone or copies.is_as_now(office, copy):
             copies.drop(copy)
@@ -202,6 +205,14 @@ def has_done_nothing(office: Office, answered: Answered, copy: str) -> bool:
     if answered.ran.status != 2 and not answered.ran.complaint.startswith(("refused", "file fault")):
         return False
     return refusals.number_of(answered.ran.complaint) != 23 or copies.is_as_now(office, copy)
+
+
+def said_of_stopped(office: Office, copy: str) -> str:
+    """What is said of a change that a signal has stopped; a copy that holds what is there now goes."""
+    if os.path.isdir(copy) and not copies.is_as_now(office, copy):
+        return "stopped: look whether it is done; `office back 1` takes it back then"
+    copies.drop(copy)
+    return "stopped: nothing is changed"
 
 
 @contextlib.contextmanager
@@ -291,6 +302,13 @@ def go_back(office: Office, words: Sequence[str], copy: str, may_go: Callable[[l
         kept = copies.put_back(office, copy)
         outcome.status, outcome.answer = 0, "; ".join([copies.state_of(copy), *lines])
     return Back(True, lines, kept)
+
+
+def state_of(office: Office) -> str:
+    """The name of the state of the office now; nothing where it cannot be read."""
+    with contextlib.suppress(Trouble):
+        return states.name_now(office)
+    return ""
 
 
 def restore(office: Office, ready: str, copy: str) -> None:

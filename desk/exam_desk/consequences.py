@@ -8,6 +8,7 @@ from typing import NamedTuple
 
 from exam_desk import copies, facts, lists, logbook, notebook, overlaps, telling
 from exam_desk.asking import Progress
+from exam_desk.left_behind import left_behind
 from exam_desk.office import Office
 from exam_desk.reading import Member, Person, Reading
 from exam_desk.telling import Change, counted
@@ -60,7 +61,7 @@ def between(before: Reading, after: Reading, at_most: int | None) -> list[str]:
     """What the steps of a rehearsal would do, of those who are named at most so many in each way; then a line for each
     session whose candidates or seats are other ones: how many they are, counted by their rows."""
     met, was = groups(before, after), figures(before)
-    shown = lines(met, at_most) if met or has_seats(before) else []
+    shown = left_behind(before, after) + (lines(met, at_most) if met or has_seats(before) else [])
     sessions = [f"session {code}: {lists.count(people, 'candidate')}, {people - seats:,} without a desk"
                 + (f" (before: {was[code][0]:,} and {was[code][0] - was[code][1]:,})" if code in was else "")
                 for code, (people, seats) in other_figures(before, after).items()]
@@ -76,7 +77,8 @@ def done(office: Office, copy: str, progress: Progress) -> list[str]:
             if copies.listed(office)[:1] != [copy]:
                 raise Trouble("the office has changed again meanwhile")
             met = groups(before, after)
-            shown = [f"{line}; `office summary` has all sessions" for line in short_at_first(before, after)]
+            shown = left_behind(before, after)
+            shown += [f"{line}; `office summary` has all sessions" for line in short_at_first(before, after)]
             shown += brief(met)
             place = copies.listed(office).index(copy) + 1
             words = [f"`office {words}` lists them" for words in listing(met, place)]
@@ -85,7 +87,7 @@ def done(office: Office, copy: str, progress: Progress) -> list[str]:
             return shown + other_codes(before, after) + notes(before, after, met)
     except (Trouble, OSError, sqlite3.Error, MemoryError) as fault:
         reason = plain(str(fault)) or "there is no memory"
-        return [f"the change is done, but nobody can say what it did to candidates: {reason}"]
+        return [f"the change is done, but nobody can say what it did to candidates: {reason}; try `office changes 1`"]
 
 
 def groups(before: Reading, after: Reading) -> Groups:

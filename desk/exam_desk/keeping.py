@@ -264,8 +264,9 @@ def status(office: Office) -> Status:
     """What `keep` does; it serves only where `serve` answers through it in time. Raises `Trouble` where none runs."""
     state = turns.keep_state(office)
     if state is None:
-        journal = beside.folder(office.path, JOURNAL)
-        why = f"the last lines of {journal} may say why" if os.path.exists(journal) else "`office keep start` begins it"
+        journal, why = beside.folder(office.path, JOURNAL), "`office keep start` begins it"
+        with contextlib.suppress(OSError, IndexError), open(journal, encoding="utf-8", errors="replace") as file:
+            why = f"the last line of {journal}: {plain(file.read().splitlines()[-1]).removeprefix('office: ')}"
         raise Trouble(f"`keep` does not run; {why}")
     process, what = state["pid"], f"{plain(state.get('state', 'it begins'))}; it tries again by itself"
     if process <= 0:

@@ -1,18 +1,23 @@
 """Withdraws or reinstates the entries of a file one by one, with one copy from before them and the office in turns."""
 from __future__ import annotations
 
+import contextlib
 import os
 import time
-from collections.abc import Callable
+from collections.abc import Callable, Iterator
 
 from exam_desk import changing, checking, copies, files, lists, logbook, mistakes, refusals
 from exam_desk.changing import Answered, Step
 from exam_desk.office import Office
+from exam_desk.snapshot import rows as rows_now
 from exam_desk.trouble import NoOffice, Trouble
+from exam_desk.typed import candidate_number
 
 OF_THE_OFFICE = [22, 23, 24, 27]  # refusals
 TURN = 8  # seconds after which `keep`, and whoever waits, has the office before the next row
 BETWEEN = 0.1  # seconds between two turns, in which another command that waits looks several times
+COUNTING = ("SELECT paper FROM entry JOIN paper ON paper.code = paper JOIN session ON session.code = session "
+            "WHERE number = ? AND live = 1 ORDER BY day, start, paper")
 Rows = dict[int, Step]  # by the line in which each begins, the command that it means
 Tell = Callable[[int, Answered], None]  # hears what became of the row that begins in a line
 
@@ -41,6 +46,15 @@ def rows_of(office: Office, command: str, path: str) -> tuple[Rows, list[str]]:
     return {record.line: Step((command, *(field.decode() for field in record.fields))) for record in whole}, []
 
 
+def of_candidate(office: Office, number: str) -> Rows:
+    """The withdrawal of each entry of a candidate that counts. Raises `Trouble` where there is none."""
+    with contextlib.closing(rows_now(office)) as rows:
+        papers = [paper for paper, in rows.execute(COUNTING, [int(candidate_number(number))])]
+    if not papers:
+        raise Trouble(f"{number} is entered for no paper; nothing is changed; `office look NAME` finds a number")
+    return {line: Step(("withdraw", f"{int(number):07}", paper)) for line, paper in enumerate(papers, 1)}
+
+
 def carry_out(office: Office, title: str, rows: Rows, tell: Tell) -> changing.Carried:
     """Carries out each row by itself, so that one that is refused leaves the others. It stops where the office itself
     cannot be used. The copy from before stays where something may be done. Raises `Trouble` where a turn, the disk or
@@ -52,12 +66,9 @@ def carry_out(office: Office, title: str, rows: Rows, tell: Tell) -> changing.Ca
         while len(answers) < len(rows) and not is_hopeless(answers):
             with changing.unchanged(office), changing.turn(office, title) as taken:
                 copy = copy or copies.keep_copy(office, title)
-                until = time.monotonic() + TURN
-                for line, step in left:
-                    answers.append(taken.carried(step, logbook.BEGINS))
-                    tell(line, answers[-1])
-                    if time.monotonic() >= until or is_hopeless(answers):
-                        break
+                with logbook.logged(office, [title], answer=os.path.basename(copy)) as outcome:
+                    in_one_turn(taken, left, answers, tell)
+                    outcome.status, outcome.answer = 0, f"{len(answers)} of {lists.count(len(rows), 'row')}"
             time.sleep(BETWEEN)
     except Trouble as fault:
         kept(office, answers, copy)
@@ -65,6 +76,16 @@ def carry_out(office: Office, title: str, rows: Rows, tell: Tell) -> changing.Ca
             raise
         raise Trouble(f"the rows from line {[*rows][len(answers)]} on are not carried out: {fault}") from fault
     return changing.Carried(answers, kept(office, answers, copy), None)
+
+
+def in_one_turn(taken: changing.Turn, left: Iterator[tuple[int, Step]], answers: list[Answered], tell: Tell) -> None:
+    """Carries out rows until others have their turn."""
+    until = time.monotonic() + TURN
+    for line, step in left:
+        answers.append(taken.carried(step, logbook.STEP))
+        tell(line, answers[-1])
+        if time.monotonic() >= until or is_hopeless(answers):
+            break
 
 
 def is_hopeless(answers: list[Answered]) -> bool:

@@ -85,6 +85,12 @@ def unfinished(office: Office) -> Unfinished | None:
     return found
 
 
+def made(office: Office) -> str:
+    """When `init` made the office, as far as the last lines of the log go back; nothing where they do not say."""
+    return max((when for when, _, command, status, _ in last_lines(office) if (command, status) == ("init", "0")),
+               default="")
+
+
 def broken_off(office: Office) -> Unfinished | None:
     """The last change of the log where it has no end and nobody has the office, who could still end it."""
     found = unfinished(office)

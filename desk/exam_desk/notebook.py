@@ -8,6 +8,7 @@ and says what of it a copy has otherwise.
 from __future__ import annotations
 
 import contextlib
+import datetime
 import fcntl
 import hashlib
 import json
@@ -312,6 +313,19 @@ def copy_into(office: Office, target: str) -> None:
         for name, text in found.items():
             files.put(os.path.join(place, name), text)
             beside.sync(os.path.join(place, name))
+
+
+def set_aside(office: Office) -> tuple[str, list[str]]:
+    """Gives the notebook of an office that is gone a name that says so: its path, and what it holds, in words. An empty
+    path where there is none. Call it with the office alone."""
+    place = beside.folder(office.path, PLACE)
+    aside = f"{place}-of-an-office-before-{datetime.datetime.now():%Y-%m-%d-%H.%M.%S}"
+    with contextlib.suppress(FileNotFoundError), locked(office, fcntl.LOCK_EX):
+        if held := [words_of(name) for name in sorted(contents(office, PLACE))]:
+            os.rename(place, aside)
+            beside.sync(os.path.dirname(place))
+            return aside, held
+    return "", []
 
 
 def others_than_in(office: Office, copy: str) -> list[str]:

@@ -56,6 +56,7 @@ IDLE = ["entries", "arrangements"]  # their rows do nothing where the entry is w
 NO_CODE = ("`office codes FILE` fills in the codes that the office has, and new ones; for another name alone take "
            "`office name NUMBER NAME`")
 MOST_LINES = 5  # on one column of an import file
+WITHDRAWN = 9  # the refusal of a second withdrawal
 WHOLE_OR_NOT = "a command is there whole or not at all: look, or give it again"
 
 
@@ -74,6 +75,8 @@ def explained(office: Office, words: Sequence[str], complaint: str, data: bytes 
     lines = [sentence] if sentence else []
     if number == 23:
         lines = [f"{sentence}: {cause(office)}", WHOLE_OR_NOT]
+    elif number == WITHDRAWN:
+        lines += sat_later(office, *words[-2:])
     elif number == 24 and not os.path.exists(office.path):
         lines = [str(NoOffice(office.path))]
     elif answer == "file fault" and words[0] == "import":
@@ -81,6 +84,15 @@ def explained(office: Office, words: Sequence[str], complaint: str, data: bytes 
     elif number in OF_A_FILE or not answer:
         lines += mistakes_of(office, words, data, not answer)
     return [f"  {plain(line)}" for line in lines]
+
+
+def sat_later(office: Office, number: str, paper: str) -> list[str]:
+    """What is said of an entry that is withdrawn, since the candidate has a second sitting of the paper."""
+    from exam_desk import second_sitting, snapshot  # here, since a refusal alone needs them
+    with contextlib.suppress(Trouble), contextlib.closing(snapshot.rows(office)) as rows:
+        return [f"{number} sits it in {row['session']}, as {row['code']}: `office withdraw {number} {row['code']}` "
+                "withdraws that" for row in second_sitting.sat_later(rows, number, paper)]
+    return []
 
 
 def imported(words: Sequence[str]) -> tuple[str, str] | None:

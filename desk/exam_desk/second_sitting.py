@@ -151,12 +151,18 @@ def is_live(rows: Rows, number: str, paper: str) -> bool | None:
     return None if found is None else bool(found[0])
 
 
+def sat_later(rows: Rows, number: str, paper: str) -> list[sqlite3.Row]:
+    """The papers that were made of a paper for second sittings, and for which a candidate is entered. Raises `Trouble`
+    where there is no such paper."""
+    return [row for row in second_papers(rows, paper_row(rows, paper)) if is_live(rows, number, row["code"])]
+
+
 def plan_back(reading: Reading, number: str, paper: str) -> Plan:
     """The steps that take a second sitting back. Raises `Trouble` where the candidate has none of this paper."""
     first = paper_row(reading.rows, paper)
     if not typed.is_right("number", number) or not reading.knows(number):
         raise Trouble(f"the office has no candidate {number}; a number has seven digits, `office look NAME` finds it")
-    found = [row for row in second_papers(reading.rows, first) if is_live(reading.rows, number, row["code"])]
+    found = sat_later(reading.rows, number, paper)
     if not found or is_live(reading.rows, number, paper) is not False:
         raise Trouble(f"{number} has no second sitting of {paper}; nothing is changed")
     if len(found) > 1:

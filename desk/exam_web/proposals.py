@@ -27,6 +27,7 @@ from werkzeug.wrappers import Response
 from exam_desk import (changing, consequences, copies, facts, files, lodging, logbook, overlaps, private, refusals,
                        second_sitting, telling, words)
 from exam_desk.changing import Answered, Step
+from exam_desk.left_behind import left_behind
 from exam_desk.office import Office
 from exam_desk.reading import Member, Person, Reading
 from exam_desk.trouble import Stale, Trouble
@@ -150,7 +151,7 @@ class Plan:
     command: str = ""  # as the log has it, where it is not the steps
     made_for: str = ""  # the state that the steps were made for; "" where they suit each
     done: Callable[[], None] = lambda: None  # is called once it is carried out
-    look: Callable[[Reading, Reading], list[str]] = lambda before, after: []  # says more of a rehearsal, or refuses it
+    look: Callable[[Reading, Reading], list[str]] = left_behind  # says more of a rehearsal, or refuses it
     asked: Asked = field(default_factory=lambda: Asked((request.view_args or {}).get("what", ""), request.form))
     key: str = ""
     lock: threading.Lock = field(default_factory=threading.Lock)  # of who does it

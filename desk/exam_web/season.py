@@ -7,11 +7,11 @@ from typing import Any, NamedTuple
 from flask import Blueprint, render_template, request, url_for
 from werkzeug.wrappers import Response
 
-from exam_desk import appeals, facts, logbook, notebook, running, turns
+from exam_desk import appeals, facts, logbook, new_office, notebook, turns
 from exam_desk.telling import people_and_sittings
 from exam_desk.trouble import Trouble
 from exam_web import candidates
-from exam_web.desk import Sums, desk, sums, two_papers, unseated, view
+from exam_web.desk import Sums, desk, office, sums, two_papers, unseated, view
 from exam_web.forms import lead
 from exam_web.proposals import copy_key
 from exam_web.wording import days_until, text
@@ -48,7 +48,7 @@ def page() -> str:
 def init() -> Response:
     if desk().is_there():
         return lead("season.page")
-    done = running.run_over(desk().office, desk().office.path, "init")
+    done = new_office.make(office())
     if done.status:
         raise Trouble(done.complaint.strip())
     return lead("season.page", text("The office is there, and empty. Bring a workbook or the seven files."))

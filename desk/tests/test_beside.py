@@ -322,14 +322,26 @@ class Back(Beside):
         process.stdin.write("y\n")
         process.stdin.flush()
         first = "taken away: appeal 0001051 HA1 for MON-AM: open -> gone\n"
-        self.assertIn(f"{first}this has changed", self.question(process))
+        self.assertIn(f"{first}the office has changed since the question, and nothing", self.question(process))
         self.change(APPEAL, "HA2")
         process.stdin.write("y\n")
         process.stdin.flush()
-        self.assertIn(f"{first}{first.replace('HA1', 'HA2')}this has changed", self.question(process))
+        self.assertIn(f"{first}{first.replace('HA1', 'HA2')}the office has changed since the question, and nothing", self.question(process))
         self.assertEqual(process.communicate("\n")[1], "office: nothing is changed\n")
         self.assertEqual(len(self.log()), 2)
         self.assertIn("the office is as it was", self.office("back", "1", stdin="y\n"))
+
+    def test_it_asks_again_where_somebody_changed_the_office(self):
+        self.office("withdraw", "0001017", "MA-1")
+        process = self.ask()
+        self.question(process)
+        self.office("withdraw", "0001000", "MA-1")
+        process.stdin.write("y\n")
+        process.stdin.flush()
+        self.assertIn("changed since the question by `withdraw 0001000 MA-1`, and nothing is done yet: put back the office "
+                      "of ", self.question(process))
+        self.assertEqual(process.communicate("\n")[1], "office: nothing is changed\n")
+        self.assertEqual(len(self.log()), 4)
 
     def test_an_office_that_cannot_be_read(self):
         self.office("withdraw", "0001017", "MA-1")

@@ -382,6 +382,17 @@ class Killed(Changing):
             self.write("may_end", "")
         self.assertEqual(process.returncode, 0)
 
+    def test_ctrl_c_in_a_single_change(self):
+        """It comes before the program has done anything, and behind its change."""
+        for work, said, copies_kept in (
+                ("true", "nothing is changed", 0), (f'{sample.built_program()} "$@"', "look whether it is done; "
+                                                    "`office back 1` takes it back then", 1)):
+            program = self.program(f'[ "$2 $5" = "{self.path} withdraw" ] && {work} && sleep 2 && kill -INT $PPID && '
+                                   'exec sleep 60')
+            done = self.run_office("withdraw", "0001000", "MA-1", EXAMOFFICE=program)
+            self.assertEqual((done.returncode, done.stderr, len(self.kept())),
+                             (128 + signal.SIGINT, f"office: stopped: {said}\n", copies_kept))
+
     def broken_off(self, *words, before):
         """A command that is killed as this step begins."""
         program = self.program(f'[ "$2 $5 $6" = "{self.path} {before}" ] && kill -9 $PPID && exit 9')

@@ -250,7 +250,7 @@ class Told(sample.SampleSchool):
         self.office("withdraw", "0001306", "LAT")
         self.assertEqual(consequences.done(self.value, carried.copy, lambda *_: None),
                          ["the change is done, but nobody can say what it did to candidates: the office has changed "
-                          "again meanwhile"])
+                          "again meanwhile; try `office changes 1`"])
         newest = copies.listed(self.value)[0]
         lines = consequences.done(self.value, newest, lambda *_: None)
         self.assertTrue(lines[0].startswith("1 sits another paper: MON-AM 0001306 "), lines)
@@ -259,7 +259,7 @@ class Told(sample.SampleSchool):
         carried = changing.carry_out(self.value, [changing.Step(("withdraw", "0001000", "MA-1"))])
         with mock.patch("exam_desk.consequences.groups", side_effect=MemoryError):
             [line] = consequences.done(self.value, carried.copy, lambda *_: None)
-        self.assertTrue(line.endswith(": there is no memory"), line)
+        self.assertTrue(line.endswith(": there is no memory; try `office changes 1`"), line)
 
     def test_the_status_stays_where_nobody_can_say(self):
         """A program that serves nothing."""

@@ -41,9 +41,12 @@ class Listed(test_changing.Changing):
         self.assertEqual(done.stdout, "line 2: withdraw 0001000 MA-1: withdrawn\n"
                                       "line 3: withdraw 0001017 MA-1: withdrawn\n"
                                       "2 of 2 rows are done; `office back 1` takes all of it back\n")
-        self.assertEqual(self.log(), [line for number in ("0001000", "0001017") for line in (
-            [f"withdraw {number} MA-1", "begins", ""], [f"withdraw {number} MA-1", "0", "withdrawn"])])
         [copy] = self.kept()
+        title = f"withdraw --list {NAME} for 0001000 0001017"
+        self.assertEqual(self.log(), [[title, "begins", os.path.basename(copy)], *(
+            line for number in ("0001000", "0001017") for line in (
+                [f"withdraw {number} MA-1", "step", ""], [f"withdraw {number} MA-1", "0", "withdrawn"])),
+            [title, "0", "2 of 2 rows"]])
         self.assertTrue(copy.endswith(" withdraw --list leave_ __1+1_.csv for 0001000 0001017"), copy)
         withdrawn = self.state()
         self.assertIn("line 3: reinstate 0001017 MA-1: reinstated\n", self.run_list(GOOD, "reinstate").stdout)
@@ -100,6 +103,16 @@ class Listed(test_changing.Changing):
         self.assertIn("there is no office here", self.run_list(GOOD, OFFICE=self.path + ".none").stderr)
         self.assertEqual((self.state(), self.kept(), self.log()), (self.before, [], []))
 
+    def test_all_of_a_candidate(self):
+        self.office("withdraw", "0001017", "EN-2")
+        said = self.run_office("withdraw", "1017", "--all").stdout
+        for line in ("line 1: withdraw 0001017 MA-1: withdrawn\n", "withdraw 0001017 BI-1: withdrawn\n", "2 of 2 rows "):
+            self.assertIn(line, said)
+        self.assertEqual(self.log()[-1], ["withdraw 0001017 --all", "0", "2 of 2 rows"])
+        self.assertIn("1017 is entered for no paper; nothing is changed", self.refused("withdraw", "1017", "--all"))
+        self.office("back", "2", "--yes")
+        self.assertEqual(self.state(), self.before)
+
     def test_words(self):
         for words in (["withdraw", "--list"], ["withdraw", "--list", "a", "b"]):
             done = self.run_office(*words)
@@ -130,7 +143,8 @@ class Listed(test_changing.Changing):
             self.assertEqual(self.carried(GOOD, tell), ["withdrawn", "withdrawn"])
         self.assertEqual(others[0].wait(sample.PATIENCE), 0)
         self.assertEqual([what for what, status, _ in self.log() if status == "0"],
-                         ["withdraw 0001000 MA-1", "withdraw 0001034 FR", "withdraw 0001017 MA-1"])
+                         ["withdraw 0001000 MA-1", "withdraw --list x", "withdraw 0001034 FR", "withdraw 0001017 MA-1",
+                          "withdraw --list x"])
 
     def test_an_office_that_cannot_be_used(self):
         """The program is out of memory from the second row on: it is not asked again, and the first row stays."""
@@ -150,11 +164,20 @@ class Listed(test_changing.Changing):
         self.assertEqual(done.stdout, "line 2: withdraw 0001000 MA-1: withdrawn\n")
         self.assertEqual(done.stderr, "office: stopped after 1 of 2 rows: what came before and was not refused is done, and look "
                                       "whether the next one is; `office back 1` takes all of it back\n")
-        self.assertEqual(self.log(), [
-            ["withdraw 0001000 MA-1", "begins", ""], ["withdraw 0001000 MA-1", "0", "withdrawn"],
-            ["withdraw 0001017 MA-1", "begins", ""], ["withdraw 0001017 MA-1", "1", "stopped: look whether it is done"]])
+        self.assertEqual([line[:2] for line in self.log()[1:4]], [
+            ["withdraw 0001000 MA-1", "step"], ["withdraw 0001000 MA-1", "0"], ["withdraw 0001017 MA-1", "step"]])
+        self.assertEqual([line[1:] for line in self.log()[4:]], [["1", "stopped: look whether it is done"]] * 2)
         self.assertNotEqual(self.state(), self.before)
         self.office("back", "1", "--yes")
+        self.assertEqual(self.state(), self.before)
+
+    def test_after_a_kill_it_is_said_how_far_it_came(self):
+        program = self.program('[ "$5 $6" = "withdraw 0001017" ] && kill -KILL $PPID && exit 9')
+        self.assertEqual(self.run_list(f"{GOOD}0001034,FR\n", EXAMOFFICE=program).returncode, -signal.SIGKILL)
+        said = self.run_office("look", "1000").stderr
+        self.assertRegex(said, "^office: `withdraw --list .* for 0001000 0001017 0001034` of .* was broken off behind "
+                               "`withdraw 0001000 MA-1`: `office back` lists the copy of .*, before withdraw --list .*\n$")
+        self.run_office("back", "1", "--yes")
         self.assertEqual(self.state(), self.before)
 
     def test_a_program_that_does_not_start_in_the_middle(self):
@@ -163,7 +186,7 @@ class Listed(test_changing.Changing):
         rows, _ = listed.rows_of(value, "withdraw", self.write(NAME, GOOD))
         with self.assertRaisesRegex(Trouble, "^the rows from line 3 on are not carried out: there is no program "):
             listed.carry_out(value, "withdraw --list x", rows, lambda line, answered: os.remove(program))
-        self.assertEqual((len(self.kept()), self.log()[1]), (1, ["withdraw 0001000 MA-1", "0", "withdrawn"]))
+        self.assertEqual((len(self.kept()), self.log()[2]), (1, ["withdraw 0001000 MA-1", "0", "withdrawn"]))
         with self.assertRaisesRegex(Trouble, "^there is no program "):
             listed.carry_out(value, "withdraw --list x", rows, lambda line, answered: None)
         self.assertEqual(len(self.kept()), 1)
@@ -187,7 +210,7 @@ class Listed(test_changing.Changing):
             done = subprocess.run([sample.DESK / "office", "withdraw", "--list", path],
                                                  env=self.environment, stdout=full, check=False)
         self.assertEqual(done.returncode, 1)
-        self.assertEqual([answer for _, _, answer in self.log() if answer], ["withdrawn", "withdrawn"])
+        self.assertEqual([answer for _, _, answer in self.log()[1:] if answer], ["withdrawn", "withdrawn", "2 of 2 rows"])
 
 
 def waits(process):

@@ -51,7 +51,7 @@ def asked_lines(reading: Reading, asked: str, codes: bool) -> list[str]:
             arranged = reading.rows.execute("SELECT needs, extra FROM arrangement WHERE number = ?", [number])
             said += [*entries(reading, person), *(f"  NOTE: {overlaps.line(reading, each)}" for each in twice),
                      *(f"  imported arrangement: needs {feature_text(needs)}, extra {extra}"
-                       for needs, extra in arranged), *lodged(reading.rows, number)]
+                       for needs, extra in arranged), *noted(reading, person.number), *lodged(reading.rows, number)]
     if len(found) > MOST_SHOWN:
         said.append(f"{len(found)} candidates; say more of the name, or the number")
     return said
@@ -73,6 +73,16 @@ def fate(row: sqlite3.Row, sitting: Sitting | None, halls: dict[str, str]) -> st
     place = f"{sitting.hall} {halls[sitting.hall]}, desk {sitting.desk}" if sitting.hall else "no desk"
     allowance = lists.allowance(sitting)
     return f"{place}, until {sitting.finish}" + (f", with {allowance}" if allowance else "")
+
+
+def noted(reading: Reading, number: str) -> Iterator[str]:
+    """The note on a candidate, and where somebody has noted that they were absent."""
+    from exam_desk import notebook  # here, since other lists answer sooner without it
+    if note := notebook.notes(reading.office).get(number):
+        yield f"  note: {note}"
+    sessions = dict.fromkeys(row["session"] for row in reading.rows.execute(ENTRIES, [int(number)]))
+    if missed := [code for code in sessions if number in (notebook.absent(reading.office, code) or ())]:
+        yield f"  noted as absent in {', '.join(missed)}"
 
 
 def lodged(rows: Rows, number: int) -> Iterator[str]:
