@@ -98,20 +98,16 @@ def open_appeals() -> list[Attention]:
             for (last, code), counts in kinds.items()]
 
 
-def clashes(coming: list[Sums]) -> list[Attention]:
+def clashes(coming: list[Sums]) -> Iterator[Attention]:
     """How many have two papers at once and no appeal on it that is open or decided: by the last day to lodge one or,
-    where that is over, by the day of the session itself."""
+    where that is over, by the day of the session."""
     heard = set(map(tuple, view().rows("SELECT session, number FROM appeal WHERE kind = 2 AND state IN (1, 2, 3)")))
-    unheard = {each: people for each in coming
-               if (people := {number for number in two_papers(view())[each.code] if (each.code, number) not in heard})}
-    by_day: dict[str, list[Sums]] = {}
-    for each in unheard:
+    for each in coming:
         last = appeals.to_lodge("clash", each.day)
-        by_day.setdefault(last if days_until(last) >= 0 else each.day, []).append(each)
-    return [Attention("now" if days_until(appeals.to_lodge("clash", late[0].day)) <= URGENT else "soon", day, "clashes",
-                      url_for("clashes.page", session=late[0].code),
-                      {"count": len(set().union(*(unheard[each] for each in late))),
-                       "sessions": [each.code for each in late]}) for day, late in by_day.items()]
+        if count := sum((each.code, number) not in heard for number in two_papers(view())[each.code]):
+            yield Attention("now" if days_until(last) <= URGENT else "soon", last if days_until(last) >= 0 else each.day,
+                            "clashes", url_for("clashes.page", session=each.code),
+                            {"count": count, "session": each.code})
 
 
 def out_of_date(coming: list[Sums]) -> Iterator[Attention]:

@@ -149,6 +149,13 @@ class TestClashes(SmallSchool):
             self.assertEqual(said, expected, today)
             self.assertEqual([code for *_, code in found], [words[-2:] for *_, words in expected])
 
+    def test_who_has_asked_is_not_counted(self):
+        self.begin("A,Hall A,-\n", "S1,A,5,18:00,no\n", "0000001,SHORT\n0000001,LONG\n0000002,SHORT\n0000002,LONG\n")
+        self.office("lodge", "0000002", "S1", "clash", "SHORT", "")
+        self.assertIn(f"{self.ONE} S1", self.browser.words("/"))
+        self.office("lodge", "0000001", "S1", "clash", "SHORT", "")
+        self.assertNotIn("two papers at once and no appeal", self.browser.words("/"))
+
 
 if __name__ == "__main__":
     unittest.main()
