@@ -195,7 +195,7 @@ def candidate(form: Form, **columns: str) -> tuple[Values, Page]:
 
 
 def of_one(field: str, refusals: Collection[int], step: Callable[[Values], Step], form: Form) -> Plan:
-    """A plan whose form has one field for a candidate, beside which these refusals stand: a step for each value of it."""
+    """A plan with a step for each value of a field of a candidate, beside which these refusals stand."""
     values, page = candidate(form)
     asked = [checked(page, MultiDict({field: value}), **{field: field})[field] for value in form.getlist(field) or [""]]
     steps = [step({**values, field: value}) for value in asked]

@@ -66,14 +66,13 @@ class View:
 
 
 def patience() -> float:
-    """Seconds that this request waits for the office to be read. A form waits until it is: the page that looks again by
-    itself would not have what was typed."""
+    """Seconds that this request waits for the office. What a form sends waits on: a page that looks again loses it."""
     return PATIENCE if has_request_context() and request.method != "POST" else LONG
 
 
 def once(make: Callable[Concatenate[View, Asked], Found]) -> Callable[Concatenate[View, Asked], Found]:
-    """What is worked out of a view is worked out once. A page waits for another one that does it as `patience` says, and
-    raises `StillReading` then."""
+    """What is worked out of a view is worked out once. Who waits for another request that does it waits as `patience`
+    says, and raises `StillReading` then."""
     def found(view: View, /, *asked: Asked.args, **more: Asked.kwargs) -> Found:
         key = (make, asked, *more.items())
         with view.lock:

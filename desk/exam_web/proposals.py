@@ -340,7 +340,8 @@ def do(key: str) -> Response:
     with plan.lock:  # a second click does nothing
         if plan.can_be_done:
             if plan.lost() >= MANY_LOST and not request.form.get("tick"):
-                raise Wrong(("proposals.page", {"key": key}), "do", tick=text("tick this, or leave the office as it is"))
+                wrong = text("tick this, or leave the office as it is")
+                raise Wrong(("proposals.page", {"key": key}), "do", tick=wrong)
             work(plan, carry_out)
     return lead("proposals.page", key=key)
 

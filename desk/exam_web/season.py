@@ -104,9 +104,9 @@ def clashes(coming: list[Sums]) -> Iterator[Attention]:
     heard = set(map(tuple, view().rows("SELECT session, number FROM appeal WHERE kind = 2 AND state IN (1, 2, 3)")))
     for each in coming:
         last = appeals.to_lodge("clash", each.day)
+        level, day = "now" if days_until(last) <= URGENT else "soon", last if days_until(last) >= 0 else each.day
         if count := sum((each.code, number) not in heard for number in two_papers(view())[each.code]):
-            yield Attention("now" if days_until(last) <= URGENT else "soon", last if days_until(last) >= 0 else each.day,
-                            "clashes", url_for("clashes.page", session=each.code),
+            yield Attention(level, day, "clashes", url_for("clashes.page", session=each.code),
                             {"count": count, "session": each.code})
 
 
