@@ -214,8 +214,8 @@ def move_in(office: Office, path: str) -> None:
 
 def put_back(office: Office, copy: str) -> str | None:
     """Puts a copy in the place of the office, with the office alone; both are on the disk at each moment. Gives the
-    copy of what was there; None where nothing was: then a backup brings its notebook. Raises `Trouble` where the copy is
-    no good office."""
+    copy of what was there; None where nothing was: then a backup brings its notebook. Raises `Trouble` where the copy
+    is no good office."""
     with ready(office, copy) as path:
         check(office, path)
         kept: str | None = None

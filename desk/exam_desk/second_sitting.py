@@ -8,6 +8,7 @@ from __future__ import annotations
 
 import itertools
 import sqlite3
+from collections.abc import Iterable
 from typing import NamedTuple
 
 from exam_desk import files, lists, overlaps, typed
@@ -64,16 +65,16 @@ def plan(reading: Reading, asked: Asked) -> Plan:
     paper = next((row["code"] for row in second_papers(rows, first)
                   if (row["session"], row["minutes"], row["requires"]) == wanted), None)
     code = paper or free_code(rows, "paper", asked.paper)
-    steps = [] if there else [imported("sessions", session, first["day"], asked.start)]
+    steps = [] if there else [imported("sessions", [session, first["day"], asked.start])]
     if not paper:
-        steps.append(imported("papers", code, first["title"], session, first["minutes"],
-                              feature_text(first["requires"])))
+        steps.append(imported("papers", [code, first["title"], session, first["minutes"],
+                                         feature_text(first["requires"])]))
     desks, until, reserved, taken = rows.execute(OPENED, [session, asked.hall]).fetchone() or CLOSED
     if taken >= desks:
         desks += 1
-        steps.append(imported("openings", session, asked.hall, desks, clock(until), "yes" if reserved else "no"))
+        steps.append(imported("openings", [session, asked.hall, desks, clock(until), "yes" if reserved else "no"]))
     if (live := is_live(rows, asked.number, code)) is None:
-        steps.append(imported("entries", asked.number, code))
+        steps.append(imported("entries", [asked.number, code]))
     elif not live:
         steps.append(Step(("reinstate", asked.number, code)))
     steps.append(Step(("withdraw", asked.number, asked.paper)))
@@ -141,8 +142,8 @@ def own_code(rows: Rows, code: str) -> str:
     return own_code(rows, of[0]) if len(of) == 1 else code
 
 
-def imported(kind: str, *values: object) -> Step:
-    return Step(("import", kind, f"{kind}.csv"), files.written([files.HEADERS[kind], values]).encode())
+def imported(kind: str, *rows: Iterable[object]) -> Step:
+    return Step(("import", kind, f"{kind}.csv"), files.written([files.HEADERS[kind], *rows]).encode())
 
 
 def is_live(rows: Rows, number: str, paper: str) -> bool | None:

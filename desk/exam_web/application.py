@@ -87,7 +87,7 @@ def everywhere() -> dict[str, Any]:
 
 
 def still_reading(stage: StillReading) -> ResponseReturnValue:
-    return render_template("reading.html", stage=text(str(stage)), address=request.path), 503, {"Retry-After": "1"}
+    return render_template("reading.html", stage=text(str(stage))), 503, {"Retry-After": "1"}
 
 
 def problem(fault: Exception) -> ResponseReturnValue:

@@ -40,7 +40,7 @@ def find() -> str | Response:
     if len(found) == 1:
         return redirect(url_for("candidates.page", number=int(found[0].number)))
     return render_template("candidates.html", asked=asked, found=found[:MOST_FOUND], total=len(found),
-                           everybody=view().count("SELECT count(*) FROM candidate"))
+                           everybody=view().count("SELECT count(*) FROM candidate"), papers=papers_without())
 
 
 def search(asked: str) -> list[Person]:
@@ -51,15 +51,20 @@ def search(asked: str) -> list[Person]:
     return lists.by_name(Person(*row) for row in rows)
 
 
+def papers_without(number: int = -1) -> list[sqlite3.Row]:
+    """The papers for which a candidate is not entered: those of sessions that are over stand last."""
+    return view().rows("SELECT paper.code AS code, title, session, day FROM paper JOIN session "
+                       "ON session.code = session WHERE paper.code NOT IN (SELECT paper FROM entry WHERE number = ?) "
+                       "ORDER BY day < ?, day, start, paper.code", [number, desk().office.today().isoformat()])
+
+
 @pages.get("/candidates/<int:number>")
 def page(number: int, code: str = "") -> str:
     who = candidate_row(number)
     entries = view().rows(texts.ENTRIES, [number])
-    others = view().rows("SELECT paper.code AS code, title, session, day FROM paper JOIN session "
-                         "ON session.code = session WHERE paper.code NOT IN (SELECT paper FROM entry WHERE number = ?) "
-                         "ORDER BY day < ?, day, start, paper.code", [number, desk().office.today().isoformat()])
     return render_template("candidate.html", who=who, entries=entries, sittings=view().reading.all_of(f"{number:07}"),
-                           lodged=view().rows(texts.LODGED, [number]), others=others, code=code,
+                           lodged=view().rows(texts.LODGED, [number]), others=papers_without(number),
+                           code=code,
                            second=second_sat(number, entries), hall_titles=facts.hall_titles(view().reading.rows),
                            note=notebook.notes(desk().office).get(f"{number:07}", ""),
                            granted=proposals.granted(view().reading, number),
@@ -190,9 +195,11 @@ def candidate(form: Form, **columns: str) -> tuple[Values, Page]:
 
 
 def of_one(field: str, refusals: Collection[int], step: Callable[[Values], Step], form: Form) -> Plan:
-    """A plan whose form has one field for a candidate, beside which these refusals stand."""
-    values, page = candidate(form, **{field: field})
-    return Plan(values, [step(values)], page, dict.fromkeys(refusals, field))
+    """A plan with a step for each value of a field of a candidate, beside which these refusals stand."""
+    values, page = candidate(form)
+    asked = [checked(page, MultiDict({field: value}), **{field: field})[field] for value in form.getlist(field) or [""]]
+    steps = [step({**values, field: value}) for value in asked]
+    return Plan({**values, field: ", ".join(asked)}, steps, page, dict.fromkeys(refusals, field))
 
 
 def rename(form: Form) -> Plan:
@@ -221,7 +228,10 @@ def new_candidate(form: Form) -> Plan:
     if there := view().row("SELECT name FROM candidate WHERE number = ?", [page[1]["number"]]):
         link = Markup('<a href="{}">{}</a>').format(url_for(page[0], **page[1]), shown(there["name"]))
         raise Wrong(form_page, number=text("the office has this number: {name}", name=link))
-    return Plan(values, [with_code(values)], page, form_page=form_page, made_for=view().name)
+    values["papers"] = ", ".join(papers := form.getlist("paper"))
+    entries = second_sitting.imported("entries", *([values["number"], paper] for paper in papers))
+    return Plan(values, [with_code(values), *([entries] if papers else [])], page, dict.fromkeys(OF_ENTRY, "paper"),
+                form_page=form_page, made_for=view().name)
 
 
 def lodge(form: Form) -> Plan:

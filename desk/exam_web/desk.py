@@ -12,14 +12,14 @@ from collections.abc import Callable, Iterable, Sequence
 from concurrent.futures import Future, ThreadPoolExecutor
 from typing import Any, Concatenate, NamedTuple, ParamSpec, TypeVar
 
-from flask import abort, current_app, g, has_request_context
+from flask import abort, current_app, g, has_request_context, request
 
 from exam_desk import consequences, facts, states
 from exam_desk.office import Office
 from exam_desk.reading import Reading
 from exam_desk.trouble import Trouble
 
-PATIENCE = 4  # seconds that a page waits for the office to be read, or for a rehearsal
+PATIENCE, LONG = 4, 3600  # seconds that a page, and a form, waits for the office to be read
 MANY, TURN = 200, 0.005  # candidates who are asked of at once, and the seconds that others have their turn then
 COPYING, COUNTING = "Its files are copied and read", "Candidates and desks are counted"
 AT_ONCE = ("SELECT session, number, group_concat(code) FROM (SELECT session, number, paper.code AS code "
@@ -65,14 +65,19 @@ class View:
             time.sleep(TURN)
 
 
+def patience() -> float:
+    """Seconds that this request waits for the office. What a form sends waits on: a page that looks again loses it."""
+    return PATIENCE if has_request_context() and request.method != "POST" else LONG
+
+
 def once(make: Callable[Concatenate[View, Asked], Found]) -> Callable[Concatenate[View, Asked], Found]:
-    """What is worked out of a view is worked out once. A page waits a little for another one that does it, and raises
-    `StillReading` then."""
+    """What is worked out of a view is worked out once. Who waits for another request that does it waits as `patience`
+    says, and raises `StillReading` then."""
     def found(view: View, /, *asked: Asked.args, **more: Asked.kwargs) -> Found:
         key = (make, asked, *more.items())
         with view.lock:
             lock = view.locks.setdefault(key, threading.RLock())
-        if not lock.acquire(timeout=PATIENCE if has_request_context() else -1):
+        if not lock.acquire(timeout=patience()):
             raise StillReading(COUNTING)
         try:
             if key not in view.found:
@@ -171,11 +176,11 @@ class Desk:
         return held if held and (held.began >= since or held.reading.is_current()) else None
 
     def view(self) -> View:
-        """The office as it is now. Raises `StillReading` where that takes long."""
-        asked = time.monotonic()
+        """The office as it is now. Raises `StillReading` where that takes longer than this request waits."""
+        asked, most = time.monotonic(), patience()
         while not (found := self.fresh(asked)):
             try:
-                self.start_reading().result(max(0, asked + PATIENCE - time.monotonic()))
+                self.start_reading().result(max(0, asked + most - time.monotonic()))
             except TimeoutError:
                 raise StillReading(self.stage) from None
         return found

@@ -33,13 +33,14 @@ from exam_desk.reading import Member, Person, Reading
 from exam_desk.trouble import Stale, Trouble
 from exam_web.desk import PATIENCE, Desk, View, desk, office, sums, two_papers, unseated, view
 from exam_web.forms import Asked, Form, Page, Wrong, attached, keep, lead
-from exam_web.wording import said
+from exam_web.wording import said, text
 
 pages = Blueprint("proposals", __name__)
 MOST_PROPOSALS = 20  # of a visit
 MOST_ROWS = 250  # of a list on the page; all who must be told are in the CSV file
 MOST_LINES = 20  # of the log, where the office was another
 MOST_CLASHES = 100  # new ones that are named
+MANY_LOST = 10  # candidates: a change by which so many lose their desk wants a tick
 CHANGED = ["sessions", "papers", "halls", "openings"]  # the kinds of rows of which a page says what is another
 COMPARING, LODGING = "Both states are compared", "The appeal is lodged"
 OTHER_OFFICE = ("the office has changed since the page that you came from, so nothing was done: go back to the form, "
@@ -145,7 +146,7 @@ class Plan:
     steps: list[Step]
     page: Page  # to come back to
     fields: dict[int, str] = field(default_factory=dict)  # the field beside which a refusal stands, by its number
-    others: dict[str, Any] = field(default_factory=dict)  # what the form for another hall than a lost one begins with
+    halls: Sequence[object] = ()  # all, where one is lost: another can take its place
     form_page: Page | None = None  # with the form, where that is another
     lodge: tuple[str, ...] = ()  # in the place of steps: the words of an appeal that is lodged the candidate's way
     command: str = ""  # as the log has it, where it is not the steps
@@ -185,6 +186,10 @@ class Plan:
         endpoint, values = self.page if self.is_done else self.form_page or self.page
         left = {} if self.is_done else {"again": self.key, "_anchor": self.asked.form}
         return url_for(endpoint, **{**values, **left})
+
+    def lost(self) -> int:
+        """How many candidates lose their desk by what the button does; a lodging moves nobody."""
+        return self.effects.counts.get("loses", (0, 0))[0] if self.effects and not self.lodge else 0
 
     def words(self) -> list[Markup]:
         """Why it cannot be done, as the program or the desk says; none where it can."""
@@ -227,7 +232,7 @@ def command(word: str, names: Sequence[str], values: Mapping[str, str]) -> Step:
 
 def import_step(kind: str, values: Mapping[str, str]) -> Step:
     """An import of one row that was typed in."""
-    return second_sitting.imported(kind, *(values[name] for name in files.HEADERS[kind]))
+    return second_sitting.imported(kind, [values[name] for name in files.HEADERS[kind]])
 
 
 def features(form: Form, field: str = "needs") -> str:
@@ -328,7 +333,7 @@ def page(key: str) -> str:
         following = view().row(f"{APPEALS} WHERE state = 1 AND day > ? {BY_DAY}", [desk().office.today().isoformat()])
     since = [copies.when_and_what(each) for each in itertools.takewhile(lambda each: each != plan.copy, kept)]
     return render_template("proposal.html", p=plan, most=MOST_ROWS, next_appeal=following, since=since,
-                           has_copy=plan.copy in kept)
+                           has_copy=plan.copy in kept, many_lost=MANY_LOST)
 
 
 @pages.post("/proposals/<key>/do")
@@ -336,6 +341,9 @@ def do(key: str) -> Response:
     plan: Plan = g.visit.proposals.get(key) or abort(404)
     with plan.lock:  # a second click does nothing
         if plan.can_be_done:
+            if plan.lost() >= MANY_LOST and not request.form.get("tick"):
+                wrong = text("tick this, or leave the office as it is")
+                raise Wrong(("proposals.page", {"key": key}), "do", tick=wrong)
             work(plan, carry_out)
     return lead("proposals.page", key=key)
 

@@ -99,13 +99,15 @@ def open_appeals() -> list[Attention]:
 
 
 def clashes(coming: list[Sums]) -> Iterator[Attention]:
-    """How many have two papers at once and no appeal on it that is open or decided."""
+    """How many have two papers at once and no appeal on it that is open or decided: by the last day to lodge one or,
+    where that is over, by the day of the session."""
     heard = set(map(tuple, view().rows("SELECT session, number FROM appeal WHERE kind = 2 AND state IN (1, 2, 3)")))
-    unheard = {code: {number for number in people if (code, number) not in heard}
-               for code, people in two_papers(view()).items()}
-    if late := [each for each in coming if unheard.get(each.code) and days_until(each.day) > 0]:
-        yield Attention("note", appeals.to_lodge("clash", late[0].day), "clashes", url_for("clashes.page"),
-                        {"count": len(set().union(*(unheard[each.code] for each in late))), "sessions": len(late)})
+    for each in coming:
+        last = appeals.to_lodge("clash", each.day)
+        level, day = "now" if days_until(last) <= URGENT else "soon", last if days_until(last) >= 0 else each.day
+        if count := sum((each.code, number) not in heard for number in two_papers(view())[each.code]):
+            yield Attention(level, day, "clashes", url_for("clashes.page", session=each.code),
+                            {"count": count, "session": each.code})
 
 
 def out_of_date(coming: list[Sums]) -> Iterator[Attention]:

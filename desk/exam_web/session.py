@@ -264,21 +264,12 @@ def close_hall(form: Form) -> Plan:
     if first in g.visit.proposals:
         form_page = ("proposals.page", {"key": first})
         other, steps = opening(form, form_page, shown.code)
-        values |= other
+        values |= {**other, "is_open": "yes" if other["hall"] in shown.halls else ""}
         if other["hall"] == lost:
             raise Wrong(form_page, hall=text("this is the hall that is lost"))
     step = command("close-hall", ["session", "lost"], values)
     return Plan(values, [*steps, step], shown.page, dict.fromkeys((7, 25), "lost"),
-                others=others(shown.choices(), lost), form_page=form_page)
-
-
-def others(choices: list[tuple[str, str, Opening | None]], lost: str) -> dict[str, object]:
-    """What the form for another hall begins with: the closed halls first, desks and end of the lost one; where the
-    first is open already, as many desks more."""
-    halls = [each for each in choices if each[0] != lost]
-    needed = [now for hall, _, now in choices if now and hall in (lost, *(each[0] for each in halls[:1]))]
-    return {"halls": halls, "desks": sum(each.desks for each in needed) or "",
-            "until": clock(max(each.until for each in needed)) if needed else ""}
+                halls=shown.choices(), form_page=form_page)
 
 
 def change_row(kind: str, form: Form) -> Plan:
@@ -302,7 +293,7 @@ def change_session(form: Form) -> Plan:
     if later and shown.halls and form.get("along"):
         rows = [(shown.code, each.hall, each.desks, clock(min(max(each.until + later, 0), remedies.MIDNIGHT)),
                  "yes" if each.reserved else "no") for each in shown.halls.values()]
-        halls = Step(("import", "openings", "openings.csv"), files.file_of("openings", rows))
+        halls = second_sitting.imported("openings", *rows)
         plan.steps, plan.made_for = [halls, *plan.steps] if later > 0 else [*plan.steps, halls], view().name
     return plan
 

@@ -13,6 +13,7 @@ from exam_desk import files
 from sample import DESK, KINDS, SampleSchool
 
 MARK, STATE = 'name="mark" value="([^"]+)"', 'name="state" value="([^"]*)"'
+TICK = 'name="tick" value="1" required'
 EFFECT = r'effect (\w+)"><b>([\d,]+)</b>[^<]*(?:<small>\((?:<bdi>)?([\d,]+))?'
 LINK = r"http://127\.0\.0\.1:(\d+)(/[^/\s]+)/enter#(\S+)"
 SESSIONS = "S1,2027-06-07,09:00\nS2,2027-06-08,09:00\n"
@@ -82,10 +83,12 @@ class Browser:
         return (answer.headers["Location"] or "").removeprefix(self.prefix), text
 
     def post(self, path, page, status=303, **values):
-        """Posts as the form of a page does, with its mark and its state; gives where it leads, and the text."""
+        """Posts as the form of a page does, with its mark, its state and the tick that it wants; gives where it leads,
+        and the text."""
         text = self.get(page)
         state = re.search(STATE, text)
-        values = {"mark": re.search(MARK, text)[1], "state": state[1] if state else "", **values}
+        values = {"mark": re.search(MARK, text)[1], "state": state[1] if state else "",
+                  "tick": "1" if TICK in text else "", **values}
         answer, text = self.ask("POST", path, urllib.parse.urlencode(values, doseq=True))
         assert answer.status in (status if isinstance(status, tuple) else (status,)), (path, answer.status, text[-800:])
         return (answer.headers["Location"] or "").removeprefix(self.prefix), text

@@ -98,7 +98,7 @@ def refused_late(browser, what):
     lodged = lodging.Lodged(1, "refused 22", [refusals.SENTENCES[22]])
     with (mock.patch.object(changing, "run_patiently", return_value=Ran(1, "", "refused 22\n")),
           mock.patch.object(lodging, "lodge", return_value=lodged)):
-        browser.post(f"{page}/do", {})
+        browser.post(f"{page}/do", {"tick": "1"})
     text = shown(browser.client.get(page))
     holds("It was refused, and the office is as it was" in text and sentence(22) in text and "/do" not in text,
           f"{what} refused late: {text[-300:]}")

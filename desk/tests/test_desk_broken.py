@@ -46,6 +46,10 @@ class Broken(Uploads):
         self.browser.post(proposal + "/do", proposal)
         self.assertIn("It was refused, and the office is as it was", self.browser.words(proposal))
         self.assertNotIn("refused 22", self.browser.words(proposal))
+        head = self.browser.get(proposal).partition("</h1>")[2].partition("</div>")[0]
+        self.assertIn("refused", head)
+        self.assertNotIn("rehearsal", head)
+        self.assertNotIn("Added", self.browser.words(proposal))
         self.assertEqual(self.state(), before)
 
     def test_the_disk_is_full(self):

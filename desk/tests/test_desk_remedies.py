@@ -178,8 +178,8 @@ class TestAtRandom(SampleSchool):
 
     def gained(self, office, session, then):
         """How many more have a seat once a hall is open so."""
-        step = second_sitting.imported("openings", session, then.hall, then.desks, clock(then.until),
-                                       "yes" if then.reserved else "no")
+        step = second_sitting.imported("openings", [session, then.hall, then.desks, clock(then.until),
+                                                    "yes" if then.reserved else "no"])
         with changing.rehearse(office, [step]) as rehearsal:
             self.assertIsNone(changing.refused_of(rehearsal.answers), then)
             was, now = (self.seats_of(path, session) for path in (rehearsal.before, rehearsal.after))

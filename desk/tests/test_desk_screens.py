@@ -48,6 +48,22 @@ class TestArrangements(DeskSchool):
         self.assertIn("arrangement screen, quiet, 17 % extra time", self.words(page))
 
 
+class TestLodging(DeskSchool):
+    def test_halls_and_papers_are_chosen(self):
+        """0001051 sits in one hall a session; what was chosen is still chosen where the program refuses it."""
+        halls = self.rows("SELECT hall, session FROM seat WHERE number = 1051 ORDER BY session")
+        text = self.browser.get("/candidates/1051")
+        self.assertEqual(self.choices(text, "hall"), [(hall, "", f"{hall}, {code}") for hall, code in halls])
+        self.assertEqual([value for value, *_ in self.choices(text, "clash")], ["CS-1", "LAT", "EN-1", "PH-1"])
+        _, text = self.browser.post("/propose/lodge", "/candidates/1051", 422, number="0001051", session="TUE-AM",
+                                    kind="clash", wanted_clash="LAT")
+        self.assertEqual([value for value, chosen, _ in self.choices(text, "clash") if chosen], ["LAT"])
+
+    def choices(self, text, kind):
+        select = text.partition(f'<select name="wanted_{kind}"')[2].partition("</select>")[0]
+        return re.findall('<option value="([^"]+)"( selected)?>(.*?)</option>', select)
+
+
 class TestCounts(DeskSchool):
     def rehearsed(self, what, path, **values):
         """The effects of a rehearsal, and its text; each count leads to a place of the page."""
@@ -98,7 +114,8 @@ class TestPeople(SmallSchool):
                                        "0000002,SHORT\n0000002,LONG\n")
         words = self.browser.words("/")
         self.assertIn("2 candidates 2 sessions 3 sittings 2 without a desk ( 3 sittings)", words)
-        self.assertIn("2 candidates with two papers at once and no appeal, in sessions: 2", words)
+        self.assertIn("2 candidates with two papers at once and no appeal in S1", words)
+        self.assertIn("1 candidate with two papers at once and no appeal in S2", words)
         self.begin("A,Hall A,-\n", "S2,A,1,18:00,no\n", "0000001,SHORT\n0000001,LONG\n0000001,OTHER\n")
         words = self.browser.words("/")
         self.assertIn("1 candidate 2 sessions 2 sittings 1 without a desk 0 open appeals", words)
@@ -130,6 +147,31 @@ class TestNewCandidate(DeskSchool):
         entered, _ = self.browser.post("/propose/enter", link, number="0009001", paper="EN-1")
         self.browser.post(entered + "/do", entered)
         self.assertEqual(self.rows("SELECT paper FROM entry WHERE number = 9001"), [("EN-1",)])
+
+    def test_with_papers_as_one_change(self):
+        page, _ = self.browser.post("/propose/candidate", "/candidates", **self.NEW, paper=["EN-1", "LAT"])
+        words = self.browser.words(page)
+        self.assertIn("New candidate 0009001 : Zoë <b> Lund , for EN-1, LAT", words)
+        self.assertIn("candidates 1 0 0 entries 2 0 0", words)
+        self.assertEqual(self.rows("SELECT * FROM candidate WHERE number = 9001"), [])
+        self.browser.post(page + "/do", page)
+        self.assertEqual(self.rows("SELECT paper FROM entry WHERE number = 9001 ORDER BY 1"), [("EN-1",), ("LAT",)])
+
+    def test_a_paper_that_is_not_there_and_the_ticks_stay(self):
+        _, text = self.browser.post("/propose/candidate", "/candidates", 422, **self.NEW, paper=["EN-1", "NO-1"])
+        self.assertIn('id="fault-candidate-paper"', text)
+        self.assertIn('name="paper" value="EN-1" checked', text)
+        self.assertNotIn('name="paper" value="LAT" checked', text)
+        self.assertEqual(self.rows("SELECT * FROM candidate WHERE number = 9001"), [])
+
+    def test_papers_of_sessions_that_are_over_are_not_offered(self):
+        self.assertIn('name="paper" value="CS-1"', self.browser.get("/candidates"))
+        self.end()
+        self.environment["TODAY"] = "2027-06-08"  # CS-1 was sat on the day before
+        self.start()
+        text = self.browser.get("/candidates")
+        self.assertNotIn('name="paper" value="CS-1"', text)
+        self.assertIn('name="paper" value="PH-1"', text)
 
     def test_a_number_without_its_zeros(self):
         page, _ = self.browser.post("/propose/candidate", "/candidates", **{**self.NEW, "number": " 9001 "})

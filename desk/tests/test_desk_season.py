@@ -3,7 +3,7 @@ import re
 import subprocess
 import unittest
 
-from desk_client import HAS_FLASK, PYTHON, DeskSchool
+from desk_client import HAS_FLASK, PYTHON, DeskSchool, SmallSchool
 from sample import DESK
 
 SESSIONS = "session,date,start\nHL,2027-06-07,10:00\nT1,2027-06-07,11:00\n"
@@ -35,14 +35,16 @@ def quick(view):
 threading.Thread(target=slow, args=[view]).start()
 begun.wait()
 desk.PATIENCE = 0.1
-with flask.Flask("x").test_request_context():
+app = flask.Flask("x")
+with app.test_request_context():
     try:
         slow(view)
     except desk.StillReading as stage:
         print(stage)
     print(quick(view))
-end.set()
-print(slow(view), asked)
+with app.test_request_context(method="POST"):
+    threading.Timer(0.5, end.set).start()
+    print(slow(view), asked)
 """
 
 
@@ -121,6 +123,38 @@ class TestWhatNeedsAPerson(DeskSchool):
         urgent = [(["late", "now", "soon", "note"].index(level), day) for level, day in found]
         self.assertEqual(urgent, sorted(urgent))
         self.assertGreater(len(self.links("/?piece")), len(self.links("/")))
+
+
+class TestClashes(SmallSchool):
+    ONE, TWO = (f"{words} with two papers at once and no appeal in" for words in ("1 candidate", "2 candidates"))
+
+    def test_by_the_last_day_to_lodge_then_by_the_day_of_the_session(self):
+        """A clash appeal can be lodged until five days before: 2 June for S1, 3 June for S2."""
+        self.begin("A,Hall A,-\n", "S1,A,5,18:00,no\nS2,A,5,18:00,no\n", "0000001,SHORT\n0000001,LONG\n0000001,OTHER\n"
+                   "0000001,MORE\n0000002,SHORT\n0000002,LONG\n")
+        of_s1, of_s2 = f"{self.TWO} S1", f"{self.ONE} S2"
+        for today, expected in (
+                ("05-01", [("soon", "06-02", of_s1), ("soon", "06-03", of_s2)]),
+                ("05-30", [("now", "06-02", of_s1), ("soon", "06-03", of_s2)]),
+                ("06-03", [("now", "06-03", of_s2), ("now", "06-07", of_s1)]),
+                ("06-07", [("now", "06-07", of_s1), ("now", "06-08", of_s2)]),
+                ("06-08", [("now", "06-08", of_s2)])):
+            self.end()
+            self.environment["TODAY"] = f"2027-{today}"
+            self.start()
+            found = re.findall(r'<li class="(\w+)"><span class="when">by <time datetime="2027-([^"]+)".*?'
+                               r'<span class="what">(.*?)</span><a [^>]*href="[^"]*/clashes\?session=(\w+)"',
+                               self.browser.get("/"))
+            said = [(level, day, re.sub("<[^>]*>", "", words)) for level, day, words, _ in found]
+            self.assertEqual(said, expected, today)
+            self.assertEqual([code for *_, code in found], [words[-2:] for *_, words in expected])
+
+    def test_who_has_asked_is_not_counted(self):
+        self.begin("A,Hall A,-\n", "S1,A,5,18:00,no\n", "0000001,SHORT\n0000001,LONG\n0000002,SHORT\n0000002,LONG\n")
+        self.office("lodge", "0000002", "S1", "clash", "SHORT", "")
+        self.assertIn(f"{self.ONE} S1", self.browser.words("/"))
+        self.office("lodge", "0000001", "S1", "clash", "SHORT", "")
+        self.assertNotIn("two papers at once and no appeal", self.browser.words("/"))
 
 
 if __name__ == "__main__":

@@ -195,13 +195,13 @@ class Listed(test_changing.Changing):
         real = logbook.write
 
         def write(office, words, status, answer):
-            if status == logbook.BEGINS and words[1] == "0001017":
+            if status == logbook.STEP and words[1] == "0001017":
                 raise OSError(28, "No space left on device", "/x")
             real(office, words, status, answer)
         with (mock.patch("exam_desk.logbook.write", write),
               self.assertRaisesRegex(Trouble, "^the rows from line 3 on are not carried out: .*/x: No space left ")):
             self.carried(GOOD)
-        self.assertEqual((len(self.kept()), self.log()[1:]), (1, [["withdraw 0001000 MA-1", "0", "withdrawn"]]))
+        self.assertEqual((len(self.kept()), self.log()[2:]), (1, [["withdraw 0001000 MA-1", "0", "withdrawn"]]))
 
     def test_whoever_reads_may_go(self):
         """The output cannot be written, and all rows are done."""
