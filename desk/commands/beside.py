@@ -11,11 +11,12 @@ from exam_desk.words import few, plain
 if TYPE_CHECKING:
     from argparse import ArgumentParser
 
-    from exam_desk.notebook import Desk, Move
+    from exam_desk.notebook import Desk
     from exam_desk.reading import Reading
 
 MOST_BYTES = 1 << 16  # of numbers on standard input
 OTHERWISE = "with another name, paper, time, arrangement, note or title"
+WHOLE = "board, counts, slips"
 
 
 @command.named("""Notes who was missing in a session, and lists it for the exam board: absent SESSION [NUMBER .. | -]
@@ -28,24 +29,29 @@ OTHERWISE = "with another name, paper, time, arrangement, note or title"
 
 All of it from the day of the session on. Who was missing is no fact of the office: no seat changes by it. Zeros in
 front of a number may be left out; where one number is wrong nothing is noted. The paper is the one that the candidate
-was to sit. Where nobody noted anything of a session, all are listed as present, and a note says so.
+was to sit, of a second sitting the paper that it was made of. Where nobody noted anything of a session, all are listed
+as present, and a note says so; so does one of who was noted, and has left the session.
 """)
 def absent(parser: ArgumentParser) -> None:
     from exam_desk import lists, notebook
     parser.add_argument("--there", metavar="NUMBER", nargs="+", default=[], help="who is not absent after all")
     given = command.given(parser, "session", "number*", "--nobody: nobody was absent")
     session, missing, there = given.session, numbers(given.number), numbers(given.there)
+    notes = bool(given.number or given.there or given.nobody)
     with command.reading() as reading:
-        if given.number or given.there or given.nobody:
-            missed = notebook.note_absent(reading, session, missing, there, given.nobody)
-            members = reading.members(session)
-            command.say(f"{lists.count(len(missed), 'candidate')} absent of {len(members):,}\n")
-            return
-        text, members = notebook.attendance(reading, session), reading.members(session)
-    if notebook.absent(command.office(), session) is None:
+        if notes:
+            notebook.note_absent(reading, session, missing, there, given.nobody)
+        text, noted = notebook.attendance(reading, session), notebook.absent(reading.office, session)
+        members = {member.number for member in reading.members(session)}
+    found = noted or set()
+    if notes:
+        text = f"{lists.count(len(found & members), 'candidate')} absent of {len(members):,}\n"
+    elif noted is None:
         who = "the only candidate is" if len(members) == 1 else f"all {len(members):,} are"
         command.warn(f"NOTE nobody has noted who was absent in {session}: {who} listed as present; `office absent "
                      f"{session} --nobody` notes that nobody was")
+    if gone := sorted(found - members):
+        command.warn(f"NOTE the exam board's list lacks who is noted as absent and has left {session}: {few(gone)}")
     command.say(text)
 
 
@@ -121,16 +127,12 @@ def compared(reading: Reading, session: str) -> list[str]:
     found = notebook.compared(reading, session)
     if found is None:
         raise Trouble(f"nobody noted which desks are printed for {session}; `office printed {session}` does")
-    again = ", ".join(hall for hall in found.halls if hall not in found.empty)
-    return [*(f"{move.number} {move.name}: {place(move.now)}, {other(move)}" for move in found.moves),
-            *([f"to print again: {again}"] if again else []),
+    again = "; ".join(filter(None, [", ".join(hall for hall in found.halls if hall not in found.empty), WHOLE]))
+    return [*(f"{move.number} {move.name}: {place(move.now)}, "
+              f"{OTHERWISE if move.now == move.printed else 'was ' + place(move.printed)}" for move in found.moves),
+            *([f"to print again: {again}"] if found.halls else []),
             *([f"to take away, as nobody sits there now: {', '.join(found.empty)}"] if found.empty else []),
             *([] if found.halls else ["the papers are up to date"])]
-
-
-def other(move: Move) -> str:
-    """What is another than on paper."""
-    return OTHERWISE if move.now == move.printed else f"was {place(move.printed)}"
 
 
 def place(desk: Desk | None) -> str:

@@ -48,6 +48,27 @@ def list_copies(office: Office) -> None:
 
 
 @command.named("""\
+Opens a hall for a session, or has it open otherwise: open-hall SESSION HALL DESKS UNTIL [--reserved]
+
+    office what-if open-hall MON-AM PC1 12 12:30      what it would come to
+    office open-hall MON-AM PC1 12 12:30              does it: 12 desks, until 12:30
+    office open-hall MON-AM LIB 6 14:00 --reserved    only for candidates with needs or extra time
+
+It imports this one row of openings; the office must know the hall. `office close-hall` closes a hall.
+""", changes=True)
+def open_hall(parser: ArgumentParser) -> Plan:
+    from commands import programs
+    from exam_desk import second_sitting, typed
+    names = ["session", "hall", "desks", "until"]
+    given = command.given(parser, *names, "--reserved: only for candidates with needs or extra time")
+    row = [vars(given)[name] for name in names]
+    if wrong := typed.wrong(names, row):
+        parser.error("; ".join(wrong))
+    step = second_sitting.imported("openings", *row, "yes" if given.reserved else "no")
+    return programs.Change([step], " ".join(["open-hall", *row]))
+
+
+@command.named("""\
 Lodges an appeal at the counter, for a candidate who is there: lodge NUMBER SESSION KIND VALUE .. REASON.
 
     office lodge 0001051 MON-AM hall PC1 'a draught'               not in this hall

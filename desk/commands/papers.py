@@ -47,7 +47,7 @@ A page for a browser, on A4: by desk the number, name, paper, finish, arrangemen
 to sign. The heading stands on each page again. A hall in which nobody sits has no sheet. It is for invigilators: who
 has which arrangement is private. For the door take `office poster`.
 """),
-    "poster": ("session", """Prints the posters for the doors of a session: poster SESSION >poster.html
+    "poster": ("session hall*", """Prints the posters for the doors of a session: poster SESSION [HALL ..] >poster.html
 
 A page for a browser, on A4: each hall from a page of its own on, with a heading that is read from afar, and by name the
 desk of each candidate in three columns. Only namesakes of the session, in whichever halls, have their numbers beside
@@ -152,9 +152,9 @@ def slips(parser: ArgumentParser) -> None:
     with command.reading() as reading:
         text, known = make(reading, choice), facts.candidate_names(reading.rows).keys()
     if strangers := len(groups.keys() - known):
-        command.warn(f"{lists.count(strangers, 'number')} of the file are no candidates of the office")
+        command.warn(f"the file has {lists.count(strangers, 'number')} that no candidate of the office has")
     if groups and (alone := len(known - {each for each, group in groups.items() if group})):
-        command.warn(f"{lists.count(alone, 'candidate')} in no group: their slips come last")
+        command.warn(f"in no group, and so last: {lists.count(alone, 'candidate')}")
     command.say(text)
 
 
@@ -286,19 +286,23 @@ def titles(parser: ArgumentParser) -> None:
         texts.put_titles(given.file, text)
 
 
-@command.named("""Says why candidates have no desk, hall by hall: why SESSION [NUMBER].
+@command.named("""Says why candidates have no desk, hall by hall, and what could help: why SESSION [NUMBER].
 
     office why MON-AM             everybody without a desk: what they need, until when, and of each open hall why not
     office why MON-AM 0001272     one candidate, who may have a desk
 
 Where that would pass 60 lines for all, they stand by their needs, and each reason once, with its first halls. It only
-reads. Needs are those of the arrangement in force and what the paper requires.
+reads. Needs are those of the arrangement in force and what the paper requires. What could help are guesses: commands
+that open a hall, or have it open for longer or with more desks.
 """)
 def why(parser: ArgumentParser) -> bool:
-    from exam_desk import reasons
+    from exam_desk import reasons, remedies
     given = command.given(parser, "session", "number?")
+    number = typed.candidate_number(given.number) if given.number else None
     with command.reading() as reading:
         found, printed = reasons.compared(reading, given.session)
         faults = list(found.faults(printed))
-    command.say(found.text(given.number))
+        helpful = [] if number else remedies.lines(reading.rows, found, printed)
+    command.say(found.text(number))
+    command.say_lines(helpful)
     return warned(faults)

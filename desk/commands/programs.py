@@ -12,8 +12,8 @@ from dataclasses import dataclass, replace
 from typing import TypeVar
 
 import command
-from exam_desk import (beside, changing, consequences, copies, listed, lodging, notebook, private, refusals, running,
-                       turns, typed)
+from exam_desk import (beside, changing, consequences, copies, listed, lists, lodging, notebook, private, refusals,
+                       running, turns, typed)
 from exam_desk.changing import Answered, Rehearsal, Step, Tried
 from exam_desk.office import Office
 from exam_desk.reading import Reading
@@ -24,10 +24,12 @@ from exam_desk.words import plain
 CHECKING = ["init", "check"]  # change no facts, but need the office for themselves
 CHANGES, MIGRATE = changing.CHANGES, "migrate"
 LISTED = ["withdraw", "reinstate"]  # take a list too
+OF_A_LIST = "office {0} --list FILE.csv"
 LIST_HELP = """
-With the entries of a file, whose header is number,paper: office {0} --list FILE.csv
+With the entries of a file, whose header is number,paper: {0}
   One copy of the office is kept, and each row has a line in the log. Where a number or a paper is not known nothing is
-  changed. A row that is refused is printed, and the others are carried out; `office back 1` takes all of it back.
+  changed; zeros in front of a number may be left out. A row that is refused is printed, and the others are carried out;
+  `office back 1` takes all of it back.
 """
 ALL_HELP = """
 Each entry of a candidate who leaves, in the same way: office withdraw NUMBER --all
@@ -100,7 +102,7 @@ class List(Change):
 
     def said(self, rehearsal: Rehearsal) -> int:
         statuses = [*map(said_of_row, self.rows, rehearsal.answers)]
-        print(f"{statuses.count(0)} of {len(self.rows)} rows would be done")
+        print(f"{statuses.count(0)} of {lists.count(len(self.rows), 'row')} would be done")
         return int(statuses.count(0) < len(self.rows))
 
     def __call__(self) -> int:
@@ -109,12 +111,14 @@ class List(Change):
             carried = listed.carry_out(command.office(), self.title, self.rows,
                                        lambda line, answered: statuses.append(said_of_row(line, answered)))
         except SystemExit:  # a signal
-            command.warn(f"stopped after {len(statuses)} of {len(self.rows)} rows: those before it that were not "
-                         "refused are done, and look whether the next one is; `office back 1` takes all of them back")
+            command.warn(f"stopped after {len(statuses)} of {lists.count(len(self.rows), 'row')}: what came before and "
+                         "was not refused is done, and look whether the next one is; `office back 1` takes all of it "
+                         "back")
             raise
         done = sum(answered.ran.status == 0 for answered in carried.answers)
-        back = "; `office back 1` takes them back" if done else ""
-        printed(Ran(0, f"{done} of {len(self.rows)} rows are done{back}\n", ""))
+        back = "; `office back 1` takes all of it back" if done else ""
+        verb = "is" if 1 in (done, len(self.rows)) else "are"
+        printed(Ran(0, f"{done} of {lists.count(len(self.rows), 'row')} {verb} done{back}\n", ""))
         command.tell_consequences(carried.copy)
         return int(any(statuses) or len(carried.answers) < len(self.rows))
 
@@ -134,7 +138,7 @@ class Back(Change):
         """Says what is taken away, and what is left as it is beside the office though the copy has it otherwise."""
         when, what = copies.when_and_what(self.copy)
         print(f"the office {verb} as it was on {when}, before {plain(what)}")
-        print_taken(taken)
+        command.say_lines(f"taken away: {line}" for line in taken)
         if others:
             print(f"left as they are now, and otherwise in the copy: {', '.join(map(plain, others))}")
 
@@ -200,7 +204,7 @@ def run(office: Office, words: list[str]) -> int:
             os.execv(office.program, ["examoffice", *words])
     if not {"-h", "--help"}.isdisjoint(itertools.takewhile(lambda word: word != "--", words)):
         found = running.help_text(office, words[0])
-        command.say(found + (LIST_HELP.format(words[0]) if words[0] in LISTED else "")
+        command.say(found + (LIST_HELP.format(OF_A_LIST.format(words[0])) if words[0] in LISTED else "")
                     + ALL_HELP * (words[0] == "withdraw"))
         return 0 if found else outcome(words, Ran(2, "", "line not understood\n"))
     if words[0] == "serve" and len(words) > 1:
@@ -309,12 +313,14 @@ def printed(ran: Ran) -> Ran:
 def outcome(words: Sequence[str], ran: Ran, data: bytes | None = None) -> int:
     """Says what a refusal of a command, or of an import of these bytes, means; the status."""
     lines = []
-    if ran.status == 1:
+    if ran.status in (0, 1):
         lines = refusals.explained(command.office(), words, ran.complaint, data)
     elif ran.status == 2:
         text = running.help_text(command.office(), words[0])
         wrong = typed.wrong(running.takes(text), [word for word in words[1:] if word != "--"]) if text else []
         usage = [line for line in text.split("\n") if line][1:]
+        if words[0] in LISTED and "--list" in words[1:2]:
+            wrong, usage = ["--list takes one file"], [f"Usage: {OF_A_LIST.format(words[0])}"]
         lines = [f"  {line}" for line in
                  [*wrong, *usage] or [f"`office --help` lists the commands{meant(words[0])}"]]
     sys.stderr.write(ran.complaint + "".join(f"{line}\n" for line in lines))
@@ -330,10 +336,6 @@ def meant(name: str) -> str:
 
 def agreed(question: str, lines: list[str]) -> list[str]:
     """Raises `Trouble` unless the answer is yes; gives the lines of what was asked about."""
-    print_taken(lines)
+    command.say_lines(f"taken away: {line}" for line in lines)
     command.ask(question)
     return lines
-
-
-def print_taken(lines: list[str]) -> None:
-    command.say_lines(f"taken away: {line}" for line in lines)

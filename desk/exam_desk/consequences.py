@@ -1,34 +1,41 @@
 """What a change does to candidates and sessions, in short: from two readings of an office, before and after it."""
 from __future__ import annotations
 
+import itertools
 import sqlite3
 from collections import Counter, defaultdict
 from collections.abc import Collection, Iterable
 from typing import NamedTuple
 
-from exam_desk import copies, facts, lists, notebook, overlaps, telling
+from exam_desk import copies, facts, lists, logbook, notebook, overlaps, telling
 from exam_desk.asking import Progress
 from exam_desk.left_behind import left_behind
 from exam_desk.office import Office
 from exam_desk.reading import Member, Person, Reading
 from exam_desk.telling import Change, counted
 from exam_desk.trouble import Trouble
-from exam_desk.words import plain
+from exam_desk.words import few, plain
 
-CLASHES, TWICE, HALLS, PRINTED = "clashes", "twice", "halls", "printed"
-KINDS = {  # those of changes, and behind who has no desk what no rule of the office forbids, and what is on paper
+OVER, OPENED, CLASHES, TWICE, HALLS, PRINTED = "over", "opened", "clashes", "twice", "halls", "printed"
+KINDS = {  # what may be a slip, who has no desk, what no rule of the office forbids, what is on paper; other changes
+    OVER: ("session that is over is changed", "sessions that are over are changed"),
+    OPENED: ("hall that was closed is open again", "halls that were closed are open again"),
     **{kind: telling.KINDS[kind] for kind in ("loses", "lacks")}, CLASHES: ("has a new clash", "have new clashes"),
     TWICE: ("is in two sessions at one time", "are in two sessions at one time"),
     HALLS: ("hall has candidates of two sessions at one time", "halls have candidates of two sessions at one time"),
-    PRINTED: ("session has printed papers that are out of date", "sessions have printed papers that are out of date"),
+    PRINTED: ("session has printed papers that are out of date (board, counts, slips too)",
+              "sessions have printed papers that are out of date (board, counts, slips too)"),
     **telling.KINDS,
 }
 CODES = ("has another access code", "have other access codes")
-LISTED_BY = {CLASHES: "clashes {}", TWICE: "summary {}", HALLS: "summary {}", PRINTED: "printed {} --look"}
+LISTED_BY = {OPENED: "", CLASHES: "clashes {}", TWICE: "summary {}", HALLS: "summary {}",
+             PRINTED: "printed {} --look"}
+OPEN = "SELECT session, hall, day FROM opening JOIN session ON code = session ORDER BY day, start, code, hall"
 GRAVEST = 4  # groups that have a line of their own in a short answer
 MOST_NAMED = 3  # candidates in such a line, or sessions
 DESK_ALONE = "desk"  # candidates of this kind are counted, and never named
-COUNTED = ["gets", "leaves", "joins", DESK_ALONE]  # so are these where the others are listed with what becomes of them
+LEAVES = "leaves"
+COUNTED = ["gets", LEAVES, "joins", DESK_ALONE]  # so are these where the others are listed with what becomes of them
 FIGURES = ("SELECT code, coalesce(entered, 0), coalesce(seated, 0) FROM session "
            "LEFT JOIN (SELECT session AS code, count(DISTINCT number) AS entered FROM entry "
            "JOIN paper ON paper.code = paper WHERE live = 1 GROUP BY session) USING (code) "
@@ -57,7 +64,7 @@ class Group(NamedTuple):
         return counted(KINDS[self.kind], [each.person if self.is_of_people() else each.who for each in self.people])
 
     def is_of_people(self) -> bool:
-        return self.kind not in (HALLS, PRINTED)
+        return self.kind not in (OVER, OPENED, HALLS, PRINTED)
 
 
 def between(before: Reading, after: Reading, at_most: int | None) -> list[str]:
@@ -67,8 +74,8 @@ def between(before: Reading, after: Reading, at_most: int | None) -> list[str]:
     shown = left_behind(before, after) + (lines(met, at_most) if met or has_seats(before) else [])
     sessions = [f"session {code}: {lists.count(people, 'candidate')}, {people - seats:,} without a desk"
                 + (f" (before: {was[code][0]:,} and {was[code][0] - was[code][1]:,})" if code in was else "")
-                for code, (people, seats) in figures(after).items() if was.get(code) != (people, seats)]
-    return shown + other_codes(before, after) + sessions
+                for code, (people, seats) in other_figures(before, after).items()]
+    return shown + other_codes(before, after) + sessions + notes(before, after, met)
 
 
 def done(office: Office, copy: str, progress: Progress) -> list[str]:
@@ -83,9 +90,11 @@ def done(office: Office, copy: str, progress: Progress) -> list[str]:
             shown = left_behind(before, after)
             shown += [f"{line}; `office summary` has all sessions" for line in short_at_first(before, after)]
             shown += brief(met)
-            if met:
-                shown.append(f"`office {listing(met, copies.listed(office).index(copy) + 1)}` lists them")
-            return shown + other_codes(before, after)
+            place = copies.listed(office).index(copy) + 1
+            words = [f"`office {words}` lists them" for words in listing(met, place)]
+            words += [f"`office back {place}` takes it back"] if met and met[0].kind in (OVER, OPENED) else []
+            shown += ["; ".join(words)] if words else []
+            return shown + other_codes(before, after) + notes(before, after, met)
     except (Trouble, OSError, sqlite3.Error, MemoryError) as fault:
         reason = plain(str(fault)) or "there is no memory"
         return [f"the change is done, but nobody can say what it did to candidates: {reason}; try `office changes 1`"]
@@ -97,8 +106,13 @@ def groups(before: Reading, after: Reading) -> list[Group]:
     sessions = telling.touched(before, after)
     different = telling.of_touched(before, after, sessions) if has_seats(before) else []
     twice = list(overlaps.new(before, after, list(sessions)))
+    clashes = [met for code, people in sessions.items() for met in new_clashes(before, after, code, people)]
     return grouped(different, {
-        CLASHES: [met for code, people in sessions.items() for met in new_clashes(before, after, code, people)],
+        OVER: [Met(code, f"of {day} for {lists.count(people, 'candidate')}", "is it the right session, or an old file?")
+               for code, (day, people) in over(before, after, different, clashes).items()],
+        OPENED: [Met(code, f"{hall} (closed on {when[:10]})", f"afterwards `office close-hall {code} {hall}` closes it")
+                 for (code, hall), when in opened(before, after).items()],
+        CLASHES: clashes,
         TWICE: [Met(each.late, person.shown(), f"sits in {each.early} then")
                 for each in twice for person in by_name(after, each.candidates)],
         HALLS: [Met(each.early, f"and {each.late} in {hall}", "both number their desks from 1")
@@ -107,14 +121,66 @@ def groups(before: Reading, after: Reading) -> list[Group]:
                   for code, halls in out_of_date(after, different).items()]})
 
 
+def over(before: Reading, after: Reading, changes: Iterable[Change],
+         clashes: Iterable[Met] = ()) -> dict[str, tuple[str, int]]:
+    """The sessions whose day, before or after, is before today, each with this day and how many are met there: by more
+    than another name, or by a new clash. Where nobody had a seat all who are entered count."""
+    met = {(code, each.person()) for each in changes if each.kind() != "name" for code in each.sessions()}
+    counts = Counter(code for code, _ in met | {(each.session, each.person) for each in clashes})
+    if not has_seats(before):
+        counts = Counter({code: people for code, (people, _) in other_figures(before, after).items()})
+    days = sorted((day, code) for reading in (before, after) for code, day, _ in facts.sessions(reading.rows))
+    first, today = {code: day for day, code in reversed(days)}, after.office.today().isoformat()
+    return {code: (day, counts[code]) for code, day in reversed(first.items()) if day < today and counts[code]}
+
+
+def opened(before: Reading, after: Reading) -> dict[tuple[str, str], str]:
+    """The halls that a change opens again, by session, each with the moment at which `close-hall` closed it by the
+    log."""
+    new = openings(after).keys() - openings(before).keys()
+    closed = logbook.closings(after.office) if new else {}
+    return {each: closed[each] for each in sorted(new) if each in closed}
+
+
+def openings(reading: Reading) -> dict[tuple[str, str], str]:
+    """The open halls, by session and hall, in the order of the sessions, each with the day."""
+    return {(code, hall): day for code, hall, day in reading.rows.execute(OPEN)}
+
+
+def notes(before: Reading, after: Reading, met: list[Group]) -> list[str]:
+    """Where halls are open yet that are closed. Of who leaves a session on its day or later how it is noted that somebody
+    did not come, and who was noted so, and is gone from the list for the exam board."""
+    days, left = {code: day for code, day, _ in facts.sessions(after.rows)}, defaultdict[str, list[str]](list)
+    for each in (each for group in met if group.kind == LEAVES for each in group.people):
+        if not notebook.is_to_come(after.office, days.get(each.session, "9")):
+            left[each.session].append(each.person[:7])
+    gone = [f"{number} of {session}" for session, numbers in left.items()
+            for number in sorted((notebook.absent(after.office, session) or set()).intersection(numbers))]
+    found = [f"NOTE: who only did not come stays entered: `office absent {session} {' '.join(numbers[:MOST_NAMED])}` "
+             "notes it" for session, numbers in itertools.islice(left.items(), 1)]
+    if gone:
+        found.append(f"NOTE: noted as absent, and not in the list for the exam board any more: {few(gone)}")
+    return found + still_open(before, after)
+
+
+def still_open(before: Reading, after: Reading) -> list[str]:
+    """Where halls that a change closes are open in other sessions, from today on."""
+    now, today, others = openings(after), after.office.today().isoformat(), defaultdict[str, list[str]](list)
+    closed = {hall for _, hall in openings(before).keys() - now.keys()}
+    for (code, hall), day in now.items():
+        if hall in closed and day >= today:
+            others[hall].append(code)
+    found = [f"{hall} in {few(codes)}" for hall, codes in sorted(others.items())]
+    return [f"NOTE: still open: {'; '.join(found[:MOST_NAMED])}"] if found else []
+
+
 def out_of_date(after: Reading, changes: Iterable[Change]) -> dict[str, list[str]]:
     """By session the halls whose papers are noted as printed and hold no longer: by these changes somebody there is not
     as on paper."""
     met, now = defaultdict[str, set[str]](set), defaultdict[str, list[Member]](list)
     for each in changes:
-        met[each.session].add(each.number)
-        if each.old:
-            met[each.old.session].add(each.number)
+        for session in each.sessions():
+            met[session].add(each.number)
         if each.new:
             now[each.new.session].append(Member(each.number, each.name, each.new))
     halls = {session: halls_out_of_date(after, session, numbers, now[session]) for session, numbers in met.items()}
@@ -146,9 +212,7 @@ def by_name(reading: Reading, numbers: Iterable[str]) -> list[Person]:
 
 def short_at_first(before: Reading, after: Reading) -> list[str]:
     """How many have no desk where nobody had one before, counted by the rows of the sessions that are other ones."""
-    was = figures(before)
-    short = Counter({code: people - seats for code, (people, seats) in figures(after).items()
-                     if was.get(code) != (people, seats)})
+    short = Counter({code: people - seats for code, (people, seats) in other_figures(before, after).items()})
     if has_seats(before) or not short.total():
         return []
     return [f"{short.total():,} without a desk: {most(short)}"]
@@ -190,12 +254,13 @@ def brief(met: list[Group]) -> list[str]:
     return [*map(headline, met[:GRAVEST]), *filter(None, [rest])]
 
 
-def listing(met: list[Group], copy: int) -> str:
-    """What lists them: the changes since a copy where somebody sits otherwise, and the clashes and the overlaps."""
+def listing(met: list[Group], copy: int) -> list[str]:
+    """What lists them, if something does: the changes since a copy where somebody sits otherwise, and the clashes and
+    the overlaps."""
     words = dict.fromkeys([f"changes {copy}"] if any(each.kind not in LISTED_BY for each in met) else [])
     words |= dict.fromkeys(LISTED_BY[group.kind].format(each.session)
-                           for group in met if group.kind in LISTED_BY for each in group.people)
-    return "; office ".join([*words][:MOST_NAMED])
+                           for group in met if LISTED_BY.get(group.kind) for each in group.people)
+    return ["; office ".join([*words][:MOST_NAMED])] if words else []
 
 
 def headline(met: Group) -> str:
@@ -205,7 +270,7 @@ def headline(met: Group) -> str:
         return met.title()
     if met.is_of_people() and len({each.person for each in met.people}) == 1 < len(met.people):
         return f"{counted(KINDS[met.kind], ['one'])}: {met.people[0].person} in {len(met.people)} sessions"
-    if len(met.people) <= MOST_NAMED or met.kind == PRINTED:
+    if len(met.people) <= MOST_NAMED or not met.is_of_people():
         named = [*(each.who for each in met.people[:MOST_NAMED]), *[".."] * (len(met.people) > MOST_NAMED)]
         return f"{met.title()}: {'; '.join(named)}"
     return f"{met.title()}: {most(Counter(each.session for each in met.people))}"
@@ -220,6 +285,12 @@ def most(counts: Counter[str]) -> str:
 def figures(reading: Reading) -> dict[str, tuple[int, int]]:
     """How many are entered and how many have a seat, by session, in the order of the sessions."""
     return {code: (entered, seated) for code, entered, seated in reading.rows.execute(FIGURES)}
+
+
+def other_figures(before: Reading, after: Reading) -> dict[str, tuple[int, int]]:
+    """As `figures` after a change, of the sessions that had other ones before it."""
+    was = figures(before)
+    return {code: now for code, now in figures(after).items() if was.get(code) != now}
 
 
 def has_seats(reading: Reading) -> bool:

@@ -6,11 +6,9 @@ import sqlite3
 from typing import NamedTuple
 
 from exam_desk.reading import Reading
-from exam_desk.second_sitting import second_papers
+from exam_desk.second_sitting import PAPERS, second_papers
 from exam_desk.words import clock, feature_text, few, plain
 
-PAPERS = ("SELECT paper.code AS code, session, minutes, requires, title, day, start FROM paper "
-          "JOIN session ON session.code = session ORDER BY day, start, paper.code")
 ENTERED = "SELECT number FROM entry WHERE paper = ? AND live = 1 ORDER BY number"
 MOST_LINES = 5
 
@@ -39,7 +37,7 @@ def left_behind(before: Reading, after: Reading) -> list[str]:
 
 def papers(reading: Reading) -> dict[str, sqlite3.Row]:
     """The papers by code, in the order of time."""
-    return {row["code"]: row for row in reading.rows.execute(PAPERS)}
+    return {row["code"]: row for row in reading.rows.execute(f"{PAPERS} ORDER BY day, start, paper.code")}
 
 
 def stays(after: Reading, first: Moments, second: Moments) -> list[str]:

@@ -24,21 +24,26 @@ Tell = Callable[[int, Answered], None]  # hears what became of the row that begi
 
 def rows_of(office: Office, command: str, path: str) -> tuple[Rows, list[str]]:
     """The rows of a file with the header of entries, and a line for each mistake in it, an unknown number or paper
-    among them. Raises `Trouble` where there is no office or no such file, or no row in it."""
+    among them. Zeros in front of a number may be missing, which is said. Raises `Trouble` where there is no office or
+    no such file, or no row in it."""
     if not os.path.isfile(office.path):
         raise NoOffice(office.path)
     try:
         text = files.read(path)
     except OSError as fault:
         raise Trouble(f"{fault.strerror}; nothing is changed", path) from fault
-    wrong, _ = mistakes.looked_through("entries", text, checking.office_knows(office))
+    file = mistakes.File("entries", checking.office_knows(office))
+    given = file.rows(text)
+    typed = [*(given or ())]
+    whole = [*map(file.mended, typed)]
+    wrong, _ = file.looked_through(given and iter(whole))
     if wrong:
         return {}, list(checking.lines_on(os.path.basename(path), wrong, ""))
-    rows = {record.line: Step((command, *(field.decode() for field in record.fields)))
-            for record in files.below_header(text, path, files.HEADERS["entries"])}
-    if not rows:
+    if not whole:
         raise Trouble("there is no row; nothing is changed", path)
-    return rows, []
+    if others := sum(before != after for before, after in zip(typed, whole)):
+        office.warn(f"NOTE {lists.count(others, 'number')} of the file got the zeros in front that were missing")
+    return {record.line: Step((command, *(field.decode() for field in record.fields))) for record in whole}, []
 
 
 def of_candidate(office: Office, number: str) -> Rows:

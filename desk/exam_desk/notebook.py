@@ -210,13 +210,16 @@ def refuse_to_come(reading: Reading, session: str) -> None:
 def note_absent(reading: Reading, session: str, missing: Iterable[str], there: Iterable[str] = (),
                 nobody: bool = False) -> set[str]:
     """Notes some as absent and others as there, or that nobody was absent; who is absent then. Raises `Trouble`, and
-    notes nothing, before the day of the session, where nobody is named, where a number is not that of a member, and as
-    `keep_absent`."""
+    notes nothing, before the day of the session, where nobody is named, where a number is neither that of a member nor
+    noted already, and as `keep_absent`."""
     refuse_to_come(reading, session)
     missing, there = [*map(typed.candidate_number, missing)], [*map(typed.candidate_number, there)]
-    asked = [*missing, *there]
-    if not (asked or nobody):
+    noted = absent(reading.office, session) or ()
+    asked = [number for number in (*missing, *there) if number not in noted]
+    if not (missing or there or nobody):
         raise Trouble("nothing is noted: no number is given")
+    if both := sorted({*missing} & {*there}):
+        raise Trouble(f"nothing is noted: {words.few(both, MOST_NAMED)}: absent, or there?")
     reading.ask(reading.person(int(number)) for number in asked if reading.knows(number))
     if wrong := [number for number in asked if not (reading.knows(number) and reading.member(session, number))]:
         raise Trouble(f"nothing is noted: {words.few(wrong, MOST_NAMED)}: no candidate of {session}")
@@ -224,13 +227,15 @@ def note_absent(reading: Reading, session: str, missing: Iterable[str], there: I
 
 
 def attendance(reading: Reading, session: str) -> str:
-    """A line for each member, by paper, as CSV. The paper is the one that the candidate was to sit. Raises `Trouble`
-    before the day of the session."""
+    """A line for each member, by paper, as CSV. The paper is the one that the candidate was to sit, by the code which
+    the exam board knows. Raises `Trouble` before the day of the session."""
+    from exam_desk.second_sitting import own_code  # here, since it makes changes, whose copies have this notebook
     refuse_to_come(reading, session)
-    missing = absent(reading.office, session) or set()
-    members = sorted(reading.members(session), key=lambda member: (member.sitting.paper, member.number))
-    return files.written([ATTENDANCE, *([member.number, member.sitting.paper, "absent" if member.number in missing
-                                         else "present"] for member in members)])
+    missing, members = absent(reading.office, session) or set(), reading.members(session)
+    codes = {paper: own_code(reading.rows, paper) for paper in {member.sitting.paper for member in members}}
+    rows = sorted((codes[member.sitting.paper], member.number) for member in members)
+    return files.written([ATTENDANCE, *([number, paper, "absent" if number in missing else "present"]
+                                        for paper, number in rows)])
 
 
 def is_text(part: object) -> bool:

@@ -115,7 +115,7 @@ class Reasons:
         Raises `Trouble` where that one sits nothing here."""
         asked = self.unseated() if number is None else [each for each in self.members if each.number == number]
         if number is not None and not asked:
-            raise Trouble(f"{number} sits nothing in {self.session}; a number has seven digits")
+            raise Trouble(f"{number} sits nothing in {self.session}; `office look {number}` says what they sit")
         if number is None and len(asked) * (1 + len(self.openings)) > MOST_LINES:
             return "".join(f"{line}\n" for line in self.in_short(asked))
         return "".join(map(self.lines, asked)) or "everybody has a desk\n"

@@ -52,6 +52,7 @@ OTHER = {
     "net fault": "the port is taken, or the system gives no more connections; take another one, from 1024 on",
 }
 OF_A_FILE = [1, 2, 3, 4, 5, 6, 7, 20]  # refusals that rows of an import file can bring
+IDLE = ["entries", "arrangements"]  # rows of which do nothing where the entry is withdrawn, or a grant is in force
 NO_CODE = ("`office codes FILE` fills in the codes that the office has, and new ones; for another name alone take "
            "`office name NUMBER NAME`")
 MOST_LINES = 5  # on one column of an import file
@@ -66,7 +67,8 @@ def number_of(answer: str) -> int | None:
 
 
 def explained(office: Office, words: Sequence[str], complaint: str, data: bytes | None = None) -> list[str]:
-    """The lines to print below what the program said of a command, or of an import of these bytes."""
+    """The lines to print below what the program said of a command, or of an import of these bytes; its complaint is
+    empty where that is done."""
     answer = complaint.split("\n")[0]
     number = number_of(answer)
     sentence = SENTENCES.get(number or 0) or OTHER.get(answer)
@@ -79,8 +81,8 @@ def explained(office: Office, words: Sequence[str], complaint: str, data: bytes 
         lines = [str(NoOffice(office.path))]
     elif answer == "file fault" and words[0] == "import":
         lines.append(f"it was looked for as {plain(os.path.abspath(words[-1]))}")
-    elif number in OF_A_FILE:
-        lines += mistakes_of(office, words, data)
+    elif number in OF_A_FILE or not answer:
+        lines += mistakes_of(office, words, data, not answer)
     return [f"  {plain(line)}" for line in lines]
 
 
@@ -99,15 +101,18 @@ def imported(words: Sequence[str]) -> tuple[str, str] | None:
     return (values[0], values[1]) if words[0] == "import" and len(values) == 2 and values[0] in files.HEADERS else None
 
 
-def mistakes_of(office: Office, words: Sequence[str], data: bytes | None) -> list[str]:
-    """What is wrong with the file of an import, as `office check-files` says it; nothing where it has changed since."""
-    from exam_desk import checking, mistakes  # here, since a refusal alone needs them
+def mistakes_of(office: Office, words: Sequence[str], data: bytes | None, is_done: bool) -> list[str]:
+    """What is wrong with the file of an import, as `office check-files` says it; of one that is done its notes on rows
+    that may do nothing. Nothing where the file has changed since."""
+    kind, path = imported(words) or ("", "")
+    if not kind or is_done and kind not in IDLE:
+        return []
+    from exam_desk import checking, mistakes  # here, since few commands need them
     with contextlib.suppress(OSError, Trouble):
-        if (found := imported(words)) and (data is not None or os.path.isfile(found[1])):
-            kind, path = found
+        if data is not None or os.path.isfile(path):
             text = files.read(path) if data is None else data
-            wrong, _ = mistakes.looked_through(kind, text, checking.office_knows(office), MOST_LINES)
-            lines = [*checking.lines_on(os.path.basename(path), wrong, "")]
+            wrong, notes = mistakes.looked_through(kind, text, checking.office_knows(office), MOST_LINES)
+            lines = [*checking.lines_on(os.path.basename(path), *((notes, "NOTE: ") if is_done else (wrong, "")))]
             return [*lines, NO_CODE] if mistakes.NO_CODE in wrong.counts else lines
     return []
 

@@ -19,8 +19,8 @@ from exam_desk.trouble import Trouble
 from exam_desk.words import clock, feature_text, plain
 
 MOST_LETTERS = 12  # of the code of a session or a paper
-PAPER = ("SELECT paper.code AS code, title, session, minutes, requires, day FROM paper "
-         "JOIN session ON session.code = session WHERE paper.code = ?")
+PAPERS = ("SELECT paper.code AS code, title, session, minutes, requires, day, start FROM paper "
+          "JOIN session ON session.code = session")
 SESSIONS_THEN = ("SELECT session.code FROM session JOIN opening ON session = code "
                  "WHERE day = ? AND start = ? AND hall = ? ORDER BY code")
 OPENED = ("SELECT desks, until, reserved, (SELECT count(*) FROM seat WHERE (session, hall) = (opening.session, "
@@ -84,7 +84,7 @@ def plan(reading: Reading, asked: Asked) -> Plan:
 
 
 def paper_row(rows: Rows, code: str) -> sqlite3.Row:
-    found: sqlite3.Row | None = rows.execute(PAPER, [code]).fetchone()
+    found: sqlite3.Row | None = rows.execute(f"{PAPERS} WHERE paper.code = ?", [code]).fetchone()
     if found is None:
         raise Trouble(f"the office has no paper {code}; nothing is changed")
     return found
@@ -123,10 +123,22 @@ def free_code(rows: Rows, table: str, first: str) -> str:
 
 def second_papers(rows: Rows, first: sqlite3.Row) -> list[sqlite3.Row]:
     """The papers that were made of a paper for second sittings."""
-    found = rows.execute("SELECT code, session, minutes, requires FROM paper WHERE title = ? ORDER BY code",
-                         [first["title"]])
-    return [row for row in found
-            if is_numbered(row["code"], first["code"]) and is_numbered(row["session"], first["session"])]
+    found = rows.execute(f"{PAPERS} WHERE title = ? ORDER BY paper.code", [first["title"]])
+    return [row for row in found if is_made_of(row, first)]
+
+
+def is_made_of(second: sqlite3.Row, first: sqlite3.Row) -> bool:
+    return all(is_numbered(second[name], first[name]) for name in ("code", "session"))
+
+
+def own_code(rows: Rows, code: str) -> str:
+    """The code of the paper that a paper was made of for second sittings; its own where it was made of none, or nobody
+    can say of which."""
+    made = paper_row(rows, code)
+    earlier = rows.execute(f"{PAPERS} WHERE title = ? AND (day, start) < (?, ?)",
+                           [made["title"], made["day"], made["start"]]).fetchall()
+    of = [row["code"] for row in earlier if is_made_of(made, row)]
+    return own_code(rows, of[0]) if len(of) == 1 else code
 
 
 def imported(kind: str, *values: object) -> Step:

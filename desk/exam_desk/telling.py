@@ -88,6 +88,10 @@ class Change(NamedTuple):
     def person(self) -> str:
         return f"{self.number} {plain(self.name)}"
 
+    def sessions(self) -> set[str]:
+        """The session before and the one after: two where a paper got another."""
+        return {sitting.session for sitting in (self.old, self.new) if sitting}
+
     def what(self) -> str:
         if self.old and self.new:
             old, new = ([each.session, place(each), each.paper, time(each)] for each in (self.old, self.new))

@@ -27,7 +27,7 @@ def candidate_number(word: str) -> str:
     """As `number`. Raises `Trouble` for a word that is no number of a candidate."""
     if not is_right("number", found := number(word)):
         raise Trouble(f"{shown(word)} is no candidate number: that has seven digits, and zeros in front may be left "
-                      "out")
+                      "out; a search by name finds it")
     return found
 
 

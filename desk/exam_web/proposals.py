@@ -72,10 +72,11 @@ class Effects:
                          if code not in was or NUMBERS(was[code]) != NUMBERS(each)]
         self.clashes, self.overlaps = new_clashes(before, after), named(now, overlaps.new(then, now, [*met]))
         self.out_of_date = consequences.out_of_date(now, changes)
+        self.over, self.opened = consequences.over(then, now, changes), consequences.opened(then, now)
         short = set() if changes else unseated(after) - unseated(before)
         self.short = [*itertools.islice(by_session(after, short), MOST_ROWS)]
         who: dict[str, list[Any]] = {kind: [each.number for each in part] for kind, part in kinds.items()} | {
-            "short": [number for _, number in short],
+            "over": list(self.over), "opened": list(self.opened), "short": [number for _, number in short],
             "clashes": [member.number for _, member, _ in self.clashes],
             "twice": [person.number for _, people in self.overlaps for person in people],
             "halls": [(each.early, each.late, hall) for each, _ in self.overlaps for hall in each.halls],

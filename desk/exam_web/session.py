@@ -8,7 +8,7 @@ from typing import Any, NamedTuple
 from flask import Blueprint, abort, g, render_template, request
 from werkzeug.wrappers import Response
 
-from exam_desk import facts, files, lists, notebook, reasons
+from exam_desk import facts, files, lists, notebook, reasons, remedies
 from exam_desk.changing import Step
 from exam_desk.facts import Opening
 from exam_desk.notebook import Rows
@@ -16,7 +16,6 @@ from exam_desk.reading import Member
 from exam_desk.sheets import papers, slips
 from exam_desk.trouble import Trouble
 from exam_desk.words import clock
-from exam_web import remedies
 from exam_web.desk import View, desk, once, sums, two_papers, view
 from exam_web.forms import Form, Page, Wrong, attached, checked, lead, styled, whole
 from exam_web.proposals import PLANS, Plan, command, features, import_step
@@ -41,7 +40,7 @@ class Sheet(NamedTuple):
 
 SHEETS = {
     "doors": Sheet("Invigilators' sheets to sign", papers.doors, True),
-    "poster": Sheet("Posters for doors", papers.poster),
+    "poster": Sheet("Posters for doors", papers.poster, True),
     "cards": Sheet("Desk cards", papers.cards, True), "chart": Sheet("Seating charts", papers.chart, True),
     "slips": Sheet("Slips for candidates, with desk numbers", lambda reading, session: slips.page(
         reading, slips.Choice(sessions=[session], desks=True))),

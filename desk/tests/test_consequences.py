@@ -6,7 +6,7 @@ import unittest
 from unittest import mock
 
 import sample
-from exam_desk import changing, consequences, copies, telling
+from exam_desk import changing, consequences, copies, logbook, telling
 from exam_desk.office import Office
 from exam_desk.reading import Sitting
 from exam_desk.sheets import papers
@@ -103,7 +103,7 @@ class Told(sample.SampleSchool):
         changes = self.office("changes", "1").split("\n")
         lost = [line for line in changes if line.endswith(" -> no desk")]
         self.assertEqual(lines[0], f"{len(lost)} lose their desks: {len(lost)} in MON-AM")
-        self.assertEqual(lines[-1], LAST)
+        self.assertEqual(lines[-2:], [LAST, "NOTE: still open: GYM in MON-PM, TUE-AM"])
         back = self.told("back", "1", "--yes")
         self.assertIn(f"{len(lost)} get desks", "\n".join(back))
 
@@ -164,27 +164,86 @@ class Told(sample.SampleSchool):
         self.office("printed", "TUE-AM")
         words = ["withdraw", "0001306", "LAT"]  # sits MA-2 instead; both in the same hall, where 13 others move up
         would = self.office("what-if", *words)
-        self.assertIn("1 session has printed papers that are out of date\n  MON-AM for AULA: afterwards "
-                      "`office printed MON-AM --look`\n", would)
+        said = "1 session has printed papers that are out of date (board, counts, slips too)"
+        self.assertIn(f"{said}\n  MON-AM for AULA: afterwards `office printed MON-AM --look`\n", would)
         lines = self.told(*words)
-        self.assertEqual(lines[0], "1 session has printed papers that are out of date: MON-AM for AULA")
+        self.assertEqual(lines[0], f"{said}: MON-AM for AULA")
         self.assertEqual(lines[-1], "`office changes 1; office printed MON-AM --look` lists them")
-        self.assertIn("to print again: AULA\n", self.office("printed", "MON-AM", "--look"))
+        self.assertIn("to print again: AULA; board, counts, slips\n", self.office("printed", "MON-AM", "--look"))
         self.assertIn("MON-AM for AULA", "\n".join(self.told("name", "0001306", "Another Name")))
         self.assertNotIn("printed", "\n".join(self.told("back", "2", "--yes")))  # all is as on paper again
         lines = self.told("close-hall", "MON-AM", "GYM")
         [line] = [line for line in lines if "printed papers" in line]
-        halls = line.removeprefix("1 session has printed papers that are out of date: MON-AM for ").split(", ")
+        halls = line.removeprefix(f"{said}: MON-AM for ").split(", ")
         self.assertIn("GYM", halls)
         shown = self.office("printed", "MON-AM", "--look").splitlines()
-        listed = [part for line in shown if line.startswith("to ") for part in line.partition(": ")[2].split(", ")]
+        listed = [part for line in shown if line.startswith("to ") for part in re.findall(r"\b[A-Z0-9]{3,}\b", line)]
         self.assertEqual(sorted(listed), halls)
         self.assertLess([line.partition(" ")[2][:4] for line in lines].index("lose"), lines.index(line))
+
+    def test_a_session_that_is_over(self):
+        """From the day after it on; another name alone is no change of it."""
+        words = ["withdraw", "0001000", "MA-1"]
+        slip = "is it the right session, or an old file?"
+        for self.environment["TODAY"] in ("2027-06-07", "2027-06-08"):
+            is_over = self.environment["TODAY"] == "2027-06-08"
+            self.assertEqual(slip in self.office("what-if", *words), is_over)
+            first, *_, last, note = self.told(*words)
+            self.assertEqual(note, "NOTE: who only did not come stays entered: `office absent MON-AM 0001000` notes it")
+            met = len(re.findall("(?m)^[! ] MON-AM ", self.office("changes", "1")))
+            self.assertGreater(met, 1)
+            self.assertEqual((first == f"1 session that is over is changed: MON-AM of 2027-06-07 for {met} candidates",
+                              last == f"{LAST}; `office back 1` takes it back"), (is_over, is_over), (first, last))
+            self.office("back", "1", "--yes")
+        self.environment["TODAY"] = "2027-06-06"
+        self.assertEqual(self.told(*words)[-1], LAST)
+        self.environment["TODAY"] = "2027-07-01"
+        self.assertEqual(self.told("name", "0001051", "Another Name"),
+                         ["1 has another name: MON-AM 0001051 Another Name", LAST])
+
+    def test_a_day_that_is_over_by_a_slip(self):
+        """A year that was mistyped; and a whole office of last year, before it is imported."""
+        path = self.write("s.csv", "session,date,start\nMON-AM,2026-06-07,09:00\n")
+        self.assertEqual(self.told("import", "sessions", path)[0],
+                         "1 session that is over is changed: MON-AM of 2026-06-07 for 60 candidates")
+        done = self.run_office("check-files", self.examples, TODAY="2027-07-01", OFFICE=f"{self.folder}/none.db")
+        self.assertIn("once imported: 3 sessions that are over are changed: MON-AM of 2027-06-07 for 60 candidates; MON-PM of "
+                      "2027-06-07 for 60 candidates; TUE-AM of 2027-06-08 for 48 candidates\n", done.stdout)
+
+    def test_a_closed_hall_opens_again(self):
+        """By the next import of the same openings, however long the log has become; no other hall is named."""
+        day = datetime.date.today().isoformat()
+        self.office("close-hall", "MON-AM", "GYM")
+        with open(os.path.join(self.desk, "log"), "a", encoding="utf-8") as log:
+            log.write("2027-05-01 10:00:00\ttester\tclose-hall MON-AM R14\t1\trefused 25\n" + "x\n" * logbook.LAST_BYTES)
+        self.assertNotIn("open again", "\n".join(self.told("open-hall", "MON-AM", "R14", "2", "12:30")))
+        words = ["import", "openings", str(self.examples / "openings.csv")]
+        self.assertIn("1 hall that was closed is open again\n  MON-AM GYM (closed on "
+                      f"{day}): afterwards `office close-hall MON-AM GYM` closes it\n", self.office("what-if", *words))
+        lines = self.told(*words)
+        self.assertEqual(lines[0], f"1 hall that was closed is open again: MON-AM GYM (closed on {day})")
+        self.assertEqual(lines[-1], f"{LAST}; `office back 1` takes it back")
+        self.assertNotIn("open again", self.office("what-if", *words))
+        self.office("close-hall", "TUE-AM", "R14")  # whoever was there has a desk elsewhere, or none moves
+        self.assertIn("open again: TUE-AM R14 ", "\n".join(self.told("open-hall", "TUE-AM", "R14", "1", "09:01")))
+
+    def test_who_was_noted_as_absent_leaves(self):
+        self.environment["TODAY"] = "2027-06-07"
+        self.office("absent", "MON-AM", "0001000", "0001017")
+        self.assertEqual(self.told("withdraw", "0001000", "MA-1")[-1],
+                         "NOTE: noted as absent, and not in the list for the exam board any more: 0001000 of MON-AM")
+        said = "office: NOTE the exam board's list lacks who is noted as absent and has left MON-AM: 0001000\n"
+        for words, answer in ((["0001034"], "2 candidates absent of 59\n"), ([], ""), (["--there", "1000"], "")):
+            done = self.run_office("absent", "MON-AM", *words)
+            self.assertEqual((done.returncode, done.stderr), (0, "" if "--there" in words else said), words)
+            self.assertTrue(done.stdout.startswith(answer), words)
+        self.assertIn("nothing is noted: 0001000: no candidate of MON-AM", self.refused("absent", "MON-AM", "1000"))
+        self.assertIn("0001034: absent, or there?", self.refused("absent", "MON-AM", "1034", "--there", "1034"))
 
     def test_what_if_says_the_same_before(self):
         words = ["close-hall", "MON-AM", "GYM"]
         would = [line for line in self.office("what-if", *words).split("\n") if re.match("[0-9]", line)]
-        self.assertEqual([line.partition(":")[0] for line in self.told(*words)[:-1]], would)
+        self.assertEqual([line.partition(":")[0] for line in self.told(*words)[:-2]], would)
 
     def test_another_change_meanwhile(self):
         carried = changing.carry_out(self.value, [changing.Step(("withdraw", "0001000", "MA-1"))])

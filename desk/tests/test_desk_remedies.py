@@ -12,10 +12,9 @@ import tempfile
 import unittest
 
 from desk_client import SmallSchool, effects
-from exam_desk import changing, reasons, second_sitting
+from exam_desk import changing, reasons, remedies, second_sitting
 from exam_desk.reading import Reading
 from exam_desk.words import clock
-from exam_web import remedies
 from random_offices import RandomOffice
 from sample import SampleSchool
 

@@ -40,7 +40,7 @@ class Listed(test_changing.Changing):
         self.assertTrue(done.stderr.endswith("`office changes 1` lists them\n"), done.stderr)
         self.assertEqual(done.stdout, "line 2: withdraw 0001000 MA-1: withdrawn\n"
                                       "line 3: withdraw 0001017 MA-1: withdrawn\n"
-                                      "2 of 2 rows are done; `office back 1` takes them back\n")
+                                      "2 of 2 rows are done; `office back 1` takes all of it back\n")
         [copy] = self.kept()
         title = f"withdraw --list {NAME} for 0001000 0001017"
         self.assertEqual(self.log(), [[title, "begins", os.path.basename(copy)], *(
@@ -55,6 +55,17 @@ class Listed(test_changing.Changing):
         self.office("back", "2", "--yes")
         self.assertEqual(self.state(), self.before)
 
+    def test_numbers_without_zeros(self):
+        """A spreadsheet took them away, or wrote a fraction; one row is one."""
+        done = self.run_list("number,paper\n1000,MA-1\n0001017,MA-1\n1017.0,LAT\n")
+        self.assertTrue(done.stderr.startswith("office: NOTE 2 numbers of the file got the zeros in front that were "
+                                               "missing\n"), done.stderr)
+        self.assertIn("line 2: withdraw 0001000 MA-1: withdrawn\nline 3: withdraw 0001017 MA-1: withdrawn\n", done.stdout)
+        self.assertIn("line 4: withdraw 0001017 LAT: refused 8\n", done.stderr)
+        done = self.run_list("number,paper\n0001000,MA-1\n", "reinstate")
+        self.assertEqual(done.stdout.split("\n")[1], "1 of 1 row is done; `office back 1` takes all of it back")
+        self.assertNotIn("NOTE", done.stderr)
+
     def test_a_refusal_in_the_middle(self):
         self.office("withdraw", "0001000", "MA-1")
         done = self.run_list("\ufeffnumber,paper\r\n\"0001000\",MA-1\r\n\r\n0001017,CS-1\r\n" + "0001017,MA-1\r\n" * 2)
@@ -66,7 +77,7 @@ class Listed(test_changing.Changing):
                                       "this paper; import the entry or reinstate it, or decide `refused`\n"
                                       "line 6: withdraw 0001017 MA-1: refused 9\n  the entry is withdrawn already\n")
         self.assertEqual(done.stdout, "line 5: withdraw 0001017 MA-1: withdrawn\n"
-                                      "1 of 4 rows are done; `office back 1` takes them back\n")
+                                      "1 of 4 rows is done; `office back 1` takes all of it back\n")
         self.assertEqual(len(self.kept()), 2)
 
     def test_where_nothing_is_done_no_copy_stays(self):
@@ -77,7 +88,7 @@ class Listed(test_changing.Changing):
     def test_all_rows_are_looked_through_first(self):
         for text, *said in (
                 (GOOD + "0009999,MA-1\n0001000,XX-1\n", "line 4: number '0009999': ", "line 5: paper 'XX-1': "),
-                (GOOD + "1000,MA-1\n", "line 4: number '1000': "),
+                (GOOD + "10x0,MA-1\n", "line 4: number '10x0': "), (GOOD + "9999,MA-1\n", "line 4: number '0009999': "),
                 (GOOD + "=1+1,<b>\u202e\n", "line 4: number '=1+1': ", "line 4: paper '<b>?': "),
                 (GOOD + "0001000\n", "line 4: row: 1 fields"), (GOOD + '"0001000,MA-1\n', "a quote is not closed"),
                 ("paper,number\nMA-1,0001000\n", "the first line must be number,paper"), ("", "the file is empty"),
@@ -103,8 +114,10 @@ class Listed(test_changing.Changing):
         self.assertEqual(self.state(), self.before)
 
     def test_words(self):
-        self.assertEqual(self.run_office("withdraw", "--list").returncode, 2)
-        self.assertEqual(self.run_office("withdraw", "--list", "a", "b").returncode, 2)
+        for words in (["withdraw", "--list"], ["withdraw", "--list", "a", "b"]):
+            done = self.run_office(*words)
+            self.assertEqual((done.returncode, done.stderr), (2, "line not understood\n  --list takes one file\n  Usage: "
+                                                                 "office withdraw --list FILE.csv\n"))
         self.assertIn("office reinstate --list FILE.csv\n", self.office("reinstate", "--help"))
 
     def test_turns(self):
@@ -139,7 +152,7 @@ class Listed(test_changing.Changing):
         done = self.run_list(GOOD + "0001034,FR\n", EXAMOFFICE=program)
         self.assertEqual(done.returncode, 1)
         self.assertIn("line 3: withdraw 0001017 MA-1: refused 22\n", done.stderr)
-        self.assertIn("1 of 3 rows are done; ", done.stdout)
+        self.assertIn("1 of 3 rows is done; ", done.stdout)
         self.assertNotIn("line 4", done.stdout + done.stderr)
         self.assertEqual(len(self.kept()), 1)
 
@@ -149,8 +162,8 @@ class Listed(test_changing.Changing):
         done = self.run_list(GOOD, EXAMOFFICE=program)
         self.assertEqual(done.returncode, 128 + signal.SIGINT)
         self.assertEqual(done.stdout, "line 2: withdraw 0001000 MA-1: withdrawn\n")
-        self.assertEqual(done.stderr, "office: stopped after 1 of 2 rows: those before it that were not refused are done, and "
-                                      "look whether the next one is; `office back 1` takes all of them back\n")
+        self.assertEqual(done.stderr, "office: stopped after 1 of 2 rows: what came before and was not refused is done, and look "
+                                      "whether the next one is; `office back 1` takes all of it back\n")
         self.assertEqual([line[:2] for line in self.log()[1:4]], [
             ["withdraw 0001000 MA-1", "step"], ["withdraw 0001000 MA-1", "0"], ["withdraw 0001017 MA-1", "step"]])
         self.assertEqual([line[1:] for line in self.log()[4:]], [["1", "stopped: look whether it is done"]] * 2)

@@ -73,6 +73,14 @@ class Words(sample.SampleSchool):
         self.assertRegex(self.refused("import", "entries", path), "  entries.csv line 3: paper 'MA-9': .*\n"
                                                                   "  entries.csv line 4: paper 'MA-9': ")
 
+    def test_rows_that_do_nothing(self):
+        """An entry that is imported again stays withdrawn, and an import says so; of other rows it says nothing."""
+        self.office("withdraw", "1000", "MA-1")
+        path = self.write("late.csv", "number,paper\n0001017,MA-1\n0001000,MA-1\n")
+        for words in (["import", "entries", path], ["what-if", "import", "entries", path]):
+            self.assertEqual(self.run_office(*words).stderr, "  late.csv line 3: NOTE: row: is withdrawn in the office and "
+                             "stays so until it is reinstated\n")
+
     def test_a_repeated_key_is_shown(self):
         path = self.write("halls.csv", "hall,title,features\nGYM,Gym,-\nGYM,Gym,quiet\n")
         self.assertIn("  halls.csv line 3: row: line 2 has the same key and other contents: keep one\n",
@@ -185,10 +193,22 @@ class Words(sample.SampleSchool):
         self.assertIn("sits BI-1 until", text)
         self.assertIn("  LIB      suits, but 2 of 2 desks are taken: ", text)
         self.assertIn("  AULA     no reader\n", text)
+        self.assertIn("\nno hall of the office has all of reader, computer: needed by 1 candidate\nwhat could help",
+                      self.office("why", "MON-AM"))
+        tried = text.partition("what could help; only the program knows what it comes to, so try it:\n")[2].split("\n")
+        self.assertEqual(tried[0], "  office what-if open-hall TUE-AM LIB 4 14:00 --reserved  # could seat 2 of 2; now 2 desks "
+                                   "until 14:00, reserved")
+        self.assertIn("\n2 get desks\n", self.office(*tried[0].partition("#")[0].split()[1:]))
+        self.assertEqual(tried[-1:], [""])
+        self.assertNotIn("what could help", self.office("why", "TUE-AM", "0001272"))
+        done = self.run_office("open-hall", "TUE-AM", "lib", "0", "24:01")
+        self.assertEqual(done.returncode, 2)
+        self.assertRegex(done.stderr, "error: hall 'lib': write LIB .*; desks '0': a whole number .*; until '24:01': a time")
         self.assertIn("  PC1      sits here, at desk 1\n", self.office("why", "MON-AM", "0001051"))
         self.assertEqual(self.office("why", "MON-AM", "1051"), self.office("why", "MON-AM", "0001051"))
         self.assertIn("no session", self.refused("why", "XX"))
         self.assertIn("sits nothing", self.refused("why", "MON-AM", "0009999"))
+        self.assertIn("'Ferrari' is no candidate number: that has seven digits", self.refused("why", "MON-AM", "Ferrari"))
 
 
 class Causes(sample.SampleSchool):

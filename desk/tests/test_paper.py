@@ -36,7 +36,8 @@ class Papers(sample.SampleSchool):
         self.assertIn("<b>no desk yet: ask the office</b>", text)
         self.assertIn("desk&nbsp;1<", self.office("slips", "--desks", "MON-AM"))
         self.assertEqual(self.office("slips", "--only", "1051"), self.office("slips", "--only", "0001051"))
-        self.assertIn("9999999 sits nothing there", self.refused("slips", "--only", "9999999"))
+        self.assertIn("there is no candidate 9999999", self.refused("slips", "--only", "9999999"))
+        self.assertIn("0001000 sits nothing in TUE-AM", self.refused("slips", "--only", "1000", "TUE-AM"))
         for wrong in ("x1051", "00001051", "000", ""):
             self.assertIn(f"'{wrong}' is no candidate number", self.refused("slips", "--only", wrong))
         self.assertIn("no session S9", self.refused("slips", "S9"))
@@ -45,8 +46,8 @@ class Papers(sample.SampleSchool):
         path = self.write("forms.csv", 'number,group\n0001051,10B\n0001000,"<i>=10A"\n0001017,10B\n9999999,10A\n'
                                        "0001034,\n")
         done = self.run_office("slips", "--order", path)
-        self.assertEqual(done.stderr, "office: 1 number of the file are no candidates of the office\n"
-                                      "office: 57 candidates in no group: their slips come last\n")
+        self.assertEqual(done.stderr, "office: the file has 1 number that no candidate of the office has\n"
+                                      "office: in no group, and so last: 57 candidates\n")
         groups = done.stdout.split("<div class=sheet><h2><bdi>")[1:]
         self.assertEqual([text.partition("</bdi>")[0] for text in groups], ["10B", "&lt;i&gt;=10A", "in no group"])
         slips = [re.findall(r"<span>(\d{7})</span>", text) for text in groups]

@@ -92,6 +92,12 @@ class Posters(sample.SampleSchool):
         self.assertEqual(names, [f"Zoe Quist {one}", f"zoé QUIST {other}", f"Yves Lone {lone}"])
         self.assertEqual(sorted(re.findall(r"\b0001\d{3}\b", text)), sorted([one, other, lone]))
 
+    def test_poster_of_one_hall(self):
+        sheets = self.office("poster", "MON-AM").split("<div class=sheet>")[1:]
+        [sheet] = self.office("poster", "MON-AM", "PC1").split("<div class=sheet>")[1:]
+        self.assertEqual([each for each in sheets if "PC1" in each], [sheet.replace("</body></html>\n", "")])
+        self.assertIn("nobody sits in X", self.refused("poster", "MON-AM", "X"))
+
     def test_cards(self):
         text, _ = self.page("cards", "MON-AM")
         seats, names = self.seats(), self.names()

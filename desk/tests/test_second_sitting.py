@@ -13,6 +13,7 @@ import breaking
 import sample
 import test_changing
 from exam_desk import second_sitting
+from exam_desk.reading import Reading
 
 KILLS, SEED = 5, 20271129
 STEPS = ["import sessions", "import papers", "import openings", "import entries", "withdraw 0000003"]
@@ -71,6 +72,24 @@ class There(SecondSitting):
         said = self.second("0000003", "LAT", "11:00", "R14")
         self.assertIn("sits MA-1 until 11:00 (has no desk), and LAT-2 from 11:00 to 12:30 in R14, desk 1\n", said)
         self.assertIn("1 sits another paper\n", said)
+
+    def test_the_exam_board_knows_the_paper(self):
+        """Who sits it is listed under the paper's own code, also once it has another title and so nobody knows it."""
+        self.second(*ONE)
+        board = self.run_office("absent", "MON-AM-2", TODAY="2027-06-07").stdout
+        self.assertEqual(board, '"number","paper","attendance"\n"0000003","MA-1","present"\n')
+        self.enter("papers", "paper,title,session,minutes,requires\nMA-1-2,Other,MON-AM-2,120,-\n")
+        self.assertIn('"MA-1-2"', self.run_office("absent", "MON-AM-2", TODAY="2027-06-07").stdout)
+
+    def test_codes_that_seem_made_of_each_other(self):
+        """Codes of 12 letters that end in -2 and -3: no paper was made of a later one, nor of itself."""
+        for code, session, start in (("MATHEMATIC-2", "S", "09:00"), ("MATHEMATIC-3", "AFTERNOONS-2", "10:00"),
+                                     ("MATHEMATIC-4", "AFTERNOONS-3", "11:00")):
+            self.enter("sessions", f"session,date,start\n{session},2027-06-20,{start}\n")
+            self.enter("papers", f"paper,title,session,minutes,requires\n{code},Maths,{session},60,-\n")
+        with Reading(self.value) as reading:
+            self.assertEqual([second_sitting.own_code(reading.rows, f"MATHEMATIC-{place}") for place in (2, 3, 4)],
+                             ["MATHEMATIC-2", "MATHEMATIC-3", "MATHEMATIC-3"])
 
     def test_a_second_candidate_joins(self):
         self.second(*ONE)

@@ -31,7 +31,8 @@ class WhatIf(test_changing.Changing):
         now, log = self.state(), self.log()
         text = self.office("what-if", "back", "1")
         self.assertRegex(text, r"\Athe office would be as it was on \S+ \S+, before close-hall MON-AM GYM\n"
-                               r"taken away: appeal 0001051 D1 for MON-AM: open -> gone\n[0-9]+ get desks\n")
+                               r"taken away: appeal 0001051 D1 for MON-AM: open -> gone\n"
+                               r"1 hall that was closed is open again\n  MON-AM GYM .*\n[0-9]+ get desks\n")
         self.assertRegex(text, r"(?m)^session MON-AM: \d+ candidates, 2 without a desk \(before: \d+ and \d+\)$")
         self.assertNotIn("a draught", text)
         self.assertEqual((self.state(), len(self.kept()), self.log()), (now, 1, log))
@@ -70,6 +71,7 @@ class WhatIf(test_changing.Changing):
                             (["codes", codes, "--import"], "added 1 changed 0 same 0\n"),
                             (["codes", "--new", "1051", "--import"], "1 has another access code: 0001051"),
                             (["take", facts], "entries.csv: added 2 changed 0 same 172\n"),
+                            (["open-hall", "MON-AM", "PC1", "12", "12:30"], "\n1 gets a desk\n"),
                             (["lodge", "1051", "MON-AM", "hall", "PC1", "a draught"], r"\A0001051 D1 open\n\Z")):
             self.assertRegex(self.office("what-if", *words), line)
             self.assertEqual((self.state(), self.kept(), self.log()), (before, [], []), words)
@@ -94,7 +96,7 @@ class WhatIf(test_changing.Changing):
         self.assertRegex(said, "line 3: number '9999999': .*\noffice: nothing is changed\n\\Z")
         path = self.write("leave.csv", "number,paper\n0001017,MA-1\n")
         done = self.run_office("what-if", "reinstate", "--list", path)
-        self.assertEqual((done.returncode, done.stdout), (1, "0 of 1 rows would be done\n"))
+        self.assertEqual((done.returncode, done.stdout), (1, "0 of 1 row would be done\n"))
         self.assertIn("line 2: reinstate 0001017 MA-1: refused 10\n", done.stderr)
 
     def test_steps_that_were_made_for_another_state(self):
@@ -119,7 +121,7 @@ class WhatIf(test_changing.Changing):
         self.assertFalse(os.path.exists(os.path.join(self.folder, "candidates-with-codes.csv")))
         for word in ("summary", "keep", "init", "what-if", "nothing"):
             self.assertIn(f"`office {word}` does not change the office; name a command that does: back, close-hall, codes, "
-                          "decide, import, lodge, migrate, name, reinstate, second-sitting, take, withdraw\n",
+                          "decide, import, lodge, migrate, name, open-hall, reinstate, second-sitting, take, withdraw\n",
                           self.refused("what-if", word))
         self.assertIn("refused 11\n", self.refused("what-if", "lodge", "0001051", "TUE-AM", "hall", "PC1", "x"))
         self.assertEqual(self.run_office("what-if", "take").returncode, 2)

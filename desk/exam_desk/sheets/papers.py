@@ -96,13 +96,13 @@ def board(reading: Reading, session: str) -> str:
     return document(f"Notice board {session}", body, "paper", "board")
 
 
-def poster(reading: Reading, session: str) -> str:
+def poster(reading: Reading, session: str, asked: Collection[str] = ()) -> str:
     """Posters for the doors: each hall from a page of its own on, names with desks and nothing private."""
     moment, name, names = when(reading, session), school(reading.office, " &middot; "), named(reading.members(session))
     return of_desks(f"Posters {session}", (
         html(POSTER, text(opening.title), moment, name, opening.hall, lists.count(len(there), "candidate"),
              table(["Name", "n:Desk"], [[names[each.number], each.sitting.desk] for each in lists.by_name(there)]))
-        for opening, there in lists.halls(reading, session)), "poster")
+        for opening, there in lists.halls(reading, session, asked)), "poster")
 
 
 def cards(reading: Reading, session: str, asked: Collection[str] = ()) -> str:

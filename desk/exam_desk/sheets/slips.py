@@ -11,7 +11,7 @@ from exam_desk.reading import Person, Reading, Sitting
 from exam_desk.sheets import pages
 from exam_desk.sheets.pages import html, joined, text
 from exam_desk.trouble import Trouble
-from exam_desk.words import short_day
+from exam_desk.words import few, short_day
 
 HEADS = ["w:Day", "w:Time", "Paper", "Hall"]
 HEADER = ["number", "name", "session", "date", "start", "finish", "paper", "paper title", "hall", "hall title",
@@ -39,8 +39,8 @@ class Slip(NamedTuple):
 
 
 def page(reading: Reading, choice: Choice) -> str:
-    """The slips by name, or by group and name. Raises `Trouble` where a candidate who is asked for sits nothing in
-    these sessions."""
+    """The slips by name, or by group and name. Raises `Trouble` where the office does not know a candidate who is asked
+    for, or they sit nothing in these sessions."""
     papers, halls = (pages.titled(titles(reading.rows)) for titles in (facts.paper_titles, facts.hall_titles))
     school = pages.school(reading.office, "<br>")
     by_group: dict[str, list[Markup]] = {}
@@ -94,9 +94,9 @@ def csv_row(choice: Choice, each: Slip, sits: Sitting, missed: list[str], papers
 def slips_of(reading: Reading, choice: Choice) -> list[Slip]:
     """The slips in their order; whoever is in no group comes last. Raises `Trouble` as `page`."""
     codes = [head["code"] for head in facts.sessions(reading.rows, choice.sessions)]
-    only = [number for number in dict.fromkeys(choice.only) if reading.knows(number)] if choice.only else None
+    only = [*dict.fromkeys(choice.only)] or None
     entered = dict.fromkeys(number for code in codes for number in facts.entered(reading.rows, code))
-    people = lists.by_name(map(reading.person, entered if only is None else map(int, only)))
+    people = lists.by_name(map(reading.person, map(int, only) if only else entered))
     reading.ask(people)
     clashes, notes = {code: reading.clashes(code, only) for code in codes}, notebook.notes(reading.office)
     slips = []
@@ -107,7 +107,7 @@ def slips_of(reading: Reading, choice: Choice) -> list[Slip]:
             slips.append(Slip(person, choice.groups.get(person.number, ""), notes.get(person.number, ""), sat))
     numbers = {each.person.number for each in slips}
     if missing := [number for number in choice.only if number not in numbers]:
-        raise Trouble(f"{missing[0]} sits nothing there")
+        raise Trouble(f"{missing[0]} sits nothing in {few([*choice.sessions]) or 'any session'}")
     groups = [*dict.fromkeys(filter(None, choice.groups.values())), ""]
     places = {group: place for place, group in enumerate(groups)}
     return sorted(slips, key=lambda each: places[each.group])

@@ -1,5 +1,5 @@
 """What could help a session that is short of desks: halls that are open in another way, or are not open. All of it is a
-guess, since only the program says what an opening comes to: it rehearses each at the press of a button."""
+guess, since only the program says what an opening comes to: `what-if`, or a button, has it rehearse each."""
 from __future__ import annotations
 
 from collections import Counter
@@ -8,10 +8,11 @@ from statistics import mode
 from typing import NamedTuple
 
 from exam_desk.facts import Opening
+from exam_desk.lists import count
 from exam_desk.overlaps import of_day
 from exam_desk.reasons import Reasons, Shortage
 from exam_desk.snapshot import Rows
-from exam_desk.words import features
+from exam_desk.words import clock, features
 
 MOST = 6
 MIDNIGHT = 24 * 60
@@ -83,6 +84,20 @@ def ends_of(hall: str, people: Counter[tuple[int, frozenset[str], str | None]]) 
             people[end, halls, place] -= 1
             found.append(end)
     return found
+
+
+def lines(rows: Rows, why: Reasons, sheet: Shortage) -> list[str]:
+    """What no hall has, and the remedies as commands to try; nothing where everybody has a desk."""
+    found = [f"  office what-if open-hall {why.session} {then.hall} {then.desks} {clock(then.until)}"
+             f"{' --reserved' * then.reserved}  # could seat {seats} of {sheet.unseated}; now {shown(now)}"
+             for seats, then, now in (best(rows, why, sheet) if sheet.unseated else [])]
+    return [*(f"no hall of the office has all of {', '.join(needs)}: needed by {count(people, 'candidate')}"
+              for needs, people in lacking(rows, why).items()),
+            *(["what could help; only the program knows what it comes to, so try it:"] if found else []), *found]
+
+
+def shown(now: Opening | None) -> str:
+    return f"{count(now.desks, 'desk')} until {clock(now.until)}{', reserved' * now.reserved}" if now else "not open"
 
 
 def lacking(rows: Rows, why: Reasons) -> Counter[tuple[str, ...]]:
