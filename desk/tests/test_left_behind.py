@@ -50,8 +50,8 @@ class LeftBehind(test_second_sitting.SecondSitting):
 
 
 class Many(unittest.TestCase):
-    def reading(self, minutes):
-        """Seven papers of one hour, or of other minutes, each with a second sitting of one hour."""
+    def reading(self, minutes=60, title=TITLE):
+        """Seven papers of one hour, or of other minutes or another title, each with a second sitting of one hour."""
         rows = sqlite3.connect(":memory:")
         self.addCleanup(rows.close)
         rows.row_factory = sqlite3.Row
@@ -59,15 +59,18 @@ class Many(unittest.TestCase):
                            "CREATE TABLE paper (code, title, session, minutes, requires);"
                            "INSERT INTO session VALUES ('S', '2027-06-07', 540), ('S-2', '2027-06-07', 840)")
         for code in "ABCDEFG":
-            rows.execute("INSERT INTO paper VALUES (?1, ?1, 'S', ?2, 0), (?1 || '-2', ?1, 'S-2', 60, 0)", [code, minutes])
+            rows.execute("INSERT INTO paper VALUES (?1, ?2, 'S', ?3, 0), (?1 || '-2', ?4, 'S-2', 60, 0)",
+                         [code, title, minutes, TITLE])
             rows.execute("INSERT INTO entry VALUES (1, ?, 1)", [f"{code}-2"])
         return types.SimpleNamespace(rows=rows, person=lambda number: Person(f"{number:07}", "Ada", ""))
 
     def test_five_are_named(self):
-        said = left_behind(self.reading(60), self.reading(90))
+        said = left_behind(self.reading(), self.reading(90))
         self.assertEqual([line.split(" ")[1] for line in said], ["A-2", "B-2", "C-2", "D-2", "E-2", ".."])
         self.assertEqual(said[5], "NOTE: .. and 2 more second sittings that stay as they are")
-        self.assertEqual(left_behind(self.reading(60), self.reading(60)), [])
+        for before in (60, 90):  # a paper that is again as its second sitting has none left behind
+            self.assertEqual(left_behind(self.reading(before), self.reading()), [])
+        self.assertIn(" (the title ?Maths) for 0000001 Ada: ", left_behind(self.reading(), self.reading(title="Sums"))[0])
 
 
 if __name__ == "__main__":
