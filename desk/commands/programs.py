@@ -170,13 +170,10 @@ class Lodging(Change):
     words: Sequence[str] = ()
 
     def said(self, rehearsal: Rehearsal) -> int:
-        return self.lodged(replace(rehearsal.office, path=rehearsal.after))
+        return self(replace(rehearsal.office, path=rehearsal.after))
 
-    def __call__(self) -> int:
-        return self.lodged(command.office())
-
-    def lodged(self, office: Office) -> int:
-        found = lodging.lodge(office, self.words)
+    def __call__(self, office: Office | None = None) -> int:
+        found = lodging.lodge(office or command.office(), self.words)
         lines = "".join(f"{plain(line)}\n" for line in [found.line, *found.explained])
         (sys.stderr if found.status else sys.stdout).write(lines)
         return found.status

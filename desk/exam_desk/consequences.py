@@ -1,7 +1,6 @@
 """What a change does to candidates and sessions, in short: from two readings of an office, before and after it."""
 from __future__ import annotations
 
-import itertools
 import sqlite3
 from collections import Counter, defaultdict
 from collections.abc import Collection, Iterable
@@ -150,14 +149,13 @@ def openings(reading: Reading) -> dict[tuple[str, str], str]:
 def notes(before: Reading, after: Reading, met: list[Group]) -> list[str]:
     """Where halls are open yet that are closed. Of who leaves a session on its day or later how it is noted that somebody
     did not come, and who was noted so, and is gone from the list for the exam board."""
-    days, left = {code: day for code, day, _ in facts.sessions(after.rows)}, defaultdict[str, list[str]](list)
-    for each in (each for group in met if group.kind == LEAVES for each in group.people):
-        if not notebook.is_to_come(after.office, days.get(each.session, "9")):
-            left[each.session].append(each.person[:7])
-    gone = [f"{number} of {session}" for session, numbers in left.items()
-            for number in sorted((notebook.absent(after.office, session) or set()).intersection(numbers))]
-    found = [f"NOTE: who only did not come stays entered: `office absent {session} {' '.join(numbers[:MOST_NAMED])}` "
-             "notes it" for session, numbers in itertools.islice(left.items(), 1)]
+    days = {code: day for code, day, _ in facts.sessions(after.rows)}
+    left = [each for group in met if group.kind == LEAVES for each in group.people
+            if not notebook.is_to_come(after.office, days.get(each.session, "9"))]
+    noted = {code: notebook.absent(after.office, code) or () for code in {each.session for each in left}}
+    gone = [f"{each.person[:7]} of {each.session}" for each in left if each.person[:7] in noted[each.session]]
+    found = [f"NOTE: who only did not come stays entered: `office absent {each.session} {each.person[:7]}` notes it"
+             for each in left[:1]]
     if gone:
         found.append(f"NOTE: noted as absent, and not in the list for the exam board any more: {few(gone)}")
     return found + still_open(before, after)

@@ -112,13 +112,16 @@ def below_header(text: bytes, path: str, header: Iterable[str]) -> Iterator[Reco
 
 def texts_by_number(path: str, column: str, most: int, known: Collection[str] | None = None) -> dict[str, str]:
     """The texts by number of a file that is no import, in the order of its rows; its header is `number` and the column.
-    Raises `Trouble` where it is no such file, a text has more bytes than the most, or a number is not a known one."""
+    Zeros in front of a number may be missing. Raises `Trouble` where it is no such file, a text has more bytes than the
+    most, or a number is not a known one."""
     found: dict[str, str] = {}
     for row in below_header(read(path), path, ["number", column]):
         wrong, fields = "", [field.decode("utf-8", "replace") for field in row.fields]
+        if row.fields[0].isdigit():
+            fields[0] = fields[0].zfill(7)
         if not row.closed or len(fields) != 2:
             wrong = f"a row has a number and a {column}; put quotes around a {column} with a comma"
-        elif not is_number(row.fields[0]):
+        elif not is_number(fields[0].encode()):
             wrong = f"{shown(row.fields[0])} is no number of seven digits"
         elif known is not None and fields[0] not in known:
             wrong = f"the office has no candidate {shown(row.fields[0])}"

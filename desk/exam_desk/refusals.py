@@ -52,7 +52,7 @@ OTHER = {
     "net fault": "the port is taken, or the system gives no more connections; take another one, from 1024 on",
 }
 OF_A_FILE = [1, 2, 3, 4, 5, 6, 7, 20]  # refusals that rows of an import file can bring
-IDLE = ["entries", "arrangements"]  # rows of which do nothing where the entry is withdrawn, or a grant is in force
+IDLE = ["entries", "arrangements"]  # their rows do nothing where the entry is withdrawn, or a grant is in force
 NO_CODE = ("`office codes FILE` fills in the codes that the office has, and new ones; for another name alone take "
            "`office name NUMBER NAME`")
 MOST_LINES = 5  # on one column of an import file

@@ -132,8 +132,8 @@ def is_made_of(second: sqlite3.Row, first: sqlite3.Row) -> bool:
 
 
 def own_code(rows: Rows, code: str) -> str:
-    """The code of the paper that a paper was made of for second sittings; its own where it was made of none, or nobody
-    can say of which."""
+    """The code of the paper that a paper was made of for second sittings; its own where it was made of none, or may be
+    made of several."""
     made = paper_row(rows, code)
     earlier = rows.execute(f"{PAPERS} WHERE title = ? AND (day, start) < (?, ?)",
                            [made["title"], made["day"], made["start"]]).fetchall()

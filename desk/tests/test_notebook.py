@@ -30,7 +30,8 @@ WRONG = {
     "a field too many": ("number,text\n0000001,a,b\n", "line 2: a row has a number and a text"),
     "a field too few": ("number,text\n0000001\n", "line 2: a row has a number and a text"),
     "an open quote": ('number,text\n0000001,"a\n', "line 2: a row has a number and a text"),
-    "no zeros": ("number,text\n0000001,a\n2,b\n", "line 3: '2' is no number of seven digits"),
+    "zeros alone": ("number,text\n0000001,a\n0,b\n", "line 3: '0' is no number of seven digits"),
+    "a digit too many": ("number,text\n00000001,a\n", "line 2: '00000001' is no number of seven digits"),
     "nobody": ("number,text\n0000004,a\n", "line 2: the office has no candidate '0000004'"),
     "too long": (f"number,text\n0000001,{'é' * 100}a\n", "line 2: a text has at most 200 bytes"),
     "a line in a text": ('number,text\n0000001,"a\nb"\n', "line 2: a text has at most 200 bytes"),
@@ -192,7 +193,7 @@ class Notebook(unittest.TestCase):
 
 class Commands(sample.SampleSchool):
     def test_notes(self):
-        self.write("notes.csv", "number,text\n0001051,rest breaks\n0001000,a \u202escribe\n")
+        self.write("notes.csv", "number,text\n0001051,rest breaks\n1000,a \u202escribe\n")  # a spreadsheet took zeros
         self.assertEqual(self.office("notes", "notes.csv"), "added 2 changed 0 removed 0 same 0\n")
         self.assertEqual(self.office("notes"), "0001000 Ada Lin: a ?scribe\n0001051 Di Berg: rest breaks\n")
         self.write("notes.csv", "number,text\n9999999,x\n")

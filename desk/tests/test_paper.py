@@ -43,7 +43,7 @@ class Papers(sample.SampleSchool):
         self.assertIn("no session S9", self.refused("slips", "S9"))
 
     def test_slips_by_group(self):
-        path = self.write("forms.csv", 'number,group\n0001051,10B\n0001000,"<i>=10A"\n0001017,10B\n9999999,10A\n'
+        path = self.write("forms.csv", 'number,group\n1051,10B\n0001000,"<i>=10A"\n0001017,10B\n9999999,10A\n'
                                        "0001034,\n")
         done = self.run_office("slips", "--order", path)
         self.assertEqual(done.stderr, "office: the file has 1 number that no candidate of the office has\n"
@@ -59,7 +59,7 @@ class Papers(sample.SampleSchool):
                                              ("TUE-AM", "11:00", "", "10B", "")])
         self.assertIn('"VMGNZGEDP9"\n', self.office("slips", "--csv", "--codes", "--only", "0001051"))
         for text, said in (("number,form\n", "line 1 must be: number,group"),
-                           ("number,group\n1051,10B\n", "line 2: '1051' is no number of seven digits"),
+                           ("number,group\n10x51,10B\n", "line 2: '10x51' is no number of seven digits"),
                            ("number,group\n0001051,10B\n0001051,10A\n", "line 3: there is another group for 0001051"),
                            ('number,group\n0001051,"a\nb"\n', "line 2: a group has at most 80 bytes")):
             self.assertIn(said, self.refused("slips", "--order", self.write("wrong.csv", text)))
