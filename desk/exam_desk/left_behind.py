@@ -10,6 +10,8 @@ from exam_desk.second_sitting import PAPERS, second_papers
 from exam_desk.words import clock, feature_text, few, plain
 
 ENTERED = "SELECT number FROM entry WHERE paper = ? AND live = 1 ORDER BY number"
+OPENED = "SELECT session, hall FROM opening"
+SEATED = "SELECT number FROM seat WHERE session = ? AND hall = ? ORDER BY number"
 MOST_LINES = 5
 
 
@@ -23,16 +25,33 @@ class Moments(NamedTuple):
 
 
 def left_behind(before: Reading, after: Reading) -> list[str]:
-    """A line for each second sitting which stays as it is while its paper does not, with those who sit it; at most
-    MOST_LINES, and one for the rest."""
+    """A line for each second sitting which stays as it is while its paper does not, or in a hall that is closed before,
+    with those who sit it; at most MOST_LINES, and one for the rest."""
     was, now = papers(before), papers(after)
     moments = {code: Moments(was[code], now[code]) for code in was if code in now}
     others = {code: each for code, each in moments.items() if was[code] != now[code]}
     pairs = [(each, moments[row["code"]]) for each in others.values()
              for row in second_papers(before.rows, each.before) if row["code"] in moments]
-    found = [line for first, second in pairs for line in stays(after, first, second)]
+    found = [line for first, second in pairs for line in stays(after, first, second)] + in_closed_halls(before, after)
     rest = len(found) - MOST_LINES
     return found[:MOST_LINES] + [f"NOTE: .. and {rest:,} more second sittings that stay as they are"] * (rest > 0)
+
+
+def in_closed_halls(before: Reading, after: Reading) -> list[str]:
+    """A line for each hall which a change closes for a session, and which stays open for a second sitting of it."""
+    were, are = ({(code, hall) for code, hall in each.rows.execute(OPENED)} for each in (before, after))
+    closed = were - are
+    firsts = [row for row in papers(after).values() if row["session"] in {code for code, _ in closed}]
+    later = {(first["session"], row["session"]) for first in firsts for row in second_papers(after.rows, first)}
+    pairs = sorted((hall, then) for code, hall in closed for first, then in later
+                   if first == code and (then, hall) in are)
+    return [f"NOTE: {hall} stays open in {then}, for the second sitting of {few(people)}" for hall, then in pairs
+            if (people := shown(after, SEATED, then, hall))]
+
+
+def shown(reading: Reading, query: str, *values: str) -> list[str]:
+    """The candidates whose numbers a query finds."""
+    return [reading.person(number).shown() for number, in reading.rows.execute(query, values).fetchall()]
 
 
 def papers(reading: Reading) -> dict[str, sqlite3.Row]:
@@ -42,8 +61,7 @@ def papers(reading: Reading) -> dict[str, sqlite3.Row]:
 
 def stays(after: Reading, first: Moments, second: Moments) -> list[str]:
     """The line on a second sitting, where somebody is entered for it and it keeps what its paper has otherwise."""
-    row, people = second.after, [after.person(number).shown() for number, in
-                                 after.rows.execute(ENTERED, [second.after["code"]])]
+    row, people = second.after, shown(after, ENTERED, second.after["code"])
     kept = {f"on {row['day']} at {clock(row['start'])}": ["day", "start"], f"{row['minutes']} minutes": ["minutes"],
             f"requires {feature_text(row['requires'])}": ["requires"], f"the title {plain(row['title'])}": ["title"]}
     words = [said for said, columns in kept.items() if first.has_other(*columns) and not second.has_other(*columns)

@@ -41,6 +41,12 @@ class LeftBehind(test_second_sitting.SecondSitting):
         self.office("second-sitting", *ONE[:2], "--undo", "--yes")
         self.assertNotIn("stays", self.what_if("papers", PAPERS.format(TITLE, 150, "-")))
 
+    def test_a_hall_is_closed(self):
+        self.second("0000002", *ONE[1:3], "GYM")
+        self.assertIn("\nNOTE: GYM stays open in MON-AM-3, for the second sitting of 0000002 <b>Ann\n",
+                      self.office("what-if", "close-hall", "MON-AM", "GYM"))
+        self.assertNotIn("second sitting", self.office("what-if", "close-hall", "MON-AM", "AULA"))
+
     def test_a_paper_that_is_sat_later_cannot_be_withdrawn_again(self):
         self.assertEqual(self.refused("withdraw", "3", "MA-1"), (
             "refused 9\n  the entry is withdrawn already\n"
@@ -62,6 +68,7 @@ class Many(unittest.TestCase):
             rows.execute("INSERT INTO paper VALUES (?1, ?2, 'S', ?3, 0), (?1 || '-2', ?4, 'S-2', 60, 0)",
                          [code, title, minutes, TITLE])
             rows.execute("INSERT INTO entry VALUES (1, ?, 1)", [f"{code}-2"])
+        rows.execute("CREATE TABLE opening (session, hall)")
         return types.SimpleNamespace(rows=rows, person=lambda number: Person(f"{number:07}", "Ada", ""))
 
     def test_five_are_named(self):
