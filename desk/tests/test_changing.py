@@ -369,7 +369,8 @@ class Killed(Changing):
         for work, said, copies_kept in (
                 ("true", "nothing is changed", 0), (f'{sample.built_program()} "$@"', "look whether it is done; "
                                                     "`office back 1` takes it back then", 1)):
-            program = self.program(f'[ "$2 $5" = "{self.path} withdraw" ] && {work} && kill -INT $PPID && exec sleep 60')
+            program = self.program(f'[ "$2 $5" = "{self.path} withdraw" ] && {work} && sleep 2 && kill -INT $PPID && '
+                                   'exec sleep 60')
             done = self.run_office("withdraw", "0001000", "MA-1", EXAMOFFICE=program)
             self.assertEqual((done.returncode, done.stderr, len(self.kept())),
                              (128 + signal.SIGINT, f"office: stopped: {said}\n", copies_kept))
