@@ -88,8 +88,8 @@ def would_do(office: Office, texts: Mapping[str, bytes], tell: Tell, progress: P
                 raise Trouble(f"the program says {refused.first_line()} to {refused.step.words[-1]}")
             with (Reading(office, rehearsal.before, progress) as before,
                   Reading(office, rehearsal.after, progress) as after):
-                met = [each for each in consequences.groups(before, after)
-                       if each.kind not in (consequences.TWICE, consequences.HALLS)]
+                met = {kind: people for kind, people in consequences.groups(before, after).items()
+                       if kind not in (consequences.TWICE, consequences.HALLS)}
                 found = [*consequences.short_at_first(before, after), *consequences.brief(met),
                          *consequences.other_codes(before, after), *overlaps.lines(after, overlaps.found(after))]
         return [f"once imported: {line}" for line in found]

@@ -26,6 +26,7 @@ KINDS = {  # what may be a slip, who has no desk, what no rule of the office for
               "sessions have printed papers that are out of date (board, counts, slips too)"),
     **telling.KINDS,
 }
+OF_PLACES = [OVER, OPENED, HALLS, PRINTED]  # kinds of which sessions and halls are counted, and not people
 CODES = ("has another access code", "have other access codes")
 LISTED_BY = {OPENED: "", CLASHES: "clashes {}", TWICE: "summary {}", HALLS: "summary {}",
              PRINTED: "printed {} --look"}
@@ -53,17 +54,7 @@ class Met(NamedTuple):
         return f"{self.session} {self.person}"
 
 
-class Group(NamedTuple):
-    """Those whom a change meets in one way."""
-    kind: str  # of KINDS
-    people: list[Met]  # by session and name
-
-    def title(self) -> str:
-        """How many people there are, and in how many sittings; of halls, or of sessions, how many there are."""
-        return counted(KINDS[self.kind], [each.person if self.is_of_people() else each.who for each in self.people])
-
-    def is_of_people(self) -> bool:
-        return self.kind not in (OVER, OPENED, HALLS, PRINTED)
+Groups = dict[str, list[Met]]  # whom a change meets, by kind, the gravest first; of each by session and name
 
 
 def between(before: Reading, after: Reading, at_most: int | None) -> list[str]:
@@ -91,7 +82,7 @@ def done(office: Office, copy: str, progress: Progress) -> list[str]:
             shown += brief(met)
             place = copies.listed(office).index(copy) + 1
             words = [f"`office {words}` lists them" for words in listing(met, place)]
-            words += [f"`office back {place}` takes it back"] if met and met[0].kind in (OVER, OPENED) else []
+            words += [f"`office back {place}` takes it back"] if {OVER, OPENED} & met.keys() else []
             shown += ["; ".join(words)] if words else []
             return shown + other_codes(before, after) + notes(before, after, met)
     except (Trouble, OSError, sqlite3.Error, MemoryError) as fault:
@@ -99,7 +90,7 @@ def done(office: Office, copy: str, progress: Progress) -> list[str]:
         return [f"the change is done, but nobody can say what it did to candidates: {reason}; try `office changes 1`"]
 
 
-def groups(before: Reading, after: Reading) -> list[Group]:
+def groups(before: Reading, after: Reading) -> Groups:
     """Those whom a change meets in each way, the gravest first. Where nobody has a seat yet, nobody can lose
     or change one."""
     sessions = telling.touched(before, after)
@@ -146,11 +137,11 @@ def openings(reading: Reading) -> dict[tuple[str, str], str]:
     return {(code, hall): day for code, hall, day in reading.rows.execute(OPEN)}
 
 
-def notes(before: Reading, after: Reading, met: list[Group]) -> list[str]:
-    """Where halls are open yet that are closed. Of who leaves a session on its day or later how it is noted that somebody
-    did not come, and who was noted so, and is gone from the list for the exam board."""
+def notes(before: Reading, after: Reading, met: Groups) -> list[str]:
+    """Of who leaves a session on its day or later: how it is noted that somebody did not come; and who was noted so,
+    and is gone from the list for the exam board. Then where a hall that is closed is open yet."""
     days = {code: day for code, day, _ in facts.sessions(after.rows)}
-    left = [each for group in met if group.kind == LEAVES for each in group.people
+    left = [each for each in met.get(LEAVES, [])
             if not notebook.is_to_come(after.office, days.get(each.session, "9"))]
     noted = {code: notebook.absent(after.office, code) or () for code in {each.session for each in left}}
     gone = [f"{each.person[:7]} of {each.session}" for each in left if each.person[:7] in noted[each.session]]
@@ -225,53 +216,59 @@ def other_codes(before: Reading, after: Reading) -> list[str]:
     return [f"{counted(CODES, others)}{who}; a slip with the old code opens nothing"] if others else []
 
 
-def grouped(changes: list[Change], people: dict[str, list[Met]]) -> list[Group]:
+def grouped(changes: list[Change], people: Groups) -> Groups:
     """The changes, another name once and not in each session, and besides those who are met in other ways, by kind."""
     found, renamed = telling.by_kind(changes), dict[str, Change]()
     for change in found.get("name", []):
         renamed.setdefault(change.number, change)
     people |= {kind: [Met(each.session, each.person(), each.what()) for each in part]
                for kind, part in {**found, "name": [*renamed.values()]}.items()}
-    return [Group(kind, people[kind]) for kind in KINDS if people.get(kind)]
+    return {kind: people[kind] for kind in KINDS if people.get(kind)}
 
 
-def lines(met: list[Group], at_most: int | None) -> list[str]:
+def title(kind: str, met: list[Met]) -> str:
+    """How many people there are, and in how many sittings; of halls, or of sessions, how many there are."""
+    return counted(KINDS[kind], [each.who if kind in OF_PLACES else each.person for each in met])
+
+
+def lines(met: Groups, at_most: int | None) -> list[str]:
     """A line for each way in which candidates are met, and below it who they are, at most so many."""
     shown = []
-    for group in met:
-        people = [] if group.kind in COUNTED else group.people
-        shown += [group.title(), *(f"  {each.who}: {each.what}" for each in people[:at_most])]
+    for kind, found in met.items():
+        people = [] if kind in COUNTED else found
+        shown += [title(kind, found), *(f"  {each.who}: {each.what}" for each in people[:at_most])]
         if rest := len(people) - len(people[:at_most]):
             shown.append(f"  .. and {rest:,} more")
     return shown or ["nobody sits otherwise"]
 
 
-def brief(met: list[Group]) -> list[str]:
+def brief(met: Groups) -> list[str]:
     """At most five lines, the gravest first; none where nobody is met."""
-    rest = ", ".join(each.title() for each in met[GRAVEST:])
-    return [*map(headline, met[:GRAVEST]), *filter(None, [rest])]
+    found = [*met.items()]
+    rest = ", ".join(title(*each) for each in found[GRAVEST:])
+    return [*(headline(*each) for each in found[:GRAVEST]), *filter(None, [rest])]
 
 
-def listing(met: list[Group], copy: int) -> list[str]:
+def listing(met: Groups, copy: int) -> list[str]:
     """What lists them, if something does: the changes since a copy where somebody sits otherwise, and the clashes and
     the overlaps."""
-    words = dict.fromkeys([f"changes {copy}"] if any(each.kind not in LISTED_BY for each in met) else [])
-    words |= dict.fromkeys(LISTED_BY[group.kind].format(each.session)
-                           for group in met if LISTED_BY.get(group.kind) for each in group.people)
+    words = dict.fromkeys([f"changes {copy}"] if met.keys() - LISTED_BY.keys() else [])
+    words |= dict.fromkeys(LISTED_BY[kind].format(each.session)
+                           for kind, people in met.items() if LISTED_BY.get(kind) for each in people)
     return ["; office ".join([*words][:MOST_NAMED])] if words else []
 
 
-def headline(met: Group) -> str:
+def headline(kind: str, met: list[Met]) -> str:
     """How many they are; a few by their names, and many by the sessions in which they are most; nobody who has another
     desk alone."""
-    if met.kind == DESK_ALONE:
-        return met.title()
-    if met.is_of_people() and len({each.person for each in met.people}) == 1 < len(met.people):
-        return f"{counted(KINDS[met.kind], ['one'])}: {met.people[0].person} in {len(met.people)} sessions"
-    if len(met.people) <= MOST_NAMED or not met.is_of_people():
-        named = [*(each.who for each in met.people[:MOST_NAMED]), *[".."] * (len(met.people) > MOST_NAMED)]
-        return f"{met.title()}: {'; '.join(named)}"
-    return f"{met.title()}: {most(Counter(each.session for each in met.people))}"
+    if kind == DESK_ALONE:
+        return title(kind, met)
+    if kind not in OF_PLACES and len({each.person for each in met}) == 1 < len(met):
+        return f"{counted(KINDS[kind], ['one'])}: {met[0].person} in {len(met)} sessions"
+    if len(met) <= MOST_NAMED or kind in OF_PLACES:
+        named = [*(each.who for each in met[:MOST_NAMED]), *[".."] * (len(met) > MOST_NAMED)]
+        return f"{title(kind, met)}: {'; '.join(named)}"
+    return f"{title(kind, met)}: {most(Counter(each.session for each in met))}"
 
 
 def most(counts: Counter[str]) -> str:

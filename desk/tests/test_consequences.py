@@ -80,7 +80,7 @@ class Kinds(unittest.TestCase):
         self.assertEqual(title, "2 sit at other times (4 sittings)")
         self.assertIn("<b>2 sit at other times (4 sittings)</b>", papers.changes(self.office, changes, {}, "Since 1"))
         halls = [consequences.Met(session, "and S3 in A", "") for session in ("S1", "S2")]
-        self.assertEqual(consequences.Group(consequences.HALLS, halls).title(),
+        self.assertEqual(consequences.title(consequences.HALLS, halls),
                          "2 halls have candidates of two sessions at one time")
 
     @property
