@@ -40,7 +40,7 @@ class Kept(sample.KeptSchool):
         self.assertIn("serves this office already", self.refused("serve", str(self.port)))
         self.assertEqual(os.listdir(os.path.join(self.desk, "days")), [sample.TODAY])
         self.assertEqual(self.office("keep", "stop"), "ended\n")
-        self.assertIn("does not run; the last lines of", self.refused("keep", "status"))
+        self.assertRegex(self.refused("keep", "status"), "does not run; the last line of .*/keep.log: .* ended\n$")
         os.remove(os.path.join(self.desk, "keep.log"))
         self.assertIn("does not run; `office keep start` begins it", self.refused("keep", "status"))
         self.assertIn("does not run", self.refused("keep", "stop"))
