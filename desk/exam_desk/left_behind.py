@@ -6,11 +6,9 @@ import sqlite3
 from typing import NamedTuple
 
 from exam_desk.reading import Reading
-from exam_desk.second_sitting import second_papers
+from exam_desk.second_sitting import PAPERS, second_papers
 from exam_desk.words import clock, feature_text, few, plain
 
-PAPERS = ("SELECT paper.code AS code, session, minutes, requires, title, day, start FROM paper "
-          "JOIN session ON session.code = session ORDER BY day, start, paper.code")
 ENTERED = "SELECT number FROM entry WHERE paper = ? AND live = 1 ORDER BY number"
 OPENED = "SELECT session, hall FROM opening"
 SEATED = "SELECT number FROM seat WHERE session = ? AND hall = ? ORDER BY number"
@@ -58,7 +56,7 @@ def shown(reading: Reading, query: str, *values: str) -> list[str]:
 
 def papers(reading: Reading) -> dict[str, sqlite3.Row]:
     """The papers by code, in the order of time."""
-    return {row["code"]: row for row in reading.rows.execute(PAPERS)}
+    return {row["code"]: row for row in reading.rows.execute(f"{PAPERS} ORDER BY day, start, paper.code")}
 
 
 def stays(after: Reading, first: Moments, second: Moments) -> list[str]:

@@ -98,9 +98,15 @@ def broken_off(office: Office) -> Unfinished | None:
 
 
 def closings(office: Office) -> dict[tuple[str, str], str]:
-    """When `close-hall` closed a hall for a session, by session and hall: the last time of each."""
-    done = ((when, command.split()) for when, _, command, status, _ in last_lines(office, ALL_BYTES) if status == "0")
-    return {(words[-2], words[-1]): when for when, words in done if words[:1] == ["close-hall"] and len(words) > 2}
+    """When `close-hall` closed a hall for a session of this office, by session and hall: the last time of each."""
+    found = dict[tuple[str, str], str]()
+    for when, _, command, status, _ in last_lines(office, ALL_BYTES):
+        words = command.split()
+        if status == "0" and words == ["init"]:
+            found.clear()  # of an office that is gone
+        elif status == "0" and words[:1] == ["close-hall"] and len(words) > 2:
+            found[words[-2], words[-1]] = when
+    return found
 
 
 def last_lines(office: Office, most: int = LAST_BYTES) -> Iterator[list[str]]:

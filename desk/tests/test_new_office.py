@@ -8,7 +8,7 @@ import sqlite3
 import desk_client
 import sample
 import test_changing
-from exam_desk import new_office, notebook
+from exam_desk import logbook, new_office, notebook
 from exam_desk.running import NotStarted
 
 LEFT = "notebook-of-an-office-before-"
@@ -20,6 +20,8 @@ class NewOffice(test_changing.Changing):
         """The office of the year before is moved away without what lay beside it."""
         super().setUp()
         self.office("withdraw", "0001000", "MA-1")
+        logbook.write(self.value, ["close-hall", "MON-AM", "GYM"], 0, "closed")
+        self.assertEqual([*logbook.closings(self.value)], [("MON-AM", "GYM")])
         notebook.take_notes(self.value, {sample.NUMBER: "scribe"})
         notebook.keep_absent(self.value, "MON-AM", [sample.NUMBER], [])
         self.move_away()
@@ -40,6 +42,7 @@ class NewOffice(test_changing.Changing):
         self.assertEqual((notebook.notes(self.value), notebook.absent(self.value, "MON-AM")), ({}, None))
         self.assertEqual(sorted(os.listdir(os.path.join(self.desk, name))), ["absent.MON-AM.json", "notes.json"])
         self.assertEqual(self.log()[-2:], [["init", "begins", ""], ["init", "0", "ready"]])
+        self.assertEqual(logbook.closings(self.value), {})
 
     def test_its_copies_are_marked_and_put_back(self):
         self.run_office("init")
