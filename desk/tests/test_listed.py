@@ -201,7 +201,8 @@ class Listed(test_changing.Changing):
         with (mock.patch("exam_desk.logbook.write", write),
               self.assertRaisesRegex(Trouble, "^the rows from line 3 on are not carried out: .*/x: No space left ")):
             self.carried(GOOD)
-        self.assertEqual((len(self.kept()), self.log()[2:]), (1, [["withdraw 0001000 MA-1", "0", "withdrawn"]]))
+        self.assertEqual((len(self.kept()), self.log()[2:]), (1, [
+            ["withdraw 0001000 MA-1", "0", "withdrawn"], ["withdraw --list x", "1", "stopped: look whether it is done"]]))
 
     def test_whoever_reads_may_go(self):
         """The output cannot be written, and all rows are done."""
