@@ -87,6 +87,19 @@ class TestWhatNeedsAPerson(DeskSchool):
         self.office("printed", "MON-AM")  # the office is as it was, the notebook is not
         self.assertNotIn("as on paper", self.browser.words("/?piece"))
 
+    def test_of_the_next_days_the_page_itself_says_it(self):
+        """Three days before MON-AM, and four before TUE-AM, which only the piece behind the page looks at."""
+        for session in ("MON-AM", "TUE-AM"):
+            self.office("printed", session)
+        for paper in ("CS-1", "PH-1"):
+            self.office("withdraw", "0001051", paper)
+        for today, shown in (("2027-06-03", []), ("2027-06-04", ["MON-AM"]), ("2027-06-07", ["MON-AM", "TUE-AM"])):
+            self.end()
+            self.environment["TODAY"] = today
+            self.start()
+            said = [re.findall(r"of (\S+) (?:is|are) not as on paper", self.browser.words(path)) for path in ("/", "/?piece")]
+            self.assertEqual(said, [shown, ["MON-AM", "TUE-AM"]], today)
+
     def test_not_of_a_session_that_is_over(self):
         self.office("printed", "MON-AM")
         self.office("withdraw", "0001051", "CS-1")
