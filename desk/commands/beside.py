@@ -80,7 +80,8 @@ def notes(parser: ArgumentParser) -> None:
             command.say(texts.notes(office, rows))
             return
         known = set(facts.candidate_names(rows))
-    noted = notebook.take_notes(office, files.texts_by_number(given.file, "text", notebook.MOST_NOTE_BYTES, known))
+    texts_given = files.texts_by_number(files.read(given.file), given.file, "text", notebook.MOST_NOTE_BYTES, known)
+    noted = notebook.take_notes(office, texts_given)
     command.say(" ".join(f"{word} {noted[word]}" for word in ("added", "changed", "removed", "same")) + "\n")
 
 

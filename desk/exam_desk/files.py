@@ -110,11 +110,12 @@ def below_header(text: bytes, path: str, header: Iterable[str]) -> Iterator[Reco
     return rows
 
 
-def texts_by_number(path: str, column: str, most: int, known: Collection[str] | None = None) -> dict[str, str]:
+def texts_by_number(content: bytes, path: str, column: str, most: int,
+                    known: Collection[str] | None = None) -> dict[str, str]:
     """The texts by number of a file that is no import, in the order of its rows; its header is `number` and the column.
     Raises `Trouble` where it is no such file, a text has more bytes than the most, or a number is not a known one."""
     found: dict[str, str] = {}
-    for row in below_header(read(path), path, ["number", column]):
+    for row in below_header(content, path, ["number", column]):
         wrong, fields = "", [field.decode("utf-8", "replace") for field in row.fields]
         if not row.closed or len(fields) != 2:
             wrong = f"a row has a number and a {column}; put quotes around a {column} with a comma"

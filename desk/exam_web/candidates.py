@@ -6,7 +6,7 @@ import sqlite3
 from collections.abc import Callable, Collection
 from functools import partial
 
-from flask import Blueprint, abort, redirect, render_template, request, url_for
+from flask import Blueprint, abort, g, redirect, render_template, request, url_for
 from markupsafe import Markup
 from werkzeug.datastructures import MultiDict
 from werkzeug.wrappers import Response
@@ -107,9 +107,16 @@ def all_notes() -> Response:
 @pages.post("/candidates/slips")
 @pages.post("/candidates/<int:number>/slip")
 def slips(number: int | None = None) -> str:
-    """The slip of one candidate, or those of all, of all sessions."""
+    """The slip of one candidate, or those of all, of all sessions; by the groups of a file where one is brought."""
     only = [] if number is None else [f"{candidate_row(number)['number']:07}"]
-    choice = slip_pages.Choice(only=only, codes="codes" in request.form, desks=bool(only))
+    brought, groups = request.files.get("groups"), dict[str, str]()
+    if brought and brought.filename:
+        try:
+            groups = slip_pages.groups_of(brought.stream.read(), brought.filename)
+        except Trouble as trouble:
+            raise Wrong(("candidates.find", {}), "slips", groups=said(trouble.sentence)) from None
+        g.visit.said += [("", said(line)) for line in slip_pages.beside_groups(view().reading, groups)]
+    choice = slip_pages.Choice(only=only, codes="codes" in request.form, desks=bool(only), groups=groups)
     return styled(slip_pages.page(view().reading, choice))
 
 

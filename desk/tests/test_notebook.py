@@ -54,13 +54,9 @@ class Notebook(unittest.TestCase):
         self.office = Office(self.path, "none", None, "nobody", self.fail)
         self.place = pathlib.Path(folder.name, "desk-office.db", "notebook")
 
-    def file(self, text):
-        path = pathlib.Path(self.path).with_name("notes.csv")
-        path.write_bytes(text.encode() if isinstance(text, str) else text)
-        return str(path)
-
     def texts(self, text):
-        return files.texts_by_number(self.file(text), "text", notebook.MOST_NOTE_BYTES, KNOWN)
+        content = text.encode() if isinstance(text, str) else text
+        return files.texts_by_number(content, "notes.csv", "text", notebook.MOST_NOTE_BYTES, KNOWN)
 
     def test_nothing_is_there_at_first(self):
         self.assertEqual((notebook.school_name(self.office), notebook.notes(self.office)), ("", {}))
