@@ -94,15 +94,14 @@ Nothing but this command notes it: to look at a page notes nothing. On the day w
 withdraw, since a withdrawal can give others another desk.
 """)
 def printed(parser: ArgumentParser) -> None:
-    from exam_desk import lists, notebook
+    from exam_desk import notebook
     given = command.given(parser, "session", "--look: notes nothing, and compares")
     with command.reading() as reading:
         if given.look:
             command.say_lines(compared(reading, given.session))
         else:
-            desks, others = notebook.note_printed(reading, given.session)
-            more = f", {others} other than before" if others else ""
-            command.say(f"{lists.count(desks, 'desk')} noted{more}\n")
+            _, said = notebook.note_printed(command.office(), reading, given.session)
+            command.say(f"{said}\n")
 
 
 def compared(reading: Reading, session: str) -> list[str]:
