@@ -20,7 +20,7 @@ from exam_web.wording import days_until, text
 pages = Blueprint("season", __name__)
 MOST_SHOWN = 12  # lines of what needs attention
 SOON, URGENT = 14, 3  # days before a session; before the last day to decide, or to print
-MOST_ASKED = 5_000  # members of the next sessions of whom the page itself asks the program
+MOST_ASKED = 5_000  # members of printed sessions of whom the page itself asks the program
 LEVELS = ["late", "now", "soon", "note"]
 
 
@@ -111,8 +111,8 @@ def clashes(coming: list[Sums]) -> Iterator[Attention]:
 
 
 def next_days(coming: list[Sums]) -> list[Sums]:
-    """The sessions of today and the next days, as many as do not keep the page waiting."""
-    near = [each for each in coming if days_until(each.day) <= URGENT]
+    """The sessions of today and the next days of which papers are printed, as many as do not keep the page waiting."""
+    near = [each for each in coming if days_until(each.day) <= URGENT and notebook.printed(desk().office, each.code)]
     asked = itertools.accumulate(each.members for each in near)
     return [each for each, people in zip(near, asked) if people <= MOST_ASKED]
 

@@ -144,6 +144,9 @@ class TestPrinting(DeskSchool):
         self.assertIn("line 1 must be: number,group", page)
         _, sheet = self.browser.send(*asked, ("", b""), status=200, codes="1")
         self.assertEqual(sheet, self.office("slips", "--codes"))
+        _, sheet = self.browser.send(*asked, ("f.csv", b"number,group\n0001051,10B\n"), status=200, session="MON-AM")
+        self.assertEqual(sheet, self.run_office("slips", "MON-AM", "--desks", "--order", self.write(
+            "f.csv", "number,group\n0001051,10B\n")).stdout)
 
     def test_notes(self):
         note = 'rest "breaks", <b>café</b>'
