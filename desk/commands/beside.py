@@ -86,7 +86,8 @@ def notes(parser: ArgumentParser) -> None:
             command.say(texts.notes(office, rows))
             return
         known = set(facts.candidate_names(rows))
-    noted = notebook.take_notes(office, files.texts_by_number(given.file, "text", notebook.MOST_NOTE_BYTES, known))
+    texts_given = files.texts_by_number(files.read(given.file), given.file, "text", notebook.MOST_NOTE_BYTES, known)
+    noted = notebook.take_notes(office, texts_given)
     command.say(" ".join(f"{word} {noted[word]}" for word in ("added", "changed", "removed", "same")) + "\n")
 
 
@@ -100,7 +101,7 @@ Nothing but this command notes it: to look at a page notes nothing. On the day w
 withdraw, since a withdrawal can give others another desk.
 """)
 def printed(parser: ArgumentParser) -> None:
-    from exam_desk import lists, notebook
+    from exam_desk import notebook
     given = command.given(parser, "session?", "--look: notes nothing, and compares")
     with command.reading() as reading:
         if given.session is None:
@@ -108,9 +109,8 @@ def printed(parser: ArgumentParser) -> None:
         elif given.look:
             command.say_lines(compared(reading, given.session))
         else:
-            desks, others = notebook.note_printed(reading, given.session)
-            more = f", {others} other than before" if others else ""
-            command.say(f"{lists.count(desks, 'desk')} noted{more}\n")
+            _, said = notebook.note_printed(command.office(), reading, given.session)
+            command.say(f"{said}\n")
 
 
 def on_paper(reading: Reading) -> list[str]:

@@ -135,7 +135,7 @@ papers and halls by title, and the arrangement in force. With --order each group
 the file has them, and who is in none comes last. The CSV has a row for each candidate and session, and no formula.
 """)
 def slips(parser: ArgumentParser) -> None:
-    from exam_desk import facts, files, lists
+    from exam_desk import files
     from exam_desk.reading import of_few
     from exam_desk.sheets import slips
     parser.add_argument("--only", action="append", default=[], metavar="NUMBER", type=typed.candidate_number,
@@ -143,18 +143,16 @@ def slips(parser: ArgumentParser) -> None:
     parser.add_argument("--order", metavar="FILE.csv", help="number,group: by group, each on pages of its own")
     given = command.given(parser, "session*", "--codes: with the access code", "--desks: with desk numbers",
                           "--csv: for a spreadsheet or the merge of letters")
-    groups = files.texts_by_number(given.order, "group", slips.MOST_GROUP_BYTES) if given.order else {}
+    groups = slips.groups_of(files.read(given.order), given.order) if given.order else {}
     choice = slips.Choice(given.session, given.only, given.codes, given.desks, groups)
     make = slips.csv_text if given.csv else slips.page
     if choice.only:
         command.say(of_few(command.office(), lambda reading: make(reading, choice)))
         return
     with command.reading() as reading:
-        text, known = make(reading, choice), facts.candidate_names(reading.rows).keys()
-    if strangers := len(groups.keys() - known):
-        command.warn(f"the file has {lists.count(strangers, 'number')} that no candidate of the office has")
-    if groups and (alone := len(known - {each for each, group in groups.items() if group})):
-        command.warn(f"in no group, and so last: {lists.count(alone, 'candidate')}")
+        text = make(reading, choice)
+        for line in slips.beside_groups(reading, groups):
+            command.warn(line)
     command.say(text)
 
 

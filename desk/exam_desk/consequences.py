@@ -178,7 +178,7 @@ def out_of_date(after: Reading, changes: Iterable[Change]) -> dict[str, list[str
 
 def halls_out_of_date(after: Reading, session: str, numbers: Iterable[str], members: list[Member]) -> set[str]:
     """The halls of those of these numbers who are not as on paper, now and there."""
-    papers = notebook.on_paper(after.office, session)
+    papers = notebook.on_paper(after.office, session).lines
     now = notebook.lines_of(after, session, members) if papers else {}
     pairs = [(papers.get(number), now.get(number)) for number in numbers] if papers else []
     return {line.desk.hall for pair in pairs if pair[0] != pair[1] for line in pair if line}

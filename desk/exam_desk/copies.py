@@ -8,16 +8,18 @@ import os
 import re
 import shutil
 import sqlite3
+import textwrap
 from collections.abc import Iterator
 
-from exam_desk import appeals, beside, notebook, private, running
+from exam_desk import appeals, beside, files, notebook, private, running
 from exam_desk.office import Office
 from exam_desk.trouble import Trouble
+from exam_desk.words import plain
 
 MOST_COPIES = 50
 MOST_BYTES = 1 << 30
-MOST_LETTERS = 100  # of a command in the name of a copy
-PLACE, DAYS = "copies", "days"
+MOST_LETTERS, MOST_TITLE = 100, 400  # of a command in the name of a copy, and in its title
+PLACE, DAYS, TITLE = "copies", "days", "title"  # of copies, of those of days, of the command in a copy
 NAME = re.compile(r"(?:([0-9]+) )?([0-9]{4}-[0-9]{2}-[0-9]{2}) ([0-9.]{8,15}) (.*)")  # version 1.0.0 gave no numbers
 DAY = re.compile("[0-9]{4}-[0-9]{2}-[0-9]{2}")
 EMPTY_LOG = 41  # bytes of a second file that holds no change
@@ -29,7 +31,7 @@ def keep_copy(office: Office, command: str) -> str:
 
     Its running number is one more than the highest, so that the order does not depend on the clock.
     """
-    copy = make(office, PLACE, named(max(map(number_of, listed(office)), default=0) + 1, command))
+    copy = make(office, PLACE, named(max(map(number_of, listed(office)), default=0) + 1, command), command)
     prune(office)
     return copy
 
@@ -51,15 +53,18 @@ def keep_day(office: Office, day: datetime.date, most: int) -> str | None:
     return copy
 
 
-def make(office: Office, place: str, name: str) -> str:
+def make(office: Office, place: str, name: str, title: str = "") -> str:
     """Copies the office's two files, and the notebook beside it, into a new folder in a place, whole and on the disk,
-    or not at all; its path."""
+    or not at all; its path. A title lies in it, since the name of a folder has not all letters."""
     target = os.path.join(beside.make_folder(office.path, place), name)
     with workplace(office) as folder:
         making = os.path.join(folder, PLACE)
         os.mkdir(making, 0o700)
         private.copy_files(os.path.realpath(office.path), file_in(office, making))
         notebook.copy_into(office, making)
+        if title:
+            title = textwrap.shorten(plain(title), MOST_TITLE, placeholder=" ..")
+            files.put(os.path.join(making, TITLE), title.encode("utf-8", "replace"))
         for path in (*(entry.path for entry in os.scandir(making)), making):
             beside.sync(path)
         os.rename(making, target)
@@ -143,6 +148,8 @@ def prune(office: Office) -> None:
 def when_and_what(copy: str) -> tuple[str, str]:
     """When a copy was made, and before which command; or when a backup was brought, and its name."""
     _, day, time, what = parts(copy).groups()
+    with contextlib.suppress(OSError), open(os.path.join(copy, TITLE), "rb", opener=private.no_link) as file:
+        what = file.read().decode("utf-8", "replace")
     return f"{day} {time[:8].replace('.', ':')}", what
 
 

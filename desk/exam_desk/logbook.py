@@ -1,4 +1,5 @@
-"""The log of an office, in the folder beside it: a line before each change and a line after it.
+"""The log of an office, in the folder beside it: a line before each change and a line after it; one for what is noted as
+printed.
 
 A line has the time, who worked, the command, its status and the first line of its answer, parted by tabs. A change that
 begins has the status `begins`, a step of a list `step`. Their answers are empty, but a list names its copy.
@@ -54,20 +55,24 @@ def write(office: Office, words: Sequence[str], status: int | str, answer: str) 
         log_file.write(line.encode("utf-8", "backslashreplace"))
 
 
+def write_done(office: Office, words: Sequence[str], status: int, answer: str) -> None:
+    """A line in the log on what is done. In place of one that cannot be written a warning has to do."""
+    try:
+        write(office, words, status, answer)
+    except (OSError, beside.Strange) as fault:
+        office.warn(f"no line in the log: {fault.strerror if isinstance(fault, OSError) else fault}")
+
+
 @contextlib.contextmanager
 def logged(office: Office, words: Sequence[str], status: str = BEGINS, answer: str = "") -> Iterator[Outcome]:
-    """A line in the log before a change, which waits until that is on the disk; and one with the outcome after it. In
-    place of one that cannot be written a warning has to do."""
+    """A line in the log before a change, which waits until that is on the disk; and one with the outcome after it."""
     write(office, words, status, answer)
     beside.sync(beside.folder(office.path, NAME))
     outcome = Outcome()
     try:
         yield outcome
     finally:
-        try:
-            write(office, words, outcome.status, outcome.answer)
-        except (OSError, beside.Strange) as fault:
-            office.warn(f"no line in the log: {fault.strerror if isinstance(fault, OSError) else fault}")
+        write_done(office, words, outcome.status, outcome.answer)
 
 
 def unfinished(office: Office) -> Unfinished | None:

@@ -18,7 +18,7 @@ from collections import Counter
 from collections.abc import Callable, Collection, Iterable, Iterator, Mapping
 from typing import TYPE_CHECKING, Any, NamedTuple, TypeVar
 
-from exam_desk import beside, facts, files, typed, words
+from exam_desk import beside, facts, files, logbook, typed, words
 from exam_desk.office import Office
 from exam_desk.trouble import NoOffice, Trouble
 
@@ -35,6 +35,7 @@ RUNNING = ["across", "across-and-back", "down", "down-and-up"]  # how the number
 MOST_NOTE_BYTES = 200
 MOST_ACROSS = 100  # desks in a row
 MOST_NAMED = 5  # numbers in a refusal
+NOTED = "noted"  # beside the lines of what is printed: by whom, how many, and when
 REST = 16  # letters of a sum of what a line on paper shows
 ATTENDANCE = ["number", "paper", "attendance"]
 Held = TypeVar("Held", bound=Collection[object])
@@ -67,7 +68,15 @@ class Move(NamedTuple):
     printed: Desk | None
 
 
+class Paper(NamedTuple):
+    """What was printed for a session."""
+    lines: dict[str, Line]  # by number
+    who: str  # noted it, and when; "" where an earlier version did
+    when: str
+
+
 class Compared(NamedTuple):
+    paper: Paper
     moves: list[Move]  # by number
     halls: list[str]  # whose papers are out of date, by code
     empty: list[str]  # of these, where nobody sits now
@@ -120,15 +129,17 @@ def can_stand(rows: Rows) -> bool:
     return 1 <= rows.across <= MOST_ACROSS and rows.running in RUNNING
 
 
-def on_paper(office: Office, session: str) -> dict[str, Line]:
-    """What was printed for a session, by number; nothing where nobody said that it was. A line that has its desk alone
-    is another than each of now."""
+def on_paper(office: Office, session: str) -> Paper:
+    """What was printed for a session; no line where nobody said that it was. A line that has its desk alone is another
+    than each of now."""
     found = read(office, f"printed.{session}", dict[str, list[Any]](), is_line)
-    return {number: Line(Desk(hall, desk), "".join(rest)) for number, (hall, desk, *rest) in found.items()}
+    who, _, *when = found.pop(NOTED, ["", 0])
+    lines = {number: Line(Desk(hall, desk), "".join(rest)) for number, (hall, desk, *rest) in found.items()}
+    return Paper(lines, who, "".join(when))
 
 
 def printed(office: Office, session: str) -> dict[str, Desk]:
-    return {number: line.desk for number, line in on_paper(office, session).items()}
+    return {number: line.desk for number, line in on_paper(office, session).lines.items()}
 
 
 def lines_of(reading: Reading, session: str, members: Iterable[Member]) -> dict[str, Line]:
@@ -144,28 +155,33 @@ def lines_of(reading: Reading, session: str, members: Iterable[Member]) -> dict[
     return found
 
 
-def note_printed(reading: Reading, session: str) -> tuple[int, int]:
-    """Notes that the papers of a session are printed as it is; how many desks they have, and how many lines are other
-    ones than those that were noted before. Raises `Trouble` where there is no such session."""
+def note_printed(office: Office, reading: Reading, session: str) -> tuple[int, str]:
+    """Notes for the office's user, in the log too, that the papers of a session are printed as it is; how many desks
+    they have, and this in words, with how many lines are other ones than those that were noted before. Raises `Trouble`
+    where there is no such session."""
+    from exam_desk import lists
     lines = lines_of(reading, session, reading.members(session))
-    before = on_paper(reading.office, session)
-    with alone(reading.office) as folder:
-        write(reading.office, folder, f"printed.{session}",
-              {number: [*line.desk, line.rest] for number, line in lines.items()})
-    return len(lines), len(moved(before, lines)) if before else 0
+    before, when = on_paper(office, session).lines, datetime.datetime.now().isoformat(" ", "minutes")
+    with alone(office) as folder:
+        write(office, folder, f"printed.{session}", {NOTED: [office.user, len(lines), when]} | {
+            number: [*line.desk, line.rest] for number, line in lines.items()})
+    others = len(moved(before, lines)) if before else 0
+    said = f"{lists.count(len(lines), 'desk')} noted" + (f", {others} other than before" if others else "")
+    logbook.write_done(office, ["printed", session], 0, said)
+    return len(lines), said
 
 
 def compared(reading: Reading, session: str) -> Compared | None:
     """What was noted beside what is so now; None where nothing was. Raises `Trouble` where there is no such session."""
     facts.session_row(reading.rows, session)
     before = on_paper(reading.office, session)
-    if not before:
+    if not before.lines:
         return None
     now, names = lines_of(reading, session, reading.members(session)), facts.candidate_names(reading.rows)
-    moves = [Move(number, names.get(number, ""), desk_of(now.get(number)), desk_of(before.get(number)))
-             for number in moved(before, now)]
+    moves = [Move(number, names.get(number, ""), desk_of(now.get(number)), desk_of(before.lines.get(number)))
+             for number in moved(before.lines, now)]
     halls = {desk.hall for move in moves for desk in (move.now, move.printed) if desk}
-    return Compared(moves, sorted(halls), sorted(halls - {line.desk.hall for line in now.values()}))
+    return Compared(before, moves, sorted(halls), sorted(halls - {line.desk.hall for line in now.values()}))
 
 
 def desk_of(line: Line | None) -> Desk | None:

@@ -6,7 +6,7 @@ import sqlite3
 from collections.abc import Callable, Collection
 from functools import partial
 
-from flask import Blueprint, abort, redirect, render_template, request, url_for
+from flask import Blueprint, abort, g, redirect, render_template, request, url_for
 from markupsafe import Markup
 from werkzeug.datastructures import MultiDict
 from werkzeug.wrappers import Response
@@ -40,7 +40,8 @@ def find() -> str | Response:
     if len(found) == 1:
         return redirect(url_for("candidates.page", number=int(found[0].number)))
     return render_template("candidates.html", asked=asked, found=found[:MOST_FOUND], total=len(found),
-                           everybody=view().count("SELECT count(*) FROM candidate"), papers=papers_without())
+                           sessions=sums(view()), papers=papers_without(),
+                           everybody=view().count("SELECT count(*) FROM candidate"))
 
 
 def search(asked: str) -> list[Person]:
@@ -110,9 +111,18 @@ def all_notes() -> Response:
 @pages.post("/candidates/slips")
 @pages.post("/candidates/<int:number>/slip")
 def slips(number: int | None = None) -> str:
-    """The slip of one candidate, or those of all, of all sessions."""
+    """The slip of one candidate, or those of all for all sessions or for one; by the groups of a file where one is
+    brought. What is for one has desk numbers."""
     only = [] if number is None else [f"{candidate_row(number)['number']:07}"]
-    choice = slip_pages.Choice(only=only, codes="codes" in request.form, desks=bool(only))
+    brought, groups = request.files.get("groups"), dict[str, str]()
+    if brought and brought.filename:
+        try:
+            groups = slip_pages.groups_of(brought.stream.read(), brought.filename)
+        except Trouble as trouble:
+            raise Wrong(("candidates.find", {}), "slips", groups=said(trouble.sentence)) from None
+        g.visit.said += [("", said(line)) for line in slip_pages.beside_groups(view().reading, groups)]
+    of_one = [session for session in [request.form.get("session", "")] if session]
+    choice = slip_pages.Choice(of_one, only, "codes" in request.form, bool(only or of_one), groups)
     return styled(slip_pages.page(view().reading, choice))
 
 

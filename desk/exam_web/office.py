@@ -55,7 +55,11 @@ def log_since(when: str = "") -> list[list[str]]:
 @pages.get("/office")
 def page() -> str:
     found = [(copy_key(path), *copies.when_and_what(path), copies.is_brought(path)) for path in paths()]
-    return render_template("office.html", copies=found, log=log_since(), keep=turns.keep_state(desk().office))
+    school = ""
+    with contextlib.suppress(Trouble):  # its file is damaged; another name mends it
+        school = notebook.school_name(desk().office)
+    return render_template("office.html", copies=found, log=log_since(), keep=turns.keep_state(desk().office),
+                           school=school)
 
 
 @pages.get("/office/copies/<key>")
@@ -122,6 +126,18 @@ def bring() -> Response:
         page = "office.page" if desk().is_there() else "season.page"
         raise Wrong((page, {}), "bring", backup=said(trouble.sentence)) from trouble
     return lead("office.copy", key=copy_key(g.visit.backup.path))
+
+
+@pages.post("/office/school")
+def school() -> Response:
+    """Keeps the name of the school, which stands on its papers, or takes it away."""
+    name = request.form.get("name", "").strip()
+    try:
+        notebook.set_school_name(desk().office, name)
+    except Trouble as trouble:
+        raise Wrong(("office.page", {}), "school", name=said(trouble.sentence)) from None
+    told = text("The papers of the school have its name now.") if name else text("The school has no name now.")
+    return lead("office.page", told, _anchor="school")
 
 
 @pages.get("/handbook")

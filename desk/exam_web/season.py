@@ -1,5 +1,6 @@
 """The season: what needs a person, the last days to lodge, the calendar; the first page, where there is no office."""
 import datetime
+import itertools
 from collections import Counter
 from collections.abc import Iterator
 from typing import Any, NamedTuple
@@ -18,7 +19,8 @@ from exam_web.wording import days_until, text
 
 pages = Blueprint("season", __name__)
 MOST_SHOWN = 12  # lines of what needs attention
-SOON, URGENT = 14, 3  # days before a session, before the last day to decide
+SOON, URGENT = 14, 3  # days before a session; before the last day to decide, or to print
+MOST_ASKED = 2_000  # candidates with printed papers of whom the page itself asks the program
 LEVELS = ["late", "now", "soon", "note"]
 
 
@@ -64,15 +66,18 @@ def weeks_of(found: list[Sums]) -> list[list[tuple[str, list[Sums]]]]:
 
 
 def attention(found: list[Sums], is_whole: bool) -> list[Attention]:
-    """What to do, the most urgent first; what the program has to be asked for only where all of it is wanted."""
+    """What to do, the most urgent first; of what the program has to be asked for all only where all is wanted."""
     coming = [each for each in found if days_until(each.day) >= 0]
-    todo = [Attention(level_of(each), each.day, "short", url_for("session.page", code=each.code, _anchor="short"),
-                      {"count": each.short, "session": each.code}) for each in coming if each.short]
-    todo += [*broken_off(), *open_appeals(), *clashes(coming)]
+    compared, left = (coming, []) if is_whole else next_days(coming)
+    todo = [*broken_off(), *out_of_date(compared)]
+    todo += [Attention(level_of(each), each.day, "compare",
+                       url_for("session.page", code=each.code, _anchor="print"), {"session": each.code}) for each in left]
+    todo += [Attention(level_of(each), each.day, "short", url_for("session.page", code=each.code, _anchor="short"),
+                       {"count": each.short, "session": each.code}) for each in coming if each.short]
+    todo += [*open_appeals(), *clashes(coming)]
     if coming and turns.keep_state(desk().office) is None:
         todo.append(Attention("note", None, "unserved", url_for("office.page", _anchor="serve")))
-    if is_whole:
-        todo += [*out_of_date(coming), *at_one_time(coming)]
+    todo += at_one_time(coming) if is_whole else ()
     return sorted(todo, key=lambda each: (LEVELS.index(each.level), each.day or "9"))
 
 
@@ -108,6 +113,15 @@ def clashes(coming: list[Sums]) -> Iterator[Attention]:
         if count := sum((each.code, number) not in heard for number in two_papers(view())[each.code]):
             yield Attention(level, day, "clashes", url_for("clashes.page", session=each.code),
                             {"count": count, "session": each.code})
+
+
+def next_days(coming: list[Sums]) -> tuple[list[Sums], list[Sums]]:
+    """The sessions of today and the next days of which papers are printed: as many as do not keep the page waiting, and
+    the rest."""
+    near = [each for each in coming if days_until(each.day) <= URGENT and notebook.printed(desk().office, each.code)]
+    everybody, members = view().count("SELECT count(*) FROM candidate"), itertools.accumulate(each.members for each in near)
+    few = sum(min(people, everybody) <= MOST_ASKED for people in members)
+    return near[:few], near[few:]
 
 
 def out_of_date(coming: list[Sums]) -> Iterator[Attention]:

@@ -18,7 +18,7 @@ from exam_desk.reading import Member
 from exam_desk.sheets import papers, slips
 from exam_desk.trouble import Trouble
 from exam_desk.words import clock
-from exam_web.desk import View, desk, once, sums, two_papers, view
+from exam_web.desk import View, desk, office, once, sums, two_papers, view
 from exam_web.forms import Form, Page, Wrong, attached, checked, lead, styled, whole
 from exam_web.proposals import PLANS, Plan, command, features, import_step
 from exam_web.wording import many, said, text
@@ -228,7 +228,7 @@ def note_printed(code: str) -> Response:
     if request.form.get("state") != view().name:
         told = text("Nothing is noted: the office is another than the page showed. Print the sheets again.")
         return lead("session.page", told, "bad", code=code, _anchor="print")
-    desks, _ = notebook.note_printed(view().reading, code)
+    desks, _ = notebook.note_printed(office(), view().reading, code)
     told = many(desks, "{count} desk of {session} is noted as printed.",
                 "{count} desks of {session} are noted as printed.", session=code)
     return lead("session.page", told, code=code, _anchor="print")

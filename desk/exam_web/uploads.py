@@ -171,16 +171,18 @@ def correct(key: str) -> Response:
 
 @pages.post("/files/uploaded/<key>/again")
 def again(key: str) -> Response:
-    """Reads a workbook again, with its hidden rows and sheets or without them, and its dates as the form says."""
+    """Reads a workbook again, with its dates, and its hidden rows and sheets, as the form says."""
     found: Upload = g.visit.uploads.get(key) or abort(404)
     place = request.form.get("book", "")
     if place not in map(str, range(len(found.workbooks))) or found.is_imported:
         abort(404)
+    way, hidden = way_of(request.form), request.form.get("hidden", "")
+    if hidden not in ("", "take", "leave"):
+        abort(400)
     book = found.workbooks.pop(int(place))
     found.texts = {kind: content for kind, content in found.texts.items() if kind not in book.kinds}
-    choice = ("take" if request.form.get("take") else "leave") if book.has_hidden else ""
     wrong = [other for other in found.workbooks if other.mistakes]  # perhaps for what is read of this one now
-    take_books(found, [*wrong, Book(book.name, book.content, way_of(request.form), choice)])
+    take_books(found, [*wrong, Book(book.name, book.content, way, hidden)])
     return lead("files.look", key=key)
 
 
@@ -225,7 +227,7 @@ def with_codes(upload: Upload, page: Page, form: Form) -> dict[str, bytes]:
     known = {row[0]: row for row in files.rows_of(view().reading.rows, "candidates")}
     coded = coding.filled(coding.read(content, "candidates.csv"), known, set())
     if coded.made and not form.get("codes"):
-        raise Wrong(page, codes=text("without an access code no candidate is imported: tick this"))
+        raise Wrong(page, codes=text("without an access code no candidate is imported: tick below that the desk makes them"))
     return {"candidates": files.file_of("candidates", coded.rows)}
 
 

@@ -134,6 +134,7 @@ class Copies(Beside):
         self.office("withdraw", "0001000", "MA-1")
         place = os.path.join(self.desk, "copies")
         [name] = os.listdir(place)
+        os.remove(os.path.join(place, name, copies.TITLE))
         os.rename(os.path.join(place, name), os.path.join(place, "2026-11-27 09.00.00.123456 withdraw 1"))
         self.assertEqual(self.office("back"), "  1  2026-11-27 09:00:00  before withdraw 1\n")
         self.office("back", "1", "--yes")
@@ -259,6 +260,20 @@ class Log(Beside):
         self.run_office(*words, EXAMOFFICE=self.program("kill -TERM $PPID; exec sleep 5"))
         self.assertEqual(self.log()[1:], [[" ".join(words), "begins", ""],
                                           [" ".join(words), "1", "stopped: look whether it is done"]])
+
+    def test_a_copy_says_what_it_is_from_before(self):
+        """In the words of the log, cut between two words where they are many; the name of its folder has fewer letters."""
+        said = "import halls é.csv for A B: C .., import openings x_1.csv for S1 A"
+        many = " ".join(f"word{place}" for place in range(90))
+        for command, shown in ((said, said), (many, many[:many.index(" word58")] + " .."), ("take a\tb\u202e", "take a?b?")):
+            copy = copies.keep_copy(self.value, command)
+            self.assertEqual(copies.when_and_what(copy)[1], shown)
+            self.assertIn(f"before {shown}", copies.state_of(copy))
+        self.assertRegex(copies.listed(self.value)[2], r"import halls _.csv for A B. C .._ import openings x_1.csv for S1 A$")
+        os.remove(os.path.join(copy, copies.TITLE))  # as of an earlier version
+        self.assertEqual(copies.when_and_what(copy)[1], "take a_b_")
+        os.symlink(self.path, os.path.join(copy, copies.TITLE))
+        self.assertEqual(copies.when_and_what(copy)[1], "take a_b_")
 
     def test_the_line_before_is_on_the_disk(self):
         with mock.patch("os.fsync") as synced:

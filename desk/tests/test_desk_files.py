@@ -307,12 +307,12 @@ class TestFiles(Uploads):
             self.assertIn("hall 'ATRIUM': is not among the halls", self.browser.words(page))
 
     def test_what_is_read_of_one_workbook_is_known_to_another(self):
-        """A sheet that is hidden until a box is ticked has the session of which the other speaks."""
+        """A sheet that is hidden, until the form says that it counts, has the session of which the other speaks."""
         hidden = workbook({"Sessions": [["session", "date", "start"], ["FRI-AM", "2027-06-11", "09:00"]],
                            "Halls": [["hall", "title", "features"], ["ATRIUM", "Atrium", "-"]]}, sheets=["Sessions"])
         page = self.upload(("s.xlsx", hidden), *self.with_semicolons("papers.csv")[1:2])
         self.assertIn("'FRI-AM': is not among the sessions", self.browser.words(page))
-        self.browser.post(page + "/again", page, book="0", take="1")
+        self.browser.post(page + "/again", page, book="0", hidden="take")
         self.assertIn("No mistake", self.browser.words(page))
         self.browser.get(page + "/papers.csv")
 
@@ -431,7 +431,7 @@ class TestFiles(Uploads):
         self.assertNotIn("number 12030 became", words)
 
     def test_hidden_rows_and_sheets(self):
-        """They are passed over or a mistake, until a box says that they are read."""
+        """They are a mistake until the form says whether they count, whatever else it says."""
         sheets = {"Candidates": [["number", "name", "code"], [12001, "Nadia", "K4WBN7RTQD"],
                                  [12008, "Tom", "K4WBN7RTQE"]],
                   "Entries": [["number", "paper"], [12001, "EN-1"], [12008, "EN-1"]]}
@@ -442,23 +442,30 @@ class TestFiles(Uploads):
         self.assertIn("is hidden, perhaps by a filter", words)
         self.assertIn("is hidden: show it if it has the entries", words)
         self.assertNotIn("/candidates.csv", self.browser.get(page))
-        self.browser.post(page + "/again", page, book="0", take="1")
+        for values in {"dates": "day-first"}, {"hidden": ""}, {"dates": "month-first", "hidden": ""}:
+            self.browser.post(page + "/again", page, book="0", **values)
+            words = self.browser.words(page)
+            self.assertIn("is hidden, perhaps by a filter", words, values)
+            self.assertNotIn("as you said", words, values)
+            self.assertIn('value="" selected>not answered yet', self.browser.get(page))
+        self.browser.post(page + "/again", page, 400, book="0", hidden="x")
+        self.browser.post(page + "/again", page, book="0", hidden="take")
         self.assertIn("No mistake", self.browser.words(page))
         for name, rows in (("candidates", "0012001,Nadia,K4WBN7RTQD 0012008,Tom,K4WBN7RTQE"),
                            ("entries", "0012001,EN-1 0012008,EN-1"), ("halls", "R20,Room 20,-")):
             _, text = self.browser.ask("GET", f"{page}/{name}.csv")
             self.assertEqual(text.replace('"', "").split("\n")[1:-1], rows.replace(" 00", "\n00").split("\n"))
-        self.assertRegex(self.browser.get(page), 'name="take" value="1" checked')
-        self.browser.post(page + "/again", page, book="0")
+        self.assertIn('value="take" selected', self.browser.get(page))
+        self.browser.post(page + "/again", page, book="0", hidden="leave")
         self.assertIn("No mistake", self.browser.words(page))
         self.assertEqual(self.browser.ask("GET", page + "/candidates.csv")[1].count("\n"), 2)
         self.browser.get(page + "/entries.csv", 404)
         self.browser.get(page + "/halls.csv")
-        self.assertRegex(self.browser.get(page), 'name="take" value="1">')  # it can still be ticked
+        self.assertIn('value="leave" selected', self.browser.get(page))  # it can still be chosen otherwise
         for wrong in ("1", "-1", "", "x"):
             self.browser.post(page + "/again", page, 404, book=wrong)
         page = self.upload(("school.xlsx", workbook(sheets)), plain)
-        self.assertNotIn('name="take"', self.browser.get(page))
+        self.assertNotIn('name="hidden"', self.browser.get(page))
 
     def test_zips(self):
         out = io.BytesIO()

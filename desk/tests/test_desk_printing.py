@@ -58,7 +58,9 @@ class TestPrinting(DeskSchool):
         self.browser.post(self.PRINTED, "/sessions/MON-AM")
         self.assertRegex(self.browser.words("/sessions/MON-AM"), r"\d+ desks of MON-AM are noted as printed")
         self.assertEqual(self.office("printed", "MON-AM", "--look"), "the papers are up to date\n")
-        self.assertIn("still right", self.browser.words(self.PRINTED))
+        [(when, who)] = re.findall(r"^(\S+ \d\d:\d\d):\d\d\t(\S+ \(ab, desk\))\tprinted MON-AM\t0\t\d+ desks noted$",
+                                   self.log(), re.M)
+        self.assertIn(f"noted {when} by {who} still right", self.browser.words(self.PRINTED))
         self.office("withdraw", "0001051", "CS-1")
         *moves, halls = self.office("printed", "MON-AM", "--look").splitlines()
         found = self.browser.words(self.PRINTED + "?piece")
@@ -123,6 +125,27 @@ class TestPrinting(DeskSchool):
         self.assertNotIn(sample.CODE, text)
         _, text = self.browser.post("/candidates/1051/slip", "/candidates/1051", 200, codes="1")
         self.assertIn(sample.CODE, text)
+
+    def test_slips_by_the_groups_of_a_file(self):
+        """They are those of `office slips --order`; what that says of the file the next page says."""
+        text = 'number,group\n0001051,10B\n0001000,"<i>=10A"\n0009999,10A\n'
+        asked = "/candidates/slips", "/candidates", "groups"
+        _, sheet = self.browser.send(*asked, ("forms.csv", text.encode()), status=200)
+        done = self.run_office("slips", "--order", self.write("forms.csv", text))
+        self.assertEqual(sheet, done.stdout)
+        self.assertEqual(re.findall(r"<div class=sheet><h2><bdi>(.*?)</bdi>", sheet), ["10B", "&lt;i&gt;=10A", "in no group"])
+        said = self.browser.words("/candidates")
+        for line in done.stderr.splitlines():
+            self.assertIn(line.removeprefix("office: "), said)
+        self.assertIn("1 number of the file are no candidates", said)
+        _, page = self.browser.send(*asked, ("<b>.csv", b"number,form\n0001051,10B\n"), status=422)
+        self.assertRegex(page, 'name="groups"[^>]*aria-invalid="true"')
+        self.assertIn("line 1 must be: number,group", page)
+        _, sheet = self.browser.send(*asked, ("", b""), status=200, codes="1")
+        self.assertEqual(sheet, self.office("slips", "--codes"))
+        _, sheet = self.browser.send(*asked, ("f.csv", b"number,group\n0001051,10B\n"), status=200, session="MON-AM")
+        self.assertEqual(sheet, self.run_office("slips", "MON-AM", "--desks", "--order", self.write(
+            "f.csv", "number,group\n0001051,10B\n")).stdout)
 
     def test_notes(self):
         note = 'rest "breaks", <b>café</b>'

@@ -1,5 +1,5 @@
 """What the screens of the desk in a browser say: arrangements in one way, counts of people that lead to more, a new
-candidate, the handbook."""
+candidate, the school's name, the handbook."""
 import html
 import os
 import pathlib
@@ -11,6 +11,7 @@ import unittest
 import urllib.parse
 
 from desk_client import HAS_FLASK, PYTHON, DeskSchool, SmallSchool, effects
+from exam_desk import notebook
 from sample import DESK, TOP
 
 EXTRA = "no needs, 25 % extra time"
@@ -257,6 +258,32 @@ client = app.test_client()
 client.set_cookie('localhost', 'desk', 'secret')
 print(client.get('/').text.partition('helpline')[2].partition('</p>')[0])
 """
+
+
+class TestSchool(DeskSchool):
+    """The name of the school at the page of the office."""
+
+    def ask(self, name, status=303):
+        return self.browser.post("/office/school", "/office", status, name=name)[1]
+
+    def test_its_name(self):
+        self.ask(' "Hill" & <b>Cö</b> ')
+        self.assertEqual(self.office("school"), '"Hill" & <b>Cö</b>\n')
+        text = self.browser.get("/office")
+        self.assertIn('name="name" value="&#34;Hill&#34; &amp; &lt;b&gt;Cö&lt;/b&gt;"', text)
+        self.assertIn("&#34;Hill&#34; &amp; &lt;b&gt;Cö", self.browser.get("/sessions/MON-AM/print/doors"))
+        for wrong in ("é" * 41, "a\nb", "a\x7f"):
+            text = self.ask(wrong, 422)
+            self.assertRegex(text, 'name="name"[^>]*aria-invalid="true"')
+            self.assertIn("an empty field takes it away", text)
+        self.assertEqual(self.office("school"), '"Hill" & <b>Cö</b>\n')
+        with notebook.alone(self.value) as folder:
+            notebook.write(self.value, folder, "school", ["damaged"])
+        self.assertIn("Copies from before each change", self.browser.words("/office"))
+        self.ask("é" * 40)
+        self.assertEqual(self.office("school"), "é" * 40 + "\n")
+        self.ask("")
+        self.assertEqual(self.office("school"), "no name\n")
 
 
 class TestHandbook(DeskSchool):

@@ -48,6 +48,32 @@ with app.test_request_context(method="POST"):
 """
 
 
+NEXT_DAYS = """
+import sys
+sys.path.insert(0, sys.argv[1])
+from exam_web import season
+class Office:
+    office, everybody = None, 0
+    def count(self, query):
+        return self.everybody
+season.view = season.desk = Office
+season.days_until = int
+season.notebook.printed = lambda office, code: code != "UNPRINTED"
+found = [season.Sums(code, day, 0, members, 0, 0, 0, 0) for code, day, members in
+         (("TODAY", "0", 900), ("UNPRINTED", "1", 4000), ("FULL", "2", 1100), ("MORE", "3", 1), ("LATER", "4", 1))]
+for Office.everybody in (2000, 2001):
+    print(*([each.code for each in part] for part in season.next_days(found)))
+"""
+
+
+@unittest.skipUnless(HAS_FLASK, "Flask or waitress is missing")
+class TestNextDays(unittest.TestCase):
+    def test_of_as_many_as_are_soon_asked_of(self):
+        """900 and 1,100 members are 2,000 candidates at most; one more is too many, unless the office has no more."""
+        done = subprocess.run([PYTHON, "-c", NEXT_DAYS, DESK], capture_output=True, text=True, timeout=60, check=True)
+        self.assertEqual(done.stdout, "['TODAY', 'FULL', 'MORE'] []\n['TODAY', 'FULL'] ['MORE']\n")
+
+
 @unittest.skipUnless(HAS_FLASK, "Flask or waitress is missing")
 class TestTurns(unittest.TestCase):
     def test_who_asks_of_many_leaves_others_their_turn(self):
@@ -88,6 +114,19 @@ class TestWhatNeedsAPerson(DeskSchool):
         self.assertIn(f"{len(moves)} candidates are not as on paper", self.browser.words("/sessions/MON-AM/printed"))
         self.office("printed", "MON-AM")  # the office is as it was, the notebook is not
         self.assertNotIn("as on paper", self.browser.words("/?piece"))
+
+    def test_of_the_next_days_the_page_itself_says_it(self):
+        """Three days before MON-AM, and four before TUE-AM, which only the piece behind the page looks at."""
+        for session in ("MON-AM", "TUE-AM"):
+            self.office("printed", session)
+        for paper in ("CS-1", "PH-1"):
+            self.office("withdraw", "0001051", paper)
+        for today, shown in (("2027-06-03", []), ("2027-06-04", ["MON-AM"]), ("2027-06-07", ["MON-AM", "TUE-AM"])):
+            self.end()
+            self.environment["TODAY"] = today
+            self.start()
+            said = [re.findall(r"of (\S+) (?:is|are) not as on paper", self.browser.words(path)) for path in ("/", "/?piece")]
+            self.assertEqual(said, [shown, ["MON-AM", "TUE-AM"]], today)
 
     def test_not_of_a_session_that_is_over(self):
         self.office("printed", "MON-AM")

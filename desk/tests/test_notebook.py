@@ -15,7 +15,7 @@ import unittest
 import sample
 
 sys.path.insert(0, str(pathlib.Path(__file__).resolve().parents[1]))
-from exam_desk import beside, copies, files, notebook  # noqa: E402
+from exam_desk import beside, copies, files, logbook, notebook  # noqa: E402
 from exam_desk.notebook import Desk, Rows  # noqa: E402
 from exam_desk.office import Office  # noqa: E402
 from exam_desk.trouble import Trouble  # noqa: E402
@@ -55,13 +55,9 @@ class Notebook(unittest.TestCase):
         self.office = Office(self.path, "none", None, "nobody", self.fail)
         self.place = pathlib.Path(folder.name, "desk-office.db", "notebook")
 
-    def file(self, text):
-        path = pathlib.Path(self.path).with_name("notes.csv")
-        path.write_bytes(text.encode() if isinstance(text, str) else text)
-        return str(path)
-
     def texts(self, text):
-        return files.texts_by_number(self.file(text), "text", notebook.MOST_NOTE_BYTES, KNOWN)
+        content = text.encode() if isinstance(text, str) else text
+        return files.texts_by_number(content, "notes.csv", "text", notebook.MOST_NOTE_BYTES, KNOWN)
 
     def test_nothing_is_there_at_first(self):
         self.assertEqual((notebook.school_name(self.office), notebook.notes(self.office)), ("", {}))
@@ -273,6 +269,20 @@ class Commands(sample.SampleSchool):
         halls = {place for line in moves for place in re.findall(r"(?:: |, was )(\w+) \d+(?=,|$)", line)}
         self.assertEqual(again, f"to print again: {', '.join(sorted(halls - {'GYM'}))}; board, counts, slips")
         self.assertIn("PC1", again)
+
+    def test_the_log_and_the_notebook_say_who_noted_it(self):
+        before = datetime.datetime.now().isoformat(" ", "minutes")
+        answers = [self.office("printed", "MON-AM")]
+        self.office("withdraw", "0001119", "CS-1")
+        answers.append(self.office("printed", "MON-AM"))
+        self.assertIn("other than before", answers[1])
+        lines = [line for line in logbook.last_lines(self.value) if line[2] == "printed MON-AM"]
+        self.assertEqual([line[3:] for line in lines], [["0", answer[:-1]] for answer in answers])
+        self.assertIsNone(logbook.unfinished(self.value))
+        paper = notebook.on_paper(self.value, "MON-AM")
+        self.assertEqual(paper.who, lines[1][1])
+        self.assertTrue(before <= paper.when <= lines[1][0], (before, paper.when, lines))
+        self.assertEqual(len(paper.lines), int(answers[1].split()[0]))
 
     def test_a_line_that_has_its_desk_alone(self):
         """Its desk is known, so papers show where another one was; and it has to be printed again."""

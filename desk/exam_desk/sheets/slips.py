@@ -1,7 +1,7 @@
 """A slip of paper for each candidate, to be cut out and handed over; or what stands on them as CSV, for letters."""
 from __future__ import annotations
 
-from collections.abc import Collection, Mapping
+from collections.abc import Collection, Iterator, Mapping
 from typing import NamedTuple
 
 from markupsafe import Markup
@@ -36,6 +36,20 @@ class Slip(NamedTuple):
     group: str  # "" where they are in none
     note: str
     sat: list[Sat]
+
+
+def groups_of(content: bytes, path: str) -> dict[str, str]:
+    """The groups by number of a file `number,group`. Raises `Trouble` where it is none."""
+    return files.texts_by_number(content, path, "group", MOST_GROUP_BYTES)
+
+
+def beside_groups(reading: Reading, groups: Mapping[str, str]) -> Iterator[str]:
+    """A line on numbers with a group that are no candidates, and one on candidates in none, where there are groups."""
+    known = facts.candidate_names(reading.rows).keys()
+    if strangers := len(groups.keys() - known):
+        yield f"the file has {lists.count(strangers, 'number')} that no candidate of the office has"
+    if groups and (alone := len(known - {each for each, group in groups.items() if group})):
+        yield f"in no group, and so last: {lists.count(alone, 'candidate')}"
 
 
 def page(reading: Reading, choice: Choice) -> str:
