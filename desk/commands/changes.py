@@ -64,7 +64,7 @@ def open_hall(parser: ArgumentParser) -> Plan:
     row = [vars(given)[name] for name in names]
     if wrong := typed.wrong(names, row):
         parser.error("; ".join(wrong))
-    step = second_sitting.imported("openings", *row, "yes" if given.reserved else "no")
+    step = second_sitting.imported("openings", [*row, "yes" if given.reserved else "no"])
     return programs.Change([step], " ".join(["open-hall", *row]))
 
 
