@@ -19,7 +19,7 @@ from exam_desk.sheets import texts
 from exam_desk.trouble import Trouble
 from exam_web import proposals
 from exam_web.desk import View, candidate_row, desk, once, sums, view
-from exam_web.forms import Form, Page, Wrong, checked, lead, short, styled
+from exam_web.forms import Form, Page, Wrong, at_field, checked, lead, short, styled
 from exam_web.proposals import APPEALS, BY_DAY, PLANS, TROUBLE, Plan, command, features, import_step
 from exam_web.session import Session
 from exam_web.wording import said, shown, text
@@ -115,11 +115,9 @@ def slips(number: int | None = None) -> str:
     brought. What is for one has desk numbers."""
     only = [] if number is None else [f"{candidate_row(number)['number']:07}"]
     brought, groups = request.files.get("groups"), dict[str, str]()
-    if brought and brought.filename:
-        try:
-            groups = slip_pages.groups_of(brought.stream.read(), brought.filename)
-        except Trouble as trouble:
-            raise Wrong(("candidates.find", {}), "slips", groups=said(trouble.sentence)) from None
+    if brought:
+        with at_field(("candidates.find", {}), "slips", "groups"):
+            groups = slip_pages.groups_of(brought.stream.read(), brought.filename or "")
         g.visit.said += [("", said(line)) for line in slip_pages.beside_groups(view().reading, groups)]
     of_one = [session for session in [request.form.get("session", "")] if session]
     choice = slip_pages.Choice(of_one, only, "codes" in request.form, bool(only or of_one), groups)
@@ -287,10 +285,8 @@ def second_back(form: Form) -> Plan:
 
 def of_second(values: Values, page: Page, name: str, make: Callable[[], second_sitting.Plan]) -> Plan:
     """A plan as the command line makes it; what it refuses is said beside the field of this name."""
-    try:
+    with at_field(page, "", name):
         found = make()
-    except Trouble as trouble:
-        raise Wrong(page, **{name: said(trouble.sentence)}) from None
     return Plan(values, found.steps, page, {TROUBLE: name}, command=found.title, made_for=view().name,
                 look=partial(second_sitting.lines, found))
 

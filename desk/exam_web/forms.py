@@ -1,13 +1,14 @@
 """What a request comes to: it leads to a page, or the page of its form says what is wrong at its fields; or it is given
 a sheet to print, or a file."""
 import base64
+import contextlib
 import hashlib
 import os
 import pathlib
 import re
 import secrets
 import shutil
-from collections.abc import Callable, Mapping
+from collections.abc import Callable, Iterator, Mapping
 from typing import Any, NamedTuple
 
 from flask import current_app, g, redirect, request, url_for
@@ -17,8 +18,9 @@ from werkzeug.datastructures import MultiDict
 from werkzeug.wrappers import Response
 
 from exam_desk import mistakes, notebook, private, typed
+from exam_desk.trouble import Trouble
 from exam_web.desk import desk
-from exam_web.wording import text
+from exam_web.wording import said, text
 
 Form = MultiDict[str, str]
 Page = tuple[str, dict[str, Any]]  # an endpoint and its values
@@ -48,6 +50,15 @@ def wrong_page(wrong: Wrong) -> ResponseReturnValue:
         return current_app.view_functions[endpoint](**values), 422
     except Exception as fault:  # what the form is about is gone, or the office cannot be read
         return current_app.handle_user_exception(fault)
+
+
+@contextlib.contextmanager
+def at_field(page: Page, form: str, field: str) -> Iterator[None]:
+    """What the package refuses is said beside a field."""
+    try:
+        yield
+    except Trouble as trouble:
+        raise Wrong(page, form, **{field: said(trouble.sentence)}) from trouble
 
 
 def lead(endpoint: str, said: Markup | None = None, kind: str = "good", **values: Any) -> Response:

@@ -15,7 +15,7 @@ from werkzeug.wrappers import Response
 from exam_desk import backups, beside, changing, copies, keeping, logbook, notebook, private, turns
 from exam_desk.trouble import Stale, Trouble
 from exam_web.desk import View, desk, office, once, sums, view
-from exam_web.forms import Wrong, archive, lead, whole
+from exam_web.forms import Wrong, archive, at_field, lead, whole
 from exam_web.proposals import MOST_ROWS, Effects, copy_key
 from exam_web.wording import said, text
 
@@ -119,12 +119,9 @@ def back(key: str) -> Response:
 def bring() -> Response:
     """Takes a backup in, for a look; the office stays as it is."""
     given = {pathlib.PureWindowsPath(each.filename or "").name: each.stream for each in request.files.getlist("backup")}
-    try:
-        with desk().rehearsing:
-            g.visit.backup = Backup(given)
-    except Trouble as trouble:
-        page = "office.page" if desk().is_there() else "season.page"
-        raise Wrong((page, {}), "bring", backup=said(trouble.sentence)) from trouble
+    page = "office.page" if desk().is_there() else "season.page"
+    with at_field((page, {}), "bring", "backup"), desk().rehearsing:
+        g.visit.backup = Backup(given)
     return lead("office.copy", key=copy_key(g.visit.backup.path))
 
 
@@ -132,10 +129,8 @@ def bring() -> Response:
 def school() -> Response:
     """Keeps the name of the school, which stands on its papers, or takes it away."""
     name = request.form.get("name", "").strip()
-    try:
+    with at_field(("office.page", {}), "school", "name"):
         notebook.set_school_name(desk().office, name)
-    except Trouble as trouble:
-        raise Wrong(("office.page", {}), "school", name=said(trouble.sentence)) from None
     told = text("The papers of the school have its name now.") if name else text("The school has no name now.")
     return lead("office.page", told, _anchor="school")
 

@@ -16,12 +16,11 @@ from exam_desk.notebook import Rows
 from exam_desk.overlaps import of_day
 from exam_desk.reading import Member
 from exam_desk.sheets import papers, slips
-from exam_desk.trouble import Trouble
 from exam_desk.words import clock
 from exam_web.desk import View, desk, office, once, sums, two_papers, view
-from exam_web.forms import Form, Page, Wrong, attached, checked, lead, styled, whole
+from exam_web.forms import Form, Page, Wrong, at_field, attached, checked, lead, styled, whole
 from exam_web.proposals import PLANS, Plan, command, features, import_step
-from exam_web.wording import many, said, text
+from exam_web.wording import many, text
 
 pages = Blueprint("session", __name__)
 MOST_PEOPLE = 100  # that a page lists for one reason
@@ -175,10 +174,8 @@ def note_absent(code: str) -> Response:
     shown, ticked = Session(code), request.form.getlist("absent")
     typed = request.form.get("numbers", "").replace(",", " ").split()
     there = set(request.form.getlist("listed")).difference(ticked)
-    try:
+    with at_field(shown.page, "absent", "numbers"):
         found = notebook.note_absent(view().reading, code, [*ticked, *typed], there, "nobody" in request.form)
-    except Trouble as trouble:
-        raise Wrong(shown.page, "absent", numbers=said(trouble.sentence)) from None
     told = many(len(found), "{count} candidate is noted as absent in {session}.",
                 "{count} candidates are noted as absent in {session}.", session=code)
     return lead("session.page", told, code=code, _anchor="absent")

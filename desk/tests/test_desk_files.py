@@ -99,6 +99,10 @@ class TestFiles(Uploads):
             self.assertEqual(words.count("200 candidates have no access code"), 1, head)
             self.assertIn("make access codes for 200 candidates who have none", words)
             self.assertNotIn("office take", words)
+        self.assertIn('name="codes" value="1" required', self.browser.get(page))  # so the browser asks for it there
+        _, text = self.browser.post("/propose/files", page, 422, upload=page.rsplit("/", 1)[1])
+        self.assertIn('tick below that the desk makes them <a href="#fault-files-codes">', text)
+        self.assertIn('id="fault-files-codes"', text)
         proposal = self.propose(page, codes="1")
         self.carry_out(proposal)
         self.assertEqual(self.rows("SELECT count(DISTINCT code) FROM candidate WHERE number >= 10000"), [(200,)])

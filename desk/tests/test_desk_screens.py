@@ -272,7 +272,7 @@ class TestSchool(DeskSchool):
         text = self.browser.get("/office")
         self.assertIn('name="name" value="&#34;Hill&#34; &amp; &lt;b&gt;Cö&lt;/b&gt;"', text)
         self.assertIn("&#34;Hill&#34; &amp; &lt;b&gt;Cö", self.browser.get("/sessions/MON-AM/print/doors"))
-        for wrong in ("é" * 41, "a\nb", "a\x7f"):
+        for wrong in ("é" * 41, "x" * 81, "a\nb", "a\x7f"):
             text = self.ask(wrong, 422)
             self.assertRegex(text, 'name="name"[^>]*aria-invalid="true"')
             self.assertIn("an empty field takes it away", text)
