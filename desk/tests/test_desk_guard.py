@@ -37,7 +37,7 @@ visits[guard.digest('secret')] = visit = guard.Visit('ab')
 client = app.test_client()
 client.set_cookie('localhost', 'desk', 'secret')
 def ask():
-    return client.get('/office').headers['Location']
+    return client.get('/files').headers['Location']
 first = ask()
 visit.seen -= 8 * 3600 + 1
 print(first, ask(), len(visits))
