@@ -137,7 +137,7 @@ class TestPrinting(DeskSchool):
         said = self.browser.words("/candidates")
         for line in done.stderr.splitlines():
             self.assertIn(line.removeprefix("office: "), said)
-        self.assertIn("1 number of the file are no candidates", said)
+        self.assertIn("the file has 1 number that no candidate of the office has", said)
         _, page = self.browser.send(*asked, ("<b>.csv", b"number,form\n0001051,10B\n"), status=422)
         self.assertRegex(page, 'name="groups"[^>]*aria-invalid="true"')
         self.assertIn("line 1 must be: number,group", page)

@@ -179,7 +179,7 @@ class Notebook(unittest.TestCase):
 
     def test_copies_have_it(self):
         plain = copies.keep_copy(self.office, "withdraw")
-        self.assertEqual(os.listdir(plain), ["office.db"])
+        self.assertEqual(sorted(os.listdir(plain)), ["office.db", "title"])
         notebook.take_notes(self.office, {"0000001": HOSTILE})
         copy = pathlib.Path(copies.keep_copy(self.office, "withdraw"), "notebook")
         self.assertEqual({path.name: path.read_bytes() for path in copy.iterdir()},
