@@ -3,7 +3,7 @@ from __future__ import annotations
 
 import sqlite3
 from collections import Counter, defaultdict
-from collections.abc import Collection, Iterable
+from collections.abc import Iterable, Iterator
 from typing import NamedTuple
 
 from exam_desk import copies, facts, lists, logbook, notebook, overlaps, telling
@@ -54,6 +54,13 @@ class Met(NamedTuple):
         return f"{self.session} {self.person}"
 
 
+class Clash(NamedTuple):
+    """Somebody who misses papers of a session, since another one is at the same time."""
+    session: str
+    person: Person
+    missed: list[str]
+
+
 Groups = dict[str, list[Met]]  # whom a change meets, by kind, the gravest first; of each by session and name
 
 
@@ -96,7 +103,8 @@ def groups(before: Reading, after: Reading) -> Groups:
     sessions = telling.touched(before, after)
     different = telling.of_touched(before, after, sessions) if has_seats(before) else []
     twice = list(overlaps.new(before, after, list(sessions)))
-    clashes = [met for code, people in sessions.items() for met in new_clashes(before, after, code, people)]
+    clashes = [Met(session, person.shown(), f"does not sit {', '.join(missed)}")
+               for session, person, missed in new_clashes(before, after, sessions)]
     return grouped(different, {
         OVER: [Met(code, f"of {day} for {lists.count(people, 'candidate')}", "is it the right session, or an old file?")
                for code, (day, people) in over(before, after, different, clashes).items()],
@@ -184,15 +192,17 @@ def halls_out_of_date(after: Reading, session: str, numbers: Iterable[str], memb
     return {line.desk.hall for pair in pairs if pair[0] != pair[1] for line in pair if line}
 
 
-def new_clashes(before: Reading, after: Reading, session: str, people: Collection[int] | None) -> list[Met]:
-    """Who of these people, or of all, misses a paper of a session that they did not miss before."""
-    several = [f"{number:07}" for number, count in facts.entered(after.rows, session).items()
-               if count > 1 and (people is None or number in people)]
-    new, entered = after.clashes(session, several), facts.entered(before.rows, session)
-    old = before.clashes(session, [number for number in new if int(number) in entered])
-    missed = {number: sorted(set(papers) - set(old.get(number, []))) for number, papers in new.items()}
-    return [Met(session, person.shown(), f"does not sit {', '.join(missed[person.number])}")
-            for person in by_name(after, (number for number, papers in missed.items() if papers))]
+def new_clashes(before: Reading, after: Reading, sessions: telling.Touched) -> Iterator[Clash]:
+    """Who misses papers of a session that they did not miss before, of those whom a change can meet there; by session
+    and name."""
+    for session, people in sessions.items():
+        several = [f"{number:07}" for number, count in facts.entered(after.rows, session).items()
+                   if count > 1 and (people is None or number in people)]
+        new, entered = after.clashes(session, several), facts.entered(before.rows, session)
+        old = before.clashes(session, [number for number in new if int(number) in entered])
+        missed = {number: sorted(set(papers) - set(old.get(number, []))) for number, papers in new.items()}
+        for person in by_name(after, (number for number, papers in missed.items() if papers)):
+            yield Clash(session, person, missed[person.number])
 
 
 def by_name(reading: Reading, numbers: Iterable[str]) -> list[Person]:

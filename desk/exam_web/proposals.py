@@ -29,9 +29,9 @@ from exam_desk import (changing, consequences, copies, facts, files, lodging, lo
 from exam_desk.changing import Answered, Step
 from exam_desk.left_behind import left_behind
 from exam_desk.office import Office
-from exam_desk.reading import Member, Person, Reading
+from exam_desk.reading import Person, Reading
 from exam_desk.trouble import Stale, Trouble
-from exam_web.desk import PATIENCE, Desk, View, desk, office, sums, two_papers, unseated, view
+from exam_web.desk import PATIENCE, Desk, View, desk, office, sums, unseated, view
 from exam_web.forms import Asked, Form, Page, Wrong, attached, keep, lead
 from exam_web.wording import said, text
 
@@ -78,14 +78,16 @@ class Effects:
         arranged = {*map(tuple, then.rows.execute(ARRANGED))}
         self.granted = [(now.person(row[0]), found) for row in now.rows.execute(OF_GRANTED).fetchall()
                         if tuple(row) not in arranged and (found := granted(now, row[0]))]
-        self.clashes, self.overlaps = new_clashes(before, after), named(now, overlaps.new(then, now, [*met]))
+        clashes = itertools.islice(consequences.new_clashes(then, now, met), MOST_CLASHES)
+        self.clashes = [(code, now.member(code, person.number), missed) for code, person, missed in clashes]
+        self.overlaps = named(now, overlaps.new(then, now, [*met]))
         self.out_of_date = consequences.out_of_date(now, changes)
         self.over, self.opened = consequences.over(then, now, changes), consequences.opened(then, now)
         short = set() if changes else unseated(after) - unseated(before)
         self.short = [*itertools.islice(by_session(after, short), MOST_ROWS)]
         who: dict[str, list[Any]] = {kind: [each.number for each in part] for kind, part in kinds.items()} | {
             "over": list(self.over), "opened": list(self.opened), "short": [number for _, number in short],
-            "clashes": [member.number for _, member, _ in self.clashes],
+            "clashes": [member.number for _, member, _ in self.clashes if member],
             "twice": [person.number for _, people in self.overlaps for person in people],
             "halls": [(each.early, each.late, hall) for each, _ in self.overlaps for hall in each.halls],
             "codes": [person.number for person in self.codes]}
@@ -117,21 +119,6 @@ def by_session(view: View, found: set[tuple[str, int]]) -> Iterator[tuple[str, P
     for session in sums(view):
         for person in consequences.by_name(view.reading, [str(number) for code, number in found if code == session]):
             yield session, person
-
-
-def new_clashes(before: View, after: View) -> list[tuple[str, Member, list[str]]]:
-    """The first of those: whose papers at once are others in the rows, and of whom the program says what they miss that
-    they did not miss before."""
-    old, found = two_papers(before), list[tuple[str, Member, list[str]]]()
-    for code, people in two_papers(after).items():
-        was = old.get(code, {})
-        others = [number for number in people if people[number] != was.get(number)][:MOST_CLASHES - len(found)]
-        then = before.reading.clashes(code, [str(number) for number in others if number in was])
-        for number, papers in after.reading.clashes(code, [*map(str, others)]).items():
-            new = [paper for paper in papers if paper not in then.get(number, [])]
-            if new and (member := after.reading.member(code, number)):
-                found.append((code, member, new))
-    return found
 
 
 def named(reading: Reading, found: Iterable[overlaps.Overlap]) -> list[tuple[overlaps.Overlap, list[Person]]]:

@@ -190,6 +190,17 @@ class TestAppeals(DeskSchool):
         self.browser.post(page + "/do", page)
         self.assertIn("Lodged as D1", self.browser.words(page))
 
+    def test_a_grant_by_which_another_paper_is_missed(self):
+        """0001306 is entered for LAT and MA-2 at once, and asks for MA-2."""
+        self.office("lodge", "0001306", "MON-AM", "clash", "MA-2", "")
+        said = self.office("what-if", "decide", "0001306", "D1", "granted", "")
+        self.assertIn("1 has a new clash\n  MON-AM 0001306 Sami Nagy: does not sit LAT\n", said)
+        page, _ = self.browser.post("/propose/decide", "/appeals/1306/D1", number="0001306", ref="D1",
+                                    outcome="granted", reason="")
+        text = self.browser.get(page)
+        self.assertEqual(effects(text)["clashes"], (1, 1))
+        self.assertRegex(text.partition('id="new-clashes"')[2].partition("</table>")[0], "0001306.*MA-2.*LAT")
+
     def test_lodged_and_decided(self):
         self.lodged()
         before = self.seats()
