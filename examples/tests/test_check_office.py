@@ -78,6 +78,8 @@ WRONG_ROWS = {
         "CREATE TABLE other (number, paper, live); INSERT INTO other SELECT * FROM entry; DROP TABLE entry; "
         "ALTER TABLE other RENAME TO entry; UPDATE entry SET live = 'yes' WHERE number = 1",
         "a value of another type in live"),
+    "a number below 0, where nobody sits": (
+        "INSERT INTO hall VALUES ('Z', 'Z', 0); INSERT INTO opening VALUES ('S3', 'Z', -1, 720, 0)", "a number below 0 in desks"),
     "the clash appeal is not granted": ("UPDATE appeal SET state = 3 WHERE ref = 'CL1'", "sheet S1.export, line 4"),
     "the standing grant is none": ("DELETE FROM standing WHERE number = 1", "sheet S2.attendance.MB-1, line 3"),
     "a standing grant for a later session": ("UPDATE session SET day = '2027-05-31' WHERE code = 'S2'", "sheet S2.clashes, line 2"),
