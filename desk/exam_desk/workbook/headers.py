@@ -148,14 +148,14 @@ def read_columns(path: str) -> tuple[dict[str, Given], Way]:
             found = tomllib.loads(file.read())
         words, dates = found.pop("words", {}), found.pop("dates", "")
         given = {kind: given_of(kind, said) for kind, said in found.items()}
-        check_words(words)
+        taught = words_of(words)
         if dates not in ("", "day-first", "month-first"):
             raise Trouble("dates is day-first or month-first")
     except UnicodeDecodeError as fault:
         raise Trouble("its letters are no UTF-8: save it as UTF-8", path) from fault
     except (tomllib.TOMLDecodeError, Trouble) as fault:
         raise Trouble(str(fault), path) from fault
-    return given, Way(dates, words)
+    return given, Way(dates, taught)
 
 
 def given_of(kind: str, said: object) -> Given:
@@ -181,7 +181,8 @@ def given_of(kind: str, said: object) -> Given:
     return Given(headers, fixed, sheet)
 
 
-def check_words(words: object) -> None:
+def words_of(words: object) -> dict[str, dict[str, str]]:
+    """What words in small letters stand for, by column."""
     if not isinstance(words, dict):
         raise Trouble("words: write a table such as [words.features]")
     for name, meant in words.items():
@@ -190,3 +191,4 @@ def check_words(words: object) -> None:
         for value in meant.values():
             if not isinstance(value, str) or not mistakes.RIGHT[name](value.encode()):
                 raise Trouble(f"[words.{name}] {value!r} is no value of {name} ({mistakes.CURES[name]})")
+    return {name: {word.lower(): value for word, value in meant.items()} for name, meant in words.items()}

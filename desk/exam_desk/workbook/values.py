@@ -86,7 +86,7 @@ class Way(NamedTuple):
     """What the officer said on the command line or in the file of columns."""
 
     dates: str = ""  # day-first or month-first: what 01/06/2027 means
-    words: Mapping[str, Mapping[str, str]] = MappingProxyType({})  # of a column what a word stands for
+    words: Mapping[str, Mapping[str, str]] = MappingProxyType({})  # of a column what a word in small letters stands for
     is_command: bool = True  # whether a cure names the options of a command; a page has fields in their place
 
     def or_say(self, options: str) -> str:
@@ -113,8 +113,9 @@ def read_value(column: str, cell: Cell | None, way: Way) -> Value:
     if found.struck:
         raise Wrong(STRUCK)
     text, done = cleaned(found.text)
-    if cell and cell.kind == "text" and text in way.words.get(column, {}):
-        return Value(way.words[column][text], "by the file of columns")
+    taught = way.words.get(column, {}).get(text.lower()) if found.kind == "text" else None
+    if taught is not None:
+        return Value(taught, "by the file of columns")
     if found.kind not in kinds:
         raise Wrong(REFUSED[found.kind])
     value = read(column, found, text, way)
@@ -252,7 +253,7 @@ def read_features(column: str, cell: Cell, text: str, way: Way) -> Value:
     word = text.translate(DASHES).lower()
     if word in NONE:
         return Value("-", "empty is none" if not word else "none" if text != "-" else "")
-    taught = {key.lower(): value for key, value in way.words.get(column, {}).items()}
+    taught = way.words.get(column, {})
     found: set[str] = set()
     for part in filter(None, re.split(r"\s*(?:[+,;/&|\n\r]|\band\b|\bund\b)\s*", word)):
         short = re.sub("[ _-]", "", part)

@@ -79,6 +79,10 @@ case("toml-words-requires", xlsx(sheet("Papers", PAPERS, ["MA-1", "Maths", "S1",
      files={"papers":["MA-1,Maths,S1,90,computer"]},
      beside={"columns.toml":'[words.requires]\nRechner = "computer"\n'}, args=["--columns", "{here}/columns.toml"],
      told=[["Papers!E2", "computer"]])
+case("toml-words-in-capitals", xlsx(sheet("Sessions", SESSIONS, ["S1", "2027-06-01", "Afternoon"]),
+     sheet("Openings", OPENINGS, ["S1", "A", 24, "12:00", "GESPERRT"])), files={"sessions": ["S1,2027-06-01,13:30"], "openings": ["S1,A,24,12:00,yes"]},
+     beside={"columns.toml":'[words.start]\nafternoon = "13:30"\n[words.reserved]\nGesperrt = "yes"\n'}, args=["--columns", "{here}/columns.toml"],
+     told=[["Sessions!C2", "13:30"], ["Openings!E2", "yes"]])
 case("other-digits-by-format", xlsx(candidates([("n", "17", "[$-2000401]0000000"), "Ada", "CODE0001"], [("n", "18",
      "[DBNum1][$-804]General"), "Bo", "CODE0002"], [("n", "19", "[$-1010409]0000000"), "Cy", "CODE0003"])), 1,
      only=True, mistakes=[["Candidates!A2"], ["Candidates!A3"]])
