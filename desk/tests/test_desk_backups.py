@@ -121,7 +121,7 @@ class TestWithoutAnOffice(Backups):
     def test_an_office_that_somebody_makes_meanwhile_stays(self):
         page, _ = self.browser.send(*FIRST, self.zip)
         state = re.search('name="state" value="([^"]*)"', self.browser.get(page))[1]
-        self.office("init")
+        self.run_office("init")  # it says that it sets a notebook aside
         self.put_back(page, state=state)
         self.assertEqual(self.rows("SELECT * FROM candidate"), [])
         self.assertIn("Nothing is changed", self.browser.words(page))

@@ -4,6 +4,7 @@ import dataclasses
 import os
 import shutil
 import sqlite3
+import time
 
 import desk_client
 import sample
@@ -45,7 +46,10 @@ class NewOffice(test_changing.Changing):
         self.assertEqual(logbook.closings(self.value), {})
 
     def test_its_copies_are_marked_and_put_back(self):
+        """The log and the names of copies have whole seconds."""
+        time.sleep(1)
         self.run_office("init")
+        time.sleep(1)
         [line] = self.office("back").splitlines()
         self.assertRegex(line, "^  1 .* before withdraw 0001000 MA-1  .older than the last `office init`.$")
         self.office("import", "sessions", str(self.examples / "sessions.csv"))

@@ -287,7 +287,7 @@ class Back(sample.SampleSchool):
         path = self.write("files/late:2.csv", "number,paper\n0001000,MA-2\n")
         self.office("import", "entries", path)
         self.assertRegex(self.office("back"), r"  before import entries late:2\.csv for 0001000 MA-2\n\Z")
-        self.assertIn(", before import entries late.2.csv for 0001000 MA-2\n", self.office("back", "1", "--yes"))
+        self.assertIn(", before import entries late:2.csv for 0001000 MA-2\n", self.office("back", "1", "--yes"))
         path = self.write("openings.csv", "session,hall,desks,until,reserved\nMON-AM,GYM,30,13:00,no\n")
         self.office("import", "openings", path)
         self.assertRegex(self.office("back"), r"\A  1  .*  before import openings for MON-AM GYM\n")
