@@ -3,14 +3,14 @@ from __future__ import annotations
 
 import sqlite3
 from collections import Counter, defaultdict
-from collections.abc import Iterable, Iterator
+from collections.abc import Collection, Iterable, Iterator
 from typing import NamedTuple
 
 from exam_desk import copies, facts, lists, logbook, notebook, overlaps, telling
 from exam_desk.asking import Progress
 from exam_desk.left_behind import left_behind
 from exam_desk.office import Office
-from exam_desk.reading import Member, Person, Reading
+from exam_desk.reading import Person, Reading
 from exam_desk.telling import Change, counted
 from exam_desk.trouble import Trouble
 from exam_desk.words import few, plain
@@ -26,6 +26,7 @@ KINDS = {  # what may be a slip, who has no desk, what no rule of the office for
               "sessions have printed papers that are out of date (board, counts, slips too)"),
     **telling.KINDS,
 }
+UNSEEN = ["arrangements", "openings"]  # kinds of rows of which a value can go and nobody sits otherwise
 OF_PLACES = [OVER, OPENED, HALLS, PRINTED]  # kinds of which sessions and halls are counted, and not people
 CODES = ("has another access code", "have other access codes")
 LISTED_BY = {OPENED: "", CLASHES: "clashes {}", TWICE: "summary {}", HALLS: "summary {}",
@@ -72,7 +73,7 @@ def between(before: Reading, after: Reading, at_most: int | None) -> list[str]:
     sessions = [f"session {code}: {lists.count(people, 'candidate')}, {people - seats:,} without a desk"
                 + (f" (before: {was[code][0]:,} and {was[code][0] - was[code][1]:,})" if code in was else "")
                 for code, (people, seats) in other_figures(before, after).items()]
-    return shown + other_codes(before, after) + sessions + notes(before, after, met)
+    return other(before, after, at_most) + shown + other_codes(before, after) + sessions + notes(before, after, met)
 
 
 def done(office: Office, copy: str, progress: Progress) -> list[str]:
@@ -84,7 +85,7 @@ def done(office: Office, copy: str, progress: Progress) -> list[str]:
             if copies.listed(office)[:1] != [copy]:
                 raise Trouble("the office has changed again meanwhile")
             met = groups(before, after)
-            shown = left_behind(before, after)
+            shown = left_behind(before, after) + other(before, after, MOST_NAMED, UNSEEN)
             shown += [f"{line}; `office summary` has all sessions" for line in short_at_first(before, after)]
             shown += brief(met)
             place = copies.listed(office).index(copy) + 1
@@ -116,7 +117,7 @@ def groups(before: Reading, after: Reading) -> Groups:
         HALLS: [Met(each.early, f"and {each.late} in {hall}", "both number their desks from 1")
                 for each in twice for hall in each.halls],
         PRINTED: [Met(code, f"for {', '.join(halls)}", f"afterwards `office {LISTED_BY[PRINTED].format(code)}`")
-                  for code, halls in out_of_date(after, different).items()]})
+                  for code, halls in out_of_date(before, after, sessions).items()]})
 
 
 def over(before: Reading, after: Reading, changes: Iterable[Change],
@@ -171,25 +172,27 @@ def still_open(before: Reading, after: Reading) -> list[str]:
     return [f"NOTE: still open: {'; '.join(found[:MOST_NAMED])}"] if found else []
 
 
-def out_of_date(after: Reading, changes: Iterable[Change]) -> dict[str, list[str]]:
-    """By session the halls whose papers are noted as printed and hold no longer: by these changes somebody there is not
-    as on paper."""
-    met, now = defaultdict[str, set[str]](set), defaultdict[str, list[Member]](list)
-    for each in changes:
-        for session in each.sessions():
-            met[session].add(each.number)
-        if each.new:
-            now[each.new.session].append(Member(each.number, each.name, each.new))
-    halls = {session: halls_out_of_date(after, session, numbers, now[session]) for session, numbers in met.items()}
-    return {session: sorted(found) for session, found in halls.items() if found}
+def out_of_date(before: Reading, after: Reading, sessions: telling.Touched) -> dict[str, list[str]]:
+    """By session the halls whose papers are noted as printed and hold no longer, of those whom a change can meet."""
+    found = {code: halls_out_of_date(before, after, code, people) for code, people in sessions.items()}
+    return {code: sorted(halls) for code, halls in found.items() if halls}
 
 
-def halls_out_of_date(after: Reading, session: str, numbers: Iterable[str], members: list[Member]) -> set[str]:
-    """The halls of those of these numbers who are not as on paper, now and there."""
-    papers = notebook.on_paper(after.office, session).lines
-    now = notebook.lines_of(after, session, members) if papers else {}
-    pairs = [(papers.get(number), now.get(number)) for number in numbers] if papers else []
-    return {line.desk.hall for pair in pairs if pair[0] != pair[1] for line in pair if line}
+def halls_out_of_date(before: Reading, after: Reading, session: str, people: Collection[int] | None) -> set[str]:
+    """The halls of those of these people, or of all, who are otherwise than before and not as on paper, now and there;
+    where a hall has another title or end they are all who sit there by the papers."""
+    paper = notebook.on_paper(after.office, session).lines
+    if not paper:
+        return set()
+    was, ends = ({each.hall: (each.title, each.until) for each in facts.openings(reading.rows, session)}
+                 for reading in (before, after))
+    there = {int(number) for number, line in paper.items() if was.get(line.desk.hall) != ends.get(line.desk.hall)}
+    then, now = (notebook.lines_of(reading, session, reading.members(session, [
+        number for number in facts.entered(reading.rows, session) if people is None or number in there.union(people)]))
+        for reading in (before, after))
+    lines = (line for number in notebook.moved(then, now) if paper.get(number) != now.get(number)
+             for line in (paper.get(number), now.get(number)))
+    return {line.desk.hall for line in lines if line}
 
 
 def new_clashes(before: Reading, after: Reading, sessions: telling.Touched) -> Iterator[Clash]:
@@ -215,6 +218,13 @@ def short_at_first(before: Reading, after: Reading) -> list[str]:
     if has_seats(before) or not short.total():
         return []
     return [f"{short.total():,} without a desk: {most(short)}"]
+
+
+def other(before: Reading, after: Reading, at_most: int | None, kinds: Iterable[str] = telling.CHANGED) -> list[str]:
+    """A line on the values of rows that are others, with the first of them."""
+    found = [f"{key} {column} {plain(was)} -> {plain(now)}"
+             for key, column, was, now in telling.other_values(before, after, kinds)]
+    return [f"{lists.count(len(found), 'value')} of rows changed: {few(found, at_most or len(found), '; ')}"] if found else []
 
 
 def other_codes(before: Reading, after: Reading) -> list[str]:

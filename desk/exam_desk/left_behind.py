@@ -65,8 +65,15 @@ def stays(after: Reading, first: Moments, second: Moments) -> list[str]:
     kept = {f"on {row['day']} at {clock(row['start'])}": ["day", "start"], f"{row['minutes']} minutes": ["minutes"],
             f"requires {feature_text(row['requires'])}": ["requires"], f"the title {plain(row['title'])}": ["title"]}
     words = [said for said, columns in kept.items() if first.has_other(*columns) and not second.has_other(*columns)
-             and Moments(first.after, row).has_other(*columns)]
+             and differs(first.after, row, columns)]
     if not (words and people):
         return []
     return [f"NOTE: {row['code']} in {row['session']}, a second sitting of {first.after['code']}, stays as it is "
             f"({', '.join(words)}) for {few(people)}: import a row for {row['session']} or {row['code']} too"]
+
+
+def differs(first: sqlite3.Row, second: sqlite3.Row, columns: list[str]) -> bool:
+    """Whether a second sitting has something otherwise than its paper; a later start of the same day is right."""
+    if "start" in columns:
+        return first["day"] != second["day"] or second["start"] <= first["start"]
+    return Moments(first, second).has_other(*columns)

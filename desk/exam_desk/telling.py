@@ -8,7 +8,7 @@ from __future__ import annotations
 import contextlib
 import sqlite3
 from collections import defaultdict
-from collections.abc import Collection, Iterable
+from collections.abc import Collection, Iterable, Iterator
 from typing import NamedTuple
 
 from exam_desk import facts, files
@@ -52,6 +52,7 @@ NEIGHBOURS = (  # whoever sits in a hall with one of the numbers, before or afte
     "SELECT session, number FROM before.seat JOIN halls USING (session, hall) "
     "UNION SELECT session, number FROM after.seat JOIN halls USING (session, hall)")
 MOMENTS = ("before", "after")
+CHANGED = ["sessions", "papers", "halls", "openings", "arrangements"]  # the kinds of rows of which it is said what is another
 Touched = dict[str, set[int] | None]  # by session the numbers; None for all of its members
 
 
@@ -253,3 +254,20 @@ def titles_of(*readings: Reading) -> dict[str, str]:
     return {code: title for reading in readings
             for found in (facts.paper_titles(reading.rows), facts.hall_titles(reading.rows))
             for code, title in found.items()}
+
+
+class OtherValue(NamedTuple):
+    """A value of a row that was there before, and is another now."""
+    key: str
+    column: str
+    was: str
+    now: str
+
+
+def other_values(before: Reading, after: Reading, kinds: Iterable[str] = CHANGED) -> Iterator[OtherValue]:
+    """Those of the rows of some kinds, as the import files write them, in the order of the kinds."""
+    for kind in kinds:
+        keys = files.KEYS.get(kind, 1)
+        old = {tuple(row[:keys]): row for row in files.rows_of(before.rows, kind)}
+        yield from (OtherValue(" ".join(row[:keys]), column, was, now) for row in files.rows_of(after.rows, kind)
+                    for column, was, now in zip(files.HEADERS[kind], old.get(tuple(row[:keys]), row), row) if was != now)

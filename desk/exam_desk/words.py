@@ -14,10 +14,10 @@ def plain(text: object) -> str:
     return str(text).translate(UNSHOWN)
 
 
-def few(names: Sequence[str], most: int = 3) -> str:
+def few(names: Sequence[str], most: int = 3, between: str = ", ") -> str:
     """The first of these names, and how many more there are."""
     rest = len(names) - most
-    return ", ".join(names[:most]) + (f" and {rest:,} more" if rest > 0 else "")
+    return between.join(names[:most]) + (f" and {rest:,} more" if rest > 0 else "")
 
 
 def features(mask: int) -> list[str]:

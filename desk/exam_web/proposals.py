@@ -41,7 +41,6 @@ MOST_ROWS = 250  # of a list on the page; all who must be told are in the CSV fi
 MOST_LINES = 20  # of the log, where the office was another
 MOST_CLASHES = 100  # new ones that are named
 MANY_LOST = 10  # candidates: a change by which so many lose their desk wants a tick
-CHANGED = ["sessions", "papers", "halls", "openings"]  # the kinds of rows of which a page says what is another
 COMPARING, LODGING = "Both states are compared", "The appeal is lodged"
 OTHER_OFFICE = ("the office has changed since the page that you came from, so nothing was done: go back to the form, "
                 "and ask once more")
@@ -74,14 +73,14 @@ class Effects:
                                                 if codes.get(number, code) != code])
         self.sessions = [(was.get(code), each) for code, each in sums(after).items()
                          if code not in was or NUMBERS(was[code]) != NUMBERS(each)]
-        self.rows = [*itertools.islice((each for kind in CHANGED for each in changed(kind, then, now)), MOST_ROWS)]
+        self.rows = [*itertools.islice(telling.other_values(then, now), MOST_ROWS)]
         arranged = {*map(tuple, then.rows.execute(ARRANGED))}
         self.granted = [(now.person(row[0]), found) for row in now.rows.execute(OF_GRANTED).fetchall()
                         if tuple(row) not in arranged and (found := granted(now, row[0]))]
         clashes = itertools.islice(consequences.new_clashes(then, now, met), MOST_CLASHES)
         self.clashes = [(code, now.member(code, person.number), missed) for code, person, missed in clashes]
         self.overlaps = named(now, overlaps.new(then, now, [*met]))
-        self.out_of_date = consequences.out_of_date(now, changes)
+        self.out_of_date = consequences.out_of_date(then, now, met)
         self.over, self.opened = consequences.over(then, now, changes), consequences.opened(then, now)
         short = set() if changes else unseated(after) - unseated(before)
         self.short = [*itertools.islice(by_session(after, short), MOST_ROWS)]
@@ -96,15 +95,6 @@ class Effects:
 
     def csv(self, name: str) -> Response:
         return attached(telling.csv_text(self.changes, self.titles).encode("utf-8", "surrogateescape"), name)
-
-
-def changed(kind: str, before: Reading, after: Reading) -> Iterator[tuple[str, str, str, str]]:
-    """Of each row of a kind that was there before: its key, and the columns that are others, each as it was and is."""
-    keys = files.KEYS.get(kind, 1)
-    old = {tuple(row[:keys]): row for row in files.rows_of(before.rows, kind)}
-    for row in files.rows_of(after.rows, kind):
-        pairs = zip(files.HEADERS[kind], old.get(tuple(row[:keys]), row), row)
-        yield from ((" ".join(row[:keys]), column, was, now) for column, was, now in pairs if was != now)
 
 
 def granted(reading: Reading, number: int) -> list[str]:

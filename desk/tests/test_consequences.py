@@ -181,6 +181,22 @@ class Told(sample.SampleSchool):
         self.assertEqual(sorted(listed), halls)
         self.assertLess([line.partition(" ")[2][:4] for line in lines].index("lose"), lines.index(line))
 
+    def test_what_moves_nobody_is_said_too(self):
+        """0001153 needs a screen, and sits in a hall that has one; R12 is reserved, and nobody sits there."""
+        self.office("printed", "MON-AM")
+        said = "1 session has printed papers that are out of date (board, counts, slips too): MON-AM for"
+        listing = "`office printed MON-AM --look` lists them"
+        needs = self.write("arrangements.csv", "number,needs,extra\n0001153,-,25\n")
+        row = "1 value of rows changed: 0001153 needs screen -> -"
+        self.assertIn(f"\n{row}\n", self.office("what-if", "import", "arrangements", needs))
+        self.assertEqual(self.told("import", "arrangements", needs), [row, f"{said} LIB", listing])
+        title = self.write("halls.csv", "hall,title,features\nGYM,Sports hall,step-free\n")
+        self.assertIn("\n1 value of rows changed: GYM title Gymnasium -> Sports hall\n",
+                      self.office("what-if", "import", "halls", title))
+        self.assertEqual(self.told("import", "halls", title), [f"{said} GYM", listing])
+        self.assertEqual(self.told("open-hall", "MON-AM", "R12", "2", "14:00")[0],
+                         "1 value of rows changed: MON-AM R12 reserved yes -> no")
+
     def test_a_session_that_is_over(self):
         """From the day after it on; another name alone is no change of it."""
         words = ["withdraw", "0001000", "MA-1"]

@@ -31,6 +31,7 @@ class LeftBehind(test_second_sitting.SecondSitting):
         self.assertNotIn("stays", self.what_if("sessions", "session,date,start\nTUE-AM,2027-06-14,09:00\n"))
         done = self.run_office("import", "sessions", self.write("sessions.csv", SESSIONS))
         self.assertTrue(done.stderr.startswith(said), done.stderr)
+        self.assertNotIn("stays", self.run_office("back", "1", "--yes").stderr)  # both are as they were
 
     def test_a_paper_becomes_another(self):
         for values, kept in [((TITLE, 150, "-"), "120 minutes"), (("Sums", 120, "reader"), "requires -, the title ?Maths")]:
