@@ -26,13 +26,15 @@ def has_words(name: str, words: list[str]) -> bool:
     return bool(words) and all(word in name for word in words)
 
 
-def name_order(name: str, number: str) -> tuple[str, str, str, str]:
-    """The place of a candidate in a list by name: folded surname, folded other names, name as written, number.
-
-    The surname is what stands before the first comma; without one, or with nothing before it, the last word.
-    """
-    folded = " ".join(fold(name).split())
-    surname, *others = (part.strip() for part in COMMA.split(folded, maxsplit=1))
+def parted(name: str) -> tuple[str, str]:
+    """The surname, and the other names. The surname is what stands before the first comma; without one, or with nothing
+    before it, the last word."""
+    surname, *others = (part.strip() for part in COMMA.split(" ".join(name.split()), maxsplit=1))
     if not surname or not others:
-        *others, surname = COMMA.sub(" ", folded).split() or [""]
-    return surname, " ".join(others), name, number
+        *others, surname = COMMA.sub(" ", name).split() or [""]
+    return surname, " ".join(others)
+
+
+def name_order(name: str, number: str) -> tuple[str, str, str, str]:
+    """The place of a candidate in a list by name: folded surname, folded other names, name as written, number."""
+    return *parted(fold(name)), name, number

@@ -12,6 +12,7 @@ import pathlib
 from flask import Flask, current_app, request
 from markupsafe import Markup, escape
 
+from exam_desk.names import parted
 from exam_desk.words import clock, features, plain
 
 MOST_LETTERS = 10  # of a name at a desk
@@ -65,9 +66,9 @@ def days_until(iso: str) -> int:
 
 
 def short(name: str) -> str:
-    """The last word of a name and an initial."""
-    words = plain(name).split() or ["?"]
-    found = f"{words[-1]} {words[0][0]}" if len(words) > 1 else words[0]
+    """The surname and an initial."""
+    surname, others = parted(plain(name))
+    found = f"{surname or '?'} {next(filter(str.isalnum, others), '')}".rstrip()
     return found if len(found) <= MOST_LETTERS else found[:MOST_LETTERS - 1] + "…"
 
 

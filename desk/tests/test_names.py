@@ -35,6 +35,11 @@ class Names(unittest.TestCase):
         for name, letter in UNDER.items():
             self.assertEqual(names.name_order(name, "0000001")[0][:1], letter, name)
 
+    def test_parts(self):
+        for name, parts in {"Nuñez,  María-José": ("Nuñez", "María-José"), "Ada Lin": ("Lin", "Ada"), "Ellis": ("Ellis", ""),
+                            "Jan van der Berg": ("Berg", "Jan van der"), ", Zed": ("Zed", ""), " ": ("", "")}.items():
+            self.assertEqual(names.parted(name), parts)
+
     def test_namesakes_by_number(self):
         numbers = ["0000010", "0000002", "0000001"]
         self.assertEqual(sorted(numbers, key=lambda number: names.name_order("Lin, Ada", number)), numbers[::-1])
