@@ -118,6 +118,8 @@ class Listed(test_changing.Changing):
             done = self.run_office(*words)
             self.assertEqual((done.returncode, done.stderr), (2, "line not understood\n  --list takes one file\n  Usage: "
                                                                  "office withdraw --list FILE.csv\n"))
+        self.assertTrue(self.refused("reinstate", "1017", "--all").startswith("office: --all goes with `withdraw` alone; `office "
+                                                                              "back` lists the copy"))
         self.assertIn("office reinstate --list FILE.csv\n", self.office("reinstate", "--help"))
 
     def test_turns(self):
