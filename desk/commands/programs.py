@@ -21,7 +21,6 @@ from exam_desk.running import Ran
 from exam_desk.trouble import Stale, Trouble
 from exam_desk.words import plain
 
-CHECKING = ["init", "check"]  # change no facts, but need the office for themselves
 CHANGES, MIGRATE = changing.CHANGES, "migrate"
 LISTED = ["withdraw", "reinstate"]  # take a list too
 OF_A_LIST = "office {0} --list FILE.csv"
@@ -218,10 +217,10 @@ def run(office: Office, words: list[str]) -> int:
 def dispatch(office: Office, words: list[str]) -> Ran:
     """Runs another command of the program; its answer is printed already where it is empty. The bytes of a sheet go out
     as they are; only a terminal gets what hides in names as `?`."""
-    if words == ["init"] and not os.path.exists(office.path):
+    if words == ["init"]:
         from exam_desk import new_office  # here, since it alone needs it
         return new_office.make(office)
-    if words[0] in CHECKING and os.path.isfile(office.path):
+    if words[0] == "check" and os.path.isfile(office.path):  # changes no facts, but needs the office for itself
         with if_possible(turns.alone(office, words), None):
             return changing.run_patiently(office, changing.Step(tuple(words)))
     if words[0] not in running.SHEETS:
@@ -247,7 +246,10 @@ def of_program(words: list[str]) -> Change | None:
     with a mistake. A number comes first, where the program takes one; it says so."""
     if words[0] in LISTED and len(words) == 3 and words[1] == "--list":
         return of_list(words[0], words[2])
-    if words[0] == "withdraw" and words[2:] == ["--all"]:
+    if words[0] in LISTED and words[2:] == ["--all"]:
+        if words[0] != "withdraw":
+            raise Trouble("--all goes with `withdraw` alone; `office back` lists the copy from before that, which takes "
+                          "it back, and `office reinstate NUMBER PAPER` takes one entry back")
         rows = listed.of_candidate(command.office(), words[1])
         return List([*rows.values()], f"withdraw {rows[1].words[1]} --all", rows=rows)
     if words[0] not in CHANGES:

@@ -102,7 +102,7 @@ def add_codes(office: Office, reading: Reading) -> None:
     coded = filled([record.fields for record in records], in_office(office), set())
     reading.records["candidates"] = [record._replace(fields=row) for record, row in zip(records, coded.rows)]
     report.lines = [line for line in report.lines if line.what != mistakes.NO_CODE]
-    if coded.made:
+    if coded.made and not report.count("mistake"):
         report.change(f"{lists.count(coded.made, 'access code')} made")
 
 

@@ -29,6 +29,7 @@ KINDS = {  # what may be a slip, who has no desk, what no rule of the office for
 UNSEEN = ["arrangements", "openings"]  # kinds of rows of which a value can go and nobody sits otherwise
 OF_PLACES = [OVER, OPENED, HALLS, PRINTED]  # kinds of which sessions and halls are counted, and not people
 CODES = ("has another access code", "have other access codes")
+ENTERED_AGAIN = "`office back 1` or `office reinstate ..`, then "  # before who has left can be noted as absent
 LISTED_BY = {OPENED: "", CLASHES: "clashes {}", TWICE: "summary {}", HALLS: "summary {}",
              PRINTED: "printed {} --look"}
 OPEN = "SELECT session, hall, day FROM opening JOIN session ON code = session ORDER BY day, start, code, hall"
@@ -92,7 +93,7 @@ def done(office: Office, copy: str, progress: Progress) -> list[str]:
             words = [f"`office {words}` lists them" for words in listing(met, place)]
             words += [f"`office back {place}` takes it back"] if {OVER, OPENED} & met.keys() else []
             shown += ["; ".join(words)] if words else []
-            return shown + other_codes(before, after) + notes(before, after, met)
+            return shown + other_codes(before, after) + notes(before, after, met, ENTERED_AGAIN)
     except (Trouble, OSError, sqlite3.Error, MemoryError) as fault:
         reason = plain(str(fault)) or "there is no memory"
         return [f"the change is done, but nobody can say what it did to candidates: {reason}; try `office changes 1`"]
@@ -146,19 +147,32 @@ def openings(reading: Reading) -> dict[tuple[str, str], str]:
     return {(code, hall): day for code, hall, day in reading.rows.execute(OPEN)}
 
 
-def notes(before: Reading, after: Reading, met: Groups) -> list[str]:
-    """Of who leaves a session on its day or later: how it is noted that somebody did not come; and who was noted so,
-    and is gone from the list for the exam board. Then where a hall that is closed is open yet."""
+def notes(before: Reading, after: Reading, met: Groups, first: str = "") -> list[str]:
+    """Of who leaves a session on its day or later: how it is noted that somebody did not come, and what comes first;
+    and who was noted so, and is gone from the list for the exam board. Then where absences are of another day, and
+    where a hall that is closed is open yet."""
     days = {code: day for code, day, _ in facts.sessions(after.rows)}
     left = [each for each in met.get(LEAVES, [])
             if not notebook.is_to_come(after.office, days.get(each.session, "9"))]
     noted = {code: notebook.absent(after.office, code) or () for code in {each.session for each in left}}
     gone = [f"{each.person[:7]} of {each.session}" for each in left if each.person[:7] in noted[each.session]]
-    found = [f"NOTE: who only did not come stays entered: `office absent {each.session} {each.person[:7]}` notes it"
+    found = [f"NOTE: who only did not come stays entered: {first}`office absent {each.session} {each.person[:7]}` notes it"
              for each in left[:1]]
     if gone:
         found.append(f"NOTE: noted as absent, and not in the list for the exam board any more: {few(gone)}")
-    return found + still_open(before, after)
+    return [*found, *absences_of_another_day(before, after), *still_open(before, after)]
+
+
+def absences_of_another_day(before: Reading, after: Reading) -> Iterator[str]:
+    """A line on each session that is moved from a day on which somebody can have been absent, and where somebody is
+    noted so."""
+    office, days = after.office, {code: day for code, day, _ in facts.sessions(before.rows)}
+    for code, day, _ in facts.sessions(after.rows):
+        is_moved = days.get(code, day) != day and not notebook.is_to_come(office, days[code])
+        if is_moved and (stay := notebook.absent(office, code)):
+            since = f"from {day} on " * notebook.is_to_come(office, day)
+            yield (f"NOTE: absences of {code} ({lists.count(len(stay), 'candidate')}) stay, and it is no longer on "
+                   f"{days[code]}: {since}`office absent {code} --there ..` takes them back")
 
 
 def still_open(before: Reading, after: Reading) -> list[str]:

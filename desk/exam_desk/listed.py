@@ -6,17 +6,18 @@ import os
 import time
 from collections.abc import Callable, Iterator
 
-from exam_desk import changing, checking, copies, files, lists, logbook, mistakes, refusals
+from exam_desk import changing, checking, copies, facts, files, lists, logbook, mistakes, refusals
 from exam_desk.changing import Answered, Step
 from exam_desk.office import Office
 from exam_desk.snapshot import rows as rows_now
 from exam_desk.trouble import NoOffice, Trouble
 from exam_desk.typed import candidate_number
+from exam_desk.words import few
 
 OF_THE_OFFICE = [22, 23, 24, 27]  # refusals
 TURN = 8  # seconds after which `keep`, and whoever waits, has the office before the next row
 BETWEEN = 0.1  # seconds between two turns, in which another command that waits looks several times
-COUNTING = ("SELECT paper FROM entry JOIN paper ON paper.code = paper JOIN session ON session.code = session "
+COUNTING = ("SELECT paper, day < ? FROM entry JOIN paper ON paper.code = paper JOIN session ON session.code = session "
             "WHERE number = ? AND live = 1 ORDER BY day, start, paper")
 Rows = dict[int, Step]  # by the line in which each begins, the command that it means
 Tell = Callable[[int, Answered], None]  # hears what became of the row that begins in a line
@@ -47,12 +48,23 @@ def rows_of(office: Office, command: str, path: str) -> tuple[Rows, list[str]]:
 
 
 def of_candidate(office: Office, number: str) -> Rows:
-    """The withdrawal of each entry of a candidate that counts. Raises `Trouble` where there is none."""
+    """The withdrawal of each entry of a candidate that counts; those of sessions that are over stay, which is said.
+    Raises `Trouble` where there is no such candidate, or nothing to withdraw."""
+    number = candidate_number(number)
     with contextlib.closing(rows_now(office)) as rows:
-        papers = [paper for paper, in rows.execute(COUNTING, [int(candidate_number(number))])]
+        is_known = number in facts.candidate_names(rows)
+        entries = rows.execute(COUNTING, [office.today().isoformat(), int(number)]).fetchall()
+    if not is_known:
+        raise Trouble(f"the office has no candidate {number}; a number has seven digits, `office look NAME` finds it")
+    over = [paper for paper, is_over in entries if is_over]
+    papers = [paper for paper, is_over in entries if not is_over]
+    stay = f"entries in sessions that are over stay: {len(over)} ({few(over)})" * bool(over)
     if not papers:
-        raise Trouble(f"{number} is entered for no paper; nothing is changed; `office look NAME` finds a number")
-    return {line: Step(("withdraw", f"{int(number):07}", paper)) for line, paper in enumerate(papers, 1)}
+        raise Trouble(f"{number} is entered for no paper{' from today on' * bool(over)}; nothing is changed"
+                      + (stay and f"; {stay}; `office withdraw {number} PAPER` withdraws one of them"))
+    if stay:
+        office.warn(f"NOTE {stay}")
+    return {line: Step(("withdraw", number, paper)) for line, paper in enumerate(papers, 1)}
 
 
 def carry_out(office: Office, title: str, rows: Rows, tell: Tell) -> changing.Carried:

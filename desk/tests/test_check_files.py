@@ -157,6 +157,13 @@ class Verdicts(sample.SampleSchool):
         done = self.run_office("take", "facts", "--yes", OFFICE=none)
         self.assertEqual((done.returncode, done.stderr), (1, "office: 60 candidates without an access code: nothing is "
                                                              "changed; give --codes too to make them\n"))
+        sessions = os.path.join(self.folder, "facts", "sessions.csv")
+        os.rename(sessions, f"{sessions}.right")
+        self.write("facts/sessions.csv", "session,date,start\nMON-AM,2027-06-07,25:00\n")
+        done = self.run_office("take", "facts", "--yes", "--codes", OFFICE=none)
+        self.assertEqual((done.returncode, "codes made" in done.stdout), (1, False))
+        self.assertIn(" mistakes: nothing is changed\n", done.stderr)
+        os.rename(f"{sessions}.right", sessions)
         said = self.office("take", "facts", "--yes", "--codes", OFFICE=none)
         self.assertTrue(said.startswith("60 access codes made\n"), said)
         self.assertNotIn("no access code", said)

@@ -203,9 +203,12 @@ class Told(sample.SampleSchool):
         slip = "is it the right session, or an old file?"
         for self.environment["TODAY"] in ("2027-06-07", "2027-06-08"):
             is_over = self.environment["TODAY"] == "2027-06-08"
-            self.assertEqual(slip in self.office("what-if", *words), is_over)
+            would = self.office("what-if", *words)
+            self.assertEqual(slip in would, is_over)
+            self.assertTrue(would.endswith("stays entered: `office absent MON-AM 0001000` notes it\n"), would)
             first, *_, last, note = self.told(*words)
-            self.assertEqual(note, "NOTE: who only did not come stays entered: `office absent MON-AM 0001000` notes it")
+            self.assertEqual(note, "NOTE: who only did not come stays entered: `office back 1` or `office reinstate ..`, then "
+                                   "`office absent MON-AM 0001000` notes it")
             met = len(re.findall("(?m)^[! ] MON-AM ", self.office("changes", "1")))
             self.assertGreater(met, 1)
             self.assertEqual((first == f"1 session that is over is changed: MON-AM of 2027-06-07 for {met} candidates",
@@ -255,6 +258,23 @@ class Told(sample.SampleSchool):
             self.assertTrue(done.stdout.startswith(answer), words)
         self.assertIn("nothing is noted: 0001000: no candidate of MON-AM", self.refused("absent", "MON-AM", "1000"))
         self.assertIn("0001034: absent, or there?", self.refused("absent", "MON-AM", "1034", "--there", "1034"))
+
+    def test_absences_of_a_session_that_is_moved(self):
+        """They were noted for the day that it leaves. Nobody can have been absent on a day that is to come."""
+        self.environment["TODAY"] = "2027-06-08"
+        self.office("absent", "MON-AM", "0001000", "0001017")
+        rows = "session,date,start\nMON-AM,{},09:00\nTUE-AM,2027-06-14,09:00\n"
+        stay = "NOTE: absences of MON-AM (2 candidates) stay, and it is no longer on 2027-06-07: "
+        for day, since in (("2027-06-09", "from 2027-06-09 on "), ("2027-06-08", "")):
+            words = ["import", "sessions", self.write("s.csv", rows.format(day))]
+            line = f"{stay}{since}`office absent MON-AM --there ..` takes them back"
+            self.assertIn(f"\n{line}\n", self.office("what-if", *words))
+            self.assertEqual([each for each in self.told(*words) if "absences" in each], [line])
+            back = self.told("back", "1", "--yes")
+            if since:
+                self.assertNotIn("absences", "".join(back))
+        later = self.write("s.csv", "session,date,start\nMON-AM,2027-06-07,09:30\n")
+        self.assertNotIn("absences", "".join(self.told("import", "sessions", later)))
 
     def test_what_if_says_the_same_before(self):
         words = ["close-hall", "MON-AM", "GYM"]

@@ -113,11 +113,24 @@ class Listed(test_changing.Changing):
         self.office("back", "2", "--yes")
         self.assertEqual(self.state(), self.before)
 
+    def test_all_of_a_candidate_that_is_to_come(self):
+        """On the day of a session its entry goes too; on the day after it that stays."""
+        self.environment["TODAY"] = "2027-06-08"
+        done = self.run_office("withdraw", "1017", "--all")
+        self.assertEqual(done.stderr.splitlines()[0], "office: NOTE entries in sessions that are over stay: 2 (MA-1, EN-2)")
+        self.assertEqual(done.stdout, "line 1: withdraw 0001017 BI-1: withdrawn\n1 of 1 row is done; `office back 1` takes all "
+                                      "of it back\n")
+        self.assertIn("0001017 is entered for no paper from today on; nothing is changed; entries in sessions that are over "
+                      "stay: 2 (MA-1, EN-2); `office withdraw 0001017 PAPER` withdraws", self.refused("withdraw", "1017", "--all"))
+        self.assertIn("office: the office has no candidate 0008888; ", self.refused("withdraw", "8888", "--all"))
+
     def test_words(self):
         for words in (["withdraw", "--list"], ["withdraw", "--list", "a", "b"]):
             done = self.run_office(*words)
             self.assertEqual((done.returncode, done.stderr), (2, "line not understood\n  --list takes one file\n  Usage: "
                                                                  "office withdraw --list FILE.csv\n"))
+        self.assertTrue(self.refused("reinstate", "1017", "--all").startswith("office: --all goes with `withdraw` alone; `office "
+                                                                              "back` lists the copy"))
         self.assertIn("office reinstate --list FILE.csv\n", self.office("reinstate", "--help"))
 
     def test_turns(self):

@@ -39,7 +39,8 @@ class NewOffice(test_changing.Changing):
         done = self.run_office("init")
         self.assertEqual((done.returncode, done.stdout), (0, "ready\n"))
         [name] = self.aside()
-        self.assertEqual(done.stderr, f"office: {ASIDE}{os.path.join(self.desk, name)}\n")
+        self.assertEqual(done.stderr, f"office: {ASIDE}{os.path.join(self.desk, name)}; beside its office "
+                         "give it the name `notebook` again\n")
         self.assertEqual((notebook.notes(self.value), notebook.absent(self.value, "MON-AM")), ({}, None))
         self.assertEqual(sorted(os.listdir(os.path.join(self.desk, name))), ["absent.MON-AM.json", "notes.json"])
         self.assertEqual(self.log()[-2:], [["init", "begins", ""], ["init", "0", "ready"]])
@@ -67,6 +68,12 @@ class NewOffice(test_changing.Changing):
         self.assertEqual((done.stdout, done.stderr, len(self.aside())), ("ready\n", "", 1))
         self.assertEqual(new_office.make(self.value).answer, "ready\n")
         self.assertEqual((notebook.notes(self.value), len(self.aside())), ({"0000001": "own"}, 1))
+
+    def test_an_office_that_is_there_is_no_new_one(self):
+        """Last year's, in the folder where `init` is given again."""
+        done = self.run_office("init", OFFICE=f"{self.path}-2027")
+        self.assertEqual((done.returncode, done.stdout, done.stderr), (0, "ready\n", "office: NOTE the office is there "
+                         "already, with 60 candidates and 3 sessions: nothing is changed\n"))
 
     def test_where_no_office_comes_it_is_back_in_its_place(self):
         before = sorted(os.listdir(self.desk))
