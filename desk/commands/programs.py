@@ -248,8 +248,8 @@ def of_program(words: list[str]) -> Change | None:
         return of_list(words[0], words[2])
     if words[0] in LISTED and words[2:] == ["--all"]:
         if words[0] != "withdraw":
-            raise Trouble("--all goes with `withdraw` alone; `office back` lists the copy from before that, which takes "
-                          "it back, and `office reinstate NUMBER PAPER` takes one entry back")
+            raise Trouble("--all goes with `withdraw` alone; `office back` lists the copy from before that, which "
+                          "takes it back, and `office reinstate NUMBER PAPER` takes one entry back")
         rows = listed.of_candidate(command.office(), words[1])
         return List([*rows.values()], f"withdraw {rows[1].words[1]} --all", rows=rows)
     if words[0] not in CHANGES:

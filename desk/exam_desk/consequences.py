@@ -156,7 +156,8 @@ def notes(before: Reading, after: Reading, met: Groups, first: str = "") -> list
             if not notebook.is_to_come(after.office, days.get(each.session, "9"))]
     noted = {code: notebook.absent(after.office, code) or () for code in {each.session for each in left}}
     gone = [f"{each.person[:7]} of {each.session}" for each in left if each.person[:7] in noted[each.session]]
-    found = [f"NOTE: who only did not come stays entered: {first}`office absent {each.session} {each.person[:7]}` notes it"
+    found = [f"NOTE: who only did not come stays entered: {first}`office absent {each.session} {each.person[:7]}` notes "
+             "it"
              for each in left[:1]]
     if gone:
         found.append(f"NOTE: noted as absent, and not in the list for the exam board any more: {few(gone)}")
@@ -238,7 +239,8 @@ def other(before: Reading, after: Reading, at_most: int | None, kinds: Iterable[
     """A line on the values of rows that are others, with the first of them."""
     found = [f"{key} {column} {plain(was)} -> {plain(now)}"
              for key, column, was, now in telling.other_values(before, after, kinds)]
-    return [f"{lists.count(len(found), 'value')} of rows changed: {few(found, at_most or len(found), '; ')}"] if found else []
+    shown = few(found, at_most or len(found), "; ")
+    return [f"{lists.count(len(found), 'value')} of rows changed: {shown}"] if found else []
 
 
 def other_codes(before: Reading, after: Reading) -> list[str]:

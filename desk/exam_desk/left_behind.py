@@ -75,5 +75,5 @@ def stays(after: Reading, first: Moments, second: Moments) -> list[str]:
 def differs(first: sqlite3.Row, second: sqlite3.Row, columns: list[str]) -> bool:
     """Whether a second sitting has something otherwise than its paper; a later start of the same day is right."""
     if "start" in columns:
-        return first["day"] != second["day"] or second["start"] <= first["start"]
+        return bool(first["day"] != second["day"] or second["start"] <= first["start"])
     return Moments(first, second).has_other(*columns)

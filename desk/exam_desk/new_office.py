@@ -31,8 +31,8 @@ def make(office: Office) -> running.Ran:
             ran = changing.Turn(office, lock, lambda title: None).carried(STEP, logbook.BEGINS).ran
         finally:
             if aside and os.path.exists(office.path):
-                office.warn(f"NOTE what an office that is gone left here is set aside: {few(held)}, now in {aside}; beside "
-                            f"its office give it the name `{notebook.PLACE}` again")
+                office.warn(f"NOTE what an office that is gone left here is set aside: {few(held)}, now in {aside}; "
+                            f"beside its office give it the name `{notebook.PLACE}` again")
             elif aside:
                 os.rename(aside, beside.folder(office.path, notebook.PLACE))
     return ran

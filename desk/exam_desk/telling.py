@@ -52,7 +52,7 @@ NEIGHBOURS = (  # whoever sits in a hall with one of the numbers, before or afte
     "SELECT session, number FROM before.seat JOIN halls USING (session, hall) "
     "UNION SELECT session, number FROM after.seat JOIN halls USING (session, hall)")
 MOMENTS = ("before", "after")
-CHANGED = ["sessions", "papers", "halls", "openings", "arrangements"]  # the kinds of rows of which it is said what is another
+CHANGED = ["sessions", "papers", "halls", "openings", "arrangements"]  # kinds of rows of which other values are said
 Touched = dict[str, set[int] | None]  # by session the numbers; None for all of its members
 
 
@@ -269,5 +269,6 @@ def other_values(before: Reading, after: Reading, kinds: Iterable[str] = CHANGED
     for kind in kinds:
         keys = files.KEYS.get(kind, 1)
         old = {tuple(row[:keys]): row for row in files.rows_of(before.rows, kind)}
-        yield from (OtherValue(" ".join(row[:keys]), column, was, now) for row in files.rows_of(after.rows, kind)
-                    for column, was, now in zip(files.HEADERS[kind], old.get(tuple(row[:keys]), row), row) if was != now)
+        pairs = ((old.get(tuple(row[:keys]), row), row) for row in files.rows_of(after.rows, kind))
+        yield from (OtherValue(" ".join(row[:keys]), column, was, now) for was_row, row in pairs
+                    for column, was, now in zip(files.HEADERS[kind], was_row, row) if was != now)

@@ -70,8 +70,8 @@ def attention(found: list[Sums], is_whole: bool) -> list[Attention]:
     coming = [each for each in found if days_until(each.day) >= 0]
     compared, left = (coming, []) if is_whole else next_days(coming)
     todo = [*broken_off(), *out_of_date(compared)]
-    todo += [Attention(level_of(each), each.day, "compare",
-                       url_for("session.page", code=each.code, _anchor="print"), {"session": each.code}) for each in left]
+    todo += [Attention(level_of(each), each.day, "compare", url_for("session.page", code=each.code, _anchor="print"),
+                       {"session": each.code}) for each in left]
     todo += [Attention(level_of(each), each.day, "short", url_for("session.page", code=each.code, _anchor="short"),
                        {"count": each.short, "session": each.code}) for each in coming if each.short]
     todo += [*open_appeals(), *clashes(coming)]
@@ -119,7 +119,8 @@ def next_days(coming: list[Sums]) -> tuple[list[Sums], list[Sums]]:
     """The sessions of today and the next days of which papers are printed: as many as do not keep the page waiting, and
     the rest."""
     near = [each for each in coming if days_until(each.day) <= URGENT and notebook.printed(desk().office, each.code)]
-    everybody, members = view().count("SELECT count(*) FROM candidate"), itertools.accumulate(each.members for each in near)
+    everybody = view().count("SELECT count(*) FROM candidate")
+    members = itertools.accumulate(each.members for each in near)
     few = sum(min(people, everybody) <= MOST_ASKED for people in members)
     return near[:few], near[few:]
 

@@ -227,7 +227,8 @@ def with_codes(upload: Upload, page: Page, form: Form) -> dict[str, bytes]:
     known = {row[0]: row for row in files.rows_of(view().reading.rows, "candidates")}
     coded = coding.filled(coding.read(content, "candidates.csv"), known, set())
     if coded.made and not form.get("codes"):
-        raise Wrong(page, codes=text("without an access code no candidate is imported: tick below that the desk makes them"))
+        raise Wrong(page, codes=text(
+            "without an access code no candidate is imported: tick below that the desk makes them"))
     return {"candidates": files.file_of("candidates", coded.rows)}
 
 

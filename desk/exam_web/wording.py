@@ -68,7 +68,8 @@ def days_until(iso: str) -> int:
 def short(name: str) -> str:
     """The surname and an initial."""
     surname, others = parted(plain(name))
-    found = f"{surname or '?'} {next(filter(str.isalnum, others), '')}".rstrip()
+    initial = next((letter for letter in others if letter.isalnum()), "")
+    found = f"{surname or '?'} {initial}".rstrip()
     return found if len(found) <= MOST_LETTERS else found[:MOST_LETTERS - 1] + "…"
 
 
