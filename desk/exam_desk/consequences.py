@@ -74,7 +74,8 @@ def between(before: Reading, after: Reading, at_most: int | None) -> list[str]:
     sessions = [f"session {code}: {lists.count(people, 'candidate')}, {people - seats:,} without a desk"
                 + (f" (before: {was[code][0]:,} and {was[code][0] - was[code][1]:,})" if code in was else "")
                 for code, (people, seats) in other_figures(before, after).items()]
-    return other(before, after, at_most) + shown + other_codes(before, after) + sessions + notes(before, after, met)
+    shown += other(before, after, at_most)
+    return shown + other_codes(before, after) + sessions + notes(before, after, met)
 
 
 def done(office: Office, copy: str, progress: Progress) -> list[str]:
@@ -86,9 +87,9 @@ def done(office: Office, copy: str, progress: Progress) -> list[str]:
             if copies.listed(office)[:1] != [copy]:
                 raise Trouble("the office has changed again meanwhile")
             met = groups(before, after)
-            shown = left_behind(before, after) + other(before, after, MOST_NAMED, UNSEEN)
+            shown = left_behind(before, after)
             shown += [f"{line}; `office summary` has all sessions" for line in short_at_first(before, after)]
-            shown += brief(met)
+            shown += brief(met) + other(before, after, MOST_NAMED, UNSEEN)
             place = copies.listed(office).index(copy) + 1
             words = [f"`office {words}` lists them" for words in listing(met, place)]
             words += [f"`office back {place}` takes it back"] if {OVER, OPENED} & met.keys() else []

@@ -70,6 +70,7 @@ class Reasons:
         self.required = {code: features(mask) for code, mask in reading.rows.execute(
             "SELECT code, requires FROM paper WHERE session = ?", [session])}
         self.barred = {(f"{number:07}", hall) for number, hall in reading.rows.execute(GRANTED_HALLS, [session])}
+        self.found: dict[tuple[object, ...], list[str]] = {}  # obstacles
         self.taken: dict[str, list[str]] = defaultdict(list)  # the numbers in each hall, by desk
         for member in sorted(self.members, key=lambda member: member.sitting.desk or 0):
             if member.sitting.hall:
@@ -84,7 +85,14 @@ class Reasons:
         return [name for name in FEATURES if name in wanted]
 
     def obstacles(self, member: Member, opening: Opening) -> list[str]:
-        """Why a hall does not suit a member; nothing where it does."""
+        """Why a hall does not suit a member; nothing where it does. Worked out once for all who are alike."""
+        barred, sits = (member.number, opening.hall) in self.barred, member.sitting
+        key = (opening, sits.needs, sits.extra > 0, sits.paper, sits.finish, barred)
+        if key not in self.found:
+            self.found[key] = self.looked_for(member, opening)
+        return self.found[key]
+
+    def looked_for(self, member: Member, opening: Opening) -> list[str]:
         there, sitting = features(opening.features), member.sitting
         found = [f"no {name}" for name in self.needs(member) if name not in there]
         if sitting.finish > clock(opening.until):

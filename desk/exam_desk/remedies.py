@@ -15,6 +15,7 @@ from exam_desk.snapshot import Rows
 from exam_desk.words import clock, features
 
 MOST = 6
+MOST_PAIRS = 100_000  # of a hall of the office and a candidate on the sheet: these take some two seconds
 MIDNIGHT = 24 * 60
 
 
@@ -31,8 +32,12 @@ class Remedy(NamedTuple):
 
 
 def best(rows: Rows, why: Reasons, sheet: Shortage) -> list[Remedy]:
-    """The first of them, of each hall one for as many seats: those for most, and of these what asks for least."""
+    """The first of them, of each hall one for as many seats: those for most, and of these what asks for least. None
+    where the halls and the candidates on the sheet are too many."""
     found: dict[tuple[int, str], Remedy] = {}
+    [halls] = rows.execute("SELECT count(*) FROM hall").fetchone()
+    if halls * len(sheet.candidates) > MOST_PAIRS:
+        return []
     for each in sorted(remedies(rows, why, sheet), key=lambda each: (-each.seats, each.asks())):
         found.setdefault((each.seats, each.opening.hall), each)
     return [*found.values()][:MOST]

@@ -189,7 +189,7 @@ class Told(sample.SampleSchool):
         needs = self.write("arrangements.csv", "number,needs,extra\n0001153,-,25\n")
         row = "1 value of rows changed: 0001153 needs screen -> -"
         self.assertIn(f"\n{row}\n", self.office("what-if", "import", "arrangements", needs))
-        self.assertEqual(self.told("import", "arrangements", needs), [row, f"{said} LIB", listing])
+        self.assertEqual(self.told("import", "arrangements", needs), [f"{said} LIB", row, listing])
         title = self.write("halls.csv", "hall,title,features\nGYM,Sports hall,step-free\n")
         self.assertIn("\n1 value of rows changed: GYM title Gymnasium -> Sports hall\n",
                       self.office("what-if", "import", "halls", title))

@@ -10,6 +10,7 @@ import re
 import sqlite3
 import tempfile
 import unittest
+from unittest import mock
 
 from desk_client import SmallSchool, effects
 from exam_desk import changing, reasons, remedies, second_sitting
@@ -43,6 +44,16 @@ class TestWhatCouldHelp(SmallSchool):
             ("Have B until 10:30", "1 of the 1"), ("Have A with 2 desks, 1 more", "1 of the 1"),
             ("Open C, Hall C, with 1 desk until 12:00", "1 of the 1")])
         self.assertIn("2 candidates = 1 desk + 1 without a desk", self.browser.words("/sessions/S1"))
+
+    def test_none_where_candidates_and_halls_are_too_many(self):
+        """Two candidates on the sheet, and three halls."""
+        self.begin("A,Hall A,-\nB,Hall B,-\nC,Hall C,-\n", "S1,A,1,12:00,no\nS1,B,3,10:00,no\n",
+                   "0000001,LONG\n0000002,LONG\n0000003,SHORT\n")
+        with Reading(self.value) as reading:
+            why, sheet = reasons.compared(reading, "S1")
+            for most, found in ((6, 3), (5, 0)):
+                with mock.patch.object(remedies, "MOST_PAIRS", most):
+                    self.assertEqual(len(remedies.best(reading.rows, why, sheet)), found)
 
     def test_others_move_on_to_it(self):
         """Only A suits who needs step-free. Who sits there could sit in B, were that open for longer."""

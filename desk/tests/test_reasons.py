@@ -24,7 +24,7 @@ def found(members, openings):
     reasons = Reasons.__new__(Reasons)
     reasons.session, reasons.members, reasons.openings = "S", members, openings
     reasons.required, reasons.barred = {}, {("0000000", "H000")}
-    reasons.taken = collections.defaultdict(list, {each.hall: ["9999999"] for each in openings})
+    reasons.taken, reasons.found = collections.defaultdict(list, {each.hall: ["9999999"] for each in openings}), {}
     return reasons
 
 
