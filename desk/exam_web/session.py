@@ -87,12 +87,6 @@ class Session:
         return [(member, missed[member.number]) for member in view().reading.members(self.code, numbers)
                 if member.number in missed]
 
-    def absent(self) -> list[Member] | None:
-        """Who is noted as absent, if anything is; a copy from before somebody came may have been put back."""
-        noted = notebook.absent(desk().office, self.code)
-        known = facts.candidate_names(view().reading.rows).keys()
-        return None if noted is None else view().reading.members(self.code, sorted(map(int, noted & known)))
-
 
 @pages.get("/sessions/<code>")
 def page(code: str) -> str:
@@ -101,6 +95,7 @@ def page(code: str) -> str:
     lodged = view().rows("SELECT appeal.*, name FROM appeal JOIN candidate ON candidate.number = appeal.number "
                          "WHERE session = ? ORDER BY state, appeal.number, ref LIMIT ?", [code, MOST_PEOPLE + 1])
     return render_template("session.html", shown=shown, s=shown.sums, lodged=lodged, previous=before, next=after,
+                           absences=notebook.absences(view().reading, code),
                            seconds=[each for each in codes if second_sitting.is_numbered(each, code)],
                            shortage=shortage(view(), code) if shown.sums.short else None, most=MOST_PEOPLE)
 

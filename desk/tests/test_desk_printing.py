@@ -251,14 +251,19 @@ class TestTheDay(DeskSchool):
     def test_who_was_absent_and_is_gone(self):
         page = "/sessions/MON-AM"
         self.office("absent", "MON-AM", "0001051")
+        self.assertNotIn("lacks them", self.browser.words(page))
         self.office("withdraw", "0001051", "CS-1")
         self.office("withdraw", "0001051", "LAT")
-        self.assertIn("0001051", notebook.absent(self.value, "MON-AM"))
-        self.assertNotIn('name="listed"', self.browser.get(page))
+        text, said = self.browser.get(page), self.browser.words(page)
+        self.assertIn("so the list for the exam board lacks them: 0001051 ", said)
+        self.assertNotIn("Nobody was absent", said)
+        self.assertNotIn('name="listed"', text)
         self.browser.post(page + "/absent", page, numbers="0001119")
-        self.assertIn("0001119", notebook.absent(self.value, "MON-AM"))
-        notebook.keep_absent(self.value, "MON-AM", ["9999999"], [])
-        self.assertNotIn("9999999", self.browser.words(page))
+        self.assertEqual(notebook.absent(self.value, "MON-AM"), {"0001051", "0001119"})
+        notebook.keep_absent(self.value, "MON-AM", ["9999999"], [])  # a copy from before they came was put back
+        said = self.browser.words(page)
+        self.assertIn("lacks them: 0001051, 9999999 ", said)
+        self.assertIn("1 candidate is noted as absent", said)
 
 
 if __name__ == "__main__":
