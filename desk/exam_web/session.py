@@ -245,6 +245,7 @@ def open_hall(form: Form) -> Plan:
     shown = Session(form.get("session", ""))
     page = shown.hall_page(form.get("hall", "")) if "at" in form else shown.page
     values, steps = opening(form, page, shown.code)
+    values["is_open"] = "yes" if values["hall"] in shown.halls else ""
     return Plan(values, steps, shown.page, {4: "hall", 7: "hall", 20: "desks"}, form_page=page)
 
 
