@@ -108,6 +108,14 @@ class TestPrinting(DeskSchool):
         page, _ = self.browser.post(*rehearse, number="0001051", paper="PH-1")
         self.assertNotIn("Printed papers", self.browser.words(page))
 
+    def test_who_need_not_be_told_of_another_desk_number(self):
+        """Where papers are out of date by it, the page leaves that open."""
+        self.office("printed", "MON-AM")
+        page, _ = self.browser.post("/propose/withdraw", "/candidates/1051", number="0001051", paper=["CS-1", "PH-1"])
+        said = self.browser.get(page).partition('id="desk-only">')[2].partition("</p>")[0]
+        self.assertRegex(said, "nobody need be told unless .*: 5 in <bdi>TUE-AM</bdi>. Another desk number in the same "
+                               "hall only; papers with desk numbers are printed: 9 in <bdi>MON-AM</bdi>. $")
+
     def test_a_picture_is_described_without_tags(self):
         text = self.browser.get("/sessions/MON-AM/halls/PC1")
         self.assertRegex(text, 'aria-label="PC1: [0-9]+ of [0-9]+ desks taken;')
