@@ -207,7 +207,7 @@ def absent(office: Office, session: str) -> set[str] | None:
 
 
 def absences(reading: Reading, session: str) -> Absences | None:
-    """None where nobody noted who was absent, nor that nobody was. Raises `Trouble` where there is no such session."""
+    """None where nobody noted who was absent, nor that nobody was."""
     noted = absent(reading.office, session)
     if noted is None:
         return None

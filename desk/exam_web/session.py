@@ -226,15 +226,15 @@ def note_printed(code: str) -> Response:
     return lead("session.page", told, code=code, _anchor="print")
 
 
-def opening(form: Form, page: Page, code: str) -> tuple[dict[str, str], list[Step]]:
+def opening(form: Form, page: Page, shown: Session) -> tuple[dict[str, str], list[Step]]:
     """A hall that is to be open, which was chosen or which the office does not know yet; and the steps for it."""
     is_new = form.get("new_hall", "").strip() != ""
     names = {"new_hall": "hall", "new_title": "title"} if is_new else {"hall": "hall"}
     hall, *titles, desks, until = checked(page, form, **names, desks="desks", until="until").values()
     if is_new and view().row("SELECT 1 FROM hall WHERE code = ?", [hall]):
         raise Wrong(page, new_hall=text("the office has this hall: choose it from the list"))
-    values = {"session": code, "hall": hall, "desks": desks, "until": until,
-              "reserved": "yes" if form.get("reserved") else "no"}
+    values = {"session": shown.code, "hall": hall, "desks": desks, "until": until,
+              "reserved": "yes" if form.get("reserved") else "no", "is_open": "yes" if hall in shown.halls else ""}
     new = [import_step("halls", {"hall": hall, "title": title, "features": features(form, "new_features")})
            for title in titles]
     return values, [*new, import_step("openings", values)]
@@ -244,8 +244,7 @@ def open_hall(form: Form) -> Plan:
     """The form of a hall that is open says so by `at`: it stands on the page of that hall."""
     shown = Session(form.get("session", ""))
     page = shown.hall_page(form.get("hall", "")) if "at" in form else shown.page
-    values, steps = opening(form, page, shown.code)
-    values["is_open"] = "yes" if values["hall"] in shown.halls else ""
+    values, steps = opening(form, page, shown)
     return Plan(values, steps, shown.page, {4: "hall", 7: "hall", 20: "desks"}, form_page=page)
 
 
@@ -256,8 +255,8 @@ def close_hall(form: Form) -> Plan:
     values, steps, form_page = {"session": shown.code, "lost": lost}, list[Step](), shown.page
     if first in g.visit.proposals:
         form_page = ("proposals.page", {"key": first})
-        other, steps = opening(form, form_page, shown.code)
-        values |= {**other, "is_open": "yes" if other["hall"] in shown.halls else ""}
+        other, steps = opening(form, form_page, shown)
+        values |= other
         if other["hall"] == lost:
             raise Wrong(form_page, hall=text("this is the hall that is lost"))
     step = command("close-hall", ["session", "lost"], values)
