@@ -41,17 +41,17 @@ def absent(parser: ArgumentParser) -> None:
     with command.reading() as reading:
         if notes:
             notebook.note_absent(reading, session, missing, there, given.nobody)
-        text, noted = notebook.attendance(reading, session), notebook.absent(reading.office, session)
-        members = {member.number for member in reading.members(session)}
-    found = noted or set()
+        text, noted = notebook.attendance(reading, session), notebook.absences(reading, session)
+        members = len(reading.members(session))
     if notes:
-        text = f"{lists.count(len(found & members), 'candidate')} absent of {len(members):,}\n"
+        text = f"{lists.count(len(noted.members) if noted else 0, 'candidate')} absent of {members:,}\n"
     elif noted is None:
-        who = "the only candidate is" if len(members) == 1 else f"all {len(members):,} are"
+        who = "the only candidate is" if members == 1 else f"all {members:,} are"
         command.warn(f"NOTE nobody has noted who was absent in {session}: {who} listed as present; `office absent "
                      f"{session} --nobody` notes that nobody was")
-    if gone := sorted(found - members):
-        command.warn(f"NOTE the exam board's list lacks who is noted as absent and has left {session}: {few(gone)}")
+    if noted and noted.gone:
+        command.warn(f"NOTE the exam board's list lacks who is noted as absent and has left {session}: "
+                     f"{few(noted.gone)}")
     command.say(text)
 
 

@@ -53,6 +53,11 @@ def brought(office: Office, given: Mapping[str, IO[bytes]]) -> Iterator[str]:
         yield copy
 
 
+def is_alone(given: Mapping[str, IO[bytes]]) -> bool:
+    """Whether the first of an office's two files came alone: what the second held would be lost."""
+    return all(from_the_start(stream).read(len(OFFICE)) == OFFICE for stream in given.values())
+
+
 def parts_of(given: Mapping[str, IO[bytes]], stack: contextlib.ExitStack) -> Parts:
     """The files that were brought, and in the place of a zip what it holds, as long as the stack lasts."""
     found: dict[str, Callable[[], IO[bytes]]] = {}

@@ -82,6 +82,12 @@ class Compared(NamedTuple):
     empty: list[str]  # of these, where nobody sits now
 
 
+class Absences(NamedTuple):
+    """Who is noted as absent in a session."""
+    members: list[Member]
+    gone: list[str]  # the numbers of those who have left the session: the list for the exam board lacks them
+
+
 def school_name(office: Office) -> str:
     """The name of the school; nothing where none was given."""
     return read(office, "school", "", is_text)
@@ -198,6 +204,16 @@ def absent(office: Office, session: str) -> set[str] | None:
     nothing = list[str]()
     found = read(office, f"absent.{session}", nothing, is_text)
     return None if found is nothing else {*found}
+
+
+def absences(reading: Reading, session: str) -> Absences | None:
+    """None where nobody noted who was absent, nor that nobody was."""
+    noted = absent(reading.office, session)
+    if noted is None:
+        return None
+    known = facts.candidate_names(reading.rows).keys()  # a copy from before somebody came may have been put back
+    members = reading.members(session, sorted(map(int, noted & known)))
+    return Absences(members, sorted(noted.difference(member.number for member in members)))
 
 
 def keep_absent(office: Office, session: str, missing: Iterable[str], there: Iterable[str],

@@ -35,6 +35,7 @@ class Backup:
     def __init__(self, given: Mapping[str, IO[bytes]]) -> None:
         stack = contextlib.ExitStack()
         self.path = stack.enter_context(backups.brought(desk().office, given))
+        self.is_alone = backups.is_alone(given)
         weakref.finalize(self, stack.close)
 
 

@@ -87,12 +87,6 @@ class Session:
         return [(member, missed[member.number]) for member in view().reading.members(self.code, numbers)
                 if member.number in missed]
 
-    def absent(self) -> list[Member] | None:
-        """Who is noted as absent, if anything is; a copy from before somebody came may have been put back."""
-        noted = notebook.absent(desk().office, self.code)
-        known = facts.candidate_names(view().reading.rows).keys()
-        return None if noted is None else view().reading.members(self.code, sorted(map(int, noted & known)))
-
 
 @pages.get("/sessions/<code>")
 def page(code: str) -> str:
@@ -101,6 +95,7 @@ def page(code: str) -> str:
     lodged = view().rows("SELECT appeal.*, name FROM appeal JOIN candidate ON candidate.number = appeal.number "
                          "WHERE session = ? ORDER BY state, appeal.number, ref LIMIT ?", [code, MOST_PEOPLE + 1])
     return render_template("session.html", shown=shown, s=shown.sums, lodged=lodged, previous=before, next=after,
+                           absences=notebook.absences(view().reading, code),
                            seconds=[each for each in codes if second_sitting.is_numbered(each, code)],
                            shortage=shortage(view(), code) if shown.sums.short else None, most=MOST_PEOPLE)
 
@@ -231,15 +226,15 @@ def note_printed(code: str) -> Response:
     return lead("session.page", told, code=code, _anchor="print")
 
 
-def opening(form: Form, page: Page, code: str) -> tuple[dict[str, str], list[Step]]:
+def opening(form: Form, page: Page, shown: Session) -> tuple[dict[str, str], list[Step]]:
     """A hall that is to be open, which was chosen or which the office does not know yet; and the steps for it."""
     is_new = form.get("new_hall", "").strip() != ""
     names = {"new_hall": "hall", "new_title": "title"} if is_new else {"hall": "hall"}
     hall, *titles, desks, until = checked(page, form, **names, desks="desks", until="until").values()
     if is_new and view().row("SELECT 1 FROM hall WHERE code = ?", [hall]):
         raise Wrong(page, new_hall=text("the office has this hall: choose it from the list"))
-    values = {"session": code, "hall": hall, "desks": desks, "until": until,
-              "reserved": "yes" if form.get("reserved") else "no"}
+    values = {"session": shown.code, "hall": hall, "desks": desks, "until": until,
+              "reserved": "yes" if form.get("reserved") else "no", "is_open": "yes" if hall in shown.halls else ""}
     new = [import_step("halls", {"hall": hall, "title": title, "features": features(form, "new_features")})
            for title in titles]
     return values, [*new, import_step("openings", values)]
@@ -249,7 +244,7 @@ def open_hall(form: Form) -> Plan:
     """The form of a hall that is open says so by `at`: it stands on the page of that hall."""
     shown = Session(form.get("session", ""))
     page = shown.hall_page(form.get("hall", "")) if "at" in form else shown.page
-    values, steps = opening(form, page, shown.code)
+    values, steps = opening(form, page, shown)
     return Plan(values, steps, shown.page, {4: "hall", 7: "hall", 20: "desks"}, form_page=page)
 
 
@@ -260,8 +255,8 @@ def close_hall(form: Form) -> Plan:
     values, steps, form_page = {"session": shown.code, "lost": lost}, list[Step](), shown.page
     if first in g.visit.proposals:
         form_page = ("proposals.page", {"key": first})
-        other, steps = opening(form, form_page, shown.code)
-        values |= {**other, "is_open": "yes" if other["hall"] in shown.halls else ""}
+        other, steps = opening(form, form_page, shown)
+        values |= other
         if other["hall"] == lost:
             raise Wrong(form_page, hall=text("this is the hall that is lost"))
     step = command("close-hall", ["session", "lost"], values)

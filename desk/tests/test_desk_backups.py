@@ -3,6 +3,7 @@ there is none, or where it cannot be read, too."""
 import glob
 import html
 import os
+import pathlib
 import re
 import unittest
 
@@ -59,6 +60,13 @@ class TestBroughtBack(Backups):
         copy = re.search(r'/office/copies/[0-9a-f]{16}(?=")', self.browser.get("/office"))[0]
         self.put_back(copy)
         self.assertEqual((states.name_now(self.value), len(self.rows("SELECT * FROM appeal"))), (later, 1))
+
+    def test_one_of_its_two_files_alone(self):
+        files = [(f"office.db{ending}", pathlib.Path(self.path + ending).read_bytes()) for ending in ("", "-wal")]
+        for found, said in ((files[:1], ["office.db"]), (files, []), ([self.handed_out()], [])):
+            page, _ = self.browser.send(*BRING, *found)
+            self.assertEqual(re.findall("Without (.*) -wal the last changes may be missing", self.browser.words(page)),
+                             said)
 
     def test_what_is_none_is_refused_at_its_field(self):
         before = states.name_now(self.value)

@@ -393,7 +393,12 @@ class TestFiles(Uploads):
             self.assertEqual(text.count('name="choice"'), text.count(" required"))
         page = self.upload(("june.csv", f"number,paper\n{''.join(live[:2] + new[:1])}".encode()),
                            ("papers.csv", b"paper,title,session,minutes,requires\n"))
-        self.assertIn("checked", self.browser.get(page), "what comes with other files is an import")
+        self.assertNotIn('name="choice"', self.browser.get(page), "what comes with other files is an import")
+        page = self.upload(("june.csv", f"number,paper\n{''.join(new)}".encode()))
+        self.assertNotIn('name="choice"', self.browser.get(page), "none of them can be withdrawn")
+        self.assertIn("Import entries", self.browser.words(self.propose(page)))
+        _, text = self.browser.post("/propose/files", page, 422, upload=page[-12:], choice="withdraw")
+        self.assertRegex(text, 'id="fault-files-choice"[^>]*>this can be done to 0 of the rows')
         page = self.upload(("june.csv", f"number,paper\n{''.join(live[:2] + new[:1])}".encode()))
         self.propose(page, 422)
         self.carry_out(self.propose(page, choice="withdraw"))

@@ -108,6 +108,14 @@ class TestPrinting(DeskSchool):
         page, _ = self.browser.post(*rehearse, number="0001051", paper="PH-1")
         self.assertNotIn("Printed papers", self.browser.words(page))
 
+    def test_who_need_not_be_told_of_another_desk_number(self):
+        """Where papers are out of date by it, the page leaves that open."""
+        self.office("printed", "MON-AM")
+        page, _ = self.browser.post("/propose/withdraw", "/candidates/1051", number="0001051", paper=["CS-1", "PH-1"])
+        said = self.browser.get(page).partition('id="desk-only">')[2].partition("</p>")[0]
+        self.assertRegex(said, "nobody need be told unless .*: 5 in <bdi>TUE-AM</bdi>. Another desk number in the same "
+                               "hall only; papers with desk numbers are printed: 9 in <bdi>MON-AM</bdi>. $")
+
     def test_a_picture_is_described_without_tags(self):
         text = self.browser.get("/sessions/MON-AM/halls/PC1")
         self.assertRegex(text, 'aria-label="PC1: [0-9]+ of [0-9]+ desks taken;')
@@ -251,14 +259,19 @@ class TestTheDay(DeskSchool):
     def test_who_was_absent_and_is_gone(self):
         page = "/sessions/MON-AM"
         self.office("absent", "MON-AM", "0001051")
+        self.assertNotIn("lacks them", self.browser.words(page))
         self.office("withdraw", "0001051", "CS-1")
         self.office("withdraw", "0001051", "LAT")
-        self.assertIn("0001051", notebook.absent(self.value, "MON-AM"))
-        self.assertNotIn('name="listed"', self.browser.get(page))
+        text, said = self.browser.get(page), self.browser.words(page)
+        self.assertIn("so the list for the exam board lacks them: 0001051 ", said)
+        self.assertNotIn("Nobody was absent", said)
+        self.assertNotIn('name="listed"', text)
         self.browser.post(page + "/absent", page, numbers="0001119")
-        self.assertIn("0001119", notebook.absent(self.value, "MON-AM"))
-        notebook.keep_absent(self.value, "MON-AM", ["9999999"], [])
-        self.assertNotIn("9999999", self.browser.words(page))
+        self.assertEqual(notebook.absent(self.value, "MON-AM"), {"0001051", "0001119"})
+        notebook.keep_absent(self.value, "MON-AM", ["9999999"], [])  # a copy from before they came was put back
+        said = self.browser.words(page)
+        self.assertIn("lacks them: 0001051, 9999999 ", said)
+        self.assertIn("1 candidate is noted as absent", said)
 
 
 if __name__ == "__main__":

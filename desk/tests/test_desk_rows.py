@@ -144,12 +144,17 @@ class TestHalls(Rows):
         form = {"session": "S1", "hall": "A", "at": "S1", "desks": "3", "until": "12:30"}
         page, _, words = self.rehearsed("open", HALL, **form)
         self.assertIn("S1 A Desks 2 → 3 S1 A Until 12:00 → 12:30 S1 A Reserved yes → no", words)
+        self.assertIn("Change A in S1 : 3 desks until 12:30", words)
+        self.assertIn("Change it</button>", self.browser.get(page))
         self.assertRegex(self.browser.get(page), rf'href="{self.browser.prefix}{HALL}\?again=')
         self.refused("open", HALL, form, {("desks", "0"): "from 1 to 2000", ("until", "24:01"): "a time as"})
         del form["at"]  # as a guess of what could help a session that is short
         page, _, _ = self.rehearsed("open", SESSION, **form)
         left = self.browser.get(f"{SESSION}?again={page.rsplit('/', 1)[1]}")
         self.assertIn('<option value="A" selected', left)
+        page, _, words = self.rehearsed("open", SESSION, **{**form, "hall": "B"})
+        self.assertIn("Open B in S1 : 3 desks until 12:30", words)
+        self.assertIn("Open it</button>", self.browser.get(page))
 
 
 class TestGrants(DeskSchool):

@@ -38,7 +38,7 @@ class TestArrangements(DeskSchool):
         page, _ = self.browser.post("/propose/arrangement", "/candidates/1119", **form)
         self.assertRegex(self.words(page), f"Arrangement of [^:]+: {EXTRA}")
         self.browser.post(page + "/do", page)
-        self.assertIn(f"Arrangement: {EXTRA}", self.words("/candidates/1119"))
+        self.assertIn(f"Imported arrangement: {EXTRA}", self.words("/candidates/1119"))
         (session, hall), = self.rows("SELECT session, hall FROM seat WHERE number = 1119 LIMIT 1")
         self.assertIn(f"with {EXTRA}", self.words("/candidates/1119"))
         drawn = self.browser.get(f"/sessions/{session}/halls/{hall}")
