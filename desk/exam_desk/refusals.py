@@ -75,7 +75,7 @@ def explained(office: Office, words: Sequence[str], complaint: str, data: bytes 
     lines = [sentence] if sentence else []
     if number == 23:
         lines = [f"{sentence}: {cause(office)}", WHOLE_OR_NOT]
-    elif number == WITHDRAWN:
+    elif number == WITHDRAWN and words[0] == "withdraw":
         lines += sat_later(office, *words[-2:])
     elif number == 24 and not os.path.exists(office.path):
         lines = [str(NoOffice(office.path))]
