@@ -157,9 +157,8 @@ def notes(before: Reading, after: Reading, met: Groups, first: str = "") -> list
             if not notebook.is_to_come(after.office, days.get(each.session, "9"))]
     noted = {code: notebook.absent(after.office, code) or () for code in {each.session for each in left}}
     gone = [f"{each.person[:7]} of {each.session}" for each in left if each.person[:7] in noted[each.session]]
-    found = [f"NOTE: who only did not come stays entered: {first}`office absent {each.session} {each.person[:7]}` notes "
-             "it"
-             for each in left[:1]]
+    found = [f"NOTE: who only did not come stays entered: {first}`office absent {each.session} {each.person[:7]}` "
+             "notes it" for each in left[:1]]
     if gone:
         found.append(f"NOTE: noted as absent, and not in the list for the exam board any more: {few(gone)}")
     return [*found, *absences_of_another_day(before, after), *still_open(before, after)]

@@ -25,7 +25,7 @@ from markupsafe import Markup
 from werkzeug.wrappers import Response
 
 from exam_desk import (changing, consequences, copies, facts, files, lodging, logbook, overlaps, private, refusals,
-                       second_sitting, telling, words)
+                       second_sitting, states, telling, words)
 from exam_desk.changing import Answered, Step
 from exam_desk.left_behind import left_behind
 from exam_desk.office import Office
@@ -49,7 +49,7 @@ TROUBLE = 0  # among the numbers of refusals: what the desk refuses itself
 APPEALS = ("SELECT appeal.*, day, session.start AS start, name FROM appeal JOIN session ON session.code = session "
            "JOIN candidate ON candidate.number = appeal.number ")
 ARRANGED = "SELECT number, needs, extra FROM arrangement"
-OF_GRANTED = f"{ARRANGED} WHERE number IN (SELECT number FROM appeal WHERE kind = 3 AND state = 2)"
+OF_GRANTED = f"{ARRANGED} WHERE number IN (SELECT number FROM appeal WHERE kind = 3 AND state = {states.GRANTED})"
 BY_DAY = "ORDER BY day, session.start, lodged, appeal.number"
 KINDS = ["short", *consequences.KINDS, "codes"]  # the gravest first; their words are in templates/effects.html
 NUMBERS = attrgetter("members", "desks", "short", "clashes")  # of a session
