@@ -79,8 +79,8 @@ def between(before: Reading, after: Reading, at_most: int | None) -> list[str]:
 
 
 def done(office: Office, copy: str, progress: Progress) -> list[str]:
-    """What a change did that is carried out, in at most six lines and one on access codes, from the copy of before and
-    from the office as it is now. Where that cannot be worked out, a line says so."""
+    """What a change did that is carried out, in a few lines, from the copy of before and from the office as it is now.
+    Where that cannot be worked out, a line says so."""
     try:
         with (Reading(office, copies.file_in(office, copy), progress) as before,
               Reading(office, None, progress) as after):
