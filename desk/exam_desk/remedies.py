@@ -15,7 +15,7 @@ from exam_desk.snapshot import Rows
 from exam_desk.words import clock, features
 
 MOST = 6
-MOST_PAIRS = 100_000  # of a hall of the office and a candidate on the sheet: these take some two seconds
+MOST_PAIRS = 30_000  # of a hall of the office and a candidate on the sheet: these take half a second
 MIDNIGHT = 24 * 60
 
 
