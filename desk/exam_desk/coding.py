@@ -10,7 +10,7 @@ from typing import TYPE_CHECKING, NamedTuple
 from exam_desk import files, lists, mistakes, snapshot
 from exam_desk.changing import Step
 from exam_desk.office import Office
-from exam_desk.trouble import NoOffice, Trouble
+from exam_desk.trouble import NoCandidate, NoOffice, Trouble
 
 if TYPE_CHECKING:
     from exam_desk.workbook.reading import Reading
@@ -89,7 +89,7 @@ def renamed(office: Office, number: str, name: str) -> Step:
     if not known:
         raise NoOffice(office.path)
     if number not in known:
-        raise Trouble(f"the office has no candidate {number}; a number has seven digits, `office look NAME` finds it")
+        raise NoCandidate(number)
     if not files.is_name(name.encode("utf-8", "surrogateescape")):
         raise Trouble("a name has 1 to 80 bytes and no control characters")
     return Step(("import", "candidates", f"name of {number}"),

@@ -10,7 +10,7 @@ from exam_desk import changing, checking, copies, facts, files, lists, logbook, 
 from exam_desk.changing import Answered, Step
 from exam_desk.office import Office
 from exam_desk.snapshot import rows as rows_now
-from exam_desk.trouble import NoOffice, Trouble
+from exam_desk.trouble import NoCandidate, NoOffice, Trouble
 from exam_desk.typed import candidate_number
 from exam_desk.words import few
 
@@ -55,7 +55,7 @@ def of_candidate(office: Office, number: str) -> Rows:
         is_known = number in facts.candidate_names(rows)
         entries = rows.execute(COUNTING, [office.today().isoformat(), int(number)]).fetchall()
     if not is_known:
-        raise Trouble(f"the office has no candidate {number}; a number has seven digits, `office look NAME` finds it")
+        raise NoCandidate(number)
     over = [paper for paper, is_over in entries if is_over]
     papers = [paper for paper, is_over in entries if not is_over]
     stay = f"entries in sessions that are over stay: {len(over)} ({few(over)})" * bool(over)

@@ -16,7 +16,7 @@ from exam_desk.changing import Step
 from exam_desk.reading import Member, Reading, Sitting
 from exam_desk.reasons import Reasons
 from exam_desk.snapshot import Rows
-from exam_desk.trouble import Trouble
+from exam_desk.trouble import NoCandidate, Trouble
 from exam_desk.words import clock, feature_text, plain
 
 MOST_LETTERS = 12  # of the code of a session or a paper
@@ -94,7 +94,7 @@ def paper_row(rows: Rows, code: str) -> sqlite3.Row:
 def refuse_without_clash(reading: Reading, asked: Asked, session: str) -> None:
     """Raises `Trouble` where the candidate is not entered for the paper, or for no other one in its session."""
     if not reading.knows(asked.number):
-        raise Trouble(f"the office has no candidate {asked.number}; `office look NAME` finds the number")
+        raise NoCandidate(asked.number)
     member = reading.member(session, asked.number)
     missed = reading.clashes(session, [asked.number]).get(asked.number, [])
     if member is None or asked.paper not in (member.sitting.paper, *missed):
@@ -162,7 +162,7 @@ def plan_back(reading: Reading, number: str, paper: str) -> Plan:
     """The steps that take a second sitting back. Raises `Trouble` where the candidate has none of this paper."""
     first = paper_row(reading.rows, paper)
     if not typed.is_right("number", number) or not reading.knows(number):
-        raise Trouble(f"the office has no candidate {number}; a number has seven digits, `office look NAME` finds it")
+        raise NoCandidate(number)
     found = sat_later(reading.rows, number, paper)
     if not found or is_live(reading.rows, number, paper) is not False:
         raise Trouble(f"{number} has no second sitting of {paper}; nothing is changed")

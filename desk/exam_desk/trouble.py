@@ -22,6 +22,13 @@ class NoOffice(Trouble):
                          "where a package made them), or let OFFICE name its file; `office init` makes a new one", path)
 
 
+class NoCandidate(Trouble):
+    """The office has no candidate with this number."""
+
+    def __init__(self, number: str) -> None:
+        super().__init__(f"the office has no candidate {number}; a number has seven digits, `office look NAME` finds it")
+
+
 class BadRows(Trouble):
     """Rows that no office has, by file and table."""
 
