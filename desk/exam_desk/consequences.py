@@ -38,9 +38,7 @@ OPENINGS = ("SELECT session, hall, day, until, start FROM opening JOIN session O
             "ORDER BY day, start, code, hall")
 GRAVEST = 4  # groups that have a line of their own in a short answer
 MOST_NAMED = 3  # candidates in such a line, or sessions
-DESK_ALONE = "desk"  # candidates of this kind are counted, and never named
-LEAVES = "leaves"
-COUNTED = ["gets", LEAVES, "joins", DESK_ALONE]  # so are these where the others are listed with what becomes of them
+COUNTED = ["gets", "leaves", "joins", "desk"]  # not named where the others are listed with what becomes of them
 FIGURES = ("SELECT code, coalesce(entered, 0), coalesce(seated, 0) FROM session "
            "LEFT JOIN (SELECT session AS code, count(DISTINCT number) AS entered FROM entry "
            "JOIN paper ON paper.code = paper WHERE live = 1 GROUP BY session) USING (code) "
@@ -159,7 +157,7 @@ def notes(before: Reading, after: Reading, met: Groups, first: str = "") -> list
     and who was noted so, and is gone from the list for the exam board. Then where absences are of another day, and
     where a hall that is closed is open yet."""
     days = {code: day for code, day, _ in facts.sessions(after.rows)}
-    left = [each for each in met.get(LEAVES, [])
+    left = [each for each in met.get("leaves", [])
             if not notebook.is_to_come(after.office, days.get(each.session, "9"))]
     noted = {code: notebook.absent(after.office, code) or () for code in {each.session for each in left}}
     gone = [f"{each.person[:7]} of {each.session}" for each in left if each.person[:7] in noted[each.session]]
@@ -297,9 +295,9 @@ def listing(met: Groups, copy: int) -> list[str]:
 
 
 def headline(kind: str, met: list[Met]) -> str:
-    """How many they are; a few by their names, and many by the sessions in which they are most; nobody who has another
-    desk alone."""
-    if kind == DESK_ALONE:
+    """How many they are; a few by their names, and many by the sessions in which they are most. Nobody is named who has
+    another desk alone."""
+    if kind == "desk":
         return title(kind, met)
     if kind not in OF_PLACES and len({each.person for each in met}) == 1 < len(met):
         return f"{counted(KINDS[kind], ['one'])}: {met[0].person} in {len(met)} sessions"

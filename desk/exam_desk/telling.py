@@ -32,11 +32,11 @@ KINDS = {  # the gravest first; what one does and what several do
 TO_TELL, DESK_ALONE = ("to tell",) * 2, ("with another desk only",) * 2
 
 SESSIONS_OF = ("SELECT DISTINCT session FROM {moment}.paper JOIN {moment}.entry ON entry.paper = paper.code "
-               "WHERE entry.number IN ({numbers})")
-OF_NUMBERS = SESSIONS_OF.replace("{numbers}", "SELECT number FROM different")
+               "WHERE entry.number IN (SELECT number FROM %s)")
+OF_NUMBERS = SESSIONS_OF % "different"
 SESSIONS = {  # by table: which sessions a row that is another can change, as a query over the rows in `different`
-    "session": "SELECT code FROM different UNION " + SESSIONS_OF.replace(
-        "{numbers}", "SELECT number FROM {moment}.appeal WHERE session IN (SELECT code FROM different)"),
+    "session": "SELECT code FROM different UNION "
+               + SESSIONS_OF % "{moment}.appeal WHERE session IN (SELECT code FROM different)",
     "paper": "SELECT session FROM different",
     "hall": "SELECT session FROM {moment}.opening WHERE hall IN (SELECT code FROM different)",
     "opening": "SELECT session FROM different",
