@@ -171,13 +171,12 @@ def notes(before: Reading, after: Reading, met: Groups, first: str = "") -> list
 def absences_of_another_day(before: Reading, after: Reading) -> Iterator[str]:
     """A line on each session that is moved from a day on which somebody can have been absent, and where somebody is
     noted so."""
-    office, days = after.office, {code: day for code, day, _ in facts.sessions(before.rows)}
-    for code, day, _ in facts.sessions(after.rows):
-        is_moved = days.get(code, day) != day and not notebook.is_to_come(office, days[code])
-        if is_moved and (stay := notebook.absent(office, code)):
+    office = after.office
+    for code, column, was, day in telling.other_values(before, after, ["sessions"]):
+        if column == "date" and not notebook.is_to_come(office, was) and (stay := notebook.absent(office, code)):
             since = f"from {day} on " * notebook.is_to_come(office, day)
             yield (f"NOTE: absences of {code} ({lists.count(len(stay), 'candidate')}) stay, and it is no longer on "
-                   f"{days[code]}: {since}`office absent {code} --there ..` takes them back")
+                   f"{was}: {since}`office absent {code} --there ..` takes them back")
 
 
 def still_open(before: Reading, after: Reading) -> list[str]:
