@@ -60,7 +60,7 @@ export const TEXTS = {
   aboutArrangement: "arrangement: {needs}",
   open: "not decided yet",
   granted: "granted",
-  standing: "granted, for later sessions too",
+  standing: "granted, for every session of that day or later",
   refused: "refused",
   retracted: "taken back",
   superseded: "replaced by a later one",

@@ -142,17 +142,15 @@ def sent(server: Server, request: bytes, seconds: float) -> socket.socket:
     """A connection over which a request went, as far as the server took it. Raises `Stranger`, or another OSError where
     nobody listens; each wait for the server lasts so long at most."""
     family, where = address(server.place)
-    connection = socket.socket(family)
-    try:
+    with contextlib.ExitStack() as stack:  # closes it where anything is raised
+        connection = stack.enter_context(socket.socket(family))
         connection.settimeout(seconds)
         connection.connect(where)
         refuse_stranger(connection, server)
         with contextlib.suppress(OSError):  # what it answered before can be received
             connection.sendall(request)
             connection.shutdown(socket.SHUT_WR)
-    except BaseException:
-        connection.close()
-        raise
+        stack.pop_all()
     return connection
 
 

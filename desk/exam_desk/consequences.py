@@ -11,14 +11,15 @@ from exam_desk.asking import Progress
 from exam_desk.left_behind import left_behind
 from exam_desk.office import Office
 from exam_desk.reading import Person, Reading
-from exam_desk.telling import Change, counted
+from exam_desk.telling import Change, Touched, counted
 from exam_desk.trouble import Trouble
-from exam_desk.words import few, plain
+from exam_desk.words import clock, few, plain
 
-OVER, OPENED, CLASHES, TWICE, HALLS, PRINTED = "over", "opened", "clashes", "twice", "halls", "printed"
+OVER, OPENED, SHUT, CLASHES, TWICE, HALLS, PRINTED = "over", "opened", "shut", "clashes", "twice", "halls", "printed"
 KINDS = {  # what may be a slip, who has no desk, what no rule of the office forbids, what is on paper; other changes
     OVER: ("session that is over is changed", "sessions that are over are changed"),
     OPENED: ("hall that was closed is open again", "halls that were closed are open again"),
+    SHUT: ("hall is closed when its session begins", "halls are closed when their sessions begin"),
     **{kind: telling.KINDS[kind] for kind in ("loses", "lacks")}, CLASHES: ("has a new clash", "have new clashes"),
     TWICE: ("is in two sessions at one time", "are in two sessions at one time"),
     HALLS: ("hall has candidates of two sessions at one time", "halls have candidates of two sessions at one time"),
@@ -27,17 +28,17 @@ KINDS = {  # what may be a slip, who has no desk, what no rule of the office for
     **telling.KINDS,
 }
 UNSEEN = ["arrangements", "openings"]  # kinds of rows of which a value can go and nobody sits otherwise
-OF_PLACES = [OVER, OPENED, HALLS, PRINTED]  # kinds of which sessions and halls are counted, and not people
+SLIPS = {OVER, OPENED, SHUT}
+OF_PLACES = [*SLIPS, HALLS, PRINTED]  # kinds of which sessions and halls are counted, and not people
 CODES = ("has another access code", "have other access codes")
 ENTERED_AGAIN = "`office back 1` or `office reinstate ..`, then "  # before who has left can be noted as absent
-LISTED_BY = {OPENED: "", CLASHES: "clashes {}", TWICE: "summary {}", HALLS: "summary {}",
+LISTED_BY = {OPENED: "", SHUT: "", CLASHES: "clashes {}", TWICE: "summary {}", HALLS: "summary {}",
              PRINTED: "printed {} --look"}
-OPEN = "SELECT session, hall, day FROM opening JOIN session ON code = session ORDER BY day, start, code, hall"
+OPENINGS = ("SELECT session, hall, day, until, start FROM opening JOIN session ON code = session "
+            "ORDER BY day, start, code, hall")
 GRAVEST = 4  # groups that have a line of their own in a short answer
 MOST_NAMED = 3  # candidates in such a line, or sessions
-DESK_ALONE = "desk"  # candidates of this kind are counted, and never named
-LEAVES = "leaves"
-COUNTED = ["gets", LEAVES, "joins", DESK_ALONE]  # so are these where the others are listed with what becomes of them
+COUNTED = ["gets", "leaves", "joins", "desk"]  # not named where the others are listed with what becomes of them
 FIGURES = ("SELECT code, coalesce(entered, 0), coalesce(seated, 0) FROM session "
            "LEFT JOIN (SELECT session AS code, count(DISTINCT number) AS entered FROM entry "
            "JOIN paper ON paper.code = paper WHERE live = 1 GROUP BY session) USING (code) "
@@ -56,26 +57,20 @@ class Met(NamedTuple):
         return f"{self.session} {self.person}"
 
 
-class Clash(NamedTuple):
-    """Somebody who misses papers of a session, since another one is at the same time."""
-    session: str
-    person: Person
-    missed: list[str]
-
-
 Groups = dict[str, list[Met]]  # whom a change meets, by kind, the gravest first; of each by session and name
 
 
 def between(before: Reading, after: Reading, at_most: int | None) -> list[str]:
     """What the steps of a rehearsal would do, of those who are named at most so many in each way; then a line for each
     session whose candidates or seats are other ones: how many they are, counted by their rows."""
-    met, was = groups(before, after), figures(before)
-    shown = left_behind(before, after) + (lines(met, at_most) if met or has_seats(before) else [])
-    sessions = [f"session {code}: {lists.count(people, 'candidate')}, {people - seats:,} without a desk"
-                + (f" (before: {was[code][0]:,} and {was[code][0] - was[code][1]:,})" if code in was else "")
-                for code, (people, seats) in other_figures(before, after).items()]
-    shown += other(before, after, at_most)
-    return shown + other_codes(before, after) + sessions + notes(before, after, met)
+    sessions, was = telling.touched(before, after), figures(before)
+    met = groups(before, after, sessions)
+    numbers = [f"session {code}: {lists.count(people, 'candidate')}, {people - seats:,} without a desk"
+               + (f" (before: {was[code][0]:,} and {was[code][0] - was[code][1]:,})" if code in was else "")
+               for code, (people, seats) in other_figures(before, after).items() if code in sessions]
+    others = [*other(before, after, at_most), *other_codes(before, after)]
+    return [*map(str, left_behind(before, after)), *(lines(met, at_most) if met or has_seats(before) else []), *others,
+            *numbers, *notes(before, after, met)]
 
 
 def done(office: Office, copy: str, progress: Progress) -> list[str]:
@@ -87,12 +82,12 @@ def done(office: Office, copy: str, progress: Progress) -> list[str]:
             if copies.listed(office)[:1] != [copy]:
                 raise Trouble("the office has changed again meanwhile")
             met = groups(before, after)
-            shown = left_behind(before, after)
-            shown += [f"{line}; `office summary` has all sessions" for line in short_at_first(before, after)]
-            shown += brief(met) + other(before, after, MOST_NAMED, UNSEEN)
+            short = [f"{line}; `office summary` has all sessions" for line in short_at_first(before, after)]
+            shown = [*map(str, left_behind(before, after)), *short, *brief(met)]
+            shown += other(before, after, MOST_NAMED, UNSEEN)
             place = copies.listed(office).index(copy) + 1
             words = [f"`office {words}` lists them" for words in listing(met, place)]
-            words += [f"`office back {place}` takes it back"] if {OVER, OPENED} & met.keys() else []
+            words += [f"`office back {place}` takes it back"] if SLIPS & met.keys() else []
             shown += ["; ".join(words)] if words else []
             return shown + other_codes(before, after) + notes(before, after, met, ENTERED_AGAIN)
     except (Trouble, OSError, sqlite3.Error, MemoryError) as fault:
@@ -100,10 +95,10 @@ def done(office: Office, copy: str, progress: Progress) -> list[str]:
         return [f"the change is done, but nobody can say what it did to candidates: {reason}; try `office changes 1`"]
 
 
-def groups(before: Reading, after: Reading) -> Groups:
-    """Those whom a change meets in each way, the gravest first. Where nobody has a seat yet, nobody can lose
-    or change one."""
-    sessions = telling.touched(before, after)
+def groups(before: Reading, after: Reading, sessions: Touched | None = None) -> Groups:
+    """Those whom a change meets in each way, the gravest first, in the sessions that it touches. Where nobody has a
+    seat yet, nobody can lose or change one."""
+    sessions = telling.touched(before, after) if sessions is None else sessions
     different = telling.of_touched(before, after, sessions) if has_seats(before) else []
     twice = list(overlaps.new(before, after, list(sessions)))
     clashes = [Met(session, person.shown(), f"does not sit {', '.join(missed)}")
@@ -113,6 +108,8 @@ def groups(before: Reading, after: Reading) -> Groups:
                for code, (day, people) in over(before, after, different, clashes).items()],
         OPENED: [Met(code, f"{hall} (closed on {when[:10]})", f"afterwards `office close-hall {code} {hall}` closes it")
                  for (code, hall), when in opened(before, after).items()],
+        SHUT: [Met(code, f"{hall} (open until {clock(until)})", f"the session begins at {clock(start)}")
+               for code, hall, _, until, start in shut(before, after)],
         CLASHES: clashes,
         TWICE: [Met(each.late, person.shown(), f"sits in {each.early} then")
                 for each in twice for person in by_name(after, each.candidates)],
@@ -131,8 +128,14 @@ def over(before: Reading, after: Reading, changes: Iterable[Change],
     if not has_seats(before):
         counts = Counter({code: people for code, (people, _) in other_figures(before, after).items()})
     days = sorted((day, code) for reading in (before, after) for code, day, _ in facts.sessions(reading.rows))
-    first, today = {code: day for day, code in reversed(days)}, after.office.today().isoformat()
-    return {code: (day, counts[code]) for code, day in reversed(first.items()) if day < today and counts[code]}
+    first = {code: day for day, code in reversed(days)}
+    return {code: (day, counts[code]) for code, day in reversed(first.items())
+            if after.office.is_over(day) and counts[code]}
+
+
+def openings(reading: Reading) -> dict[tuple[str, str], sqlite3.Row]:
+    """The open halls, by session and hall, in the order of the sessions."""
+    return {(row["session"], row["hall"]): row for row in reading.rows.execute(OPENINGS)}
 
 
 def opened(before: Reading, after: Reading) -> dict[tuple[str, str], str]:
@@ -143,9 +146,10 @@ def opened(before: Reading, after: Reading) -> dict[tuple[str, str], str]:
     return {each: closed[each] for each in sorted(new) if each in closed}
 
 
-def openings(reading: Reading) -> dict[tuple[str, str], str]:
-    """The open halls, by session and hall, in the order of the sessions, each with the day."""
-    return {(code, hall): day for code, hall, day in reading.rows.execute(OPEN)}
+def shut(before: Reading, after: Reading) -> list[sqlite3.Row]:
+    """The openings that are other ones, and that end before anybody can sit there: the session begins then or later."""
+    was = openings(before)
+    return [row for key, row in openings(after).items() if row["until"] <= row["start"] and was.get(key) != row]
 
 
 def notes(before: Reading, after: Reading, met: Groups, first: str = "") -> list[str]:
@@ -153,7 +157,7 @@ def notes(before: Reading, after: Reading, met: Groups, first: str = "") -> list
     and who was noted so, and is gone from the list for the exam board. Then where absences are of another day, and
     where a hall that is closed is open yet."""
     days = {code: day for code, day, _ in facts.sessions(after.rows)}
-    left = [each for each in met.get(LEAVES, [])
+    left = [each for each in met.get("leaves", [])
             if not notebook.is_to_come(after.office, days.get(each.session, "9"))]
     noted = {code: notebook.absent(after.office, code) or () for code in {each.session for each in left}}
     gone = [f"{each.person[:7]} of {each.session}" for each in left if each.person[:7] in noted[each.session]]
@@ -167,27 +171,26 @@ def notes(before: Reading, after: Reading, met: Groups, first: str = "") -> list
 def absences_of_another_day(before: Reading, after: Reading) -> Iterator[str]:
     """A line on each session that is moved from a day on which somebody can have been absent, and where somebody is
     noted so."""
-    office, days = after.office, {code: day for code, day, _ in facts.sessions(before.rows)}
-    for code, day, _ in facts.sessions(after.rows):
-        is_moved = days.get(code, day) != day and not notebook.is_to_come(office, days[code])
-        if is_moved and (stay := notebook.absent(office, code)):
+    office = after.office
+    for code, column, was, day in telling.other_values(before, after, ["sessions"]):
+        if column == "date" and not notebook.is_to_come(office, was) and (stay := notebook.absent(office, code)):
             since = f"from {day} on " * notebook.is_to_come(office, day)
             yield (f"NOTE: absences of {code} ({lists.count(len(stay), 'candidate')}) stay, and it is no longer on "
-                   f"{days[code]}: {since}`office absent {code} --there ..` takes them back")
+                   f"{was}: {since}`office absent {code} --there ..` takes them back")
 
 
 def still_open(before: Reading, after: Reading) -> list[str]:
     """Where halls that a change closes are open in other sessions, from today on."""
-    now, today, others = openings(after), after.office.today().isoformat(), defaultdict[str, list[str]](list)
+    now, others = openings(after), defaultdict[str, list[str]](list)
     closed = {hall for _, hall in openings(before).keys() - now.keys()}
-    for (code, hall), day in now.items():
-        if hall in closed and day >= today:
+    for (code, hall), row in now.items():
+        if hall in closed and not after.office.is_over(row["day"]):
             others[hall].append(code)
     found = [f"{hall} in {few(codes)}" for hall, codes in sorted(others.items())]
     return [f"NOTE: still open: {'; '.join(found[:MOST_NAMED])}"] if found else []
 
 
-def out_of_date(before: Reading, after: Reading, sessions: telling.Touched) -> dict[str, list[str]]:
+def out_of_date(before: Reading, after: Reading, sessions: Touched) -> dict[str, list[str]]:
     """By session the halls whose papers are noted as printed and hold no longer, of those whom a change can meet."""
     found = {code: halls_out_of_date(before, after, code, people) for code, people in sessions.items()}
     return {code: sorted(halls) for code, halls in found.items() if halls}
@@ -202,25 +205,23 @@ def halls_out_of_date(before: Reading, after: Reading, session: str, people: Col
     was, ends = ({each.hall: (each.title, each.until) for each in facts.openings(reading.rows, session)}
                  for reading in (before, after))
     there = {int(number) for number, line in paper.items() if was.get(line.desk.hall) != ends.get(line.desk.hall)}
-    then, now = (notebook.lines_of(reading, session, reading.members(session, [
-        number for number in facts.entered(reading.rows, session) if people is None or number in there.union(people)]))
-        for reading in (before, after))
+    asked = None if people is None else there.union(people)
+    then, now = (notebook.lines_of(reading, session, reading.members(session, telling.entered(reading, session, asked)))
+                 for reading in (before, after))
     lines = (line for number in notebook.moved(then, now) if paper.get(number) != now.get(number)
              for line in (paper.get(number), now.get(number)))
     return {line.desk.hall for line in lines if line}
 
 
-def new_clashes(before: Reading, after: Reading, sessions: telling.Touched) -> Iterator[Clash]:
-    """Who misses papers of a session that they did not miss before, of those whom a change can meet there; by session
-    and name."""
+def new_clashes(before: Reading, after: Reading, sessions: Touched) -> Iterator[tuple[str, Person, list[str]]]:
+    """Who misses papers of a session that they did not miss before, of those whom a change can meet there, with the
+    session and these papers; by session and name."""
     for session, people in sessions.items():
-        several = [f"{number:07}" for number, count in facts.entered(after.rows, session).items()
-                   if count > 1 and (people is None or number in people)]
-        new, entered = after.clashes(session, several), facts.entered(before.rows, session)
-        old = before.clashes(session, [number for number in new if int(number) in entered])
+        several = ((reading, telling.entered(reading, session, people, 2)) for reading in (before, after))
+        old, new = (reading.clashes(session, [*map("{:07}".format, numbers)]) for reading, numbers in several)
         missed = {number: sorted(set(papers) - set(old.get(number, []))) for number, papers in new.items()}
         for person in by_name(after, (number for number, papers in missed.items() if papers)):
-            yield Clash(session, person, missed[person.number])
+            yield session, person, missed[person.number]
 
 
 def by_name(reading: Reading, numbers: Iterable[str]) -> list[Person]:
@@ -245,9 +246,8 @@ def other(before: Reading, after: Reading, at_most: int | None, kinds: Iterable[
 
 def other_codes(before: Reading, after: Reading) -> list[str]:
     """A line on those whose access code is another, since the slip that they hold opens nothing then."""
-    was = facts.access_codes(before.rows)
-    others = [number for number, code in facts.access_codes(after.rows).items() if was.get(number, code) != code]
-    people = by_name(after, map(str, others)) if len(others) <= MOST_NAMED else []
+    others = [key for key, column, *_ in telling.other_values(before, after, ["candidates"]) if column == "code"]
+    people = by_name(after, others) if len(others) <= MOST_NAMED else []
     who = ": " + "; ".join(person.shown() for person in people) if people else ""
     return [f"{counted(CODES, others)}{who}; a slip with the old code opens nothing"] if others else []
 
@@ -288,29 +288,31 @@ def brief(met: Groups) -> list[str]:
 def listing(met: Groups, copy: int) -> list[str]:
     """What lists them, if something does: the changes since a copy where somebody sits otherwise, and the clashes and
     the overlaps."""
-    words = dict.fromkeys([f"changes {copy}"] if met.keys() - LISTED_BY.keys() else [])
-    words |= dict.fromkeys(LISTED_BY[kind].format(each.session)
-                           for kind, people in met.items() if LISTED_BY.get(kind) for each in people)
-    return ["; office ".join([*words][:MOST_NAMED])] if words else []
+    words = [f"changes {copy}"] if met.keys() - LISTED_BY.keys() else []
+    words += [LISTED_BY[kind].format(each.session) for kind in met if LISTED_BY.get(kind) for each in met[kind]]
+    return ["; office ".join([*dict.fromkeys(words)][:MOST_NAMED])] if words else []
 
 
 def headline(kind: str, met: list[Met]) -> str:
-    """How many they are; a few by their names, and many by the sessions in which they are most; nobody who has another
-    desk alone."""
-    if kind == DESK_ALONE:
+    """How many they are; a few by their names, and many by the sessions in which they are most. Nobody is named who has
+    another desk alone."""
+    if kind == "desk":
         return title(kind, met)
     if kind not in OF_PLACES and len({each.person for each in met}) == 1 < len(met):
         return f"{counted(KINDS[kind], ['one'])}: {met[0].person} in {len(met)} sessions"
-    if len(met) <= MOST_NAMED or kind in OF_PLACES:
-        named = [*(each.who for each in met[:MOST_NAMED]), *[".."] * (len(met) > MOST_NAMED)]
-        return f"{title(kind, met)}: {'; '.join(named)}"
-    return f"{title(kind, met)}: {most(Counter(each.session for each in met))}"
+    is_named = len(met) <= MOST_NAMED or kind in OF_PLACES
+    where = first([each.who for each in met], "; ") if is_named else most(Counter(each.session for each in met))
+    return f"{title(kind, met)}: {where}"
 
 
 def most(counts: Counter[str]) -> str:
     """The sessions with the most, and how many in each."""
-    where = [f"{count:,} in {session}" for session, count in counts.most_common() if count]
-    return ", ".join([*where[:MOST_NAMED], *([".."] if len(where) > MOST_NAMED else [])])
+    return first([f"{count:,} in {session}" for session, count in counts.most_common() if count], ", ")
+
+
+def first(words: list[str], between: str) -> str:
+    """The first of them, and whether there are more."""
+    return between.join(words[:MOST_NAMED] + [".."] * (len(words) > MOST_NAMED))
 
 
 def figures(reading: Reading) -> dict[str, tuple[int, int]]:

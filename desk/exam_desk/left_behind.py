@@ -3,77 +3,82 @@ a session and a paper of their own, which nobody thinks of when the row of the f
 from __future__ import annotations
 
 import sqlite3
-from typing import NamedTuple
+from collections.abc import Iterator
 
 from exam_desk.reading import Reading
 from exam_desk.second_sitting import PAPERS, second_papers
-from exam_desk.words import clock, feature_text, few, plain
+from exam_desk.words import Said, clock, feature_text, plain
 
 ENTERED = "SELECT number FROM entry WHERE paper = ? AND live = 1 ORDER BY number"
 OPENED = "SELECT session, hall FROM opening"
-SEATED = "SELECT number FROM seat WHERE session = ? AND hall = ? ORDER BY number"
-MOST_LINES = 5
+SEATED = "SELECT number FROM seat WHERE (session, hall) = (?, ?) ORDER BY number"
+MOST_LINES, MOST_NAMED = 5, 3
+STAYS = ("NOTE: {paper} in {session}, a second sitting of {first}, stays as it is ({kept}) for {people}: import a row for "
+         "{session} or {paper} too")
+STAYS_OPEN = "NOTE: {hall} stays open in {session}, for the second sitting of {people}"
+MORE_STAY, MORE = "NOTE: .. and {count} more second sittings that stay as they are", "{names} and {count} more"
+KEPT = {  # what a second sitting can keep: the words, and the columns
+    "on {day} at {start}": ["day", "start"], "{minutes} minutes": ["minutes"], "requires {requires}": ["requires"],
+    "the title {title}": ["title"],
+}
+TEXTS = [STAYS, STAYS_OPEN, MORE_STAY, MORE, *KEPT]
+Papers = dict[str, sqlite3.Row]  # by code, in the order of time, with the day and the start of the session
 
 
-class Moments(NamedTuple):
-    """A paper before a change and after it, with the day and the start of its session."""
-    before: sqlite3.Row
-    after: sqlite3.Row
-
-    def has_other(self, *columns: str) -> bool:
-        return any(self.before[name] != self.after[name] for name in columns)
-
-
-def left_behind(before: Reading, after: Reading) -> list[str]:
-    """A line for each second sitting which stays as it is while its paper does not, or in a hall that is closed before,
-    with those who sit it; at most MOST_LINES, and one for the rest."""
+def left_behind(before: Reading, after: Reading) -> list[Said]:
+    """What is said of each second sitting which stays as it is while its paper does not, or in a hall that is closed
+    before, with those who sit it; at most MOST_LINES, and once more of the rest."""
     was, now = papers(before), papers(after)
-    moments = {code: Moments(was[code], now[code]) for code in was if code in now}
-    others = {code: each for code, each in moments.items() if was[code] != now[code]}
-    pairs = [(each, moments[row["code"]]) for each in others.values()
-             for row in second_papers(before.rows, each.before) if row["code"] in moments]
-    found = [line for first, second in pairs for line in stays(after, first, second)] + in_closed_halls(before, after)
+    found = [said for code, first in was.items() if code in now and now[code] != first
+             for second in second_papers(before.rows, first) if second["code"] in now
+             for said in stays(after, (first, now[code]), (second, now[second["code"]]))]
+    found += in_closed_halls(before, after)
     rest = len(found) - MOST_LINES
-    return found[:MOST_LINES] + [f"NOTE: .. and {rest:,} more second sittings that stay as they are"] * (rest > 0)
+    return found[:MOST_LINES] + [Said(MORE_STAY, {"count": f"{rest:,}"})] * (rest > 0)
 
 
-def in_closed_halls(before: Reading, after: Reading) -> list[str]:
-    """A line for each hall which a change closes for a session, and which stays open for a second sitting of it."""
-    were, are = ({(code, hall) for code, hall in each.rows.execute(OPENED)} for each in (before, after))
-    closed = were - are
-    firsts = [row for row in papers(after).values() if row["session"] in {code for code, _ in closed}]
-    later = {(first["session"], row["session"]) for first in firsts for row in second_papers(after.rows, first)}
-    pairs = sorted((hall, then) for code, hall in closed for first, then in later
-                   if first == code and (then, hall) in are)
-    return [f"NOTE: {hall} stays open in {then}, for the second sitting of {few(people)}" for hall, then in pairs
-            if (people := shown(after, SEATED, then, hall))]
-
-
-def shown(reading: Reading, query: str, *values: str) -> list[str]:
-    """The candidates whose numbers a query finds."""
-    return [reading.person(number).shown() for number, in reading.rows.execute(query, values).fetchall()]
-
-
-def papers(reading: Reading) -> dict[str, sqlite3.Row]:
-    """The papers by code, in the order of time."""
+def papers(reading: Reading) -> Papers:
     return {row["code"]: row for row in reading.rows.execute(f"{PAPERS} ORDER BY day, start, paper.code")}
 
 
-def stays(after: Reading, first: Moments, second: Moments) -> list[str]:
-    """The line on a second sitting, where somebody is entered for it and it keeps what its paper has otherwise."""
-    row, people = second.after, shown(after, ENTERED, second.after["code"])
-    kept = {f"on {row['day']} at {clock(row['start'])}": ["day", "start"], f"{row['minutes']} minutes": ["minutes"],
-            f"requires {feature_text(row['requires'])}": ["requires"], f"the title {plain(row['title'])}": ["title"]}
-    words = [said for said, columns in kept.items() if first.has_other(*columns) and not second.has_other(*columns)
-             and differs(first.after, row, columns)]
-    if not (words and people):
-        return []
-    return [f"NOTE: {row['code']} in {row['session']}, a second sitting of {first.after['code']}, stays as it is "
-            f"({', '.join(words)}) for {few(people)}: import a row for {row['session']} or {row['code']} too"]
+def in_closed_halls(before: Reading, after: Reading) -> Iterator[Said]:
+    """What is said of each hall which a change closes for a session, and which stays open for a second sitting of it."""
+    were, are = ({(code, hall) for code, hall in each.rows.execute(OPENED)} for each in (before, after))
+    closed = were - are
+    later = {(first["session"], row["session"]) for first in papers(after).values()
+             if first["session"] in {code for code, _ in closed} for row in second_papers(after.rows, first)}
+    for hall, session in sorted((hall, then) for code, hall in closed for first, then in later if first == code):
+        if (session, hall) in are and (people := named(after, SEATED, session, hall)):
+            yield Said(STAYS_OPEN, {"hall": hall, "session": session, "people": people})
 
 
-def differs(first: sqlite3.Row, second: sqlite3.Row, columns: list[str]) -> bool:
+def named(reading: Reading, query: str, *values: str) -> list[str] | Said:
+    """The candidates whose numbers a query finds, the first by their names."""
+    people = [reading.person(number).shown() for number, in reading.rows.execute(query, values).fetchall()]
+    rest = len(people) - MOST_NAMED
+    return Said(MORE, {"names": people[:MOST_NAMED], "count": f"{rest:,}"}) if rest > 0 else people
+
+
+def stays(after: Reading, first: tuple[sqlite3.Row, sqlite3.Row], second: tuple[sqlite3.Row, sqlite3.Row]
+          ) -> Iterator[Said]:
+    """What is said of a second sitting which keeps what its paper has otherwise, and for which somebody is entered; of
+    both as they were and as they are."""
+    row = second[1]
+    values = {**dict(row), "start": clock(row["start"]), "requires": feature_text(row["requires"]),
+              "title": plain(row["title"])}
+    kept = [Said(text, {name: values[name] for name in columns}) for text, columns in KEPT.items()
+            if differ(*first, columns) and not differ(*second, columns) and is_behind(first[1], row, columns)]
+    if kept and (people := named(after, ENTERED, row["code"])):
+        yield Said(STAYS, {"paper": row["code"], "session": row["session"], "first": first[1]["code"], "kept": kept,
+                           "people": people})
+
+
+def differ(one: sqlite3.Row, other: sqlite3.Row, columns: list[str]) -> bool:
+    return any(one[name] != other[name] for name in columns)
+
+
+def is_behind(first: sqlite3.Row, second: sqlite3.Row, columns: list[str]) -> bool:
     """Whether a second sitting has something otherwise than its paper; a later start of the same day is right."""
     if "start" in columns:
         return bool(first["day"] != second["day"] or second["start"] <= first["start"])
-    return Moments(first, second).has_other(*columns)
+    return differ(first, second, columns)

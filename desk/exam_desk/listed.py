@@ -17,7 +17,7 @@ from exam_desk.words import few
 OF_THE_OFFICE = [22, 23, 24, 27]  # refusals
 TURN = 8  # seconds after which `keep`, and whoever waits, has the office before the next row
 BETWEEN = 0.1  # seconds between two turns, in which another command that waits looks several times
-COUNTING = ("SELECT paper, day < ? FROM entry JOIN paper ON paper.code = paper JOIN session ON session.code = session "
+COUNTING = ("SELECT paper, day FROM entry JOIN paper ON paper.code = paper JOIN session ON session.code = session "
             "WHERE number = ? AND live = 1 ORDER BY day, start, paper")
 Rows = dict[int, Step]  # by the line in which each begins, the command that it means
 Tell = Callable[[int, Answered], None]  # hears what became of the row that begins in a line
@@ -53,11 +53,11 @@ def of_candidate(office: Office, number: str) -> Rows:
     number = candidate_number(number)
     with contextlib.closing(rows_now(office)) as rows:
         is_known = number in facts.candidate_names(rows)
-        entries = rows.execute(COUNTING, [office.today().isoformat(), int(number)]).fetchall()
+        entries = rows.execute(COUNTING, [int(number)]).fetchall()
     if not is_known:
         raise NoCandidate(number)
-    over = [paper for paper, is_over in entries if is_over]
-    papers = [paper for paper, is_over in entries if not is_over]
+    over = [paper for paper, day in entries if office.is_over(day)]
+    papers = [paper for paper, day in entries if not office.is_over(day)]
     stay = f"entries in sessions that are over stay: {len(over)} ({few(over)})" * bool(over)
     if not papers:
         raise Trouble(f"{number} is entered for no paper{' from today on' * bool(over)}; nothing is changed"

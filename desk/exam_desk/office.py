@@ -16,6 +16,10 @@ class Office:
     user: str  # who works, as the log has it
     warn: Callable[[str], None] = lambda text: None  # hears at once what somebody must know, such as that it waits
 
+    def is_over(self, day: str) -> bool:
+        """Whether the sessions of a day are over: it has passed."""
+        return day < self.today().isoformat()
+
     def base_name(self) -> str:
         """The name of the file itself, also where the path is a link to it: copies have that name."""
         return os.path.basename(os.path.realpath(self.path))

@@ -2,6 +2,7 @@
 guess, since only the program says what an opening comes to: `what-if`, or a button, has it rehearse each."""
 from __future__ import annotations
 
+import operator
 from collections import Counter
 from collections.abc import Iterator
 from statistics import mode
@@ -31,6 +32,13 @@ class Remedy(NamedTuple):
         return 2 * (then.desks != now.desks) + (then.until != now.until) + (then.reserved != now.reserved)
 
 
+class Alike(NamedTuple):
+    """Candidates on the sheet who can sit in the same halls, where another is to be open."""
+    end: int  # until when they would sit there; 0 where it cannot suit them
+    halls: frozenset[str]  # of those that are open, which suit them
+    place: str | None  # in which they sit
+
+
 def best(rows: Rows, why: Reasons, sheet: Shortage) -> list[Remedy]:
     """The first of them, of each hall one for as many seats: those for most, and of these what asks for least. None
     where the halls and the candidates on the sheet are too many."""
@@ -47,8 +55,8 @@ def remedies(rows: Rows, why: Reasons, sheet: Shortage) -> Iterator[Remedy]:
     """With the desks that are free, and with as many as are short. A closed hall has no more than it has in another
     session. A hall is open no longer than is needed; a closed one until most open halls are, where that is later."""
     listed, opened = set(sheet.candidates), {each.hall: each for each in why.openings}
-    members = sorted((each for each in why.members if each.number in listed), key=lambda each: bool(each.sitting.hall))
-    suited = [frozenset(each.hall for each in why.openings if not why.obstacles(member, each)) for member in members]
+    people = [(member, frozenset(each.hall for each in why.openings if not why.obstacles(member, each)))
+              for member in sorted(why.members, key=lambda each: bool(each.sitting.hall)) if member.number in listed]
     most = dict(rows.execute("SELECT hall, max(desks) FROM opening GROUP BY hall"))
     usual = mode(sorted((each.until for each in why.openings), reverse=True) or [0])  # of several the latest
     for code, title, mask in rows.execute("SELECT code, title, features FROM hall ORDER BY code"):
@@ -56,39 +64,48 @@ def remedies(rows: Rows, why: Reasons, sheet: Shortage) -> Iterator[Remedy]:
         base = now or Opening(code, title, mask, 0, usual, False)
         for reserved in {base.reserved, False}:
             widest = base._replace(until=MIDNIGHT, reserved=reserved)
-            ends = ends_of(code, Counter(
-                (0 if why.obstacles(member, widest) else of_day(member.sitting.finish), halls, member.sitting.hall)
-                for member, halls in zip(members, suited)))
+            ends = Moves(code, Counter(
+                Alike(0 if why.obstacles(member, widest) else of_day(member.sitting.finish), halls, member.sitting.hall)
+                for member, halls in people)).ends()
             free = base.desks - taken if now else most.get(code, len(ends))
             for seats in {len(ends[:free]), len(ends) if now else 0} - {0}:
                 yield Remedy(seats, base._replace(until=max(base.until, ends[seats - 1]), reserved=reserved,
                                                   desks=max(base.desks, taken + seats)), now)
 
 
-def ends_of(hall: str, people: Counter[tuple[int, frozenset[str], str | None]]) -> list[int]:
-    """One more has a desk each time that a hall is open until then and has another desk: somebody goes there, and
-    others move on to the desk that is left, the last from none. How many people there are is by their end, 0 where the
-    hall cannot suit them, by the open halls that do, and by where they sit."""
-    full, found = {hall}, list[int]()
+class Moves:
+    """Who moves on, once one hall has more desks or is open for longer, so that more have a desk."""
 
-    def is_left(place: str | None) -> bool:
-        """Whether somebody can have a desk that is left, so that one more has a desk; they have it then."""
-        if place is None or place in full:
+    def __init__(self, hall: str, people: Counter[Alike]) -> None:
+        self.hall, self.people = hall, people
+        self.stuck = {hall}  # halls of which a desk that is left helps nobody; who sits in the hall itself stays
+
+    def ends(self) -> list[int]:
+        """Until when the hall must be open so that one more has a desk, two more and so on, each time with a desk more
+        for somebody who goes there."""
+        ends = list[int]()
+        for end, halls in sorted({each[:2] for each in self.people if each.end}, key=operator.itemgetter(0)):
+            alike = [Alike(end, halls, place) for place in (None, *halls)]
+            while mover := next((each for each in alike if self.people[each] and self.is_left(each.place)), None):
+                self.move(mover, self.hall)
+                ends.append(end)
+        return ends
+
+    def is_left(self, place: str | None) -> bool:
+        """Has a desk in a place that somebody leaves come to one without a desk, as others move on; whether it can."""
+        if place is None or place in self.stuck:
             return place is None
-        full.add(place)
-        for end, halls, other in [*people]:
-            if place in halls and other != place and people[end, halls, other] and is_left(other):
-                people[end, halls, other] -= 1
-                people[end, halls, place] += 1
-                full.discard(place)
+        self.stuck.add(place)
+        for each in [*self.people]:
+            if place in each.halls and each.place != place and self.people[each] and self.is_left(each.place):
+                self.move(each, place)
+                self.stuck.discard(place)
                 return True
         return False
-    for end, halls in sorted({(end, halls) for end, halls, _ in people if end}, key=lambda each: each[0]):
-        places = [None, *halls]
-        while (place := next((each for each in places if people[end, halls, each] and is_left(each)), hall)) != hall:
-            people[end, halls, place] -= 1
-            found.append(end)
-    return found
+
+    def move(self, who: Alike, place: str) -> None:
+        self.people[who] -= 1
+        self.people[who._replace(place=place)] += 1
 
 
 def lines(rows: Rows, why: Reasons, sheet: Shortage) -> list[str]:

@@ -32,11 +32,11 @@ KINDS = {  # the gravest first; what one does and what several do
 TO_TELL, DESK_ALONE = ("to tell",) * 2, ("with another desk only",) * 2
 
 SESSIONS_OF = ("SELECT DISTINCT session FROM {moment}.paper JOIN {moment}.entry ON entry.paper = paper.code "
-               "WHERE entry.number IN ({numbers})")
-OF_NUMBERS = SESSIONS_OF.replace("{numbers}", "SELECT number FROM different")
+               "WHERE entry.number IN (SELECT number FROM %s)")
+OF_NUMBERS = SESSIONS_OF % "different"
 SESSIONS = {  # by table: which sessions a row that is another can change, as a query over the rows in `different`
-    "session": "SELECT code FROM different UNION " + SESSIONS_OF.replace(
-        "{numbers}", "SELECT number FROM {moment}.appeal WHERE session IN (SELECT code FROM different)"),
+    "session": "SELECT code FROM different UNION "
+               + SESSIONS_OF % "{moment}.appeal WHERE session IN (SELECT code FROM different)",
     "paper": "SELECT session FROM different",
     "hall": "SELECT session FROM {moment}.opening WHERE hall IN (SELECT code FROM different)",
     "opening": "SELECT session FROM different",
@@ -45,12 +45,16 @@ SESSIONS = {  # by table: which sessions a row that is another can change, as a 
     "candidate": OF_NUMBERS, "arrangement": OF_NUMBERS, "appeal": OF_NUMBERS, "standing": OF_NUMBERS,
 }
 OF_ALL = ["session", "paper"]  # a row of such a table can meet all members of its sessions
+OF_NO_SESSION = ["candidate", "arrangement", "seat"]  # a row holds in all sessions, or another row brought it
 OF_ONE = ["seat", "entry", "candidate", "arrangement", "appeal", "standing"]  # a row belongs to one candidate
 NEIGHBOURS = (  # whoever sits in a hall with one of the numbers, before or after
     "WITH halls AS (SELECT session, hall FROM before.seat WHERE number IN numbers "
     "UNION SELECT session, hall FROM after.seat WHERE number IN numbers) "
     "SELECT session, number FROM before.seat JOIN halls USING (session, hall) "
     "UNION SELECT session, number FROM after.seat JOIN halls USING (session, hall)")
+RENAMED = ("SELECT number FROM before.candidate AS was JOIN after.candidate AS later USING (number) "
+           "WHERE was.name <> later.name")
+TITLES = "SELECT code, title FROM paper UNION ALL SELECT code, title FROM hall"
 MOMENTS = ("before", "after")
 CHANGED = ["sessions", "papers", "halls", "openings", "arrangements"]  # kinds of rows of which other values are said
 Touched = dict[str, set[int] | None]  # by session the numbers; None for all of its members
@@ -115,8 +119,9 @@ def columns(sitting: Sitting | None) -> list[str]:
     return [str(getattr(sitting, name, None) or "") for name in COLUMNS]
 
 
-def touched(before: Reading, after: Reading) -> Touched:
-    """The sessions in order, each with those whom the change can meet there."""
+def touched(before: Reading, after: Reading, with_past: bool = False) -> Touched:
+    """The sessions in order, each with those whom the change can meet there. Of sessions that are over, and that only
+    arrangements change, nobody is told but another name, unless the past is asked for, too."""
     people: dict[str, set[int]] = defaultdict(set)
     with contextlib.closing(sqlite3.connect(":memory:")) as both:
         both.execute("PRAGMA temp_store = MEMORY")  # reasons of appeals are in no file of others
@@ -125,11 +130,15 @@ def touched(before: Reading, after: Reading) -> Touched:
         both.execute("CREATE TEMP TABLE numbers (number PRIMARY KEY)")
         found = {table: sessions_of(both, table) for table in SESSIONS}
         numbers = {number for number, in both.execute("SELECT number FROM numbers")}
+        renamed = {number for number, in both.execute(RENAMED)}
         for session, number in both.execute(NEIGHBOURS):
             people[session].add(number)
     sessions, whole = set().union(*found.values()), set().union(*(found[table] for table in OF_ALL))
-    return {code: None if code in whole else numbers | people[code]
-            for code in all_sessions(before, after) if code in sessions}
+    named = set().union(*(found[table] for table in SESSIONS if table not in OF_NO_SESSION))
+    past = {code for code, day, _ in facts.sessions(after.rows)
+            if code in found["arrangement"] - named and after.office.is_over(day) and not with_past}
+    return {code: renamed if code in past else None if code in whole else numbers | people[code]
+            for code in all_sessions(before, after) if code in sessions - (past - found["candidate"])}
 
 
 def all_sessions(before: Reading, after: Reading) -> list[str]:
@@ -157,7 +166,7 @@ def differences(before: Reading, after: Reading, asked: Collection[str] = ()) ->
     for code in asked:
         if code not in sessions:
             raise Trouble(f"there is no session {code}; the office has {few(sessions, 20)}")
-    found = touched(before, after)
+    found = touched(before, after, with_past=True)
     return of_touched(before, after, {code: found[code] for code in found if not asked or code in asked})
 
 
@@ -191,11 +200,15 @@ def with_moves(changes: Iterable[Change]) -> list[Change]:
     return [*found.values()]
 
 
+def entered(reading: Reading, session: str, people: Collection[int] | None, least: int = 1) -> list[int]:
+    """The numbers of those of these people, or of all, who have so many entries in a session, or more."""
+    return [number for number, count in facts.entered(reading.rows, session).items()
+            if count >= least and (people is None or number in people)]
+
+
 def sat(reading: Reading, sessions: Touched) -> dict[tuple[str, str], tuple[str, Sitting]]:
     """The names of those who are touched, and what they sit, by session and number; all are asked of at once."""
-    numbers = {session: [number for number in facts.entered(reading.rows, session)
-                         if people is None or number in people]
-               for session, people in sessions.items()}
+    numbers = {session: entered(reading, session, people) for session, people in sessions.items()}
     reading.ask(map(reading.person, sorted(set().union(*numbers.values()))))
     return {(session, number): (name, sitting) for session, asked in numbers.items()
             for number, name, sitting in reading.members(session, asked)}
@@ -251,9 +264,7 @@ def csv_row(change: Change, titles: dict[str, str]) -> list[str]:
 
 def titles_of(*readings: Reading) -> dict[str, str]:
     """The titles of papers and halls by code; a later reading counts."""
-    return {code: title for reading in readings
-            for found in (facts.paper_titles(reading.rows), facts.hall_titles(reading.rows))
-            for code, title in found.items()}
+    return {code: title for reading in readings for code, title in reading.rows.execute(TITLES)}
 
 
 class OtherValue(NamedTuple):

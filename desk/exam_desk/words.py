@@ -2,11 +2,23 @@
 from __future__ import annotations
 
 import datetime
-from collections.abc import Sequence
+from collections.abc import Mapping, Sequence
+from typing import NamedTuple
 
 FEATURES = ["step-free", "screen", "reader", "small-room", "computer", "quiet"]  # the value of a place is 1, 2, 4 ..
 HIDDEN = {*range(0x20), *range(0x7f, 0xa0), 0x61c, 0x200e, 0x200f, *range(0x2028, 0x202f), *range(0x2066, 0x206a)}
 UNSHOWN = dict.fromkeys(HIDDEN, "?")
+
+
+class Said(NamedTuple):
+    """A text in which words in braces stand for values, so that a page can say it in another language; a list has parts
+    that are said one after the other."""
+    text: str
+    values: Mapping[str, object]
+
+    def __str__(self) -> str:
+        return self.text.format(**{name: ", ".join(map(str, value)) if isinstance(value, list) else value
+                                   for name, value in self.values.items()})
 
 
 def plain(text: object) -> str:

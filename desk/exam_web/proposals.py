@@ -72,7 +72,7 @@ class Effects:
         self.codes = consequences.by_name(now, [str(number) for number, code in codes_now.items()
                                                 if codes.get(number, code) != code])
         self.sessions = [(was.get(code), each) for code, each in sums(after).items()
-                         if code not in was or NUMBERS(was[code]) != NUMBERS(each)]
+                         if code in met and (code not in was or NUMBERS(was[code]) != NUMBERS(each))]
         self.rows = [*itertools.islice(telling.other_values(then, now), MOST_ROWS)]
         arranged = {*map(tuple, then.rows.execute(ARRANGED))}
         self.granted = [(now.person(row[0]), found) for row in now.rows.execute(OF_GRANTED).fetchall()
@@ -82,10 +82,12 @@ class Effects:
         self.overlaps = named(now, overlaps.new(then, now, [*met]))
         self.out_of_date = consequences.out_of_date(then, now, met)
         self.over, self.opened = consequences.over(then, now, changes), consequences.opened(then, now)
+        self.shut = consequences.shut(then, now)
         short = set() if changes else unseated(after) - unseated(before)
         self.short = [*itertools.islice(by_session(after, short), MOST_ROWS)]
         who: dict[str, list[Any]] = {kind: [each.number for each in part] for kind, part in kinds.items()} | {
-            "over": list(self.over), "opened": list(self.opened), "short": [number for _, number in short],
+            "over": list(self.over), "opened": list(self.opened), "shut": self.shut,
+            "short": [number for _, number in short],
             "clashes": [member.number for _, member, _ in self.clashes if member],
             "twice": [person.number for _, people in self.overlaps for person in people],
             "halls": [(each.early, each.late, hall) for each, _ in self.overlaps for hall in each.halls],
@@ -129,7 +131,7 @@ class Plan:
     command: str = ""  # as the log has it, where it is not the steps
     made_for: str = ""  # the state that the steps were made for; "" where they suit each
     done: Callable[[], None] = lambda: None  # is called once it is carried out
-    look: Callable[[Reading, Reading], list[str]] = left_behind  # says more of a rehearsal, or refuses it
+    look: Callable[[Reading, Reading], Sequence[object]] = left_behind  # says more of a rehearsal, or refuses it
     asked: Asked = field(default_factory=lambda: Asked((request.view_args or {}).get("what", ""), request.form))
     key: str = ""
     lock: threading.Lock = field(default_factory=threading.Lock)  # of who does it
@@ -141,7 +143,7 @@ class Plan:
     promised: str = ""
     answers: list[Answered] = field(default_factory=list)
     effects: Effects | None = None
-    lines: list[str] = field(default_factory=list)  # what is said of the rehearsal besides
+    lines: Sequence[object] = ()  # what is said of the rehearsal besides
     refusal: str = ""  # the program's line
     against: list[str] = field(default_factory=list)  # it in words, and its place in a file; or what the desk refuses
     moved_on: list[list[str]] | None = None  # what the log has since, where the office was another

@@ -13,7 +13,7 @@ from flask import Flask, current_app, request
 from markupsafe import Markup, escape
 
 from exam_desk.names import parted
-from exam_desk.words import clock, features, plain
+from exam_desk.words import Said, clock, features, plain
 
 MOST_LETTERS = 10  # of a name at a desk
 RIGHT_TO_LEFT = ("ar", "fa", "he", "ur")
@@ -44,7 +44,12 @@ def many(count: int, one: str, more: str, **values: object) -> Markup:
 
 
 def shown(value: object) -> Markup:
-    """A value of the office: what hides in it is shown as `?`, and its direction stays its own."""
+    """A value of the office: what hides in it is shown as `?`, and its direction stays its own. Or a text of the table
+    with its values, or several of them."""
+    if isinstance(value, Said):
+        return text(value.text, **value.values)
+    if isinstance(value, list):
+        return Markup(", ").join(map(shown, value))
     if isinstance(value, Markup) or not isinstance(value, str):
         return escape(value)
     return Markup("<bdi>{}</bdi>").format(plain(value))

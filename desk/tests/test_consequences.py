@@ -229,6 +229,50 @@ class Told(sample.SampleSchool):
         self.assertIn("once imported: 3 sessions that are over are changed: MON-AM of 2027-06-07 for 60 candidates; MON-PM of "
                       "2027-06-07 for 60 candidates; TUE-AM of 2027-06-08 for 48 candidates\n", done.stdout)
 
+    def test_what_an_arrangement_does_to_the_past_is_not_told(self):
+        """0001051 sits in all three sessions, in two of them on the 7th. `changes` compares them all."""
+        words = ["import", "arrangements", self.write("a.csv", "number,needs,extra\n0001051,-,25\n")]
+        self.environment["TODAY"] = "2027-06-08"
+        would = self.office("what-if", *words)
+        self.assertIn("\n1 sits at another time\n  TUE-AM 0001051 Di Berg: ", would)
+        self.assertNotIn("MON-", would)
+        self.assertEqual(self.told(*words), ["1 sits at another time: TUE-AM 0001051 Di Berg", LAST])
+        self.assertEqual(re.findall(r"(?m)^! (\S+)", self.office("changes", "1")), ["MON-AM", "MON-PM", "TUE-AM"])
+        self.environment["TODAY"] = "2027-06-07"
+        self.assertEqual(self.told("back", "1", "--yes"), ["1 sits at another time: 0001051 Di Berg in 3 sessions", LAST])
+
+    def test_the_past_is_told_where_another_row_names_it(self):
+        """All but 0001000 need three things together. With a paper of MON-PM that session is told; another name is, too."""
+        rows = "".join(f"{number:07},screen+small-room+quiet,0\n" for number in range(1017, 2004, 17))
+        words = ["import", "arrangements", self.write("arrangements.csv", f"number,needs,extra\n{rows}")]
+        self.assertIn("59 lose their desks", self.office("what-if", *words, TODAY="2027-06-07"))
+        over = self.office("what-if", *words, TODAY="2027-06-09")
+        self.assertIn("\nnobody sits otherwise\n", over)
+        self.assertNotIn("session ", over)
+        self.write("papers.csv", "paper,title,session,minutes,requires\nEN-1,English language,MON-PM,95,-\n")
+        over = self.office("what-if", "take", ".", TODAY="2027-06-09")
+        self.assertEqual(set(re.findall(r"^  (\S+) 0", over, re.M)), {"MON-PM"})
+        self.write("candidates.csv", "number,name,code\n0001000,Ada Lind,WK3DEGZDPC\n")
+        over = self.office("what-if", "take", ".", TODAY="2027-06-09")
+        self.assertIn("\n1 has another name\n  MON-AM 0001000 Ada Lind: ", over)
+        self.assertIn("1 session that is over is changed\n  MON-PM of 2027-06-07 for ", over)
+
+    def test_a_hall_is_closed_when_its_session_begins(self):
+        """By an opening that ends at the start, or before it, and where the start goes behind the end of all halls."""
+        said, back = "1 hall is closed when its session begins", "`office back 1` takes it back"
+        for until in ("08:59", "09:00"):
+            words = ["open-hall", "MON-AM", "R14", "2", until]
+            self.assertIn(f"\n{said}\n  MON-AM R14 (open until {until}): the session begins at 09:00\n",
+                          self.office("what-if", *words))
+            self.assertEqual(self.told(*words), [f"{said}: MON-AM R14 (open until {until})", back])
+            self.assertNotIn("begins", "".join(self.told("open-hall", "MON-PM", "R14", "2", "18:00")))  # nor on the other
+            self.office("back", "2", "--yes")
+        self.assertEqual(self.told("open-hall", "MON-AM", "R14", "2", "09:01"), [])
+        self.write("openings.csv", "session,hall,desks,until,reserved\nMON-AM,R14,2,08:00,no\n")
+        self.assertIn(f"NOTE: once imported: {said}: MON-AM R14 (open until 08:00)\n", self.office("check-files", "."))
+        later = self.write("s.csv", "session,date,start\nMON-AM,2027-06-07,23:00\n")
+        self.assertRegex(self.told("import", "sessions", later)[0], "^[0-9] halls are closed when their sessions begin: MON-AM ")
+
     def test_a_closed_hall_opens_again(self):
         """By the next import of the same openings, however long the log has become; no other hall is named."""
         day = datetime.date.today().isoformat()

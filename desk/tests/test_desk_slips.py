@@ -1,5 +1,6 @@
 """What may be a slip, at the desk in a browser: a change of a session that is over, a closed hall that opens again."""
 import datetime
+import re
 import unittest
 
 from desk_client import DeskSchool, effects
@@ -37,6 +38,15 @@ class TestTuesday(DeskSchool):
         self.assertIn("1 hall that was closed is open again", self.words(page))
         page, _ = self.browser.post("/propose/open", "/sessions/TUE-AM", hall="AULA", **form)
         self.assertNotIn("opened", effects(self.browser.get(page)))
+
+    def test_a_hall_is_closed_when_its_session_begins(self):
+        form = {"session": "TUE-AM", "hall": "R14", "desks": "2"}
+        page, _ = self.browser.post("/propose/open", "/sessions/TUE-AM", until="09:00", **form)
+        self.assertEqual(effects(self.browser.get(page))["shut"], (1, 1))
+        self.assertIn("Closed before anybody can sit there: R14 in TUE-AM, open until 09:00; the session begins at 09:00.",
+                      re.sub(" ([,;.])", r"\1", self.words(page)))
+        page, _ = self.browser.post("/propose/open", "/sessions/TUE-AM", until="12:00", **form)
+        self.assertNotIn("shut", effects(self.browser.get(page)))
 
 
 if __name__ == "__main__":

@@ -1,4 +1,5 @@
 """What is said of second sittings: of those that stay behind where their paper is changed, and of a second withdrawal."""
+import re
 import sqlite3
 import types
 import unittest
@@ -73,12 +74,24 @@ class Many(unittest.TestCase):
         return types.SimpleNamespace(rows=rows, person=lambda number: Person(f"{number:07}", "Ada", ""))
 
     def test_five_are_named(self):
-        said = left_behind(self.reading(), self.reading(90))
+        said = [*map(str, left_behind(self.reading(), self.reading(90)))]
         self.assertEqual([line.split(" ")[1] for line in said], ["A-2", "B-2", "C-2", "D-2", "E-2", ".."])
         self.assertEqual(said[5], "NOTE: .. and 2 more second sittings that stay as they are")
         for before in (60, 90):  # a paper that is again as its second sitting has none left behind
             self.assertEqual(left_behind(self.reading(before), self.reading()), [])
-        self.assertIn(" (the title ?Maths) for 0000001 Ada: ", left_behind(self.reading(), self.reading(title="Sums"))[0])
+        self.assertIn(" (the title ?Maths) for 0000001 Ada: ",
+                      str(left_behind(self.reading(), self.reading(title="Sums"))[0]))
+
+    def test_a_page_says_it_in_the_language_of_the_reader(self):
+        from flask import Flask
+
+        from exam_web import wording
+        lines = left_behind(self.reading(), self.reading(90, "<b>"))
+        with Flask(__name__).test_request_context(headers={"Accept-Language": "de"}):
+            shown = [re.sub("</?bdi>", "", wording.shown(line)) for line in lines]
+        self.assertEqual(shown[0], "HINWEIS: A-2 in S-2, eine zweite Sitzung von A, bleibt, wie sie ist (60 Minuten, der Titel "
+                                   "?Maths), für 0000001 Ada: auch für S-2 oder A-2 eine Zeile einlesen")
+        self.assertEqual(shown[5], "HINWEIS: .. und 2 weitere zweite Sitzungen, die bleiben, wie sie sind")
 
 
 if __name__ == "__main__":
