@@ -74,6 +74,12 @@ class Notebook(unittest.TestCase):
         self.assertEqual(notebook.take_notes(self.office, {"0000001": ""}), {"removed": 1})
         self.assertEqual(notebook.notes(self.office), {"0000002": "rest breaks"})
 
+    def test_the_log_names_the_first_of_many(self):
+        notebook.take_notes(self.office, {f"{number:07}": "a scribe" for number in range(1, 26)})
+        [line] = logbook.last_lines(self.office)
+        first = ", ".join(f"{number:07}" for number in range(1, 21))
+        self.assertEqual(line[1:], ["nobody", "notes", "0", f"added {first} and 5 more"])
+
     def test_wrong_files(self):
         notebook.take_notes(self.office, {"0000002": "stays"})
         for what, (text, said) in WRONG.items():
@@ -286,10 +292,13 @@ class Commands(sample.SampleSchool):
 
     def test_a_line_that_has_its_desk_alone(self):
         """Its desk is known, so papers show where another one was; and it has to be printed again."""
-        with notebook.alone(self.value) as folder:
-            notebook.write(self.value, folder, "printed.MON-AM", {"0001000": ["GYM", 99]})
-        self.assertRegex(self.office("doors", "MON-AM"), r"<small>was (GYM )?99</small>")
-        self.assertIn("0001000 ", self.office("printed", "MON-AM", "--look"))
+        for line in (["GYM", 99], ["AULA", 4, "a text"]):
+            with notebook.alone(self.value) as folder:
+                notebook.write(self.value, folder, "printed.MON-AM", {"0001000": line})
+            self.assertEqual("was GYM 99" in self.office("board", "MON-AM"), line[0] == "GYM")
+            places = "AULA 4" if line[0] == "AULA" else "GYM 99 -> AULA 4"
+            self.assertRegex(self.office("printed", "MON-AM", "--look"),
+                             f"(?m)^0001000 Ada Lin: {places}, name - -> Ada Lin, paper - -> MA-1, date - -> 2027-06-07, ")
 
     def test_what_else_is_on_paper(self):
         """A line is another one where the desk is the same: each part of it that papers show, with old and new."""
