@@ -332,10 +332,14 @@ class Commands(sample.SampleSchool):
         self.assertIn("0001000 Ada Lin: not on paper -> AULA 4\n", self.office("printed", "MON-AM", "--look"))
         self.office("printed", "MON-AM")
         self.office("withdraw", "0001306", "LAT")  # so that they sit the other of two papers at once
+        self.office("open-hall", "MON-AM", "GYM", "60", "13:00")
         self.office("close-hall", "MON-AM", "AULA")
         lines = self.office("printed", "MON-AM", "--look")
-        self.assertRegex(lines, r"(?m)^0001000 Ada Lin: AULA 4 -> (no desk|[B-Z]\w* \d+)$")
-        self.assertRegex(lines, r"(?m)^0001306 Sami Nagy: AULA 1 -> (no desk|[B-Z]\w* \d+, paper LAT -> MA-2(, finish.*)?)$")
+        self.assertRegex(lines, r"(?m)^0001000 Ada Lin: AULA 4 -> GYM \d+$")
+        self.assertRegex(lines, r"(?m)^0001306 Sami Nagy: AULA 1 -> GYM \d+, paper LAT -> MA-2(, finish [0-9:]+ -> [0-9:]+)?$")
+        self.office("printed", "MON-AM")
+        self.office("close-hall", "MON-AM", "GYM")
+        self.assertRegex(self.office("printed", "MON-AM", "--look"), r"(?m)^0001000 Ada Lin: GYM \d+ -> no desk$")
 
     def test_the_log_has_each_change_and_no_text_of_a_note(self):
         self.environment["TODAY"] = "2027-06-07"
