@@ -89,10 +89,10 @@ def drop(copy: str) -> None:
 def is_as_now(office: Office, copy: str) -> bool:
     """Whether the office's two files still have the bytes of a copy; a second file without a change counts as none."""
     now = os.path.realpath(office.path)
-    first, second = ((now + ending, file_in(office, copy) + ending) for ending in ("", "-wal"))
+    first, second = ((now + ending, file_in(office, copy) + ending) for ending in private.ENDINGS)
     with contextlib.suppress(OSError):
-        alike = all(not os.path.exists(path) or os.path.getsize(path) <= EMPTY_LOG for path in second)
-        return filecmp.cmp(*first, shallow=False) and (alike or filecmp.cmp(*second, shallow=False))
+        are_empty = all(not os.path.exists(path) or os.path.getsize(path) <= EMPTY_LOG for path in second)
+        return filecmp.cmp(*first, shallow=False) and (are_empty or filecmp.cmp(*second, shallow=False))
     return False
 
 
