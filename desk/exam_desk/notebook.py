@@ -13,7 +13,7 @@ import fcntl
 import json
 import os
 import re
-from collections import Counter, defaultdict
+from collections import Counter
 from collections.abc import Callable, Collection, Iterable, Iterator, Mapping, Sequence
 from typing import TYPE_CHECKING, Any, NamedTuple, TypeVar
 
@@ -127,11 +127,9 @@ def take_notes(office: Office, new: Mapping[str, str]) -> Counter[str]:
 
 def log_numbers(office: Office, command: Sequence[str], what: Mapping[str, str]) -> None:
     """A line in the log that says what was done of which numbers, if of any; no text of a note."""
-    numbers = defaultdict[str, list[str]](list)
-    for number, kind in sorted(what.items()):
-        numbers[kind].append(number)
+    numbers = {kind: sorted(number for number in what if what[number] == kind) for kind in sorted({*what.values()})}
     if numbers:
-        said = (f"{kind} {words.few(found, MOST_LOGGED)}" for kind, found in sorted(numbers.items()))
+        said = (f"{kind} {words.few(found, MOST_LOGGED)}" for kind, found in numbers.items())
         logbook.write_done(office, command, 0, "; ".join(said))
 
 
