@@ -11,11 +11,10 @@ from exam_desk.words import few, plain
 if TYPE_CHECKING:
     from argparse import ArgumentParser
 
-    from exam_desk.notebook import Desk
+    from exam_desk.notebook import Line, Move
     from exam_desk.reading import Reading
 
 MOST_BYTES = 1 << 16  # of numbers on standard input
-OTHERWISE = "with another name, paper, time, arrangement, note or title"
 WHOLE = "board, counts, slips"
 
 
@@ -30,7 +29,8 @@ WHOLE = "board, counts, slips"
 All of it from the day of the session on. Who was missing is no fact of the office: no seat changes by it. Zeros in
 front of a number may be left out; where one number is wrong nothing is noted. The paper is the one that the candidate
 was to sit, of a second sitting the paper that it was made of. Where nobody noted anything of a session, all are listed
-as present, and a note says so; so does one of who was noted, and has left the session.
+as present, and a note says so; so does one of who was noted, and has left the session. The log has who was noted, by
+number.
 """)
 def absent(parser: ArgumentParser) -> None:
     from exam_desk import lists, notebook
@@ -40,7 +40,7 @@ def absent(parser: ArgumentParser) -> None:
     notes = bool(given.number or given.there or given.nobody)
     with command.reading() as reading:
         if notes:
-            notebook.note_absent(reading, session, missing, there, given.nobody)
+            notebook.note_absent(command.office(), reading, session, missing, there, given.nobody)
         text, noted = notebook.attendance(reading, session), notebook.absences(reading, session)
         members = len(reading.members(session))
     if notes:
@@ -74,7 +74,7 @@ def numbers(words: list[str]) -> list[str]:
 A note stands on what invigilators and candidates get, and on nothing else. It is no fact of the office: no seat depends
 on it. A later row for a number replaces the note, an empty text takes it away; notes that are not in the file stay. A
 text has at most 200 bytes. Where one row is wrong no row is taken. Notes lie beside the office, for its user alone, and
-in its copies; `office back` leaves them as they are.
+in its copies; `office back` leaves them as they are. The log has whose note is another, and no text of it.
 """)
 def notes(parser: ArgumentParser) -> None:
     from exam_desk import facts, files, notebook
@@ -94,7 +94,7 @@ def notes(parser: ArgumentParser) -> None:
 @command.named("""Notes what is on paper, and says what is otherwise now: printed [SESSION [--look]]
 
     office printed MON-AM           after printing: the session as it is now is on paper
-    office printed MON-AM --look    who is not as on paper any more, and which halls are to be printed again
+    office printed MON-AM --look    who is not as on paper, with old and new, and which halls are to be printed again
     office printed                  of each session that is on paper, whether it still holds
 
 Nothing but this command notes it: to look at a page notes nothing. On the day write *absent* on the paper rather than
@@ -127,16 +127,22 @@ def compared(reading: Reading, session: str) -> list[str]:
     found = notebook.compared(reading, session)
     if found is None:
         raise Trouble(f"nobody noted which desks are printed for {session}; `office printed {session}` does")
+    if not found.moves:
+        return ["the papers are up to date"]
     again = "; ".join(filter(None, [", ".join(hall for hall in found.halls if hall not in found.empty), WHOLE]))
-    return [*(f"{move.number} {move.name}: {place(move.now)}, "
-              f"{OTHERWISE if move.now == move.printed else 'was ' + place(move.printed)}" for move in found.moves),
-            *([f"to print again: {again}"] if found.halls else []),
-            *([f"to take away, as nobody sits there now: {', '.join(found.empty)}"] if found.empty else []),
-            *([] if found.halls else ["the papers are up to date"])]
+    return [*map(otherwise, found.moves), f"to print again: {again}",
+            *([f"to take away, as nobody sits there now: {', '.join(found.empty)}"] if found.empty else [])]
 
 
-def place(desk: Desk | None) -> str:
-    return f"{desk.hall} {desk.desk}" if desk else "no desk"
+def otherwise(move: Move) -> str:
+    """Who is not as on paper, where they sat and sit, and what else is another."""
+    was, now = place(move.printed, "not on paper"), place(move.now, "no desk" if move.is_member else "not in the session")
+    values = (f"{what} {old or '-'} -> {new or '-'}" for what, old, new in move.others())
+    return f"{move.number} {move.name}: {', '.join([was if was == now else f'{was} -> {now}', *values])}"
+
+
+def place(line: Line | None, nowhere: str) -> str:
+    return f"{line.desk.hall} {line.desk.desk}" if line else nowhere
 
 
 @command.named("""Keeps how the desks of halls stand, for the seating charts: rows [HALL DESKS-IN-A-ROW [RUNNING]]

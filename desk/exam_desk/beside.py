@@ -12,6 +12,7 @@ import errno
 import os
 import pwd
 import stat
+from collections.abc import Iterator
 
 from exam_desk.trouble import Trouble
 
@@ -55,13 +56,18 @@ def make_folder(office: str, *names: str) -> str:
     for count in range(len(names) + 1):
         with contextlib.suppress(FileExistsError):
             os.mkdir(folder(office, *names[:count]), 0o700)
-        os.close(open_folder(office, *names[:count]))
+        os.close(open_file(office, *names[:count], flags=AS_FOLDER))
     return folder(office, *names)
 
 
-def open_folder(office: str, *names: str) -> int:
+@contextlib.contextmanager
+def open_folder(office: str, *names: str) -> Iterator[int]:
     """A descriptor of the folder, or of one in it; `Strange` where one on the way is not to be trusted."""
-    return open_file(office, *names, flags=AS_FOLDER)
+    found = open_file(office, *names, flags=AS_FOLDER)
+    try:
+        yield found
+    finally:
+        os.close(found)
 
 
 def open_file(office: str, *names: str, flags: int) -> int:
@@ -72,11 +78,8 @@ def open_file(office: str, *names: str, flags: int) -> int:
         make_folder(office, *names[:-1])
     if not names:
         return opened(folder(office), flags)
-    outer = open_folder(office, *names[:-1])
-    try:
+    with open_folder(office, *names[:-1]) as outer:
         return opened(folder(office, *names), flags, outer)
-    finally:
-        os.close(outer)
 
 
 def opened(path: str, flags: int, outer: int | None = None) -> int:

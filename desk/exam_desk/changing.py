@@ -1,8 +1,14 @@
 """Changes of an office, of one step or of several: rehearsed on a private copy, or carried out.
 
-A list of steps is carried out whole or not at all, in one turn: where a step is refused or cannot be saved, the copy
-from before is put back before anybody else has the office. Where the process is killed or the machine stops in the
-middle, the next change says from the log what was broken off, and how to put it back.
+A change has the office for itself (office.lock of `turns`) from before its copy is made until that stays or goes. The
+program that a step runs inherits this lock: where the desk is killed the next change waits for the program. What comes
+of a change, and of the copy from before it:
+
+    done                    the copy stays, if the files of the office have other bytes than before
+    refused                 nothing is changed, a list of steps puts the copy back; the copy goes
+    refused 23              a single step may be done all the same: the bytes tell
+    a fault, or a signal    a list puts the copy back; the copy of a single step goes, if the bytes are as before
+    killed                  the next change says from the log what was broken off, and how to put the copy back
 """
 from __future__ import annotations
 
@@ -167,8 +173,7 @@ def rehearse(office: Office, steps: Sequence[Step], tell: Tell = lambda title: N
 
 def carry_out(office: Office, steps: Sequence[Step], made_from: str | None = None, promised: str | None = None,
               title: str = "", tell: Tell = lambda title: None) -> Carried:
-    """Carries steps out in one turn, whole or not at all, with one copy from before. That goes again where they change
-    nothing: where the files have the bytes from before, as they have unless appeals came just before it.
+    """Carries steps out in one turn, whole or not at all, with one copy from before.
 
     Where names of states are given, the office must be of the first one, else `Stale` is raised; and it is said whether
     it is of the second one then. Raises `Trouble` where nothing could begin, and nothing is changed.
@@ -177,27 +182,33 @@ def carry_out(office: Office, steps: Sequence[Step], made_from: str | None = Non
     if not os.path.isfile(office.path):  # the program says so
         return Carried([Answered(steps[0], run_patiently(office, steps[0]))], None, None)
     title = title or ", ".join(step.title() for step in steps)
-    with unchanged(office), turn(office, title, made_from, tell) as taken:
-        copy = copies.keep_copy(office, title)
-        try:
-            if len(steps) == 1:
-                answers = [taken.carried(steps[0], logbook.BEGINS)]
-                is_undone = has_done_nothing(office, answers[0], copy)
-            else:
-                answers = carried_all(taken, title, steps, copy)
-                is_undone = refused_of(answers) is not None
-        except (OSError, sqlite3.Error, running.NotStarted):
-            if copies.is_as_now(office, copy):  # a step that was refused 23 before may be there
-                copies.drop(copy)
-            raise
-        except SystemExit:  # a signal
-            office.warn(said_of_stopped(office, copy))
-            raise
-        as_promised = None if promised is None or is_undone else is_in_state(office, promised)
-        if is_undone or copies.is_as_now(office, copy):
+    with unchanged(office), turn(office, title, made_from, tell) as taken, copied(office, title) as copy:
+        if len(steps) == 1:
+            answers = [taken.carried(steps[0], logbook.BEGINS)]
+            is_undone = has_done_nothing(office, answers[0], copy)
+        else:
+            answers = carried_all(taken, title, steps, copy)
+            is_undone = refused_of(answers) is not None
+        if is_undone:
             copies.drop(copy)
-            return Carried(answers, None, as_promised)
-    return Carried(answers, copy, as_promised)
+        as_promised = None if promised is None or is_undone else state_of(office) == promised
+        return Carried(answers, copies.kept_if_other(office, copy), as_promised)
+
+
+@contextlib.contextmanager
+def copied(office: Office, title: str) -> Iterator[str]:
+    """A copy from before a change. Where a fault or a signal ends the change before it has done anything, it goes."""
+    copy = copies.keep_copy(office, title)
+    try:
+        yield copy
+    except (OSError, sqlite3.Error, running.NotStarted):
+        copies.kept_if_other(office, copy)
+        raise
+    except SystemExit:  # a signal
+        is_kept = copies.kept_if_other(office, copy)
+        office.warn("stopped: look whether it is done; `office back 1` takes it back then" if is_kept else
+                    "stopped: nothing is changed")
+        raise
 
 
 def has_done_nothing(office: Office, answered: Answered, copy: str) -> bool:
@@ -207,32 +218,16 @@ def has_done_nothing(office: Office, answered: Answered, copy: str) -> bool:
     return refusals.number_of(answered.ran.complaint) != 23 or copies.is_as_now(office, copy)
 
 
-def said_of_stopped(office: Office, copy: str) -> str:
-    """What is said of a change that a signal has stopped; a copy that holds what is there now goes."""
-    if os.path.isdir(copy) and not copies.is_as_now(office, copy):
-        return "stopped: look whether it is done; `office back 1` takes it back then"
-    copies.drop(copy)
-    return "stopped: nothing is changed"
-
-
 @contextlib.contextmanager
 def turn(office: Office, title: str, made_from: str | None = None, tell: Tell = lambda title: None) -> Iterator[Turn]:
     """The office for this process alone, in the state that was looked at. Says of a change without an end what is known
     of it. Raises `Stale` where it is in another state, and `Trouble` or OSError where it cannot be had."""
     with turns.alone(office, [title]) as lock:
-        if made_from is not None and not is_in_state(office, made_from):
+        if made_from is not None and state_of(office) != made_from:
             raise Stale("the office has changed since you looked at it, so nothing is changed: look again")
         if found := logbook.unfinished(office):
             office.warn(way_on(office, found))
         yield Turn(office, lock, tell)
-
-
-def is_in_state(office: Office, name: str) -> bool:
-    """Whether the office has the state of this name; one that cannot be read, or is not there, has the name ''."""
-    try:
-        return states.name_now(office) == name
-    except Trouble:
-        return name == ""
 
 
 @contextlib.contextmanager
@@ -264,25 +259,22 @@ def run_patiently(office: Office, step: Step, lock: FileIO | None = None) -> run
 def carried_all(taken: Turn, title: str, steps: Sequence[Step], copy: str) -> list[Answered]:
     """Carries out steps up to the first that is refused; then, or where one cannot be saved, the copy is put back."""
     answers: list[Answered] = []
-    office = taken.office
-    with (copies.ready(office, copy) as ready,  # it can be moved in when the disk is full
-          logbook.logged(office, [title], answer=os.path.basename(copy)) as outcome):
+    with (copies.ready(taken.office, copy) as ready,  # it can be moved in when the disk is full
+          logbook.logged(taken.office, [title], answer=os.path.basename(copy)) as outcome):
         try:
             for step in steps:
                 answers.append(taken.carried(step, logbook.STEP))
                 if refused_of(answers):
                     break
         except BaseException:
-            outcome.answer = "stopped"
-            restore(office, ready, copy)
-            outcome.answer = "stopped: all is as before"
+            restore(taken.office, ready, copy, outcome, "stopped")
             copies.drop(copy)
             raise
-        outcome.status, outcome.answer = 0, f"{len(answers)} steps"
         if refused := refused_of(answers):
-            outcome.status, outcome.answer = refused.ran.status, f"{refused.step.title()}: {refused.first_line()}"
-            restore(office, ready, copy)
-            outcome.answer = f"all is as before: {outcome.answer}"
+            restore(taken.office, ready, copy, outcome, f"{refused.step.title()}: {refused.first_line()}")
+            outcome.status = refused.ran.status
+        else:
+            outcome.status, outcome.answer = 0, f"{len(answers)} steps"
     return answers
 
 
@@ -311,13 +303,15 @@ def state_of(office: Office) -> str:
     return ""
 
 
-def restore(office: Office, ready: str, copy: str) -> None:
-    """Puts the copy back in the turn in which it was made."""
+def restore(office: Office, ready: str, copy: str, outcome: logbook.Outcome, why: str) -> None:
+    """Puts the copy back in the turn in which it was made; the log says why, and that all is as before once it is."""
+    outcome.answer = why
     try:
         copies.move_in(office, ready)
     except OSError as fault:
         raise Trouble(f"a step failed, and the office could not be put back as it was ({fault.strerror}): "
                       f"{way_back(copy)}") from fault
+    outcome.answer = f"all is as before: {why}"
 
 
 def way_back(copy: str) -> str:
@@ -335,6 +329,6 @@ def way_on(office: Office, found: logbook.Unfinished) -> str:
     if copy not in copies.listed(office):
         return f"{what} was broken off{behind}; its copy is gone"
     with contextlib.suppress(Trouble):
-        if is_in_state(office, states.name_now(office, copies.file_in(office, copy))):
+        if state_of(office) == states.name_now(office, copies.file_in(office, copy)):
             return f"{what} was broken off; nothing of it is left"
     return f"{what} was broken off{behind}: {way_back(copy)}"

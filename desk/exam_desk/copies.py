@@ -89,25 +89,28 @@ def drop(copy: str) -> None:
 def is_as_now(office: Office, copy: str) -> bool:
     """Whether the office's two files still have the bytes of a copy; a second file without a change counts as none."""
     now = os.path.realpath(office.path)
-    first, second = ((now + ending, file_in(office, copy) + ending) for ending in ("", "-wal"))
+    first, second = ((now + ending, file_in(office, copy) + ending) for ending in private.ENDINGS)
     with contextlib.suppress(OSError):
-        alike = all(not os.path.exists(path) or os.path.getsize(path) <= EMPTY_LOG for path in second)
-        return filecmp.cmp(*first, shallow=False) and (alike or filecmp.cmp(*second, shallow=False))
+        are_empty = all(not os.path.exists(path) or os.path.getsize(path) <= EMPTY_LOG for path in second)
+        return filecmp.cmp(*first, shallow=False) and (are_empty or filecmp.cmp(*second, shallow=False))
     return False
+
+
+def kept_if_other(office: Office, copy: str) -> str | None:
+    """A copy whose bytes are others than those of the office; one with the same goes, and there is none then."""
+    if os.path.isdir(copy) and not is_as_now(office, copy):
+        return copy
+    drop(copy)
+    return None
 
 
 def folders(office: Office, place: str, form: re.Pattern[str]) -> list[str]:
     """The paths of the folders in a place whose names have a form; what else lies there is left alone."""
-    try:
-        opened = beside.open_folder(office.path, place)
-    except FileNotFoundError:
-        return []
-    try:
-        with os.scandir(opened) as entries:
-            return [beside.folder(office.path, place, entry.name) for entry in entries
-                    if form.fullmatch(entry.name) and entry.is_dir(follow_symlinks=False)]
-    finally:
-        os.close(opened)
+    with (contextlib.suppress(FileNotFoundError), beside.open_folder(office.path, place) as opened,
+          os.scandir(opened) as entries):
+        return [beside.folder(office.path, place, entry.name) for entry in entries
+                if form.fullmatch(entry.name) and entry.is_dir(follow_symlinks=False)]
+    return []
 
 
 def parts(copy: str) -> re.Match[str]:

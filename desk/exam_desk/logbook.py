@@ -1,5 +1,5 @@
-"""The log of an office, in the folder beside it: a line before each change and a line after it; one for what is noted
-as printed.
+"""The log of an office, in the folder beside it: a line before each change and a line after it; one after each change
+of the notebook, with the numbers of candidates and no text of a note.
 
 A line has the time, who worked, the command, its status and the first line of its answer, parted by tabs. A change that
 begins has the status `begins`, a step of a list `step`. Their answers are empty, but a list names its copy.

@@ -10,12 +10,11 @@ from __future__ import annotations
 import contextlib
 import datetime
 import fcntl
-import hashlib
 import json
 import os
 import re
 from collections import Counter
-from collections.abc import Callable, Collection, Iterable, Iterator, Mapping
+from collections.abc import Callable, Collection, Iterable, Iterator, Mapping, Sequence
 from typing import TYPE_CHECKING, Any, NamedTuple, TypeVar
 
 from exam_desk import beside, facts, files, logbook, typed, words
@@ -34,9 +33,10 @@ NEW = ".new"  # the end of the name of a file that is being written
 RUNNING = ["across", "across-and-back", "down", "down-and-up"]  # how the numbers of desks run
 MOST_NOTE_BYTES = 200
 MOST_ACROSS = 100  # desks in a row
-MOST_NAMED = 5  # numbers in a refusal
+MOST_NAMED, MOST_LOGGED = 5, 20  # numbers in a refusal, and of one kind in a line of the log
 NOTED = "noted"  # beside the lines of what is printed: by whom, how many, and when
-REST = 16  # letters of a sum of what a line on paper shows
+SHOWN = ["name", "paper", "paper title", "date", "start", "finish", "needs", "extra", "hall title", "until", "note"]
+TITLES = {"paper title": "paper", "hall title": "hall", "until": "hall"}  # what goes with a code
 ATTENDANCE = ["number", "paper", "attendance"]
 Held = TypeVar("Held", bound=Collection[object])
 
@@ -50,7 +50,7 @@ class Desk(NamedTuple):
 class Line(NamedTuple):
     """What papers show of somebody who has a desk."""
     desk: Desk
-    rest: str  # a sum of the name, paper, times, arrangement, note and titles
+    shown: list[str]  # what else, in the order of SHOWN
 
 
 class Rows(NamedTuple):
@@ -60,12 +60,20 @@ class Rows(NamedTuple):
 
 
 class Move(NamedTuple):
-    """Somebody who is not as on paper: at another desk, at none, or at the same one with another name, paper, time,
-    arrangement, note or title."""
+    """Somebody who is not as on paper."""
     number: str
-    name: str  # "" where they sit nothing in the session any more
-    now: Desk | None
-    printed: Desk | None
+    name: str
+    printed: Line | None  # None where they are on no paper
+    now: Line | None  # None where they have no desk
+    is_member: bool  # whether they sit something in the session
+
+    def others(self) -> list[tuple[str, str, str]]:
+        """What is another than the desk, each with its value on paper and now; a title and an end go with their code."""
+        if not (self.printed and self.now):
+            return []
+        found = [each for each in zip(SHOWN, self.printed.shown, self.now.shown) if each[1] != each[2]]
+        codes = [what for what, *_ in found] + ["hall"] * (self.printed.desk.hall != self.now.desk.hall)
+        return [each for each in found if TITLES.get(each[0]) not in codes]
 
 
 class Paper(NamedTuple):
@@ -99,6 +107,7 @@ def set_school_name(office: Office, name: str) -> None:
         raise Trouble("the name of a school has 1 to 80 bytes and no control characters; '' takes it away")
     with alone(office) as folder:
         write(office, folder, "school", name)
+    logbook.write_done(office, ["school"], 0, name or "no name")
 
 
 def notes(office: Office) -> dict[str, str]:
@@ -110,12 +119,18 @@ def take_notes(office: Office, new: Mapping[str, str]) -> Counter[str]:
     with alone(office) as folder:
         before = notes(office)
         write(office, folder, "notes", {number: text for number, text in sorted({**before, **new}.items()) if text})
-    return Counter("same" if text == before.get(number, "") else "added" if number not in before else
-                   "changed" if text else "removed" for number, text in new.items())
+    kinds = {number: "same" if text == before.get(number, "") else "added" if number not in before else
+             "changed" if text else "removed" for number, text in new.items()}
+    log_numbers(office, ["notes"], {number: kind for number, kind in kinds.items() if kind != "same"})
+    return Counter(kinds.values())
 
 
-def is_note(text: bytes) -> bool:
-    return files.is_short(text, MOST_NOTE_BYTES)
+def log_numbers(office: Office, command: Sequence[str], what: Mapping[str, str]) -> None:
+    """A line in the log that says what was done of which numbers, if of any; no text of a note."""
+    numbers = {kind: sorted(number for number in what if what[number] == kind) for kind in sorted({*what.values()})}
+    if numbers:
+        said = (f"{kind} {words.few(found, MOST_LOGGED)}" for kind, found in numbers.items())
+        logbook.write_done(office, command, 0, "; ".join(said))
 
 
 def rows_of_halls(office: Office) -> dict[str, Rows]:
@@ -129,6 +144,7 @@ def keep_rows(office: Office, hall: str, rows: Rows) -> None:
         raise Trouble(f"a row has 1 to {MOST_ACROSS} desks, and their numbers run {', '.join(RUNNING)}")
     with alone(office) as folder:
         write(office, folder, "rows", {**rows_of_halls(office), hall: rows})
+    logbook.write_done(office, ["rows", hall], 0, f"rows of {rows.across}, {rows.running}")
 
 
 def can_stand(rows: Rows) -> bool:
@@ -136,11 +152,12 @@ def can_stand(rows: Rows) -> bool:
 
 
 def on_paper(office: Office, session: str) -> Paper:
-    """What was printed for a session; no line where nobody said that it was. A line that has its desk alone is another
-    than each of now."""
+    """What was printed for a session; no line where nobody said that it was. Of a line that has its desk alone nothing
+    else is known."""
     found = read(office, f"printed.{session}", dict[str, list[Any]](), is_line)
     who, _, *when = found.pop(NOTED, ["", 0])
-    lines = {number: Line(Desk(hall, desk), "".join(rest)) for number, (hall, desk, *rest) in found.items()}
+    lines = {number: Line(Desk(hall, desk), shown if len(shown) == len(SHOWN) else [""] * len(SHOWN))
+             for number, (hall, desk, *shown) in found.items()}
     return Paper(lines, who, "".join(when))
 
 
@@ -151,14 +168,11 @@ def printed(office: Office, session: str) -> dict[str, Desk]:
 def lines_of(reading: Reading, session: str, members: Iterable[Member]) -> dict[str, Line]:
     """What papers of a session show of these members, of those who have a desk."""
     noted, papers = notes(reading.office), facts.paper_titles(reading.rows)
-    halls = {each.hall: (each.title, each.until) for each in facts.openings(reading.rows, session)}
-    found = {}
-    for number, name, sits in members:
-        if sits.hall:
-            shown = [name, *sits, papers.get(sits.paper), halls.get(sits.hall), noted.get(number)]
-            rest = hashlib.sha256(repr(shown).encode("utf-8", "backslashreplace")).hexdigest()[:REST]
-            found[number] = Line(Desk(sits.hall, sits.desk or 0), rest)
-    return found
+    halls = {each.hall: [each.title, words.clock(each.until)] for each in facts.openings(reading.rows, session)}
+    return {number: Line(Desk(sits.hall, sits.desk or 0), [
+        name, sits.paper, papers.get(sits.paper, ""), sits.date, sits.start, sits.finish, "+".join(sits.needs),
+        str(sits.extra), *halls.get(sits.hall, ["", ""]), noted.get(number, "")])
+        for number, name, sits in members if sits.hall}
 
 
 def note_printed(office: Office, reading: Reading, session: str) -> tuple[int, str]:
@@ -170,7 +184,7 @@ def note_printed(office: Office, reading: Reading, session: str) -> tuple[int, s
     before, when = on_paper(office, session).lines, datetime.datetime.now().isoformat(" ", "minutes")
     with alone(office) as folder:
         write(office, folder, f"printed.{session}", {NOTED: [office.user, len(lines), when]} | {
-            number: [*line.desk, line.rest] for number, line in lines.items()})
+            number: [*line.desk, *line.shown] for number, line in lines.items()})
     others = len(moved(before, lines)) if before else 0
     said = f"{lists.count(len(lines), 'desk')} noted" + (f", {others} other than before" if others else "")
     logbook.write_done(office, ["printed", session], 0, said)
@@ -183,15 +197,12 @@ def compared(reading: Reading, session: str) -> Compared | None:
     before = on_paper(reading.office, session)
     if not before.lines:
         return None
-    now, names = lines_of(reading, session, reading.members(session)), facts.candidate_names(reading.rows)
-    moves = [Move(number, names.get(number, ""), desk_of(now.get(number)), desk_of(before.lines.get(number)))
+    members, names = reading.members(session), facts.candidate_names(reading.rows)
+    now, present = lines_of(reading, session, members), {member.number for member in members}
+    moves = [Move(number, names.get(number, ""), before.lines.get(number), now.get(number), number in present)
              for number in moved(before.lines, now)]
-    halls = {desk.hall for move in moves for desk in (move.now, move.printed) if desk}
+    halls = {line.desk.hall for move in moves for line in (move.now, move.printed) if line}
     return Compared(before, moves, sorted(halls), sorted(halls - {line.desk.hall for line in now.values()}))
-
-
-def desk_of(line: Line | None) -> Desk | None:
-    return line.desk if line else None
 
 
 def moved(before: Mapping[str, Line], now: Mapping[str, Line]) -> list[str]:
@@ -221,10 +232,15 @@ def keep_absent(office: Office, session: str, missing: Iterable[str], there: Ite
     """Adds some to the absent of a session and takes others away; who is absent then. Where that is nobody it is kept
     if somebody says so. Raises `Trouble` where somebody is absent, and nobody too."""
     with alone(office) as folder:
-        found = (absent(office, session) or set()).union(missing).difference(there)
+        before = absent(office, session)
+        found = (before or set()).union(missing).difference(there)
         if found and nobody:
             raise Trouble(f"nothing is noted, since these are absent: {words.few(sorted(found), MOST_NAMED)}")
         write(office, folder, f"absent.{session}", sorted(found) if found or nobody else None)
+    said = {number: "absent" if number in found else "there" for number in found ^ (before or set())}
+    log_numbers(office, ["absent", session], said)
+    if nobody and before is None:
+        logbook.write_done(office, ["absent", session], 0, "nobody")
     return found
 
 
@@ -239,23 +255,23 @@ def refuse_to_come(reading: Reading, session: str) -> None:
         raise Trouble(f"{session} is on {day}: nobody can have been present or absent before that day")
 
 
-def note_absent(reading: Reading, session: str, missing: Iterable[str], there: Iterable[str] = (),
+def note_absent(office: Office, reading: Reading, session: str, missing: Iterable[str], there: Iterable[str] = (),
                 nobody: bool = False) -> set[str]:
     """Notes some as absent and others as there, or that nobody was absent; who is absent then. Raises `Trouble`, and
     notes nothing, before the day of the session, where nobody is named, where a number is neither that of a member nor
     noted already, and as `keep_absent`."""
     refuse_to_come(reading, session)
     missing, there = [*map(typed.candidate_number, missing)], [*map(typed.candidate_number, there)]
-    noted = absent(reading.office, session) or ()
+    noted = absent(office, session) or ()
     asked = [number for number in (*missing, *there) if number not in noted]
     if not (missing or there or nobody):
         raise Trouble("nothing is noted: no number is given")
     if both := sorted({*missing} & {*there}):
         raise Trouble(f"nothing is noted: {words.few(both, MOST_NAMED)}: absent, or there?")
-    reading.ask(reading.person(int(number)) for number in asked if reading.knows(number))
-    if wrong := [number for number in asked if not (reading.knows(number) and reading.member(session, number))]:
+    members = reading.members(session, [int(number) for number in asked if reading.knows(number)])
+    if wrong := sorted({*asked}.difference(member.number for member in members), key=asked.index):
         raise Trouble(f"nothing is noted: {words.few(wrong, MOST_NAMED)}: no candidate of {session}")
-    return keep_absent(reading.office, session, missing, there, nobody)
+    return keep_absent(office, session, missing, there, nobody)
 
 
 def attendance(reading: Reading, session: str) -> str:
@@ -275,7 +291,7 @@ def is_text(part: object) -> bool:
 
 
 def is_line(part: object) -> bool:
-    return isinstance(part, list) and [*map(type, part)] in ([str, int], [str, int, str])
+    return isinstance(part, list) and [*map(type, part[:2])] == [str, int] and all(map(is_text, part[2:]))
 
 
 def is_rows(part: object) -> bool:
@@ -295,12 +311,9 @@ def alone(office: Office) -> Iterator[int]:
 @contextlib.contextmanager
 def locked(office: Office, how: int) -> Iterator[int]:
     """The open folder, with its lock. Raises FileNotFoundError where there is none."""
-    folder = beside.open_folder(office.path, PLACE)
-    try:
+    with beside.open_folder(office.path, PLACE) as folder:
         fcntl.flock(folder, how)
         yield folder
-    finally:
-        os.close(folder)
 
 
 def read(office: Office, name: str, empty: Held, right: Callable[[object], bool]) -> Held:
@@ -374,15 +387,9 @@ def words_of(name: str) -> str:
 
 def contents(office: Office, *place: str) -> dict[str, bytes]:
     """The files of a notebook by name; none where there is none."""
-    try:
-        folder = beside.open_folder(office.path, *place)
-    except FileNotFoundError:
-        return {}
-    try:
+    names, found = list[str](), {}
+    with contextlib.suppress(FileNotFoundError), beside.open_folder(office.path, *place) as folder:
         names = [name for name in os.listdir(folder) if not name.endswith(NEW)]
-    finally:
-        os.close(folder)
-    found = {}
     for name in names:
         with open(beside.open_file(office.path, *place, name, flags=os.O_RDONLY), "rb") as file:
             found[name] = file.read()

@@ -28,7 +28,8 @@ TRIES, PAUSE = 200, 0.02  # seconds from one to the next
 @contextlib.contextmanager
 def private_copy(path: str, office: str) -> Iterator[str]:
     """The path of a copy of an office's two files that goes again; it lies beside the other office that is named."""
-    source = path if os.path.abspath(path).startswith(beside.folder(office) + os.sep) else os.path.realpath(path)
+    is_beside = os.path.abspath(path).startswith(beside.folder(office) + os.sep)
+    source = path if is_beside else os.path.realpath(path)  # an office may be a link, what lies beside it may not
     with contextlib.suppress(OSError):
         sweep(tempfile.gettempdir())
     with contextlib.ExitStack() as stack:

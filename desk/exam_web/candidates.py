@@ -18,7 +18,7 @@ from exam_desk.sheets import slips as slip_pages
 from exam_desk.sheets import texts
 from exam_desk.trouble import Trouble
 from exam_web import proposals
-from exam_web.desk import View, candidate_row, desk, once, sums, view
+from exam_web.desk import View, candidate_row, desk, office, once, sums, view
 from exam_web.forms import Form, Page, Wrong, at_field, checked, lead, short, styled
 from exam_web.proposals import APPEALS, BY_DAY, PLANS, TROUBLE, Plan, command, features, import_step
 from exam_web.session import Session
@@ -98,7 +98,7 @@ def note(number: int) -> Response:
     if request.form.get("was", known) != known:
         wrong = text("somebody has changed it meanwhile; it says: {note}", note=known or "–")
         raise Wrong(page_of, "note", note=wrong)
-    notebook.take_notes(desk().office, {f"{number:07}": given})
+    notebook.take_notes(office(), {f"{number:07}": given})
     said = text("The note is kept.") if given else text("There is no note on this candidate.")
     return lead("candidates.page", said, number=number, _anchor="note")
 

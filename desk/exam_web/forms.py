@@ -17,7 +17,7 @@ from markupsafe import Markup
 from werkzeug.datastructures import MultiDict
 from werkzeug.wrappers import Response
 
-from exam_desk import mistakes, notebook, private, typed
+from exam_desk import mistakes, private, typed
 from exam_desk.trouble import Trouble
 from exam_web.desk import desk
 from exam_web.wording import said, text
@@ -83,8 +83,8 @@ def checked(page: Page, form: Form, **columns: str) -> dict[str, str]:
 def short(page: Page, field: str, form: str = "") -> str:
     """A text that a person wrote, such as a reason. It is private: it is posted, and stands in no address."""
     found = request.form.get(field, "").strip()
-    if not notebook.is_note(found.encode("utf-8", "surrogateescape")):
-        raise Wrong(page, form, **{field: text("at most {most} bytes in one line", most=notebook.MOST_NOTE_BYTES)})
+    if not typed.is_right(typed.REASON, found):
+        raise Wrong(page, form, **{field: text("at most {most} bytes in one line", most=typed.MOST_REASON)})
     return found
 
 

@@ -73,9 +73,7 @@ def new_link(office: str, address: str, prefix: str) -> str:
 def use_link(office: str, token: str, lasting: float = LINK_SECONDS) -> bool:
     """Whether a token opens the desk. It does so once, since its file goes; links that are too old go too."""
     used, opens = digest(token), False
-    with contextlib.suppress(FileNotFoundError), contextlib.ExitStack() as stack:
-        folder = beside.open_folder(office, LINKS)
-        stack.callback(os.close, folder)
+    with contextlib.suppress(FileNotFoundError), beside.open_folder(office, LINKS) as folder:
         for name in os.listdir(folder):
             with contextlib.suppress(FileNotFoundError):  # somebody else may come in just now
                 age = abs(time.time() - os.stat(name, dir_fd=folder, follow_symlinks=False).st_mtime)

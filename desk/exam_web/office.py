@@ -131,7 +131,7 @@ def school() -> Response:
     """Keeps the name of the school, which stands on its papers, or takes it away."""
     name = request.form.get("name", "").strip()
     with at_field(("office.page", {}), "school", "name"):
-        notebook.set_school_name(desk().office, name)
+        notebook.set_school_name(office(), name)
     told = text("The papers of the school have its name now.") if name else text("The school has no name now.")
     return lead("office.page", told, _anchor="school")
 

@@ -159,7 +159,7 @@ def draw(code: str) -> Response:
                  if not notebook.can_stand(rows)}:
         raise Wrong(charts if is_chart else shown.hall_page(halls[0]), "draw", **wrong)
     for hall, rows in drawn.items():
-        notebook.keep_rows(desk().office, hall, rows)
+        notebook.keep_rows(office(), hall, rows)
     return lead(charts[0], **charts[1]) if is_chart else lead("session.page", code=code, _anchor=f"hall-{halls[0]}")
 
 
@@ -170,7 +170,7 @@ def note_absent(code: str) -> Response:
     typed = request.form.get("numbers", "").replace(",", " ").split()
     there = set(request.form.getlist("listed")).difference(ticked)
     with at_field(shown.page, "absent", "numbers"):
-        found = notebook.note_absent(view().reading, code, [*ticked, *typed], there, "nobody" in request.form)
+        found = notebook.note_absent(office(), view().reading, code, [*ticked, *typed], there, "nobody" in request.form)
     told = many(len(found), "{count} candidate is noted as absent in {session}.",
                 "{count} candidates are noted as absent in {session}.", session=code)
     return lead("session.page", told, code=code, _anchor="absent")

@@ -136,6 +136,21 @@ class Lists(Changing):
         self.assertEqual(self.office("check"), "good\n")
         self.assertEqual(os.listdir(os.path.join(self.desk, "tmp")), [])
 
+    def test_one_that_is_refused_while_the_second_file_has_changes(self):
+        """The program takes these into the first file, so its bytes are others; yet nothing is changed."""
+        for place, steps in enumerate(([STEPS[0], STEPS[0]], [Step(("reinstate", "0001000", "MA-1"))])):
+            with contextlib.closing(sqlite3.connect(self.path)) as file:
+                file.execute(APPEAL, (f"HA{place}", 1))
+                file.commit()
+                for ending in ("", "-wal"):
+                    shutil.copy2(self.path + ending, self.path + ending + ".left")
+            for ending in ("", "-wal"):  # as `serve` leaves them when it is killed
+                os.replace(self.path + ending + ".left", self.path + ending)
+            before = self.state()
+            carried = changing.carry_out(self.value, steps)
+            self.assertIsNotNone(carried.refused)
+            self.assertEqual((carried.copy, self.kept(), self.state()), (None, [], before), place)
+
     def test_a_program_that_does_not_start_in_the_middle(self):
         before, runs = self.state(), []
 

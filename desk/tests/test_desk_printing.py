@@ -69,8 +69,11 @@ class TestPrinting(DeskSchool):
         self.assertIn("And of the whole session: Slips for candidates, with desk numbers , Notice board by name ,", found)
         self.assertIn(f"{len(moves)} candidates are not as on paper", found)
         for move in moves:
-            number, _, was = re.match(r"(\d{7}) (.*): .*, was (.*)", move).groups()
+            number, _, was = re.match(r"(\d{7}) (.*): (\w+ \d+) -> ", move).groups()
             self.assertRegex(found, rf"{number} {was.replace(' ', ' desk ')} ")
+        self.office("notes", self.write("notes.csv", "number,text\n0001306,<b>scribe\n"))
+        self.assertRegex(self.browser.words(self.PRINTED + "?piece"),
+                         r"0001306 AULA desk 1 AULA desk \d+ Note: – → <b>scribe ")
 
     def test_sessions_go_by_day_and_start(self):
         """In what a change did, in the form that lodges an appeal, and in what the season asks for."""
@@ -267,6 +270,7 @@ class TestTheDay(DeskSchool):
         self.assertNotIn("Nobody was absent", said)
         self.assertNotIn('name="listed"', text)
         self.browser.post(page + "/absent", page, numbers="0001119")
+        self.assertRegex(self.log(), r"\(ab, desk\)\tabsent MON-AM\t0\tabsent 0001119\n")
         self.assertEqual(notebook.absent(self.value, "MON-AM"), {"0001051", "0001119"})
         notebook.keep_absent(self.value, "MON-AM", ["9999999"], [])  # a copy from before they came was put back
         said = self.browser.words(page)

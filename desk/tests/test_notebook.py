@@ -74,6 +74,12 @@ class Notebook(unittest.TestCase):
         self.assertEqual(notebook.take_notes(self.office, {"0000001": ""}), {"removed": 1})
         self.assertEqual(notebook.notes(self.office), {"0000002": "rest breaks"})
 
+    def test_the_log_names_the_first_of_many(self):
+        notebook.take_notes(self.office, {f"{number:07}": "a scribe" for number in range(1, 26)})
+        [line] = logbook.last_lines(self.office)
+        first = ", ".join(f"{number:07}" for number in range(1, 21))
+        self.assertEqual(line[1:], ["nobody", "notes", "0", f"added {first} and 5 more"])
+
     def test_wrong_files(self):
         notebook.take_notes(self.office, {"0000002": "stays"})
         for what, (text, said) in WRONG.items():
@@ -194,7 +200,7 @@ class Commands(sample.SampleSchool):
         self.assertEqual(self.office("notes"), "0001000 Ada Lin: a ?scribe\n0001051 Di Berg: rest breaks\n")
         self.write("notes.csv", "number,text\n9999999,x\n")
         self.assertIn("line 2: the office has no candidate '9999999'", self.refused("notes", "notes.csv"))
-        self.assertFalse(os.path.exists(os.path.join(self.desk, "log")))
+        self.assertEqual(len([*logbook.last_lines(self.value)]), 1)
 
     def test_school(self):
         self.assertEqual((self.office("school"), self.office("school", "Hill"), self.office("school")),
@@ -257,7 +263,7 @@ class Commands(sample.SampleSchool):
         number, paper, hall = next((seat[1], seat[2], seat[3]) for seat in seats if seat[4] == "1")
         self.office("withdraw", number, paper)
         lines = self.office("printed", "MON-AM", "--look").splitlines()
-        self.assertTrue(any(re.fullmatch(rf"{number} \S.*, was {hall} 1", line) for line in lines), lines)
+        self.assertTrue(any(re.fullmatch(rf"{number} \S.*: {hall} 1 -> .*", line) for line in lines), lines)
         self.assertFalse([line for line in lines if " :" in line], "whoever left has a name, too")
         self.assertIn(hall, re.findall("[A-Z0-9]+", lines[-1]))
         self.assertRegex(self.office("printed", "MON-AM"), r"^\d+ desks noted, [1-9]\d* other than before\n$")
@@ -266,7 +272,7 @@ class Commands(sample.SampleSchool):
         self.office("withdraw", "0001119", "CS-1")  # so that somebody in another hall has another desk
         *moves, again, last = self.office("printed", "MON-AM", "--look").splitlines()
         self.assertEqual(last, "to take away, as nobody sits there now: GYM")
-        halls = {place for line in moves for place in re.findall(r"(?:: |, was )(\w+) \d+(?=,|$)", line)}
+        halls = {place for line in moves for place in re.findall(r"(?:: |-> )([A-Z]\w+) \d+(?= ->|,|$)", line)}
         self.assertEqual(again, f"to print again: {', '.join(sorted(halls - {'GYM'}))}; board, counts, slips")
         self.assertIn("PC1", again)
 
@@ -286,27 +292,70 @@ class Commands(sample.SampleSchool):
 
     def test_a_line_that_has_its_desk_alone(self):
         """Its desk is known, so papers show where another one was; and it has to be printed again."""
-        with notebook.alone(self.value) as folder:
-            notebook.write(self.value, folder, "printed.MON-AM", {"0001000": ["GYM", 99]})
-        self.assertRegex(self.office("doors", "MON-AM"), r"<small>was (GYM )?99</small>")
-        self.assertIn("0001000 ", self.office("printed", "MON-AM", "--look"))
+        for line in (["GYM", 99], ["AULA", 4, "a text"]):
+            with notebook.alone(self.value) as folder:
+                notebook.write(self.value, folder, "printed.MON-AM", {"0001000": line})
+            self.assertEqual("was GYM 99" in self.office("board", "MON-AM"), line[0] == "GYM")
+            places = "AULA 4" if line[0] == "AULA" else "GYM 99 -> AULA 4"
+            self.assertRegex(self.office("printed", "MON-AM", "--look"),
+                             f"(?m)^0001000 Ada Lin: {places}, name - -> Ada Lin, paper - -> MA-1, date - -> 2027-06-07, ")
 
     def test_what_else_is_on_paper(self):
-        """A line is another one where the desk is the same: each part of it that papers show."""
-        number, hall = next((row[1], row[3]) for row in (line.split(",") for line in self.office("export", "MON-AM").splitlines())
-                            if row[2:4] == ["LAT", "AULA"])
-        other = "with another name, paper, time, arrangement, note or title"
-        for words in (("name", number, "Another Name"), ("notes", self.write("notes.csv", f"number,text\n{number},a scribe\n")),
-                      ("import", "arrangements", self.write("a.csv", f"number,needs,extra\n{number},-,10\n")),
-                      ("import", "halls", self.write("h.csv", "hall,title,features\nAULA,Great hall,-\n")),
-                      ("import", "papers", self.write("p.csv", "paper,title,session,minutes,requires\nLAT,Latin 1,MON-AM,90,-\n")),
-                      ("import", "sessions", self.write("s.csv", "session,date,start\nMON-AM,2027-06-07,08:30\n"))):
+        """A line is another one where the desk is the same: each part of it that papers show, with old and new."""
+        for words, said in (
+                (("name", "0001306", "Another Name"), "name Sami Nagy -> Another Name"),
+                (("notes", self.write("notes.csv", "number,text\n0001306,a scribe\n")), "note - -> a scribe"),
+                (("notes", self.write("other.csv", "number,text\n0001306,two\n")), "note a scribe -> two"),
+                (("import", "arrangements", self.write("a.csv", "number,needs,extra\n0001306,-,10\n")),
+                 "finish 10:30 -> 10:39, extra 0 -> 10"),  # 90 minutes from 09:00, and 9 more
+                (("import", "halls", self.write("h.csv", "hall,title,features\nAULA,Great hall,-\n")),
+                 "hall title Aula, main building -> Great hall"),
+                (("import", "papers", self.write("p.csv", "paper,title,session,minutes,requires\nLAT,Latin 1,MON-AM,90,-\n")),
+                 "paper title Latin -> Latin 1"),
+                (("import", "sessions", self.write("s.csv", "session,date,start\nMON-AM,2027-06-08,08:30\n")),
+                 "date 2027-06-07 -> 2027-06-08, start 09:00 -> 08:30, finish 10:39 -> 10:09")):
             self.office("printed", "MON-AM")
             self.assertEqual(self.office("printed", "MON-AM", "--look"), "the papers are up to date\n")
             self.office(*words)
             lines = self.office("printed", "MON-AM", "--look").splitlines()
-            self.assertTrue([line for line in lines if line.startswith(number) and line.endswith(other)], (words, lines))
-            self.assertIn(hall, re.findall("[A-Z0-9]+", lines[-1]), words)
+            [line] = [line for line in lines if line.startswith("0001306")]
+            self.assertRegex(line, rf"^0001306 (Sami Nagy|Another Name): AULA 1, {said}$")
+            self.assertIn("AULA", lines[-1], words)
+
+    def test_who_comes_moves_and_goes(self):
+        """Of another hall neither the title nor the end is said, since they go with it; of another paper no title."""
+        self.office("printed", "MON-AM")
+        self.office("withdraw", "0001000", "MA-1")
+        self.assertIn("0001000 Ada Lin: AULA 4 -> not in the session\n", self.office("printed", "MON-AM", "--look"))
+        self.office("printed", "MON-AM")
+        self.office("reinstate", "0001000", "MA-1")
+        self.assertIn("0001000 Ada Lin: not on paper -> AULA 4\n", self.office("printed", "MON-AM", "--look"))
+        self.office("printed", "MON-AM")
+        self.office("withdraw", "0001306", "LAT")  # so that they sit the other of two papers at once
+        self.office("open-hall", "MON-AM", "GYM", "60", "13:00")
+        self.office("close-hall", "MON-AM", "AULA")
+        lines = self.office("printed", "MON-AM", "--look")
+        self.assertRegex(lines, r"(?m)^0001000 Ada Lin: AULA 4 -> GYM \d+$")
+        self.assertRegex(lines, r"(?m)^0001306 Sami Nagy: AULA 1 -> GYM \d+, paper LAT -> MA-2(, finish [0-9:]+ -> [0-9:]+)?$")
+        self.office("printed", "MON-AM")
+        self.office("close-hall", "MON-AM", "GYM")
+        self.assertRegex(self.office("printed", "MON-AM", "--look"), r"(?m)^0001000 Ada Lin: GYM \d+ -> no desk$")
+
+    def test_the_log_has_each_change_and_no_text_of_a_note(self):
+        self.environment["TODAY"] = "2027-06-07"
+        first = self.write("notes.csv", "number,text\n0001051,rest breaks\n0001000,scribe\n")
+        for words in (["notes", first], ["notes", first],
+                      ["notes", self.write("other.csv", "number,text\n0001051,reader\n0001000,\n")],
+                      ["absent", "MON-AM", "0001051", "0001000"], ["absent", "MON-AM", "0001051"],
+                      ["absent", "MON-AM", "--there", "0001000"], ["absent", "MON-AM", "--there", "0001051"],
+                      ["absent", "MON-AM", "--nobody"], ["absent", "MON-AM", "--nobody"],
+                      ["school", "Hill"], ["school", ""], ["rows", "GYM", "8"]):
+            self.office(*words)
+        self.assertEqual([line[2:] for line in logbook.last_lines(self.value)], [
+            ["notes", "0", "added 0001000, 0001051"], ["notes", "0", "changed 0001051; removed 0001000"],
+            ["absent MON-AM", "0", "absent 0001000, 0001051"], ["absent MON-AM", "0", "there 0001000"],
+            ["absent MON-AM", "0", "there 0001051"], ["absent MON-AM", "0", "nobody"],
+            ["school", "0", "Hill"], ["school", "0", "no name"], ["rows GYM", "0", "rows of 8, across"]])
 
     def test_back_leaves_it_and_says_so(self):
         self.office("school", "Hill")
