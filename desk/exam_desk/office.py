@@ -15,6 +15,7 @@ class Office:
     today: Callable[[], datetime.date]  # asked anew each time, so midnight passes
     user: str  # who works, as the log has it
     warn: Callable[[str], None] = lambda text: None  # hears at once what somebody must know, such as that it waits
+    now: Callable[[], datetime.datetime] = datetime.datetime.now  # what papers have as the time of their printing
 
     def base_name(self) -> str:
         """The name of the file itself, also where the path is a link to it: copies have that name."""
