@@ -236,7 +236,7 @@ def check_shortage(parser: ArgumentParser) -> bool:
         found = list(reasons.Reasons(reading, sheet.session).faults(sheet))
     right = (f"right: {lists.count(sheet.candidate_count, 'candidate')} = {lists.count(sheet.desks, 'desk')}"
              f" + {sheet.unseated} unseated")
-    command.say("\n".join([*(found or [right]), ""]))
+    command.say_lines(found or [right])
     return bool(found)
 
 

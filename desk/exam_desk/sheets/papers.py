@@ -21,6 +21,7 @@ from exam_desk.trouble import Trouble
 from exam_desk.words import clock, long_day, short_day
 
 BOARD = "<h1>{}{}</h1>\n<p class=legend>{}</p>\n<div class=columns>{}</div>\n"
+ASK = Markup("<b>ask the office</b>")  # in place of a hall
 POSTER = "<h1>{}</h1>\n<h2>{}</h2>\n<p>{}{} &middot; {}</p>\n<div class=columns>{}</div>"
 CARD = "<div class=card><b>{}</b><i>{}</i><p>{}</p><p>{}</p><p>{}</p></div>"
 CARDS = 10  # on a page
@@ -88,10 +89,8 @@ def board(reading: Reading, session: str) -> str:
     used = sorted({member.sitting.hall for member in members if member.sitting.hall})
     legend = joined((html("<b>{}</b> {}", code, text(titles[code])) for code in used), "<br>")
     moment = when(reading, session)
-    rows = []
-    for member in members:
-        hall: list[object] = [member.sitting.hall, desk(member, printed)]
-        rows.append([names[member.number], *(hall if member.sitting.hall else [Markup("<b>ask the office</b>"), ""])])
+    rows = [[names[each.number], each.sitting.hall or ASK, desk(each, printed) if each.sitting.hall else ""]
+            for each in members]
     body = html(BOARD, school(reading.office, "<br>"), moment, legend,
                 table(["Name", "w:Hall", "n:Desk"], rows, moment))
     return document(reading, f"Notice board {session}", body, "paper", "board")
