@@ -229,9 +229,8 @@ def now() -> datetime.datetime:
     """The date and the time: the clock's, or those of TODAY, which may have no time. Raises `Trouble` where TODAY is no
     date."""
     import datetime
-    clock, given = datetime.datetime.now(), os.environ.get("TODAY")
-    if not given:
-        return clock
+    clock = datetime.datetime.now()
+    given = os.environ.get("TODAY") or clock.date().isoformat()
     try:
         return datetime.datetime.strptime(given if " " in given else f"{given} {clock:%H:%M}", "%Y-%m-%d %H:%M")
     except ValueError:

@@ -17,12 +17,13 @@ from exam_desk import states  # beside the tests' folder
 PAGES = [["slips"], *([name, "MON-AM"] for name in ("board", "doors", "poster", "cards", "chart", "counts",
                                                    "session-page"))]
 LONG = ["W" * 80, "von " * 19 + "Hohe", "\u5c71\u7530" * 13, "e\u0301" * 26, "a" + "\u0335\u0321" * 19]  # of 80 bytes
-# Counts the cards whose last line stands below them, and the texts of cards that are cut.
-LOOK_AT_CARDS = """<script>
+# Counts the cards whose last line stands below them, the texts of cards that are cut, and the heights of a chart's rows.
+LOOK = """<script>
 const all = (which) => [...document.querySelectorAll(which)], bottom = (each) => each.getBoundingClientRect().bottom;
 document.body.textContent = all(".card").filter((card) => bottom(card.lastChild) > bottom(card)).length + " "
   + all(".card i, .card p").filter((text) =>
-    text.scrollHeight > text.clientHeight + 1 || text.scrollWidth > text.clientWidth).length</script>"""
+    text.scrollHeight > text.clientHeight + 1 || text.scrollWidth > text.clientWidth).length + " "
+  + new Set(all(".chart tr").map((row) => Math.round(row.getBoundingClientRect().height))).size</script>"""
 HOSTILE = ["=1+1", "<script>alert(1)</script>", "\"quotes\" & 'more'", "C1 \u009b2J \u0085 end", "left \u202eright",
            "line\u2028end", "</bdi></td></table>", "W" * 80, "\u00e9" * 40, "Ada Lin", " "]
 
@@ -205,15 +206,19 @@ class Papers(sample.SampleSchool):
                 self.assertEqual(text.count(b"\f"), html.count("<div class=sheet>"))
             self.assertEqual(text.count(b"W") - text.count(b"Wanda") - text.count(b"Weiss") - text.count(b"Willem"), 80)
 
-    def test_a_card_keeps_all_its_lines(self):
-        """Names and titles of 80 bytes: as long as can be, in wide letters, in one word, one over the other. Of these the
-        80 letters W alone are cut."""
+    def looked_at(self, name, *words):
+        return re.findall("<body>(.*)</body>", self.browse(name, self.office(name, *words) + LOOK, "--dump-dom")[1])
+
+    def test_long_names_and_titles(self):
+        """Those of 80 bytes: as long as can be, in wide letters, in one word, one over the other. A card keeps all its
+        lines, and a chart the heights of its rows. Of the names and titles the 80 letters W alone are cut."""
         for place, name in enumerate(LONG):
             self.change(("UPDATE candidate SET name = ? WHERE number = ?", [name, 1000 + 17 * place]))
         for title, cut in ((LONG[1], 1), (LONG[0], 117)):  # of 58 cards two titles each, too
             self.change(("UPDATE hall SET title = ?", [title]), ("UPDATE paper SET title = ?", [title]))
-            _, shown = self.browse("cards", self.office("cards", "MON-AM") + LOOK_AT_CARDS, "--dump-dom")
-            self.assertEqual(re.findall("<body>(.*)</body>", shown), [f"0 {cut}"])
+            self.assertEqual(self.looked_at("cards", "MON-AM"), [f"0 {cut} 0"])
+        self.office("rows", "AULA", "6")
+        self.assertEqual(self.looked_at("chart", "MON-AM", "AULA"), ["0 0 1"])
 
     def test_each_page_says_when_it_was_printed(self):
         for hall in ("AULA", "GYM", "LIB", "PC1", "R12"):

@@ -25,6 +25,7 @@ ASK = Markup("<b>ask the office</b>")  # in place of a hall
 POSTER = "<h1>{}</h1>\n<h2>{}</h2>\n<p>{}{} &middot; {}</p>\n<div class=columns>{}</div>"
 CARD = "<div class=card><b>{}</b><i>{}</i><p>{}</p><p>{}</p><p>{}</p></div>"
 CARDS = 10  # on a page
+NO_PLACE = Markup("<td class=none></td>")
 CHART = ("<h1>{} ({})</h1>\n<p>{}{}. Front of the hall above. {}</p>\n"
          "<table class=chart><tbody>\n{}</tbody></table>")
 COPIES = ["Hall", "Paper", "n:Copies", "n:Last finish", "box:Spare", "box:Packed"]
@@ -128,12 +129,11 @@ def chart(reading: Reading, session: str, asked: Collection[str] = ()) -> str:
 
 def drawn(desks: int, members: Iterable[Member], rows: Rows, papers: Mapping[str, Markup]) -> Iterator[Markup]:
     """The rows of desks of a hall, with who sits there."""
-    places: dict[int | None, Markup] = {number: html("<td><b>{}</b></td>", number) for number in range(1, desks + 1)}
-    places |= {sits.desk: html("<td><b>{}</b>{} {} {}</td>", sits.desk, fitted(text(name), ON_CHART), number,
-                               papers[sits.paper]) for number, name, sits in members}
-    places[None] = Markup("<td class=none></td>")
+    seated = {sits.desk: html("{} {} {}", fitted(text(name), ON_CHART), number, papers[sits.paper])
+              for number, name, sits in members}
     for line in numbered(desks, rows):
-        yield html("<tr>{}</tr>\n", joined(places[number] for number in line))
+        yield html("<tr>{}</tr>\n", joined(html("<td><b>{}</b>{}</td>", place, seated.get(place, "")) if place else NO_PLACE
+                                           for place in line))
 
 
 def numbered(desks: int, rows: Rows) -> list[list[int | None]]:
