@@ -17,7 +17,7 @@ from exam_desk import states  # beside the tests' folder
 PAGES = [["slips"], *([name, "MON-AM"] for name in ("board", "doors", "poster", "cards", "chart", "counts",
                                                    "session-page"))]
 LONG = ["W" * 80, "von " * 19 + "Hohe", "\u5c71\u7530" * 13, "e\u0301" * 26, "a" + "\u0335\u0321" * 19]  # of 80 bytes
-# Counts the cards whose last line stands below them, the texts of cards that are cut, and the heights of a chart's rows.
+# Counts cards whose last line stands below them, texts of cards that are cut, and the heights of a chart's rows.
 LOOK = """<script>
 const all = (which) => [...document.querySelectorAll(which)], bottom = (each) => each.getBoundingClientRect().bottom;
 document.body.textContent = all(".card").filter((card) => bottom(card.lastChild) > bottom(card)).length + " "

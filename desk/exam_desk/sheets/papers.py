@@ -101,7 +101,8 @@ def poster(reading: Reading, session: str, asked: Collection[str] = ()) -> str:
     """Posters for the doors: each hall from a page of its own on, names with desks and nothing private."""
     moment, name, names = when(reading, session), school(reading.office, " &middot; "), named(reading.members(session))
     return of_desks(reading, f"Posters {session}", (
-        html(POSTER, fitted(text(opening.title), ON_POSTER), moment, name, opening.hall, lists.count(len(there), "candidate"),
+        html(POSTER, fitted(text(opening.title), ON_POSTER), moment, name, opening.hall,
+             lists.count(len(there), "candidate"),
              table(["Name", "n:Desk"], [[names[each.number], each.sitting.desk] for each in lists.by_name(there)]))
         for opening, there in lists.halls(reading, session, asked)), "poster")
 
@@ -132,8 +133,8 @@ def drawn(desks: int, members: Iterable[Member], rows: Rows, papers: Mapping[str
     seated = {sits.desk: html("{} {} {}", fitted(text(name), ON_CHART), number, papers[sits.paper])
               for number, name, sits in members}
     for line in numbered(desks, rows):
-        yield html("<tr>{}</tr>\n", joined(html("<td><b>{}</b>{}</td>", place, seated.get(place, "")) if place else NO_PLACE
-                                           for place in line))
+        yield html("<tr>{}</tr>\n", joined(
+            html("<td><b>{}</b>{}</td>", place, seated.get(place, "")) if place else NO_PLACE for place in line))
 
 
 def numbered(desks: int, rows: Rows) -> list[list[int | None]]:
