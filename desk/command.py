@@ -1,8 +1,8 @@
 """What all commands of the desk share: how they are named, which office they mean, and how they speak.
 
-OFFICE names another file than office.db, TODAY another date than the clock's, EXAMOFFICE another program. The package
-exam_desk reads none of these: a command hands an `Office` on. What not every command needs is imported where it is
-used, since that is most of the time in which `office look` answers.
+OFFICE names another file than office.db, TODAY another date than the clock's (or a date and a time), EXAMOFFICE another
+program. The package exam_desk reads none of these: a command hands an `Office` on. What not every command needs is
+imported where it is used, since that is most of the time in which `office look` answers.
 """
 from __future__ import annotations
 
@@ -179,7 +179,7 @@ def tell_consequences(copy: str | None) -> None:
 
 def office() -> Office:
     """The office that is meant."""
-    return Office(office_path(), program(), today, user(), warn)
+    return Office(office_path(), program(), today, user(), warn, now)
 
 
 def existing_office() -> Office:
@@ -222,13 +222,17 @@ def program() -> str:
 
 
 def today() -> datetime.date:
-    """The date. Raises `Trouble` where TODAY is none."""
+    return now().date()
+
+
+def now() -> datetime.datetime:
+    """The date and the time: the clock's, or those of TODAY, which may have no time. Raises `Trouble` where TODAY is no
+    date."""
     import datetime
-    given = os.environ.get("TODAY")
-    if not given:
-        return datetime.date.today()
+    clock = datetime.datetime.now()
+    given = os.environ.get("TODAY") or clock.date().isoformat()
     try:
-        return datetime.datetime.strptime(given, "%Y-%m-%d").date()
+        return datetime.datetime.strptime(given if " " in given else f"{given} {clock:%H:%M}", "%Y-%m-%d %H:%M")
     except ValueError:
         raise Trouble(f"TODAY is {given}; write a date as 2027-05-30") from None
 

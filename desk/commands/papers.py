@@ -115,7 +115,7 @@ def session_page(parser: ArgumentParser) -> bool:
     given = command.given(parser, "session")
     with command.reading() as reading:
         page = Page(reading, given.session)
-    command.say(page.document())
+        command.say(page.document())
     return warned(page.faults)
 
 
@@ -193,14 +193,14 @@ def changes(parser: ArgumentParser) -> None:
     path, since = backup(command.office(), given.backup)
     with command.reading(path) as before, command.reading() as after:
         found = telling.differences(before, after, given.session)
-        titles = telling.titles_of(before, after)
-    told = [change for change in found if change.is_to_tell() or not given.tell]
-    if given.csv:
-        command.say(telling.csv_text(told, titles))
-    elif given.paper:
-        command.say(papers.changes(command.office(), told, titles, since))
-    else:
-        command.say(telling.text(found, given.tell))
+        told = [change for change in found if change.is_to_tell() or not given.tell]
+        if given.csv:
+            text = telling.csv_text(told, telling.titles_of(before, after))
+        elif given.paper:
+            text = papers.changes(before, after, told, since)
+        else:
+            text = telling.text(found, given.tell)
+    command.say(text)
 
 
 def backup(office: Office, path: str) -> tuple[str, str]:
@@ -236,7 +236,7 @@ def check_shortage(parser: ArgumentParser) -> bool:
         found = list(reasons.Reasons(reading, sheet.session).faults(sheet))
     right = (f"right: {lists.count(sheet.candidate_count, 'candidate')} = {lists.count(sheet.desks, 'desk')}"
              f" + {sheet.unseated} unseated")
-    command.say("\n".join([*(found or [right]), ""]))
+    command.say_lines(found or [right])
     return bool(found)
 
 

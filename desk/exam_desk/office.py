@@ -15,6 +15,7 @@ class Office:
     today: Callable[[], datetime.date]  # asked anew each time, so midnight passes
     user: str  # who works, as the log has it
     warn: Callable[[str], None] = lambda text: None  # hears at once what somebody must know, such as that it waits
+    now: Callable[[], datetime.datetime] = datetime.datetime.now  # what papers have as the time of their printing
 
     def is_over(self, day: str) -> bool:
         """Whether the sessions of a day are over: it has passed."""

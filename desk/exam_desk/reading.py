@@ -9,6 +9,7 @@ the program.
 from __future__ import annotations
 
 import contextlib
+import functools
 import json
 import operator
 import os
@@ -18,7 +19,7 @@ import time
 from collections.abc import Callable, Collection, Iterable
 from typing import Any, NamedTuple, TypeVar
 
-from exam_desk import asking, bad_rows, facts, private, running, snapshot, turns
+from exam_desk import asking, bad_rows, facts, private, running, snapshot, states, turns
 from exam_desk.asking import Progress, Serve, ask_all
 from exam_desk.office import Office
 from exam_desk.trouble import BadRows, Trouble
@@ -96,6 +97,11 @@ class Reading(contextlib.AbstractContextManager["Reading"]):
 
     def __exit__(self, *_: object) -> None:
         self.stack.close()
+
+    @functools.cached_property
+    def name(self) -> str:
+        """The name of the state that was read."""
+        return states.name_of(self.rows)
 
     def is_current(self) -> bool:
         """Whether the office is still as it was read. False also where it had changed just before: another change at

@@ -14,7 +14,7 @@ from typing import Any, Concatenate, NamedTuple, ParamSpec, TypeVar
 
 from flask import abort, current_app, g, has_request_context, request
 
-from exam_desk import consequences, facts, states
+from exam_desk import consequences, facts
 from exam_desk.office import Office
 from exam_desk.reading import Reading
 from exam_desk.trouble import Trouble
@@ -46,7 +46,7 @@ class View:
         self.found: dict[Any, Any] = {}
         self.reading = Reading(office, path)
         weakref.finalize(self, self.reading.stack.close)
-        self.name = states.name_of(self.reading.rows)
+        self.name = self.reading.name
 
     def rows(self, query: str, values: Sequence[object] = ()) -> list[Any]:
         return self.reading.rows.execute(query, values).fetchall()

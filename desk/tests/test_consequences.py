@@ -78,7 +78,9 @@ class Kinds(unittest.TestCase):
         self.assertTrue(telling.text(changes[:3]).startswith("1 sits at another time (3 sessions):\n"))
         [title, *_] = consequences.lines(consequences.grouped(changes, {}), 1)
         self.assertEqual(title, "2 sit at other times (4 sittings)")
-        self.assertIn("<b>2 sit at other times (4 sittings)</b>", papers.changes(self.office, changes, {}, "Since 1"))
+        with mock.patch.object(papers, "told", lambda *_: [""]):
+            page = papers.changes(mock.MagicMock(), mock.MagicMock(office=self.office), changes, "Since 1")
+        self.assertIn("<b>2 sit at other times (4 sittings)</b>", page)
         halls = [consequences.Met(session, "and S3 in A", "") for session in ("S1", "S2")]
         self.assertEqual(consequences.title(consequences.HALLS, halls),
                          "2 halls have candidates of two sessions at one time")

@@ -13,6 +13,10 @@ from exam_desk import notebook
 class TestPrinting(DeskSchool):
     PRINTED = "/sessions/MON-AM/printed"
 
+    def start(self):
+        self.environment["TODAY"] = f"{sample.TODAY} 08:15"  # so each paper that is compared says one time
+        super().start()
+
     def test_sheets_are_those_of_the_commands(self):
         for hall, in self.rows("SELECT hall FROM opening WHERE session = 'MON-AM'"):
             self.office("rows", hall, "6")

@@ -1,6 +1,7 @@
 """The papers for people over the sample school, and over one with hostile names."""
 import contextlib
 import csv
+import datetime
 import io
 import re
 import shutil
@@ -11,6 +12,18 @@ import unittest
 import sample
 from cells import Cells
 
+from exam_desk import states  # beside the tests' folder
+
+PAGES = [["slips"], *([name, "MON-AM"] for name in ("board", "doors", "poster", "cards", "chart", "counts",
+                                                   "session-page"))]
+LONG = ["W" * 80, "von " * 19 + "Hohe", "\u5c71\u7530" * 13, "e\u0301" * 26, "a" + "\u0335\u0321" * 19]  # of 80 bytes
+# Counts cards whose last line stands below them, texts of cards that are cut, and the heights of a chart's rows.
+LOOK = """<script>
+const all = (which) => [...document.querySelectorAll(which)], bottom = (each) => each.getBoundingClientRect().bottom;
+document.body.textContent = all(".card").filter((card) => bottom(card.lastChild) > bottom(card)).length + " "
+  + all(".card i, .card p").filter((text) =>
+    text.scrollHeight > text.clientHeight + 1 || text.scrollWidth > text.clientWidth).length + " "
+  + new Set(all(".chart tr").map((row) => Math.round(row.getBoundingClientRect().height))).size</script>"""
 HOSTILE = ["=1+1", "<script>alert(1)</script>", "\"quotes\" & 'more'", "C1 \u009b2J \u0085 end", "left \u202eright",
            "line\u2028end", "</bdi></td></table>", "W" * 80, "\u00e9" * 40, "Ada Lin", " "]
 
@@ -170,21 +183,75 @@ class Papers(sample.SampleSchool):
                 if done.returncode:
                     self.assertRegex(done.stderr, "^office: [^\n]*\n$", words)
 
+    def browse(self, name, text, *options):
+        """The path of a page, and what a browser prints of it."""
+        if not (browser := shutil.which("chromium")):
+            self.skipTest("there is no chromium")
+        page = self.write(f"{name}.html", text)
+        options = [option.format(page) for option in options]
+        return page, subprocess.run([browser, "--headless", "--no-sandbox", "--disable-gpu", "--no-pdf-header-footer",
+                                     f"--user-data-dir={self.folder}/browser", *options, f"file://{page}"], check=True,
+                                    capture_output=True, encoding="utf-8").stdout
+
     def test_nothing_is_cut_on_a4(self):
-        browser = shutil.which("chromium")
-        if not (browser and shutil.which("pdftotext")):
-            self.skipTest("there is no chromium or no pdftotext")
+        if not shutil.which("pdftotext"):
+            self.skipTest("there is no pdftotext")
         self.make_hostile()
         for words in (["doors", "MON-AM"], ["slips"]):
-            page = self.write(f"{words[0]}.html", self.office(*words))
-            subprocess.run([browser, "--headless", "--no-sandbox", "--disable-gpu", "--no-pdf-header-footer",
-                            f"--user-data-dir={self.folder}/browser", f"--print-to-pdf={page}.pdf", f"file://{page}"],
-                           check=True, capture_output=True)
+            html = self.office(*words, TODAY="2027-05-01 08:15")
+            page, _ = self.browse(words[0], html, "--print-to-pdf={}.pdf")
             text = subprocess.run(["pdftotext", "-raw", f"{page}.pdf", "-"], check=True, capture_output=True).stdout
+            self.assertEqual(text.count(b"\f"), text.count(b"printed 2027-05-01 08:15, state "))
             if words[0] == "doors":  # each page of a hall says which it is
-                with open(page, encoding="utf-8") as file:
-                    self.assertEqual(text.count(b"\f"), file.read().count("<div class=sheet>"))
+                self.assertEqual(text.count(b"\f"), html.count("<div class=sheet>"))
             self.assertEqual(text.count(b"W") - text.count(b"Wanda") - text.count(b"Weiss") - text.count(b"Willem"), 80)
+
+    def looked_at(self, name, *words):
+        return re.findall("<body>(.*)</body>", self.browse(name, self.office(name, *words) + LOOK, "--dump-dom")[1])
+
+    def test_long_names_and_titles(self):
+        """Those of 80 bytes: as long as can be, in wide letters, in one word, one over the other. A card keeps all its
+        lines, and a chart the heights of its rows. Of the names and titles the 80 letters W alone are cut."""
+        for place, name in enumerate(LONG):
+            self.change(("UPDATE candidate SET name = ? WHERE number = ?", [name, 1000 + 17 * place]))
+        for title, cut in ((LONG[1], 1), (LONG[0], 117)):  # of 58 cards two titles each, too
+            self.change(("UPDATE hall SET title = ?", [title]), ("UPDATE paper SET title = ?", [title]))
+            self.assertEqual(self.looked_at("cards", "MON-AM"), [f"0 {cut} 0"])
+        self.office("rows", "AULA", "6")
+        self.assertEqual(self.looked_at("chart", "MON-AM", "AULA"), ["0 0 1"])
+
+    def test_each_page_says_when_it_was_printed(self):
+        for hall in ("AULA", "GYM", "LIB", "PC1", "R12"):
+            self.office("rows", hall, "5")
+        foot = f"printed 2027-05-01 08:15, state {states.name_now(self.value)[:8]}"
+        for words in PAGES:
+            self.assertEqual(self.office(*words, TODAY="2027-05-01 08:15").count(foot), 1, words)
+        now = datetime.datetime.now().replace(second=0, microsecond=0)
+        [day, clock] = re.findall(r"printed (\S+) (\S+), state", self.office("board", "MON-AM"))[0]
+        later = datetime.datetime.combine(now, datetime.time.fromisoformat(clock)) - now
+        self.assertEqual((day, later.seconds < 600), (sample.TODAY, True))
+        self.run_office("withdraw", "0001000", "MA-1")
+        self.assertNotIn(foot, self.office("board", "MON-AM", TODAY="2027-05-01 08:15"))
+        self.assertIn("TODAY is 2027-05-01 25:00", self.refused("board", "MON-AM", TODAY="2027-05-01 25:00"))
+
+    def test_a_second_sitting_says_whose_copies_it_takes(self):
+        """0001561 sits Latin until 10:30, and Mathematics 1 later."""
+        self.assertEqual(self.run_office("second-sitting", "0001561", "MA-1", "11:00", "R14", "--yes").returncode, 0)
+        self.office("rows", "R14", "5")
+        named = "Mathematics 1 (MA-1-2), second sitting of MA-1"
+        self.assertIn("|MA-1-2 Mathematics 1, second sitting of MA-1: 1", self.rows("doors", "MON-AM-2")[0][0])
+        self.assertEqual(self.rows("doors", "MON-AM-2")[2][3:5], ["MA-1-2 (MA-1)", "13:00"])
+        self.assertEqual([row[:3] for row in self.rows("counts", "MON-AM-2")[2:]],
+                         [["Room 14 (R14)", named, "1"], ["Paper, all halls", "Copies", "Last finish"],
+                          [named, "1", "13:00"]])
+        self.assertIn(f"<p>{named}</p>", re.sub("</?(bdi|small)>", "", self.office("cards", "MON-AM-2")))
+        self.assertEqual(self.rows("chart", "MON-AM-2")[0][0], "1Henrik Haddad 0001561 MA-1-2 (MA-1)")
+        self.assertIn(["1", "0001561", "Henrik Haddad", "MA-1-2 (MA-1)"],
+                      [row[:4] for row in self.rows("session-page", "MON-AM-2")])
+        slip = self.rows("slips", "--only", "0001561")
+        self.assertEqual([row[2] for row in slip[2:4]], ["Latin (LAT)", named])
+        self.assertIn(f"Room 14 (R14), desk 1|{named}|Mon 7 June 2027, 11:00–13:00",
+                      [row[4] for row in self.rows("changes", "1", "--paper") if len(row) == 6])
 
 
 if __name__ == "__main__":

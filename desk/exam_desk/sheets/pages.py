@@ -10,15 +10,21 @@ from collections.abc import Iterable, Sequence
 
 from markupsafe import Markup, escape
 
-from exam_desk import notebook
+from exam_desk import facts, notebook
 from exam_desk.office import Office
+from exam_desk.reading import Reading
+from exam_desk.second_sitting import own_code
+from exam_desk.snapshot import Rows
 from exam_desk.words import plain
 
 STYLES = os.path.join(os.path.dirname(__file__), "styles")
 DOCUMENT = ('<!doctype html>\n<html lang="en"><head><meta charset="utf-8">'
-            '<meta name="viewport" content="width=device-width"><title>{}</title>\n<style>{}</style></head>\n'
-            "<body>\n{}</body></html>\n")
+            '<meta name="viewport" content="width=device-width"><title>{}</title>\n'
+            '<style>@page {{ @bottom-left {{ content: "{}" }} }}{}</style></head>\n<body>\n{}</body></html>\n')
 HEAD = re.compile("(?:([a-z]+):)?(.*)")  # of a column: its kind, if it has one, and its words
+SECOND = ", second sitting of {}"
+# How a paper is named: forms of its code and title, and for a second sitting of the code that people know, behind them.
+CODE, HEADED, TITLED = ("<bdi class=w>{}</bdi>", " <bdi class=w>({})</bdi>"), ("{} {}", SECOND), ("{1} ({0})", SECOND)
 
 
 def html(form: str, *values: object) -> Markup:
@@ -39,9 +45,19 @@ def text(value: str) -> Markup:
     return html("<bdi>{}</bdi>", value)
 
 
-def titled(titles: dict[str, str]) -> dict[str, Markup]:
-    """Papers or halls by their titles, with the codes behind these."""
-    return {code: html("{} ({})", text(title), code) for code, title in titles.items()}
+def paper_names(rows: Rows, forms: tuple[str, str] = TITLED) -> dict[str, Markup]:
+    """What each paper is called, by its code."""
+    form, second = forms
+    found = {}
+    for code, title in facts.paper_titles(rows).items():
+        own = own_code(rows, code)
+        found[code] = html(form, code, text(title)) + (html(second, own) if own != code else "")
+    return found
+
+
+def hall_names(rows: Rows) -> dict[str, Markup]:
+    """What each hall is called."""
+    return {code: html("{} ({})", text(title), code) for code, title in facts.hall_titles(rows).items()}
 
 
 def cells(tag: str, values: Iterable[object], kinds: Iterable[str], scope: str = "") -> str:
@@ -72,9 +88,10 @@ def style(*names: str) -> Markup:
     return Markup(found)
 
 
-def document(title: str, body: Markup, *names: str) -> str:
-    """A page of A4 with the styles of these names."""
-    return str(html(DOCUMENT, title, style("page", *names), body))
+def document(reading: Reading, title: str, body: Markup, *names: str) -> str:
+    """Pages of A4 with the styles of these names. The foot of each says when it was made, and of which state."""
+    printed = f"printed {reading.office.now():%Y-%m-%d %H:%M}, state {reading.name[:8]}"
+    return str(html(DOCUMENT, title, printed, style("page", *names), body))
 
 
 def school(office: Office, behind: str = "") -> Markup:

@@ -13,25 +13,27 @@ from markupsafe import Markup
 from exam_desk import facts, lists, notebook, telling
 from exam_desk.names import fold
 from exam_desk.notebook import Desk, Rows
-from exam_desk.office import Office
 from exam_desk.reading import Member, Reading, Sitting
-from exam_desk.sheets.pages import document, html, joined, safe, school, table, text, titled
+from exam_desk.sheets.pages import (CODE, HEADED, document, hall_names, html, joined, paper_names, safe, school, table,
+                                    text)
 from exam_desk.telling import Change
 from exam_desk.trouble import Trouble
 from exam_desk.words import clock, long_day, short_day
 
 BOARD = "<h1>{}{}</h1>\n<p class=legend>{}</p>\n<div class=columns>{}</div>\n"
+ASK = Markup("<b>ask the office</b>")  # in place of a hall
 POSTER = "<h1>{}</h1>\n<h2>{}</h2>\n<p>{}{} &middot; {}</p>\n<div class=columns>{}</div>"
-CARD = "<div class=card><b>{}</b><i>{}</i><p>{}</p><p>{}</p><p>{}, {}, {}</p></div>"
-ROWS_OF_CARDS = 5  # on a page, of two cards each
+CARD = "<div class=card><b>{}</b><i>{}</i><p>{}</p><p>{}</p><p>{}</p></div>"
+CARDS = 10  # on a page
+NO_PLACE = Markup("<td class=none></td>")
 CHART = ("<h1>{} ({})</h1>\n<p>{}{}. Front of the hall above. {}</p>\n"
          "<table class=chart><tbody>\n{}</tbody></table>")
 COPIES = ["Hall", "Paper", "n:Copies", "n:Last finish", "box:Spare", "box:Packed"]
 ALL_COPIES = ["Paper, all halls", "n:Copies", "n:Last finish"]
 TOLD = ["w:Session", "w:Number", "Name", "Before", "Now", "box:Told"]
-SAT = "{}<br>{} ({})<br>{}, <span class=w>{}–{}</span>"
+SAT = "{}<br>{}<br>{}, <span class=w>{}–{}</span>"
 
-DOORS = ["n:Desk", "w:Number", "Name", "w:Paper", "w:Finish", "Arrangement", "sign:Signature"]
+DOORS = ["n:Desk", "w:Number", "Name", "Paper", "w:Finish", "Arrangement", "sign:Signature"]
 ABOVE = "<span>{}<br>open until {}, last finish {}<br>{}, {} expected</span><b>{}</b><br>{}, page {} of {}<br>{}"
 BELOW = Markup("Present: ________ &emsp; Absent: ________ &emsp; Invigilator: ______________________________")
 # Estimates in millimetres, rather too large than too small: so a page of A4 can say which of how many it is.
@@ -39,6 +41,7 @@ HEIGHT = 267  # of a page between the margins
 LINE = 4.6  # of a line of 10 points
 ROW, HEADING, LAST = 9.05, 16.0, 11.5  # heights of a row, of a heading without titles, of the line below all
 NAME, ARRANGEMENT, TITLES = 50.0, 34.0, 90.0  # widths of these texts
+ON_CARD, LINES_OF_CARD, ON_CHART, ON_POSTER = 75, 120, 60, 70  # how wide large letters may be, if they had 10 points
 WIDE = "WFA"  # letters that are as wide as high, or may be
 MARKS = {"Mn", "Me", "Cf"}  # stand over other letters, or nowhere
 Row = tuple[list[object], float]  # the cells of a candidate, and how high they are
@@ -57,10 +60,10 @@ def when(reading: Reading, session: str) -> Markup:
     return html("{}, {} ({})", long_day(head["day"]), clock(head["start"]), session)
 
 
-def of_desks(title: str, sheets: Iterable[Markup], name: str) -> str:
+def of_desks(reading: Reading, title: str, sheets: Iterable[Markup], name: str) -> str:
     """A document of sheets on who has a desk, each on pages of its own."""
     found = joined(html("<div class=sheet>{}</div>\n", sheet) for sheet in sheets)
-    return document(title, found or Markup("<p>Nobody has a desk.</p>\n"), "paper", name)
+    return document(reading, title, found or Markup("<p>Nobody has a desk.</p>\n"), "paper", name)
 
 
 def desk(member: Member, before: Mapping[str, Desk]) -> Markup:
@@ -87,54 +90,51 @@ def board(reading: Reading, session: str) -> str:
     used = sorted({member.sitting.hall for member in members if member.sitting.hall})
     legend = joined((html("<b>{}</b> {}", code, text(titles[code])) for code in used), "<br>")
     moment = when(reading, session)
-    rows = []
-    for member in members:
-        hall: list[object] = [member.sitting.hall, desk(member, printed)]
-        rows.append([names[member.number], *(hall if member.sitting.hall else [Markup("<b>ask the office</b>"), ""])])
+    rows = [[names[each.number], each.sitting.hall or ASK, desk(each, printed) if each.sitting.hall else ""]
+            for each in members]
     body = html(BOARD, school(reading.office, "<br>"), moment, legend,
                 table(["Name", "w:Hall", "n:Desk"], rows, moment))
-    return document(f"Notice board {session}", body, "paper", "board")
+    return document(reading, f"Notice board {session}", body, "paper", "board")
 
 
 def poster(reading: Reading, session: str, asked: Collection[str] = ()) -> str:
     """Posters for the doors: each hall from a page of its own on, names with desks and nothing private."""
     moment, name, names = when(reading, session), school(reading.office, " &middot; "), named(reading.members(session))
-    return of_desks(f"Posters {session}", (
-        html(POSTER, text(opening.title), moment, name, opening.hall, lists.count(len(there), "candidate"),
+    return of_desks(reading, f"Posters {session}", (
+        html(POSTER, fitted(text(opening.title), ON_POSTER), moment, name, opening.hall,
+             lists.count(len(there), "candidate"),
              table(["Name", "n:Desk"], [[names[each.number], each.sitting.desk] for each in lists.by_name(there)]))
         for opening, there in lists.halls(reading, session, asked)), "poster")
 
 
 def cards(reading: Reading, session: str, asked: Collection[str] = ()) -> str:
     """Cards for desks, ten on a page, by hall and desk; without what others need not know."""
-    papers = titled(facts.paper_titles(reading.rows))
-    found = [html(CARD, sits.desk, text(name), number, papers[sits.paper], short_day(sits.date), sits.start,
-                  text(opening.title))
+    papers = paper_names(reading.rows)
+    found = [html(CARD, sits.desk, fitted(text(name), ON_CARD), number, fitted(papers[sits.paper], LINES_OF_CARD),
+                  fitted(html("{}, {}, {}", short_day(sits.date), sits.start, text(opening.title)), LINES_OF_CARD))
              for opening, there in lists.halls(reading, session, asked) for number, name, sits in there]
-    rows = [html("<div class=pair>{}</div>\n", joined(found[at:at + 2])) for at in range(0, len(found), 2)]
-    return of_desks(f"Desk cards {session}", (joined(rows[at:at + ROWS_OF_CARDS])
-                                              for at in range(0, len(rows), ROWS_OF_CARDS)), "cards")
+    return of_desks(reading, f"Desk cards {session}",
+                    (joined(found[at:at + CARDS], "\n") for at in range(0, len(found), CARDS)), "cards")
 
 
 def chart(reading: Reading, session: str, asked: Collection[str] = ()) -> str:
     """Seating charts: halls as rows of desks, with who sits where. Raises `NotDrawn` too."""
     halls, rows = lists.halls(reading, session, asked), notebook.rows_of_halls(reading.office)
-    moment, name = when(reading, session), school(reading.office, ". ")
+    moment, name, papers = when(reading, session), school(reading.office, ". "), paper_names(reading.rows, CODE)
     if unknown := [opening.hall for opening, _ in halls if opening.hall not in rows]:
         raise NotDrawn(unknown)
-    return of_desks(f"Seating charts {session}", (
+    return of_desks(reading, f"Seating charts {session}", (
         html(CHART, text(opening.title), opening.hall, name, moment, lists.count(len(there), "candidate"),
-             joined(drawn(opening.desks, there, rows[opening.hall]))) for opening, there in halls), "chart")
+             joined(drawn(opening.desks, there, rows[opening.hall], papers))) for opening, there in halls), "chart")
 
 
-def drawn(desks: int, members: Iterable[Member], rows: Rows) -> Iterator[Markup]:
+def drawn(desks: int, members: Iterable[Member], rows: Rows, papers: Mapping[str, Markup]) -> Iterator[Markup]:
     """The rows of desks of a hall, with who sits there."""
-    places: dict[int | None, Markup] = {number: html("<td><b>{}</b></td>", number) for number in range(1, desks + 1)}
-    places |= {sits.desk: html("<td><b>{}</b>{} {} {}</td>", sits.desk, text(name), number, sits.paper)
-               for number, name, sits in members}
-    places[None] = Markup("<td class=none></td>")
+    seated = {sits.desk: html("{} {} {}", fitted(text(name), ON_CHART), number, papers[sits.paper])
+              for number, name, sits in members}
     for line in numbered(desks, rows):
-        yield html("<tr>{}</tr>\n", joined(places[number] for number in line))
+        yield html("<tr>{}</tr>\n", joined(
+            html("<td><b>{}</b>{}</td>", place, seated.get(place, "")) if place else NO_PLACE for place in line))
 
 
 def numbered(desks: int, rows: Rows) -> list[list[int | None]]:
@@ -155,8 +155,8 @@ def numbered(desks: int, rows: Rows) -> list[list[int | None]]:
 
 def counts(reading: Reading, session: str) -> str:
     """How many copies of each paper each hall needs, and the last finish, with boxes for spare ones and to tick."""
-    papers = titled(facts.paper_titles(reading.rows))
-    halls = {"": Markup("<b>no desk</b>"), **titled(facts.hall_titles(reading.rows))}
+    papers = paper_names(reading.rows)
+    halls = {"": Markup("<b>no desk</b>"), **hall_names(reading.rows)}
     in_halls: dict[tuple[bool, str, str], list[str]] = defaultdict(list)  # the finishes; last of who has no desk
     in_all: dict[str, list[str]] = defaultdict(list)
     for _, _, sits in reading.members(session):
@@ -166,40 +166,42 @@ def counts(reading: Reading, session: str) -> str:
             for (_, hall, code), found in sorted(in_halls.items())]
     total = [[papers[code], len(found), max(found)] for code, found in sorted(in_all.items())]
     above = html("{}<b>Copies</b> &emsp; {}", school(reading.office, "<br>"), when(reading, session))
-    return document(f"Copies {session}", table(COPIES, rows, above) + table(ALL_COPIES, total), "paper", "counts")
+    return document(reading, f"Copies {session}", table(COPIES, rows, above) + table(ALL_COPIES, total), "paper",
+                    "counts")
 
 
 def doors(reading: Reading, session: str, asked: Collection[str] = ()) -> str:
     """Invigilators' sheets: each hall from a page of its own on, by desk."""
-    heading, titles = school(reading.office, "<br>") + when(reading, session), facts.paper_titles(reading.rows)
+    heading, titles = school(reading.office, "<br>") + when(reading, session), paper_names(reading.rows, HEADED)
     notes, printed = notebook.notes(reading.office), notebook.printed(reading.office, session)
-    return of_desks(f"Invigilators' sheets {session}", (
+    papers = paper_names(reading.rows, CODE)
+    return of_desks(reading, f"Invigilators' sheets {session}", (
         page for opening, there in lists.halls(reading, session, asked)
-        for page in of_door(heading, titles, opening, there, [row_of(member, notes, printed) for member in there])),
-        "doors")
+        for page in of_door(heading, titles, opening, there,
+                            [row_of(member, papers, notes, printed) for member in there])), "doors")
 
 
-def of_door(heading: Markup, paper_titles: Mapping[str, str], opening: facts.Opening, members: list[Member],
+def of_door(heading: Markup, titles: Mapping[str, Markup], opening: facts.Opening, members: list[Member],
             found: list[Row]) -> Iterator[Markup]:
     """The pages of a hall: each is a table, whose heading says which it is."""
     counted = sorted(Counter(member.sitting.paper for member in members).items())
-    papers = joined((html("{} {}: {}", code, text(paper_titles[code]), count) for code, count in counted), "<br>")
-    titles = [opening.title, *(f"{code} {paper_titles[code]}" for code, _ in counted)]
+    papers = [html("{}: {}", titles[code], count) for code, count in counted]
     rows, heights = zip(*found)
-    parts = parted(heights, HEIGHT - HEADING - LINE * max(3, lines(titles, TITLES)))
+    above = lines([opening.title, *(paper.striptags() for paper in papers)], TITLES)
+    parts = parted(heights, HEIGHT - HEADING - LINE * max(3, above))
     last = max(member.sitting.finish for member in members)
     for place, part in enumerate(parts, 1):
-        above = html(ABOVE, heading, clock(opening.until), last, lists.count(opening.desks, "desk"),
-                     lists.count(len(members), "candidate"), text(opening.title), opening.hall, place, len(parts),
-                     papers)
-        yield table(DOORS, rows[part], above, BELOW if place == len(parts) else Markup())
+        head = html(ABOVE, heading, clock(opening.until), last, lists.count(opening.desks, "desk"),
+                    lists.count(len(members), "candidate"), text(opening.title), opening.hall, place, len(parts),
+                    joined(papers, "<br>"))
+        yield table(DOORS, rows[part], head, BELOW if place == len(parts) else Markup())
 
 
-def row_of(member: Member, notes: Mapping[str, str], printed: Mapping[str, Desk]) -> Row:
-    sits = member.sitting
+def row_of(member: Member, papers: Mapping[str, Markup], notes: Mapping[str, str], printed: Mapping[str, Desk]) -> Row:
+    sits, paper = member.sitting, papers[member.sitting.paper]
     arranged = [*filter(None, (lists.allowance(sits), notes.get(member.number)))]
-    height = 1 + LINE * max(lines([member.name], NAME), lines(arranged, ARRANGEMENT))
-    return [desk(member, printed), member.number, text(member.name), sits.paper, sits.finish,
+    height = 1 + LINE * max(lines([member.name], NAME), lines(arranged, ARRANGEMENT), len(paper.striptags().split()))
+    return [desk(member, printed), member.number, text(member.name), paper, sits.finish,
             joined(map(text, arranged), "<br>"), ""], max(ROW, height)
 
 
@@ -209,6 +211,11 @@ def width(words: str) -> float:
                3.6 if unicodedata.east_asian_width(letter) in WIDE else
                3.4 if letter in "WMwm%@" else 2.6 if letter.isupper() or not letter.isalnum() and letter != " " else 2
                for letter in words)
+
+
+def fitted(words: Markup, room: float) -> Markup:
+    """Words, in small letters where they are wider than that."""
+    return html("<small>{}</small>", words) if width(words.striptags()) > room else words
 
 
 def lines(texts: Iterable[str], room: float) -> int:
@@ -228,26 +235,26 @@ def parted(heights: Sequence[float], room: float) -> list[slice]:
     return [*found, slice(first, None)]
 
 
-def changes(office: Office, found: Iterable[Change], titles: Mapping[str, str], since: str) -> str:
+def changes(before: Reading, after: Reading, found: Iterable[Change], since: str) -> str:
     """Who must be told: what became of each candidate since a copy, the gravest first, with a box to tick. `since` says
     what they are compared with."""
-    tables = [table(TOLD, [told(each, titles) for each in part],
+    papers = paper_names(before.rows) | paper_names(after.rows)
+    halls = hall_names(before.rows) | hall_names(after.rows)
+    tables = [table(TOLD, [told(each, papers, halls) for each in part],
                     html("<b>{}</b>", telling.counted(telling.KINDS[kind], [each.number for each in part])))
               for kind, part in telling.by_kind(found).items()]
-    above = html("<h1>Who must be told</h1>\n<p>{}{}</p>\n", school(office, " &middot; "), since)
-    return document("Changes", above + (joined(tables) or Markup("<p>Nobody.</p>\n")), "paper", "changes")
+    above = html("<h1>Who must be told</h1>\n<p>{}{}</p>\n", school(after.office, " &middot; "), since)
+    return document(after, "Changes", above + (joined(tables) or Markup("<p>Nobody.</p>\n")), "paper", "changes")
 
 
-def told(change: Change, titles: Mapping[str, str]) -> list[object]:
+def told(change: Change, papers: Mapping[str, Markup], halls: Mapping[str, Markup]) -> list[object]:
     before = html("<br><small>before: {}</small>", text(change.old_name)) if change.old_name != change.name else ""
-    return [change.session, change.number, text(change.name) + before, sat(change.old, titles),
-            sat(change.new, titles), ""]
+    return [change.session, change.number, text(change.name) + before,
+            *(sat(sits, papers, halls) for sits in (change.old, change.new)), ""]
 
 
-def sat(sits: Sitting | None, titles: Mapping[str, str]) -> Markup:
+def sat(sits: Sitting | None, papers: Mapping[str, Markup], halls: Mapping[str, Markup]) -> Markup:
     if sits is None:
         return Markup("nothing")
-    place = Markup("<b>no desk</b>")
-    if sits.hall:
-        place = html("{} ({}), desk {}", text(titles.get(sits.hall, "")), sits.hall, sits.desk)
-    return html(SAT, place, text(titles.get(sits.paper, "")), sits.paper, short_day(sits.date), sits.start, sits.finish)
+    place = html("{}, desk {}", halls[sits.hall], sits.desk) if sits.hall else Markup("<b>no desk</b>")
+    return html(SAT, place, papers[sits.paper], short_day(sits.date), sits.start, sits.finish)

@@ -33,6 +33,7 @@ class Page:
 
     def __init__(self, reading: Reading, session: str) -> None:
         """Raises `Trouble` where there is no such session, or the program refuses the sheet."""
+        self.reading, self.papers = reading, pages.paper_names(reading.rows, pages.CODE)
         self.head = session_row(reading.rows, session)
         self.reasons, self.shortage = reasons.compared(reading, session)
         self.openings, self.members = self.reasons.openings, self.reasons.members
@@ -54,7 +55,7 @@ class Page:
                  html("<div class=columns>{}</div>", joined(map(self.hall_part, self.openings))),
                  self.clashes_part(), self.appeals_part()]
         sections = joined(html(SECTION, *each, part) for each, part in zip(SECTIONS.items(), parts))
-        return pages.document(f"Session {code}, {day} {start}", header + sections, "session")
+        return pages.document(self.reading, f"Session {code}, {day} {start}", header + sections, "session")
 
     def halls_part(self) -> Markup:
         """The halls with their titles, in a second line whom each suits, and how many of its desks are taken."""
@@ -72,14 +73,14 @@ class Page:
         return table(["Hall", "Desks (dark: taken)", "n:Taken", "n:Free"], rows, name="halls")
 
     def hall_part(self, opening: Opening) -> Markup:
-        rows = [[each.sitting.desk, each.number, text(each.name), each.sitting.paper, each.sitting.finish]
+        rows = [[each.sitting.desk, each.number, text(each.name), self.papers[each.sitting.paper], each.sitting.finish]
                 for each in self.seated[opening.hall]]
         body = table(["n:Desk", "Number", "name:Name", "Paper", "Finish"], rows)
         return html("<section class=hall id=hall-{0}><h3>{0} <small>{1}</small></h3>{2}</section>", opening.hall,
                     text(opening.title), body if rows else Markup("<p>Nobody sits here.</p>"))
 
     def clashes_part(self) -> Markup:
-        rows = [[member.number, text(member.name), member.sitting.paper, code]
+        rows = [[member.number, text(member.name), self.papers[member.sitting.paper], self.papers[code]]
                 for member in self.members for code in self.clashes.get(member.number, [])]
         return table(["Number", "name:Name", "Sits", "Clash: does not sit"], rows) if rows else NONE
 
@@ -143,7 +144,7 @@ class Page:
             found.setdefault(reason, []).append(hall)
         lines = [html("<li>{}: {}</li>", ", ".join(codes), text(reason)) for reason, codes in found.items()]
         return html("<p><b>{} {}</b> sits {} until {}{}, needs {}</p><ul>{}</ul>", member.number, text(member.name),
-                    sitting.paper, sitting.finish, extra, "+".join(self.reasons.needs(member)) or "-",
+                    self.papers[sitting.paper], sitting.finish, extra, "+".join(self.reasons.needs(member)) or "-",
                     joined(lines) or Markup("<li>no hall is open</li>"))
 
 

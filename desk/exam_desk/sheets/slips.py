@@ -55,7 +55,7 @@ def beside_groups(reading: Reading, groups: Mapping[str, str]) -> Iterator[str]:
 def page(reading: Reading, choice: Choice) -> str:
     """The slips by name, or by group and name. Raises `Trouble` where the office does not know a candidate who is asked
     for, or they sit nothing in these sessions."""
-    papers, halls = (pages.titled(titles(reading.rows)) for titles in (facts.paper_titles, facts.hall_titles))
+    papers, halls = pages.paper_names(reading.rows), pages.hall_names(reading.rows)
     school = pages.school(reading.office, "<br>")
     by_group: dict[str, list[Markup]] = {}
     for each in slips_of(reading, choice):
@@ -63,8 +63,8 @@ def page(reading: Reading, choice: Choice) -> str:
         above = html("{}{}", school, heading(choice, each))
         by_group.setdefault(each.group, []).append(html("<div class=slip>{}</div>\n", pages.table(HEADS, rows, above)))
     form = "<div class=sheet><h2>{}</h2>\n{}</div>\n" if choice.groups else "{1}"
-    return pages.document("Slips", joined(html(form, text(group or "in no group"), joined(found))
-                                          for group, found in by_group.items()), "paper", "slips")
+    slips = joined(html(form, text(group or "in no group"), joined(found)) for group, found in by_group.items())
+    return pages.document(reading, "Slips", slips, "paper", "slips")
 
 
 def heading(choice: Choice, each: Slip) -> Markup:

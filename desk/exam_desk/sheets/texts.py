@@ -10,7 +10,7 @@ import tempfile
 from collections import Counter
 from collections.abc import Collection, Iterator
 
-from exam_desk import appeals, facts, lists, overlaps
+from exam_desk import appeals, facts, files, lists, overlaps
 from exam_desk.names import has_words, letters
 from exam_desk.office import Office
 from exam_desk.reading import Person, Reading, Sitting
@@ -155,7 +155,6 @@ def put_titles(path: str, content: str) -> None:
     """Writes the file whole, or leaves the one that is there."""
     with tempfile.TemporaryDirectory(prefix=".titles-", dir=os.path.dirname(os.path.abspath(path))) as folder:
         making = os.path.join(folder, "titles.json")
-        with open(making, "w", encoding="ascii") as file:
-            file.write(content)
+        files.put(making, content.encode("ascii"))
         os.chmod(making, READABLE)
         os.replace(making, path)
