@@ -9,6 +9,7 @@ import dataclasses
 import datetime
 import hashlib
 import itertools
+import math
 import os
 import sqlite3
 import threading
@@ -40,7 +41,7 @@ MOST_PROPOSALS = 20  # of a visit
 MOST_ROWS = 250  # of a list on the page; all who must be told are in the CSV file
 MOST_LINES = 20  # of the log, where the office was another
 MOST_CLASHES = 100  # new ones that are named
-MANY_LOST = 10  # candidates: a change by which so many lose their desk wants a tick
+TICKED = {"loses": 10, "clashes": 1, "twice": 1}  # by kind: what meets so many candidates wants a tick
 COMPARING, LODGING = "Both states are compared", "The appeal is lodged"
 OTHER_OFFICE = ("the office has changed since the page that you came from, so nothing was done: go back to the form, "
                 "and ask once more")
@@ -164,9 +165,13 @@ class Plan:
         left = {} if self.is_done else {"again": self.key, "_anchor": self.asked.form}
         return url_for(endpoint, **{**values, **left})
 
-    def lost(self) -> int:
-        """How many candidates lose their desk by what the button does; a lodging moves nobody."""
-        return self.effects.counts.get("loses", (0, 0))[0] if self.effects and not self.lodge else 0
+    def met(self) -> dict[str, tuple[int, int]]:
+        """How many candidates and sittings, or halls, the button meets in each way; a lodging moves nobody."""
+        return self.effects.counts if self.effects and not self.lodge else {}
+
+    def ticked(self) -> list[str]:
+        """The kinds that want a tick before the button."""
+        return [kind for kind, (count, _) in self.met().items() if count >= TICKED.get(kind, math.inf)]
 
     def words(self) -> list[Markup]:
         """Why it cannot be done, as the program or the desk says; none where it can."""
@@ -310,7 +315,7 @@ def page(key: str) -> str:
         following = view().row(f"{APPEALS} WHERE state = 1 AND day > ? {BY_DAY}", [desk().office.today().isoformat()])
     since = [copies.when_and_what(each) for each in itertools.takewhile(lambda each: each != plan.copy, kept)]
     return render_template("proposal.html", p=plan, most=MOST_ROWS, next_appeal=following, since=since,
-                           has_copy=plan.copy in kept, many_lost=MANY_LOST)
+                           has_copy=plan.copy in kept)
 
 
 @pages.post("/proposals/<key>/do")
@@ -318,7 +323,7 @@ def do(key: str) -> Response:
     plan: Plan = g.visit.proposals.get(key) or abort(404)
     with plan.lock:  # a second click does nothing
         if plan.can_be_done:
-            if plan.lost() >= MANY_LOST and not request.form.get("tick"):
+            if plan.ticked() and not request.form.get("tick"):
                 wrong = text("tick this, or leave the office as it is")
                 raise Wrong(("proposals.page", {"key": key}), "do", tick=wrong)
             work(plan, carry_out)
