@@ -305,6 +305,12 @@ def copy_key(path: str) -> str:
     return hashlib.sha256(os.path.basename(path).encode()).hexdigest()[:16]
 
 
+def forms_of_codes() -> dict[str, str]:
+    """The addresses of the forms that change a session or a paper, by its code."""
+    return {code: url_for("session.page", code=code, _anchor="session") for code in sums(view())} | {
+        code: url_for("session.paper", paper=code) for code, in view().rows("SELECT code FROM paper")}
+
+
 @pages.get("/proposals/<key>")
 def page(key: str) -> str:
     plan: Plan = g.visit.proposals.get(key) or abort(404)
@@ -315,7 +321,7 @@ def page(key: str) -> str:
         following = view().row(f"{APPEALS} WHERE state = 1 AND day > ? {BY_DAY}", [desk().office.today().isoformat()])
     since = [copies.when_and_what(each) for each in itertools.takewhile(lambda each: each != plan.copy, kept)]
     return render_template("proposal.html", p=plan, most=MOST_ROWS, next_appeal=following, since=since,
-                           has_copy=plan.copy in kept)
+                           has_copy=plan.copy in kept, forms=forms_of_codes() if plan.lines else {})
 
 
 @pages.post("/proposals/<key>/do")

@@ -226,8 +226,9 @@ def note_printed(code: str) -> Response:
     return lead("session.page", told, code=code, _anchor="print")
 
 
-def opening(form: Form, page: Page, shown: Session) -> tuple[dict[str, str], list[Step]]:
-    """A hall that is to be open, which was chosen or which the office does not know yet; and the steps for it."""
+def opening(form: Form, page: Page, shown: Session) -> tuple[dict[str, str], list[Step], str]:
+    """A hall that is to be open, which was chosen or which the office does not know yet; the steps for it, and what they
+    are called."""
     is_new = form.get("new_hall", "").strip() != ""
     names = {"new_hall": "hall", "new_title": "title"} if is_new else {"hall": "hall"}
     hall, *titles, desks, until = checked(page, form, **names, desks="desks", until="until").values()
@@ -237,30 +238,32 @@ def opening(form: Form, page: Page, shown: Session) -> tuple[dict[str, str], lis
               "reserved": "yes" if form.get("reserved") else "no", "is_open": "yes" if hall in shown.halls else ""}
     new = [import_step("halls", {"hall": hall, "title": title, "features": features(form, "new_features")})
            for title in titles]
-    return values, [*new, import_step("openings", values)]
+    named = " ".join(["open-hall", shown.code, hall, desks, until, *(["--reserved"] if form.get("reserved") else [])])
+    return values, [*new, import_step("openings", values)], ", ".join([*(step.title() for step in new), named])
 
 
 def open_hall(form: Form) -> Plan:
     """The form of a hall that is open says so by `at`: it stands on the page of that hall."""
     shown = Session(form.get("session", ""))
     page = shown.hall_page(form.get("hall", "")) if "at" in form else shown.page
-    values, steps = opening(form, page, shown)
-    return Plan(values, steps, shown.page, {4: "hall", 7: "hall", 20: "desks"}, form_page=page)
+    values, steps, named = opening(form, page, shown)
+    return Plan(values, steps, shown.page, {4: "hall", 7: "hall", 20: "desks"}, form_page=page, command=named)
 
 
 def close_hall(form: Form) -> Plan:
     """A hall that cannot be used; with another in its place where the form on the first rehearsal's page asks it."""
     shown = Session(form.get("session", ""))
     lost, first = checked(shown.page, form, lost="hall")["lost"], form.get("proposal", "")
-    values, steps, form_page = {"session": shown.code, "lost": lost}, list[Step](), shown.page
+    values, steps, named, form_page = {"session": shown.code, "lost": lost}, list[Step](), "", shown.page
+    step = command("close-hall", ["session", "lost"], values)
     if first in g.visit.proposals:
         form_page = ("proposals.page", {"key": first})
-        other, steps = opening(form, form_page, shown)
+        other, steps, named = opening(form, form_page, shown)
         values |= other
         if other["hall"] == lost:
             raise Wrong(form_page, hall=text("this is the hall that is lost"))
-    step = command("close-hall", ["session", "lost"], values)
-    return Plan(values, [*steps, step], shown.page, dict.fromkeys((7, 25), "lost"),
+        named = f"{named}, {step.title()}"
+    return Plan(values, [*steps, step], shown.page, dict.fromkeys((7, 25), "lost"), command=named,
                 halls=shown.choices(), form_page=form_page)
 
 
