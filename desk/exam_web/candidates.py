@@ -1,7 +1,6 @@
 """Candidates: the search, their notes, and the page of one with timetable, arrangement, appeals and access code.
 Appeals: the open ones by their last day, and one with what its grant would come to. Two papers at once: who has them,
 whether they have asked to sit the other, a second sitting; and two sessions at one time."""
-import contextlib
 import sqlite3
 from collections.abc import Callable, Collection
 from functools import partial
@@ -16,7 +15,6 @@ from exam_desk.changing import Step
 from exam_desk.reading import Person
 from exam_desk.sheets import slips as slip_pages
 from exam_desk.sheets import texts
-from exam_desk.trouble import Trouble
 from exam_web import proposals
 from exam_web.desk import View, candidate_row, desk, once, sums, view
 from exam_web.forms import Form, Page, Wrong, at_field, checked, lead, short, styled
@@ -62,25 +60,15 @@ def papers_without(number: int = -1) -> list[sqlite3.Row]:
 @pages.get("/candidates/<int:number>")
 def page(number: int, code: str = "") -> str:
     who = candidate_row(number)
-    entries = view().rows(texts.ENTRIES, [number])
-    return render_template("candidate.html", who=who, entries=entries, sittings=view().reading.all_of(f"{number:07}"),
-                           lodged=view().rows(texts.LODGED, [number]), others=papers_without(number),
-                           code=code,
-                           second=second_sat(number, entries), hall_titles=facts.hall_titles(view().reading.rows),
+    reading, entries = view().reading, view().rows(texts.ENTRIES, [number])
+    later = {row["paper"] for row in entries
+             if not row["live"] and second_sitting.sat_later(reading.rows, f"{number:07}", row["paper"])}
+    return render_template("candidate.html", who=who, entries=entries, sittings=reading.all_of(f"{number:07}"),
+                           lodged=view().rows(texts.LODGED, [number]), others=papers_without(number), code=code,
+                           second=later, hall_titles=facts.hall_titles(reading.rows),
                            note=notebook.notes(desk().office).get(f"{number:07}", ""),
-                           granted=proposals.granted(view().reading, number),
+                           granted=proposals.granted(reading, number),
                            arrangement=view().row("SELECT needs, extra FROM arrangement WHERE number = ?", [number]))
-
-
-def second_sat(number: int, entries: list[sqlite3.Row]) -> set[str]:
-    """The papers that the candidate sits later that day."""
-    found = set()
-    for row in entries:
-        if not row["live"]:
-            with contextlib.suppress(Trouble):
-                second_sitting.plan_back(view().reading, f"{number:07}", row["paper"])
-                found.add(row["paper"])
-    return found
 
 
 @pages.post("/candidates/<int:number>/code")
@@ -150,8 +138,7 @@ def if_granted(number: int, ref: str) -> str:
     row = appeal_row(number, ref)
     if row["state"] != 1:
         abort(404)
-    outcome = "standing" if "standing" in request.args and row["kind"] == 3 else "granted"
-    plan = decide(MultiDict({"number": f"{number:07}", "ref": ref, "outcome": outcome}))
+    plan = decide(MultiDict({"number": f"{number:07}", "ref": ref, "outcome": "granted"}))
     with desk().rehearsing:
         proposals.rehearse(plan, desk(), desk().office)
     return render_template("if_granted.html", row=row, e=plan.effects, refusal=plan.words(), most=MOST_MOVES)
@@ -160,13 +147,12 @@ def if_granted(number: int, ref: str) -> str:
 @clash_pages.get("/clashes", endpoint="page")
 def clashes() -> str:
     """The sessions with two papers at once, and those who have them in one of these."""
-    lodged = view().rows("SELECT * FROM appeal WHERE kind = 2 ORDER BY lodged")
-    sessions = [each for each in sums(view()).values() if each.clashes]
-    shown = [each for each in sessions if each.code == request.args.get("session", "")] or sessions[:1]
-    return render_template("clashes.html", sessions=sessions, shown=shown,
-                           found={each.code: Session(each.code).clashes(MOST_SHOWN) for each in shown},
-                           asked={(row["session"], row["number"]): row for row in lodged},
-                           titles=facts.paper_titles(view().reading.rows))
+    sessions = {each.code: each for each in sums(view()).values() if each.clashes}
+    shown = sessions.get(request.args.get("session", "")) or next(iter(sessions.values()), None)
+    found = Session(shown.code).clashes(MOST_SHOWN) if shown else []
+    lodged = view().rows("SELECT * FROM appeal WHERE kind = 2 AND session = ? ORDER BY lodged", [shown and shown.code])
+    return render_template("clashes.html", sessions=sessions.values(), s=shown, found=found,
+                           asked={row["number"]: row for row in lodged}, titles=facts.paper_titles(view().reading.rows))
 
 
 @once
@@ -221,11 +207,6 @@ def with_code(values: Values) -> Step:
     """The import of a candidate with an access code that nobody has."""
     code = coding.new_code(set(facts.access_codes(view().reading.rows).values()))
     return import_step("candidates", {**values, "code": code})
-
-
-def new_code(form: Form) -> Plan:
-    values, page = candidate(form)
-    return Plan(values, [with_code(values)], page)
 
 
 def new_candidate(form: Form) -> Plan:
@@ -296,6 +277,6 @@ PLANS.update({
     "reinstate": partial(of_one, "paper", OF_ENTRY, partial(command, "reinstate", ["number", "paper"])),
     "enter": partial(of_one, "paper", OF_ENTRY, partial(import_step, "entries")),
     "arrangement": partial(of_one, "extra", [20], partial(import_step, "arrangements")),
-    "code": new_code, "candidate": new_candidate, "name": rename, "lodge": lodge, "decide": decide,
+    "code": partial(of_one, "number", [], with_code), "candidate": new_candidate, "name": rename, "lodge": lodge, "decide": decide,
     "second": second_plan, "second-back": second_back,
 })

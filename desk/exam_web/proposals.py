@@ -15,7 +15,7 @@ import sqlite3
 import threading
 import time
 from collections import Counter
-from collections.abc import Callable, Iterable, Iterator, Mapping, Sequence
+from collections.abc import Callable, Iterable, Mapping, Sequence
 from dataclasses import dataclass, field
 from functools import partial
 from operator import attrgetter
@@ -84,7 +84,8 @@ class Effects:
         self.out_of_date = consequences.out_of_date(then, now, met)
         self.over, self.opened = consequences.over(then, now, changes), consequences.opened(then, now)
         short = set() if changes else unseated(after) - unseated(before)
-        self.short = [*itertools.islice(by_session(after, short), MOST_ROWS)]
+        self.short = [(code, person) for code in sums(after) for person in consequences.by_name(
+            now, [str(number) for session, number in short if session == code])][:MOST_ROWS]
         who: dict[str, list[Any]] = {kind: [each.number for each in part] for kind, part in kinds.items()} | {
             "over": list(self.over), "opened": list(self.opened), "short": [number for _, number in short],
             "clashes": [member.number for _, member, _ in self.clashes if member],
@@ -103,13 +104,6 @@ def granted(reading: Reading, number: int) -> list[str]:
     _, needs, extra = reading.rows.execute(f"{ARRANGED} WHERE number = ?", [number]).fetchone() or (number, 0, 0)
     return [session for session, sits in reading.all_of(f"{number:07}").items()
             if (sits.needs, sits.extra) != (tuple(words.features(needs)), extra)]
-
-
-def by_session(view: View, found: set[tuple[str, int]]) -> Iterator[tuple[str, Person]]:
-    """Candidates with a session, by its day and their names."""
-    for session in sums(view):
-        for person in consequences.by_name(view.reading, [str(number) for code, number in found if code == session]):
-            yield session, person
 
 
 def named(reading: Reading, found: Iterable[overlaps.Overlap]) -> list[tuple[overlaps.Overlap, list[Person]]]:
