@@ -2,7 +2,7 @@
 Appeals: the open ones by their last day, and one with what its grant would come to. Two papers at once: who has them,
 whether they have asked to sit the other, a second sitting; and two sessions at one time."""
 import sqlite3
-from collections.abc import Callable, Collection
+from collections.abc import Callable
 from functools import partial
 
 from flask import Blueprint, abort, g, redirect, render_template, request, url_for
@@ -27,7 +27,6 @@ appeal_pages = Blueprint("appeals", __name__)
 clash_pages = Blueprint("clashes", __name__)
 MOST_FOUND, MOST_ASKED = 100, 80
 MOST_SHOWN, MOST_MOVES = 300, 12
-OF_ENTRY = (5, 6, 8, 9, 10, 20)  # refusals
 Values = dict[str, str]
 
 
@@ -188,19 +187,19 @@ def candidate(form: Form, **columns: str) -> tuple[Values, Page]:
     return {**checked(page, form, **columns), "number": number, "name": row["name"], "needs": features(form)}, page
 
 
-def of_one(field: str, refusals: Collection[int], step: Callable[[Values], Step], form: Form) -> Plan:
-    """A plan with a step for each value of a field of a candidate, beside which these refusals stand."""
+def of_one(field: str, step: Callable[[Values], Step], form: Form) -> Plan:
+    """A plan with a step for each value of a field of a candidate, beside which refusals stand."""
     values, page = candidate(form)
     asked = [checked(page, MultiDict({field: value}), **{field: field})[field] for value in form.getlist(field) or [""]]
     steps = [step({**values, field: value}) for value in asked]
-    return Plan({**values, field: ", ".join(asked)}, steps, page, dict.fromkeys(refusals, field))
+    return Plan({**values, field: ", ".join(asked)}, steps, page, field)
 
 
 def rename(form: Form) -> Plan:
     values, page = candidate(form)
     values["other"] = checked(page, form, name="name")["name"]
     step = coding.renamed(desk().office, values["number"], values["other"])
-    return Plan(values, [step], page, made_for=view().name)
+    return Plan(values, [step], page, "name", made_for=view().name)
 
 
 def with_code(values: Values) -> Step:
@@ -219,8 +218,8 @@ def new_candidate(form: Form) -> Plan:
         raise Wrong(form_page, number=text("the office has this number: {name}", name=link))
     values["papers"] = ", ".join(papers := form.getlist("paper"))
     entries = second_sitting.imported("entries", *([values["number"], paper] for paper in papers))
-    return Plan(values, [with_code(values), *([entries] if papers else [])], page, dict.fromkeys(OF_ENTRY, "paper"),
-                form_page=form_page, made_for=view().name)
+    return Plan(values, [with_code(values), *([entries] if papers else [])], page, "paper", form_page=form_page,
+                made_for=view().name)
 
 
 def lodge(form: Form) -> Plan:
@@ -232,9 +231,9 @@ def lodge(form: Form) -> Plan:
     field = "wanted_extra" if kind == "arrangement" else f"wanted_{kind}"
     wanted = [values["needs"]] if kind == "arrangement" else []
     wanted.append(checked(page, form, **{field: lodging.KINDS[kind][-1]})[field])
-    fields = {**dict.fromkeys((4, 12, 13, 20, 21), "session"), **dict.fromkeys((5, 7, 8, 11, 18, 19), field)}
-    return Plan({**values, "kind": kind, "wanted": wanted[-1]}, [], page, fields,
-                lodge=(values["number"], values["session"], kind, *wanted, short(page, "reason")))
+    lodged = (values["number"], values["session"], kind, *wanted, short(page, "reason"))
+    return Plan({**values, "kind": kind, "wanted": wanted[-1]}, [], page, field,
+                dict.fromkeys((4, 12, 13, 20, 21), "session"), lodge=lodged)
 
 
 def decide(form: Form) -> Plan:
@@ -246,7 +245,7 @@ def decide(form: Form) -> Plan:
         raise Wrong(page, outcome=text("choose one"))
     values["answer"] = short(page, "reason")
     step = command("decide", ["number", "ref", "outcome", "answer"], values)
-    return Plan(values, [step], page, dict.fromkeys((8, 12, 15, 16, 17, 26), "outcome"))
+    return Plan(values, [step], page, "outcome")
 
 
 def second_plan(form: Form) -> Plan:
@@ -268,15 +267,15 @@ def of_second(values: Values, page: Page, name: str, make: Callable[[], second_s
     """A plan as the command line makes it; what it refuses is said beside the field of this name."""
     with at_field(page, "", name):
         found = make()
-    return Plan(values, found.steps, page, {TROUBLE: name}, command=found.title, made_for=view().name,
+    return Plan(values, found.steps, page, name, {TROUBLE: name}, command=found.title, made_for=view().name,
                 look=partial(second_sitting.lines, found))
 
 
 PLANS.update({
-    "withdraw": partial(of_one, "paper", OF_ENTRY, partial(command, "withdraw", ["number", "paper"])),
-    "reinstate": partial(of_one, "paper", OF_ENTRY, partial(command, "reinstate", ["number", "paper"])),
-    "enter": partial(of_one, "paper", OF_ENTRY, partial(import_step, "entries")),
-    "arrangement": partial(of_one, "extra", [20], partial(import_step, "arrangements")),
-    "code": partial(of_one, "number", [], with_code), "candidate": new_candidate, "name": rename, "lodge": lodge, "decide": decide,
-    "second": second_plan, "second-back": second_back,
+    "withdraw": partial(of_one, "paper", partial(command, "withdraw", ["number", "paper"])),
+    "reinstate": partial(of_one, "paper", partial(command, "reinstate", ["number", "paper"])),
+    "enter": partial(of_one, "paper", partial(import_step, "entries")),
+    "arrangement": partial(of_one, "extra", partial(import_step, "arrangements")),
+    "code": partial(of_one, "number", with_code), "candidate": new_candidate, "name": rename, "lodge": lodge,
+    "decide": decide, "second": second_plan, "second-back": second_back,
 })

@@ -29,6 +29,7 @@ from exam_desk import (changing, consequences, copies, facts, files, lodging, lo
                        second_sitting, states, telling, words)
 from exam_desk.changing import Answered, Step
 from exam_desk.left_behind import left_behind
+from exam_desk.listed import OF_THE_OFFICE
 from exam_desk.office import Office
 from exam_desk.reading import Person, Reading
 from exam_desk.trouble import Stale, Trouble
@@ -117,7 +118,8 @@ class Plan:
     values: dict[str, str]
     steps: list[Step]
     page: Page  # to come back to
-    fields: dict[int, str] = field(default_factory=dict)  # the field beside which a refusal stands, by its number
+    beside: str = ""  # the field beside which a refusal of its values stands
+    fields: dict[int, str] = field(default_factory=dict)  # by the number of a refusal that stands beside another
     halls: Sequence[object] = ()  # all, where one is lost: another can take its place
     form_page: Page | None = None  # with the form, where that is another
     lodge: tuple[str, ...] = ()  # in the place of steps: the words of an appeal that is lodged the candidate's way
@@ -221,7 +223,8 @@ def propose(what: str) -> Response:
     plan = (PLANS.get(what) or abort(404))(request.form)
     plan.key = keep(g.visit.proposals, MOST_PROPOSALS, plan)
     work(plan, rehearse)
-    name = plan.fields.get(refusals.number_of(plan.refusal) or TROUBLE)
+    number = refusals.number_of(plan.refusal) or TROUBLE
+    name = plan.fields.get(number, plan.beside if number not in (TROUBLE, *OF_THE_OFFICE) else "")
     if name and plan.against and not plan.is_working:
         del g.visit.proposals[plan.key]
         raise Wrong(plan.form_page or plan.page, **{name: Markup("; ").join(plan.words())})

@@ -233,8 +233,8 @@ def opening(form: Form, page: Page, shown: Session) -> Plan:
     new = [import_step("halls", {"hall": hall, "title": title, "features": features(form, "new_features")})
            for title in titles]
     named = " ".join(["open-hall", shown.code, hall, desks, until, *(["--reserved"] if form.get("reserved") else [])])
-    return Plan(values, [*new, import_step("openings", values)], shown.page, {4: "hall", 7: "hall", 20: "desks"},
-                form_page=page, command=", ".join([*(step.title() for step in new), named]))
+    return Plan(values, [*new, import_step("openings", values)], shown.page, "hall", {20: "desks"}, form_page=page,
+                command=", ".join([*(step.title() for step in new), named]))
 
 
 def open_hall(form: Form) -> Plan:
@@ -247,7 +247,7 @@ def close_hall(form: Form) -> Plan:
     """A hall that cannot be used; with another in its place where the form on the first rehearsal's page asks it."""
     shown = Session(form.get("session", ""))
     lost, first = checked(shown.page, form, lost="hall")["lost"], form.get("proposal", "")
-    plan = Plan({"session": shown.code}, [], shown.page, {7: "lost"})
+    plan = Plan({"session": shown.code}, [], shown.page, "lost")
     if first in g.visit.proposals:
         plan = opening(form, ("proposals.page", {"key": first}), shown)
         if plan.values["hall"] == lost:
@@ -268,8 +268,8 @@ def change_row(kind: str, form: Form) -> Plan:
     sets = [name for name in columns if files.RIGHT[name] is files.is_features]
     values = checked(page, form, **{name: name for name in columns if name not in sets})
     values |= {table: code, **{name: features(form, name) for name in sets}}
-    fields = dict.fromkeys((4, 20) if "session" in columns else (), "session")
-    return Plan(values, [import_step(kind, values)], shown.page, fields, form_page=page)
+    beside = "session" if "session" in columns else columns[0]
+    return Plan(values, [import_step(kind, values)], shown.page, beside, form_page=page)
 
 
 def change_session(form: Form) -> Plan:

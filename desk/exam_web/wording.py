@@ -18,7 +18,7 @@ from exam_desk.names import parted
 from exam_desk.words import clock, features, plain
 
 LEADING = re.compile("(`[^`]+`|[A-Z0-9-]+)")
-COMMAND = re.compile("`office ([a-z-]+) ?(?:([0-9]{7}) .*|.*)`")
+COMMAND = re.compile("`office (?P<name>[a-z-]+) ?(?:(?P<number>[0-9]{7}) .*|.*)`")
 PAGES = {"back": "office.page", "init": "season.page", "look": "candidates.find"}  # by the command that does the same
 MOST_LETTERS = 10  # of a name at a desk
 RIGHT_TO_LEFT = ("ar", "fa", "he", "ur")
@@ -49,10 +49,11 @@ def said(words: str, pages: Mapping[str, str] = {}) -> Markup:
 
 def address_of(part: str, pages: Mapping[str, str]) -> str:
     """The address to which a part of a text leads; nothing where it leads nowhere."""
-    if found := COMMAND.fullmatch(part):
-        name, number = found.groups()
-        return url_for("candidates.page", number=int(number)) if number else url_for(PAGES[name]) if name in PAGES else ""
-    return pages.get(part, "")
+    if not (found := COMMAND.fullmatch(part)):
+        return pages.get(part, "")
+    if found["number"]:
+        return url_for("candidates.page", number=int(found["number"]))
+    return url_for(PAGES[found["name"]]) if found["name"] in PAGES else ""
 
 
 def many(count: int, one: str, more: str, **values: object) -> Markup:

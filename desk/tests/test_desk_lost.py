@@ -52,7 +52,8 @@ class TestLostDesks(SmallSchool):
 
     def test_two_papers_at_once_and_two_sessions_at_one_time_want_a_tick(self):
         """Candidate 1 sits SHORT in S1 at 09:00 until 10:00, and OTHER in S2 on the next day."""
-        self.begin("A,Hall A,-\n", "S1,A,2,12:00,no\nS2,A,2,12:00,no\n", "0000001,SHORT\n0000001,OTHER\n0000002,SHORT\n")
+        self.begin("A,Hall A,-\n", "S1,A,2,12:00,no\nS2,A,2,12:00,no\n",
+                   "0000001,SHORT\n0000001,OTHER\n0000002,SHORT\n")
         session = {"session": "S2", "at": "S2", "date": "2027-06-07"}
         for what, form, values in (("enter", "/candidates/2", {"number": "0000002", "paper": "OTHER"}),
                                    ("session", "/sessions/S2", {**session, "start": "10:00"})):
