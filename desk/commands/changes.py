@@ -65,7 +65,7 @@ def open_hall(parser: ArgumentParser) -> Plan:
     if wrong := typed.wrong(names, row):
         parser.error("; ".join(wrong))
     step = second_sitting.imported("openings", [*row, "yes" if given.reserved else "no"])
-    return programs.Change([step], " ".join(["open-hall", *row]))
+    return programs.Change([step], " ".join(["open-hall", *row]) + " --reserved" * given.reserved)
 
 
 @command.named("""\

@@ -1,9 +1,8 @@
 """Candidates: the search, their notes, and the page of one with timetable, arrangement, appeals and access code.
 Appeals: the open ones by their last day, and one with what its grant would come to. Two papers at once: who has them,
 whether they have asked to sit the other, a second sitting; and two sessions at one time."""
-import contextlib
 import sqlite3
-from collections.abc import Callable, Collection
+from collections.abc import Callable
 from functools import partial
 
 from flask import Blueprint, abort, g, redirect, render_template, request, url_for
@@ -16,7 +15,6 @@ from exam_desk.changing import Step
 from exam_desk.reading import Person
 from exam_desk.sheets import slips as slip_pages
 from exam_desk.sheets import texts
-from exam_desk.trouble import Trouble
 from exam_web import proposals
 from exam_web.desk import View, candidate_row, desk, office, once, sums, view
 from exam_web.forms import Form, Page, Wrong, at_field, checked, lead, short, styled
@@ -29,7 +27,6 @@ appeal_pages = Blueprint("appeals", __name__)
 clash_pages = Blueprint("clashes", __name__)
 MOST_FOUND, MOST_ASKED = 100, 80
 MOST_SHOWN, MOST_MOVES = 300, 12
-OF_ENTRY = (5, 6, 8, 9, 10, 20)  # refusals
 Values = dict[str, str]
 
 
@@ -62,25 +59,15 @@ def papers_without(number: int = -1) -> list[sqlite3.Row]:
 @pages.get("/candidates/<int:number>")
 def page(number: int, code: str = "") -> str:
     who = candidate_row(number)
-    entries = view().rows(texts.ENTRIES, [number])
-    return render_template("candidate.html", who=who, entries=entries, sittings=view().reading.all_of(f"{number:07}"),
-                           lodged=view().rows(texts.LODGED, [number]), others=papers_without(number),
-                           code=code,
-                           second=second_sat(number, entries), hall_titles=facts.hall_titles(view().reading.rows),
+    reading, entries = view().reading, view().rows(texts.ENTRIES, [number])
+    later = {row["paper"] for row in entries
+             if not row["live"] and second_sitting.sat_later(reading.rows, f"{number:07}", row["paper"])}
+    return render_template("candidate.html", who=who, entries=entries, sittings=reading.all_of(f"{number:07}"),
+                           lodged=view().rows(texts.LODGED, [number]), others=papers_without(number), code=code,
+                           second=later, hall_titles=facts.hall_titles(reading.rows),
                            note=notebook.notes(desk().office).get(f"{number:07}", ""),
-                           granted=proposals.granted(view().reading, number),
+                           granted=proposals.granted(reading, number),
                            arrangement=view().row("SELECT needs, extra FROM arrangement WHERE number = ?", [number]))
-
-
-def second_sat(number: int, entries: list[sqlite3.Row]) -> set[str]:
-    """The papers that the candidate sits later that day."""
-    found = set()
-    for row in entries:
-        if not row["live"]:
-            with contextlib.suppress(Trouble):
-                second_sitting.plan_back(view().reading, f"{number:07}", row["paper"])
-                found.add(row["paper"])
-    return found
 
 
 @pages.post("/candidates/<int:number>/code")
@@ -150,8 +137,7 @@ def if_granted(number: int, ref: str) -> str:
     row = appeal_row(number, ref)
     if row["state"] != 1:
         abort(404)
-    outcome = "standing" if "standing" in request.args and row["kind"] == 3 else "granted"
-    plan = decide(MultiDict({"number": f"{number:07}", "ref": ref, "outcome": outcome}))
+    plan = decide(MultiDict({"number": f"{number:07}", "ref": ref, "outcome": "granted"}))
     with desk().rehearsing:
         proposals.rehearse(plan, desk(), desk().office)
     return render_template("if_granted.html", row=row, e=plan.effects, refusal=plan.words(), most=MOST_MOVES)
@@ -160,13 +146,12 @@ def if_granted(number: int, ref: str) -> str:
 @clash_pages.get("/clashes", endpoint="page")
 def clashes() -> str:
     """The sessions with two papers at once, and those who have them in one of these."""
-    lodged = view().rows("SELECT * FROM appeal WHERE kind = 2 ORDER BY lodged")
-    sessions = [each for each in sums(view()).values() if each.clashes]
-    shown = [each for each in sessions if each.code == request.args.get("session", "")] or sessions[:1]
-    return render_template("clashes.html", sessions=sessions, shown=shown,
-                           found={each.code: Session(each.code).clashes(MOST_SHOWN) for each in shown},
-                           asked={(row["session"], row["number"]): row for row in lodged},
-                           titles=facts.paper_titles(view().reading.rows))
+    sessions = {each.code: each for each in sums(view()).values() if each.clashes}
+    shown = sessions.get(request.args.get("session", "")) or next(iter(sessions.values()), None)
+    found = Session(shown.code).clashes(MOST_SHOWN) if shown else []
+    lodged = view().rows("SELECT * FROM appeal WHERE kind = 2 AND session = ? ORDER BY lodged", [shown and shown.code])
+    return render_template("clashes.html", sessions=sessions.values(), s=shown, found=found,
+                           asked={row["number"]: row for row in lodged}, titles=facts.paper_titles(view().reading.rows))
 
 
 @once
@@ -202,30 +187,25 @@ def candidate(form: Form, **columns: str) -> tuple[Values, Page]:
     return {**checked(page, form, **columns), "number": number, "name": row["name"], "needs": features(form)}, page
 
 
-def of_one(field: str, refusals: Collection[int], step: Callable[[Values], Step], form: Form) -> Plan:
-    """A plan with a step for each value of a field of a candidate, beside which these refusals stand."""
+def of_one(field: str, step: Callable[[Values], Step], form: Form) -> Plan:
+    """A plan with a step for each value of a field of a candidate, beside which refusals stand."""
     values, page = candidate(form)
     asked = [checked(page, MultiDict({field: value}), **{field: field})[field] for value in form.getlist(field) or [""]]
     steps = [step({**values, field: value}) for value in asked]
-    return Plan({**values, field: ", ".join(asked)}, steps, page, dict.fromkeys(refusals, field))
+    return Plan({**values, field: ", ".join(asked)}, steps, page, field)
 
 
 def rename(form: Form) -> Plan:
     values, page = candidate(form)
     values["other"] = checked(page, form, name="name")["name"]
     step = coding.renamed(desk().office, values["number"], values["other"])
-    return Plan(values, [step], page, made_for=view().name)
+    return Plan(values, [step], page, "name", made_for=view().name)
 
 
 def with_code(values: Values) -> Step:
     """The import of a candidate with an access code that nobody has."""
     code = coding.new_code(set(facts.access_codes(view().reading.rows).values()))
     return import_step("candidates", {**values, "code": code})
-
-
-def new_code(form: Form) -> Plan:
-    values, page = candidate(form)
-    return Plan(values, [with_code(values)], page)
 
 
 def new_candidate(form: Form) -> Plan:
@@ -238,8 +218,8 @@ def new_candidate(form: Form) -> Plan:
         raise Wrong(form_page, number=text("the office has this number: {name}", name=link))
     values["papers"] = ", ".join(papers := form.getlist("paper"))
     entries = second_sitting.imported("entries", *([values["number"], paper] for paper in papers))
-    return Plan(values, [with_code(values), *([entries] if papers else [])], page, dict.fromkeys(OF_ENTRY, "paper"),
-                form_page=form_page, made_for=view().name)
+    return Plan(values, [with_code(values), *([entries] if papers else [])], page, "paper", form_page=form_page,
+                made_for=view().name)
 
 
 def lodge(form: Form) -> Plan:
@@ -251,9 +231,9 @@ def lodge(form: Form) -> Plan:
     field = "wanted_extra" if kind == "arrangement" else f"wanted_{kind}"
     wanted = [values["needs"]] if kind == "arrangement" else []
     wanted.append(checked(page, form, **{field: lodging.KINDS[kind][-1]})[field])
-    fields = {**dict.fromkeys((4, 12, 13, 20, 21), "session"), **dict.fromkeys((5, 7, 8, 11, 18, 19), field)}
-    return Plan({**values, "kind": kind, "wanted": wanted[-1]}, [], page, fields,
-                lodge=(values["number"], values["session"], kind, *wanted, short(page, "reason")))
+    lodged = (values["number"], values["session"], kind, *wanted, short(page, "reason"))
+    return Plan({**values, "kind": kind, "wanted": wanted[-1]}, [], page, field,
+                dict.fromkeys((4, 12, 13, 20, 21), "session"), lodge=lodged)
 
 
 def decide(form: Form) -> Plan:
@@ -265,7 +245,7 @@ def decide(form: Form) -> Plan:
         raise Wrong(page, outcome=text("choose one"))
     values["answer"] = short(page, "reason")
     step = command("decide", ["number", "ref", "outcome", "answer"], values)
-    return Plan(values, [step], page, dict.fromkeys((8, 12, 15, 16, 17, 26), "outcome"))
+    return Plan(values, [step], page, "outcome")
 
 
 def second_plan(form: Form) -> Plan:
@@ -287,15 +267,15 @@ def of_second(values: Values, page: Page, name: str, make: Callable[[], second_s
     """A plan as the command line makes it; what it refuses is said beside the field of this name."""
     with at_field(page, "", name):
         found = make()
-    return Plan(values, found.steps, page, {TROUBLE: name}, command=found.title, made_for=view().name,
+    return Plan(values, found.steps, page, name, {TROUBLE: name}, command=found.title, made_for=view().name,
                 look=partial(second_sitting.lines, found))
 
 
 PLANS.update({
-    "withdraw": partial(of_one, "paper", OF_ENTRY, partial(command, "withdraw", ["number", "paper"])),
-    "reinstate": partial(of_one, "paper", OF_ENTRY, partial(command, "reinstate", ["number", "paper"])),
-    "enter": partial(of_one, "paper", OF_ENTRY, partial(import_step, "entries")),
-    "arrangement": partial(of_one, "extra", [20], partial(import_step, "arrangements")),
-    "code": new_code, "candidate": new_candidate, "name": rename, "lodge": lodge, "decide": decide,
-    "second": second_plan, "second-back": second_back,
+    "withdraw": partial(of_one, "paper", partial(command, "withdraw", ["number", "paper"])),
+    "reinstate": partial(of_one, "paper", partial(command, "reinstate", ["number", "paper"])),
+    "enter": partial(of_one, "paper", partial(import_step, "entries")),
+    "arrangement": partial(of_one, "extra", partial(import_step, "arrangements")),
+    "code": partial(of_one, "number", with_code), "candidate": new_candidate, "name": rename, "lodge": lodge,
+    "decide": decide, "second": second_plan, "second-back": second_back,
 })

@@ -9,12 +9,13 @@ import dataclasses
 import datetime
 import hashlib
 import itertools
+import math
 import os
 import sqlite3
 import threading
 import time
 from collections import Counter
-from collections.abc import Callable, Iterable, Iterator, Mapping, Sequence
+from collections.abc import Callable, Iterable, Mapping, Sequence
 from dataclasses import dataclass, field
 from functools import partial
 from operator import attrgetter
@@ -28,6 +29,7 @@ from exam_desk import (changing, consequences, copies, facts, files, lodging, lo
                        second_sitting, states, telling, words)
 from exam_desk.changing import Answered, Step
 from exam_desk.left_behind import left_behind
+from exam_desk.listed import OF_THE_OFFICE
 from exam_desk.office import Office
 from exam_desk.reading import Person, Reading
 from exam_desk.trouble import Stale, Trouble
@@ -40,7 +42,7 @@ MOST_PROPOSALS = 20  # of a visit
 MOST_ROWS = 250  # of a list on the page; all who must be told are in the CSV file
 MOST_LINES = 20  # of the log, where the office was another
 MOST_CLASHES = 100  # new ones that are named
-MANY_LOST = 10  # candidates: a change by which so many lose their desk wants a tick
+TICKED = {"loses": 10, "clashes": 1, "twice": 1}  # by kind: what meets so many candidates wants a tick
 COMPARING, LODGING = "Both states are compared", "The appeal is lodged"
 OTHER_OFFICE = ("the office has changed since the page that you came from, so nothing was done: go back to the form, "
                 "and ask once more")
@@ -84,7 +86,8 @@ class Effects:
         self.over, self.opened = consequences.over(then, now, changes), consequences.opened(then, now)
         self.shut = consequences.shut(then, now)
         short = set() if changes else unseated(after) - unseated(before)
-        self.short = [*itertools.islice(by_session(after, short), MOST_ROWS)]
+        self.short = [(code, person) for code in sums(after) for person in consequences.by_name(
+            now, [str(number) for session, number in short if session == code])][:MOST_ROWS]
         who: dict[str, list[Any]] = {kind: [each.number for each in part] for kind, part in kinds.items()} | {
             "over": list(self.over), "opened": list(self.opened), "shut": self.shut,
             "short": [number for _, number in short],
@@ -106,13 +109,6 @@ def granted(reading: Reading, number: int) -> list[str]:
             if (sits.needs, sits.extra) != (tuple(words.features(needs)), extra)]
 
 
-def by_session(view: View, found: set[tuple[str, int]]) -> Iterator[tuple[str, Person]]:
-    """Candidates with a session, by its day and their names."""
-    for session in sums(view):
-        for person in consequences.by_name(view.reading, [str(number) for code, number in found if code == session]):
-            yield session, person
-
-
 def named(reading: Reading, found: Iterable[overlaps.Overlap]) -> list[tuple[overlaps.Overlap, list[Person]]]:
     """Two sessions at one time, with who is in both."""
     return [(each, consequences.by_name(reading, each.candidates)) for each in found]
@@ -124,7 +120,8 @@ class Plan:
     values: dict[str, str]
     steps: list[Step]
     page: Page  # to come back to
-    fields: dict[int, str] = field(default_factory=dict)  # the field beside which a refusal stands, by its number
+    beside: str = ""  # the field beside which a refusal of its values stands
+    fields: dict[int, str] = field(default_factory=dict)  # by the number of a refusal that stands beside another
     halls: Sequence[object] = ()  # all, where one is lost: another can take its place
     form_page: Page | None = None  # with the form, where that is another
     lodge: tuple[str, ...] = ()  # in the place of steps: the words of an appeal that is lodged the candidate's way
@@ -166,9 +163,13 @@ class Plan:
         left = {} if self.is_done else {"again": self.key, "_anchor": self.asked.form}
         return url_for(endpoint, **{**values, **left})
 
-    def lost(self) -> int:
-        """How many candidates lose their desk by what the button does; a lodging moves nobody."""
-        return self.effects.counts.get("loses", (0, 0))[0] if self.effects and not self.lodge else 0
+    def met(self) -> dict[str, tuple[int, int]]:
+        """How many candidates and sittings, or halls, the button meets in each way; a lodging moves nobody."""
+        return self.effects.counts if self.effects and not self.lodge else {}
+
+    def ticked(self) -> list[str]:
+        """The kinds that want a tick before the button."""
+        return [kind for kind, (count, _) in self.met().items() if count >= TICKED.get(kind, math.inf)]
 
     def words(self) -> list[Markup]:
         """Why it cannot be done, as the program or the desk says; none where it can."""
@@ -224,7 +225,8 @@ def propose(what: str) -> Response:
     plan = (PLANS.get(what) or abort(404))(request.form)
     plan.key = keep(g.visit.proposals, MOST_PROPOSALS, plan)
     work(plan, rehearse)
-    name = plan.fields.get(refusals.number_of(plan.refusal) or TROUBLE)
+    number = refusals.number_of(plan.refusal) or TROUBLE
+    name = plan.fields.get(number, plan.beside if number not in (TROUBLE, *OF_THE_OFFICE) else "")
     if name and plan.against and not plan.is_working:
         del g.visit.proposals[plan.key]
         raise Wrong(plan.form_page or plan.page, **{name: Markup("; ").join(plan.words())})
@@ -302,6 +304,12 @@ def copy_key(path: str) -> str:
     return hashlib.sha256(os.path.basename(path).encode()).hexdigest()[:16]
 
 
+def forms_of_codes() -> dict[str, str]:
+    """The addresses of the forms that change a session or a paper, by its code."""
+    return {code: url_for("session.page", code=code, _anchor="session") for code in sums(view())} | {
+        code: url_for("session.paper", paper=code) for code, in view().rows("SELECT code FROM paper")}
+
+
 @pages.get("/proposals/<key>")
 def page(key: str) -> str:
     plan: Plan = g.visit.proposals.get(key) or abort(404)
@@ -312,7 +320,7 @@ def page(key: str) -> str:
         following = view().row(f"{APPEALS} WHERE state = 1 AND day > ? {BY_DAY}", [desk().office.today().isoformat()])
     since = [copies.when_and_what(each) for each in itertools.takewhile(lambda each: each != plan.copy, kept)]
     return render_template("proposal.html", p=plan, most=MOST_ROWS, next_appeal=following, since=since,
-                           has_copy=plan.copy in kept, many_lost=MANY_LOST)
+                           has_copy=plan.copy in kept, forms=forms_of_codes() if plan.lines else {})
 
 
 @pages.post("/proposals/<key>/do")
@@ -320,7 +328,7 @@ def do(key: str) -> Response:
     plan: Plan = g.visit.proposals.get(key) or abort(404)
     with plan.lock:  # a second click does nothing
         if plan.can_be_done:
-            if plan.lost() >= MANY_LOST and not request.form.get("tick"):
+            if plan.ticked() and not request.form.get("tick"):
                 wrong = text("tick this, or leave the office as it is")
                 raise Wrong(("proposals.page", {"key": key}), "do", tick=wrong)
             work(plan, carry_out)

@@ -19,7 +19,7 @@ from exam_web.wording import days_until, text
 
 pages = Blueprint("season", __name__)
 MOST_SHOWN = 12  # lines of what needs attention
-SOON, URGENT = 14, 3  # days before a session; before the last day to decide, or to print
+SOON, URGENT = 14, 3  # days before a session, or the last day to lodge; before the last day to decide, or to print
 MOST_ASKED = 2_000  # candidates with printed papers of whom the page itself asks the program
 LEVELS = ["late", "now", "soon", "note"]
 
@@ -69,12 +69,9 @@ def attention(found: list[Sums], is_whole: bool) -> list[Attention]:
     """What to do, the most urgent first; of what the program has to be asked for all only where all is wanted."""
     coming = [each for each in found if days_until(each.day) >= 0]
     compared, left = (coming, []) if is_whole else next_days(coming)
-    todo = [*broken_off(), *out_of_date(compared)]
-    todo += [Attention(level_of(each), each.day, "compare", url_for("session.page", code=each.code, _anchor="print"),
-                       {"session": each.code}) for each in left]
-    todo += [Attention(level_of(each), each.day, "short", url_for("session.page", code=each.code, _anchor="short"),
-                       {"count": each.short, "session": each.code}) for each in coming if each.short]
-    todo += [*open_appeals(), *clashes(coming)]
+    todo = [*broken_off(), *out_of_date(compared), *(of_session("compare", each, "print") for each in left),
+            *(of_session("short", each, "short", count=each.short) for each in coming if each.short),
+            *open_appeals(), *clashes(coming)]
     if coming and turns.keep_state(desk().office) is None:
         todo.append(Attention("note", None, "unserved", url_for("office.page", _anchor="serve")))
     todo += at_one_time(coming) if is_whole else ()
@@ -83,6 +80,12 @@ def attention(found: list[Sums], is_whole: bool) -> list[Attention]:
 
 def level_of(session: Sums) -> str:
     return "now" if days_until(session.day) <= SOON else "soon"
+
+
+def of_session(what: str, session: Sums, place: str, **values: object) -> Attention:
+    """What is mended at a place of the session's page, by its day."""
+    link = url_for("session.page", code=session.code, _anchor=place)
+    return Attention(level_of(session), session.day, what, link, {"session": session.code, **values})
 
 
 def broken_off() -> Iterator[Attention]:
@@ -131,9 +134,7 @@ def out_of_date(coming: list[Sums]) -> Iterator[Attention]:
         if notebook.printed(desk().office, each.code):
             view().ask(facts.entered(view().reading.rows, each.code))
             if (found := notebook.compared(view().reading, each.code)) and found.moves:
-                yield Attention(level_of(each), each.day, "printed",
-                                url_for("session.page", code=each.code, _anchor="print"),
-                                {"count": len(found.moves), "session": each.code, "halls": found.halls})
+                yield of_session("printed", each, "print", count=len(found.moves), halls=found.halls)
 
 
 def at_one_time(coming: list[Sums]) -> Iterator[Attention]:
@@ -143,12 +144,12 @@ def at_one_time(coming: list[Sums]) -> Iterator[Attention]:
         yield Attention(level_of(first), first.day, "overlaps", url_for("clashes.overlapping"), {"pairs": found})
 
 
-def deadlines(found: list[Sums], days: int = 14) -> list[tuple[str, dict[str, list[str]]]]:
+def deadlines(found: list[Sums]) -> list[tuple[str, dict[str, list[str]]]]:
     """The last days to lodge that come next: by date, and for each kind of appeal the sessions."""
     coming: dict[str, dict[str, list[str]]] = {}
     for session in found:
         for word in appeals.KINDS.values():
             last = appeals.to_lodge(word, session.day)
-            if 0 <= days_until(last) <= days:
+            if 0 <= days_until(last) <= SOON:
                 coming.setdefault(last, {}).setdefault(word, []).append(session.code)
     return sorted(coming.items())

@@ -10,7 +10,6 @@ from flask import Blueprint, abort, g, render_template, request
 from werkzeug.wrappers import Response
 
 from exam_desk import facts, files, lists, notebook, reasons, remedies, second_sitting
-from exam_desk.changing import Step
 from exam_desk.facts import Opening
 from exam_desk.notebook import Rows
 from exam_desk.overlaps import of_day
@@ -19,7 +18,7 @@ from exam_desk.sheets import papers, slips
 from exam_desk.words import clock
 from exam_web.desk import View, desk, office, once, sums, two_papers, view
 from exam_web.forms import Form, Page, Wrong, at_field, attached, checked, lead, styled, whole
-from exam_web.proposals import PLANS, Plan, command, features, import_step
+from exam_web.proposals import APPEALS, PLANS, Plan, command, features, import_step
 from exam_web.wording import many, text
 
 pages = Blueprint("session", __name__)
@@ -28,7 +27,6 @@ MOST_EXPLAINED = 30
 WIDTH, HEIGHT, GAP = 78, 38, 5  # of a desk in a picture, and from one to the next
 RUNNING = dict(zip(notebook.RUNNING, ("along the rows", "along and back", "down the columns", "down and up")))
 MOST_SUPPOSED = 14  # desks in a row, where nobody said how many
-SEATS = "session,date,start,finish,number,name,paper,paper title,hall,desk,extra,needs".split(",")
 
 
 class Sheet(NamedTuple):
@@ -92,8 +90,8 @@ class Session:
 def page(code: str) -> str:
     shown, codes = Session(code), [*sums(view())]
     before, _, after = [None, *codes, None][codes.index(code):][:3]
-    lodged = view().rows("SELECT appeal.*, name FROM appeal JOIN candidate ON candidate.number = appeal.number "
-                         "WHERE session = ? ORDER BY state, appeal.number, ref LIMIT ?", [code, MOST_PEOPLE + 1])
+    lodged = view().rows(f"{APPEALS} WHERE appeal.session = ? ORDER BY state, appeal.number, ref LIMIT ?",
+                         [code, MOST_PEOPLE + 1])
     return render_template("session.html", shown=shown, s=shown.sums, lodged=lodged, previous=before, next=after,
                            absences=notebook.absences(view().reading, code),
                            seconds=[each for each in codes if second_sitting.is_numbered(each, code)],
@@ -121,7 +119,8 @@ def by_reason(halls: list[tuple[str, str]]) -> dict[str, list[str]]:
 @pages.get("/sessions/<code>/halls/<hall>", endpoint="hall")
 def hall_page(code: str, hall: str) -> str:
     """A hall as a picture: a piece of the session's page, or a page of its own where no script runs."""
-    shown, opening = Session(code), Session(code).opening(hall)
+    shown = Session(code)
+    opening = shown.opening(hall)
     seated = view().rows("SELECT number FROM seat WHERE session = ? AND hall = ?", [code, hall])
     members = lists.by_desk(view().reading.members(code, [number for number, in seated]), hall)
     rows = standing(opening)
@@ -184,12 +183,8 @@ def attendance_csv(code: str) -> Response:
 
 @pages.get("/sessions/<code>/seats.csv")
 def seats_csv(code: str) -> Response:
-    day, titles = Session(code).sums.day, facts.paper_titles(view().reading.rows)
-    rows = [[code, day, each.sitting.start, each.sitting.finish, each.number, each.name, each.sitting.paper,
-             titles[each.sitting.paper], each.sitting.hall or "", each.sitting.desk or "", each.sitting.extra,
-             "+".join(each.sitting.needs) or "-"] for each in view().reading.members(code)]
-    content = files.written([SEATS, *([files.guarded(str(value)) for value in row] for row in rows)])
-    return attached(files.BOM + content.encode("utf-8", "surrogateescape"), f"{code}-seats.csv")
+    content = slips.csv_text(view().reading, slips.Choice(sessions=[Session(code).code], desks=True))
+    return attached(content.encode("utf-8", "surrogateescape"), f"{code}-seats.csv")
 
 
 @pages.get("/sessions/<code>/print/<sheet>")
@@ -226,8 +221,8 @@ def note_printed(code: str) -> Response:
     return lead("session.page", told, code=code, _anchor="print")
 
 
-def opening(form: Form, page: Page, shown: Session) -> tuple[dict[str, str], list[Step]]:
-    """A hall that is to be open, which was chosen or which the office does not know yet; and the steps for it."""
+def opening(form: Form, page: Page, shown: Session) -> Plan:
+    """A hall that is to be open, which was chosen or which the office does not know yet."""
     is_new = form.get("new_hall", "").strip() != ""
     names = {"new_hall": "hall", "new_title": "title"} if is_new else {"hall": "hall"}
     hall, *titles, desks, until = checked(page, form, **names, desks="desks", until="until").values()
@@ -237,31 +232,30 @@ def opening(form: Form, page: Page, shown: Session) -> tuple[dict[str, str], lis
               "reserved": "yes" if form.get("reserved") else "no", "is_open": "yes" if hall in shown.halls else ""}
     new = [import_step("halls", {"hall": hall, "title": title, "features": features(form, "new_features")})
            for title in titles]
-    return values, [*new, import_step("openings", values)]
+    named = " ".join(["open-hall", shown.code, hall, desks, until, *(["--reserved"] if form.get("reserved") else [])])
+    return Plan(values, [*new, import_step("openings", values)], shown.page, "hall", {20: "desks"}, form_page=page,
+                command=", ".join([*(step.title() for step in new), named]))
 
 
 def open_hall(form: Form) -> Plan:
     """The form of a hall that is open says so by `at`: it stands on the page of that hall."""
     shown = Session(form.get("session", ""))
-    page = shown.hall_page(form.get("hall", "")) if "at" in form else shown.page
-    values, steps = opening(form, page, shown)
-    return Plan(values, steps, shown.page, {4: "hall", 7: "hall", 20: "desks"}, form_page=page)
+    return opening(form, shown.hall_page(form.get("hall", "")) if "at" in form else shown.page, shown)
 
 
 def close_hall(form: Form) -> Plan:
     """A hall that cannot be used; with another in its place where the form on the first rehearsal's page asks it."""
     shown = Session(form.get("session", ""))
     lost, first = checked(shown.page, form, lost="hall")["lost"], form.get("proposal", "")
-    values, steps, form_page = {"session": shown.code, "lost": lost}, list[Step](), shown.page
+    plan = Plan({"session": shown.code}, [], shown.page, "lost")
     if first in g.visit.proposals:
-        form_page = ("proposals.page", {"key": first})
-        other, steps = opening(form, form_page, shown)
-        values |= other
-        if other["hall"] == lost:
-            raise Wrong(form_page, hall=text("this is the hall that is lost"))
-    step = command("close-hall", ["session", "lost"], values)
-    return Plan(values, [*steps, step], shown.page, dict.fromkeys((7, 25), "lost"),
-                halls=shown.choices(), form_page=form_page)
+        plan = opening(form, ("proposals.page", {"key": first}), shown)
+        if plan.values["hall"] == lost:
+            raise Wrong(("proposals.page", {"key": first}), hall=text("this is the hall that is lost"))
+    plan.values["lost"], plan.fields[25], plan.halls = lost, "lost", shown.choices()
+    plan.steps.append(command("close-hall", ["session", "lost"], plan.values))
+    plan.command = ", ".join(filter(None, [plan.command, plan.steps[-1].title()]))
+    return plan
 
 
 def change_row(kind: str, form: Form) -> Plan:
@@ -274,8 +268,8 @@ def change_row(kind: str, form: Form) -> Plan:
     sets = [name for name in columns if files.RIGHT[name] is files.is_features]
     values = checked(page, form, **{name: name for name in columns if name not in sets})
     values |= {table: code, **{name: features(form, name) for name in sets}}
-    fields = dict.fromkeys((4, 20) if "session" in columns else (), "session")
-    return Plan(values, [import_step(kind, values)], shown.page, fields, form_page=page)
+    beside = "session" if "session" in columns else columns[0]
+    return Plan(values, [import_step(kind, values)], shown.page, beside, form_page=page)
 
 
 def change_session(form: Form) -> Plan:

@@ -8,13 +8,18 @@ commands do. What the program says is English always.
 import datetime
 import json
 import pathlib
+import re
+from collections.abc import Mapping
 
-from flask import Flask, current_app, request
+from flask import Flask, current_app, request, url_for
 from markupsafe import Markup, escape
 
 from exam_desk.names import parted
 from exam_desk.words import Said, clock, features, plain
 
+LEADING = re.compile("(`[^`]+`|[A-Z0-9-]+)")
+COMMAND = re.compile("`office (?P<name>[a-z-]+) ?(?:(?P<number>[0-9]{7}) .*|.*)`")
+PAGES = {"back": "office.page", "init": "season.page", "look": "candidates.find"}  # by the command that does the same
 MOST_LETTERS = 10  # of a name at a desk
 RIGHT_TO_LEFT = ("ar", "fa", "he", "ur")
 LANGUAGES: dict[str, dict[str, str]] = {
@@ -32,10 +37,23 @@ def text(english: str, **values: object) -> Markup:
     return found.format(**{name: shown(value) for name, value in values.items()}) if values else found
 
 
-def said(words: str) -> Markup:
-    """What a function of the package says: in the reader's language where the table has it, else as it is."""
-    found = LANGUAGES.get(language(), {}).get(words)
-    return Markup(found) if found else shown(words)
+def said(words: str, pages: Mapping[str, str] = {}) -> Markup:
+    """What a function of the package says: in the reader's language where the table has it, else as it is. A command of
+    the terminal leads to the page that does the same, and a word that has a page to that."""
+    if found := LANGUAGES.get(language(), {}).get(words):
+        return Markup(found)
+    parts = [Markup('<a href="{}">{}</a>').format(address, part) if (address := address_of(part, pages)) else part
+             for part in LEADING.split(plain(words))]
+    return Markup("<bdi>{}</bdi>").format(Markup("").join(parts))
+
+
+def address_of(part: str, pages: Mapping[str, str]) -> str:
+    """The address to which a part of a text leads; nothing where it leads nowhere."""
+    if not (found := COMMAND.fullmatch(part)):
+        return pages.get(part, "")
+    if found["number"]:
+        return url_for("candidates.page", number=int(found["number"]))
+    return url_for(PAGES[found["name"]]) if found["name"] in PAGES else ""
 
 
 def many(count: int, one: str, more: str, **values: object) -> Markup:
@@ -84,4 +102,4 @@ def prepare(app: Flask) -> None:
     app.jinja_env.finalize = lambda value: plain(value) if type(value) is str else value
     app.jinja_env.globals.update(_=text, many=many, language=language)
     app.jinja_env.filters.update(shown=shown, num=number, day=day, clock=clock, features=features,
-                                 short=short, until=days_until, seven=lambda value: f"{int(value):07}")
+                                 short=short, said=said, until=days_until, seven=lambda value: f"{int(value):07}")

@@ -32,7 +32,7 @@ FORMS = {  # a form of each plan that the sample school takes, and the page that
     "hall": ("/sessions/MON-AM/halls/GYM", {"at": "MON-AM", "hall": "GYM", "title": "x"}),
     "files": ("/files", {"upload": "files"}),
     "second": ("/clashes/MON-AM/1051", {**WHO, **MONDAY, "paper": "LAT", "start": "11:00", "hall": "R14"}),
-    "second-back": ("/candidates/1306", {"number": "0001306", "paper": "MA-2"}),
+    "second-back": ("/candidates/1306", {"number": "0001306", "paper": "MA-2", "key": "MA-2"}),
 }
 wrong, tries = [], []
 

@@ -166,7 +166,7 @@ class TestSecondSitting(DeskSchool):
         page, _ = self.browser.post("/propose/second-back", "/candidates/1051", number="0001051", paper="LAT")
         text = self.browser.words(page)
         self.assertIn("sits CS-1 again, and misses LAT", text)
-        self.assertRegex(text, "Two papers at once would be new for .* 0001051 MON-AM CS-1 LAT")
+        self.assertRegex(text, "Two papers at once would be new for .* 0001051 MON-AM Sits CS-1 Does not sit LAT")
         self.browser.post(page + "/do", page)
         self.assertEqual(self.seats(), before)
         self.assertIn("0001051", self.browser.words("/clashes?session=MON-AM"))

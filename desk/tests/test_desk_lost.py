@@ -43,12 +43,34 @@ class TestLostDesks(SmallSchool):
 
     def test_many_want_a_tick(self):
         page, words = self.closing(10)
-        self.assertIn("10 candidates are to lose their desk Close A : 10 candidates lose their desk", words)
+        self.assertIn("This is meant: 10 would lose the desk Close A : 10 candidates lose their desk", words)
         _, text = self.browser.post(page + "/do", page, 422, tick="")
         self.assertRegex(text, 'name="tick" value="1" required aria-invalid="true"')
         self.assertEqual(len(self.seats()), 10)
         self.browser.post(page + "/do", page, tick="1")
         self.assertEqual(self.seats(), [])
+
+    def test_two_papers_at_once_and_two_sessions_at_one_time_want_a_tick(self):
+        """Candidate 1 sits SHORT in S1 at 09:00 until 10:00, and OTHER in S2 on the next day."""
+        self.begin("A,Hall A,-\n", "S1,A,2,12:00,no\nS2,A,2,12:00,no\n",
+                   "0000001,SHORT\n0000001,OTHER\n0000002,SHORT\n")
+        session = {"session": "S2", "at": "S2", "date": "2027-06-07"}
+        for what, form, values in (("enter", "/candidates/2", {"number": "0000002", "paper": "OTHER"}),
+                                   ("session", "/sessions/S2", {**session, "start": "10:00"})):
+            page, _ = self.browser.post(f"/propose/{what}", form, **values)
+            self.assertNotIn('name="tick"', self.browser.get(page))
+        for what, form, values, said in (
+                ("enter", "/candidates/1", {"number": "0000001", "paper": "LONG"},
+                 "1 would newly have two papers at once Enter"),
+                ("session", "/sessions/S2", {**session, "start": "09:59"},
+                 "1 would be in two sessions at one time Change it")):
+            page, _ = self.browser.post(f"/propose/{what}", form, **values)
+            self.assertIn(f"This is meant: {said}", self.browser.words(page))
+            before = self.rows("SELECT day, start FROM session"), self.rows("SELECT * FROM entry")
+            self.browser.post(page + "/do", page, 422, tick="")
+            self.assertEqual((self.rows("SELECT day, start FROM session"), self.rows("SELECT * FROM entry")), before)
+            self.browser.post(page + "/do", page, tick="1")
+            self.assertIn("What changed", self.browser.words(page))
 
     def test_a_lodging_takes_nobody_a_desk(self):
         """A grant would: alone in the first of two halls, the candidate asks for a feature that no hall has."""

@@ -117,6 +117,9 @@ class TestRefusals(DeskSchool):
             self.refuse("second", CLASH, {**SECOND, **values}, said, field)
         _, text = self.browser.post("/propose/second-back", PERSON, 422, **WHO, paper="PH-1")
         self.assertIn("no second sitting of PH-1", text)
+        self.office("second-sitting", "0001051", "LAT", "11:00", "R14", "--yes")
+        _, text = self.browser.post("/propose/withdraw", PERSON, 422, **WHO, paper="LAT", key="LAT")
+        self.assertIn(f'<a href="{self.browser.prefix}/candidates/1051">`office withdraw 0001051 LAT-2`</a>', text)
 
     def test_too_late(self):
         self.office("lodge", "0001051", "MON-AM", "hall", "PC1", "")

@@ -109,6 +109,16 @@ class TestSessions(Rows):
         self.assertIn("Its second sittings stay where they are: S1-2", self.browser.words(SESSION))
         self.assertNotIn("second sittings stay", self.browser.words("/sessions/S1-2"))
 
+    def test_a_second_sitting_that_is_left_behind_leads_to_its_forms(self):
+        self.office("import", "entries", self.write("entries.csv", "number,paper\n0000002,CODING\n"))
+        self.office("second-sitting", "0000002", "SHORT", "13:00", "A", "--yes")
+        page, _, words = self.move(date="2027-06-14", start="09:00")
+        self.assertIn("SHORT-2 in S1-2 , a second sitting of SHORT , stays as it is", words)
+        text = self.browser.get(page)
+        for path, form in (("/sessions/S1-2#session", 'id="session"'), ("/papers/SHORT-2", 'id="paper"')):
+            self.assertIn(f'<a href="{self.browser.prefix}{path}">', text)
+            self.assertIn(form, self.browser.get(path.partition("#")[0]))
+
     def test_refused_at_its_field(self):
         self.refused("session", SESSION, {"session": "S1", "at": "S1", "date": "2027-06-09", "start": "10:00"}, {
             ("date", "2027-02-30"): "a date as", ("date", ""): "a date as", ("date", "1999-12-31"): "a date as",
@@ -131,6 +141,29 @@ class TestHalls(Rows):
                          ([("Aula <b>", 0)], []))
         self.refused("hall", HALL, form, {("title", ""): "1 to 80 bytes"})
         self.browser.post("/propose/hall", HALL, 404, **{**form, "hall": "NONE"})
+
+    def test_the_copies_say_how_a_hall_is_to_be_open(self):
+        """What is said of a copy is the command that does the same."""
+        for more, named in (({"hall": "B", "desks": "2"}, "open-hall S1 B 2 12:00"),
+                            ({"hall": "B", "desks": "3", "reserved": "1"}, "open-hall S1 B 3 12:00 --reserved"),
+                            ({"new_hall": "C", "new_title": "Hall C", "desks": "1"},
+                             "import halls for C, open-hall S1 C 1 12:00")):
+            page, _, _ = self.rehearsed("open", SESSION, session="S1", until="12:00", **more)
+            self.browser.post(page + "/do", page)
+            self.assertEqual(self.newest(), named)
+        first, _, _ = self.rehearsed("close", SESSION, session="S1", lost="B")
+        page, _, _ = self.rehearsed("close", first, session="S1", lost="B", hall="A", desks="9", until="12:00",
+                                    proposal=first.rsplit("/", 1)[1])
+        self.browser.post(page + "/do", page)
+        self.assertEqual(self.newest(), "open-hall S1 A 9 12:00, close-hall S1 B")
+        self.office("open-hall", "S1", "B", "4", "12:00", "--reserved")
+        self.assertEqual(self.newest(), "open-hall S1 B 4 12:00 --reserved")
+
+    def newest(self):
+        """What the newest copy is from before, as the browser and the terminal say it."""
+        named = self.office("back").splitlines()[0].partition("  before ")[2]
+        self.assertIn(f"<td><bdi>{named}</bdi></td>", self.browser.get("/office"))
+        return named
 
     def test_how_it_is_open(self):
         """Its own form begins with what is so: who gives it more desks keeps the hall for needs."""
