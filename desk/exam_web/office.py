@@ -12,12 +12,12 @@ from flask import Blueprint, abort, g, render_template, request
 from markupsafe import Markup, escape
 from werkzeug.wrappers import Response
 
-from exam_desk import backups, beside, changing, copies, keeping, logbook, notebook, private, turns
+from exam_desk import backups, beside, changing, copies, keeping, logbook, losses, notebook, private, turns
 from exam_desk.trouble import Stale, Trouble
 from exam_web.desk import View, desk, office, once, sums, view
 from exam_web.forms import Wrong, archive, at_field, lead, whole
 from exam_web.proposals import MOST_ROWS, Effects, copy_key
-from exam_web.wording import said, text
+from exam_web.wording import said, shown, text
 
 pages = Blueprint("office", __name__)
 MOST_LINES = 200  # of the log
@@ -73,8 +73,16 @@ def copy(key: str) -> str:
     return render_template("copy.html", key=key, when=when, what=what, is_brought=copies.is_brought(path),
                            e=compared(now, path) if now else None,
                            held=[] if now else [*sums(view_of(path)).values()],
-                           most=MOST_ROWS, lost=copies.taken_away(desk().office, path),
+                           most=MOST_ROWS, lost=lost_by(path),
                            log=[line for line in log_since(when) if line[3] not in (logbook.BEGINS, logbook.STEP)])
+
+
+def lost_by(path: str) -> dict[str, Markup]:
+    """What is lost if a copy is put back: the line of each that is ticked, and how the page says it."""
+    here = desk().office
+    strange = {sentence.format(**values): text(sentence, **values)
+               for sentence, values in losses.of_others(here, path)}
+    return {line: strange.get(line, shown(line)) for line in losses.found(here, path)}
 
 
 def view_of(path: str) -> View:
