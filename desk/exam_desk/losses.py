@@ -27,30 +27,35 @@ Said = tuple[str, dict[str, Any]]  # a sentence, and the values in its braces
 
 def found(office: Office, copy: str) -> list[str]:
     """A line for each thing that the office has and a copy has not; none where there is no office."""
+    return [sentence.format(**values) for sentence, values in said(office, copy)]
+
+
+def said(office: Office, copy: str) -> list[Said]:
     place = os.path.realpath(office.path)
     if not os.path.exists(place):
         return []
     now, then = appeals.read(office, place), appeals.read(office, copies.file_in(office, copy))
-    strange = [sentence.format(**values) for sentence, values in of_others(office, copy)]
-    return [*strange, *([UNKNOWN] if now is None else appeals.lost(now, then or {}))]
+    if now is None:
+        return [(UNKNOWN, {})]
+    return [*of_others(office, copy), *(("{line}", {"line": line}) for line in appeals.lost(now, then or {}))]
 
 
 def of_others(office: Office, copy: str) -> list[Said]:
-    """Why a copy may be another school's; nothing where it is not, or nobody can say. The copy of a change that shares
-    no candidate since it has none is this office's: its first import is taken back by it."""
-    said: list[Said] = []
+    """Why a copy may be another school's; nothing where it is not, or nobody can say. One from before the first import
+    has no candidate, and is this office's all the same."""
+    why: list[Said] = []
     with contextlib.suppress(OSError, sqlite3.Error):
         (candidates, brought, alike), (sessions, held, same) = counted(office, copy)
         if 2 * alike < (candidates if copies.is_brought(copy) else min(candidates, brought)):
-            said.append((OTHERS, {
+            why.append((OTHERS, {
                 "gone": candidates - alike, "candidates": candidates, "over": sessions - same, "sessions": sessions,
                 "new": brought - alike, "brought": brought, "later": held - same, "held": held}))
     with contextlib.suppress(OSError, ValueError, Trouble):  # none stands beside it, or the office's is damaged
         with open(os.path.join(copy, notebook.PLACE, "school.json"), "rb", opener=private.no_link) as file:
             school, other = notebook.school_name(office), plain(str(json.loads(file.read())))
         if copies.is_brought(copy) and school and other and plain(school) != other:
-            said.append((NAMED, {"other": other, "school": plain(school)}))
-    return said
+            why.append((NAMED, {"other": other, "school": plain(school)}))
+    return why
 
 
 def counted(office: Office, copy: str) -> list[tuple[int, int, int]]:
@@ -62,4 +67,5 @@ def counted(office: Office, copy: str) -> list[tuple[int, int, int]]:
         both = stack.enter_context(contextlib.closing(sqlite3.connect(":memory:")))
         for moment, path in zip(("now", "other"), paths):
             both.execute(f"ATTACH ? AS {moment}", [path])
-        return [both.execute(query).fetchone() for query in (CANDIDATES, SESSIONS)]
+        counts = [both.execute(query).fetchone() for query in (CANDIDATES, SESSIONS)]
+    return counts

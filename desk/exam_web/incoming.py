@@ -105,7 +105,7 @@ def take_zip(upload: Upload, name: str, stream: IO[bytes], way: Way) -> None:
     try:
         with zipfile.ZipFile(stream) as archive:
             members = [each for each in archive.infolist() if not each.is_dir() and bare(each.filename)]
-            if len(members) > MOST_MEMBERS:
+            if not 0 < len(members) <= MOST_MEMBERS:
                 upload.note(name, text("it holds {count} files; give the seven alone", count=len(members)))
                 return
             for member in members:

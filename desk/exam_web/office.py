@@ -17,7 +17,7 @@ from exam_desk.trouble import Stale, Trouble
 from exam_web.desk import View, desk, office, once, sums, view
 from exam_web.forms import Wrong, archive, at_field, lead, whole
 from exam_web.proposals import MOST_ROWS, Effects, copy_key
-from exam_web.wording import said, shown, text
+from exam_web.wording import said, text
 
 pages = Blueprint("office", __name__)
 MOST_LINES = 200  # of the log
@@ -34,8 +34,7 @@ class Backup:
 
     def __init__(self, given: Mapping[str, IO[bytes]]) -> None:
         stack = contextlib.ExitStack()
-        self.path = stack.enter_context(backups.brought(desk().office, given))
-        self.is_alone = backups.is_alone(given)
+        self.path, self.is_alone = stack.enter_context(backups.brought(desk().office, given))
         weakref.finalize(self, stack.close)
 
 
@@ -79,10 +78,8 @@ def copy(key: str) -> str:
 
 def lost_by(path: str) -> dict[str, Markup]:
     """What is lost if a copy is put back: the line of each that is ticked, and how the page says it."""
-    here = desk().office
-    strange = {sentence.format(**values): text(sentence, **values)
-               for sentence, values in losses.of_others(here, path)}
-    return {line: strange.get(line, shown(line)) for line in losses.found(here, path)}
+    return {sentence.format(**values): text(sentence, **values)
+            for sentence, values in losses.said(desk().office, path)}
 
 
 def view_of(path: str) -> View:
@@ -175,6 +172,7 @@ def backup() -> Response:
     def fill(folder: str) -> None:
         path = os.path.join(folder, here.base_name())
         private.copy_files(os.path.realpath(here.path), path)
+        pathlib.Path(path + "-wal").touch()  # where there is none nothing is missing, and the backup says so
         os.mkdir(beside.folder(path), 0o700)
         notebook.copy_into(here, beside.folder(path))
     return archive("office", fill)

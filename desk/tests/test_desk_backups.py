@@ -64,18 +64,19 @@ class TestBroughtBack(Backups):
         self.assertEqual((states.name_now(self.value), len(self.rows("SELECT * FROM appeal"))), (later, 1))
 
     def test_another_school_s_wants_a_tick(self):
-        """Its numbers are those of this school; of its candidates one is this school's, who has a new code there."""
+        """It has the same numbers; one of its candidates is this school's, with another code; one session has another
+        day."""
         self.office("school", "Hill School")
         copy = os.path.join(self.folder, "copy.db")
         rows = [f"{number:07},{'Di Berg' if number == 1051 else 'Ann'},OTHER{number}\n" for number in range(1001, 1101)]
         for words in [["init"], ["import", "sessions", self.write("s.csv", "session,date,start\nMON-AM,2027-06-07,09:00\n"
-                                                                  "FRI-AM,2026-06-07,09:00\n")],
+                                                                  "MON-PM,2026-06-07,13:30\n")],
                       ["import", "candidates", self.write("c.csv", "number,name,code\n" + "".join(rows))]]:
             self.office(*words, OFFICE=copy)
         parts = {name[len(self.folder) + 1:]: pathlib.Path(name).read_bytes() for name in glob.glob(copy + "*")}
         [name] = [name for number, name in self.rows("SELECT number, name FROM candidate") if number == 1051]
         self.assertEqual(name, "Di Berg")
-        for school, said in ("<b>Dale\u202e</b>", 2), ("Hill School", 1):
+        for school, said in ("Hill School", 1), ("<b>Dale\u202e</b>", 2):
             found = zipped({**parts, "notebook/school.json": json.dumps(school)})
             page, _ = self.browser.send(*BRING, ("other.zip", found))
             text = self.browser.get(page)
@@ -105,10 +106,13 @@ class TestBroughtBack(Backups):
 
     def test_one_of_its_two_files_alone(self):
         files = [(f"office.db{ending}", pathlib.Path(self.path + ending).read_bytes()) for ending in ("", "-wal")]
-        for found, said in ((files[:1], ["office.db"]), (files, []), ([self.handed_out()], [])):
+        self.office("withdraw", "0001051", "PH-1")
+        self.office("back", "1", "--yes")
+        self.assertFalse(os.path.exists(self.path + "-wal"))  # a copy that is put back is one file
+        for found, is_alone in ((files[:1], True), ([("x.zip", zipped(dict(files[:1])))], True), (files, False),
+                                ([self.handed_out()], False)):
             page, _ = self.browser.send(*BRING, *found)
-            self.assertEqual(re.findall("Without (.*) -wal the last changes may be missing", self.browser.words(page)),
-                             said)
+            self.assertEqual("the last changes may be missing" in self.browser.words(page), is_alone, found[0][0])
 
     def test_what_is_none_is_refused_at_its_field(self):
         before = states.name_now(self.value)

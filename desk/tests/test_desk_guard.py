@@ -33,7 +33,7 @@ print(json.dumps([[rule.rule, sorted(rule.methods - {'HEAD', 'OPTIONS'})] for ru
 """
 IDLE = MAKE + """
 visits = app.extensions['guard'].visits
-visits[guard.digest('secret')] = visit = guard.Visit('ab')
+visits[guard.digest('secret')] = visit = guard.Visit('ab', 'x')
 client = app.test_client()
 client.set_cookie('localhost', 'desk', 'secret')
 def ask():
@@ -65,7 +65,7 @@ class TestRoutes(DeskSchool):
                     if not is_open:
                         answer, text = self.browser.ask(method, path, body, {"Cookie": None})
                         self.assertEqual((answer.status, answer.headers["Location"]),
-                                         (302, self.browser.prefix + "/enter"))
+                                         (302, self.browser.prefix + "/enter") if method == "GET" else (401, None))
                         self.assertNotIn("Di Berg", text)
                     self.assertEqual(self.browser.ask(method, path, body, {"Sec-Fetch-Site": "cross-site"})[0].status,
                                      403)
@@ -133,6 +133,23 @@ class TestEntering(DeskSchool):
         self.browser.post("/leave", "/office")
         answer, _ = self.browser.ask("GET", "/office")
         self.assertEqual(answer.headers["Location"], self.browser.prefix + "/enter")
+
+    def test_a_form_that_outlives_its_visit_says_so_and_is_sent_by_the_next_one(self):
+        text = self.browser.get("/candidates/1051")
+        values = {"mark": re.search(MARK, text)[1], "number": "0001051", "session": "MON-PM", "kind": "arrangement",
+                  "wanted_extra": "17", "reason": "asthma"}
+        sent = "POST", "/propose/lodge", urllib.parse.urlencode(values)
+        self.browser.post("/leave", "/office")
+        answer, text = self.browser.ask(*sent)
+        self.assertEqual(answer.status, 401)
+        self.assertIn("Your visit has ended, so nothing was done", text)
+        self.assertNotIn("asthma", text)  # whoever sits here may be another
+        other = self.another()
+        other.enter("cd")
+        self.browser.cookie = other.cookie
+        answer, _ = self.browser.ask(*sent)
+        self.assertEqual(answer.status, 303)
+        self.assertIn("17 % extra time", self.browser.get(answer.headers["Location"].removeprefix(self.browser.prefix)))
 
 
 class TestPages(DeskSchool):
@@ -283,10 +300,11 @@ class TestIdle(unittest.TestCase):
 class TestWithoutFlask(sample.SampleSchool):
     def test_it_says_what_to_install(self):
         for name in ("flask", "waitress"):
-            self.write(f"{name}.py", "raise ImportError")
-            done = self.run_office("desk", PYTHONPATH=self.folder)
-            self.assertEqual(done.returncode, 1)
-            self.assertIn(f"python3-{name}", done.stderr)
+            self.write(f"{name}.py", f"raise ModuleNotFoundError(name='{name}')")
+            for words in ["desk"], ["desk", "--link"]:
+                done = self.run_office(*words, PYTHONPATH=self.folder)
+                self.assertEqual(done.returncode, 1)
+                self.assertIn(f"needs python3-{name}: ", done.stderr)
             os.remove(os.path.join(self.folder, f"{name}.py"))
 
 
