@@ -133,16 +133,13 @@ class Guard:
             abort(403)
 
     def found(self) -> Visit | None:
-        """The visit of the cookie; one that was idle too long is over."""
-        key = digest(request.cookies.get(COOKIE, ""))
+        """The visit of the cookie. Those that were idle too long are over, whoever asks, and what they brought goes."""
+        now = time.monotonic()
         with self.lock:
-            visit = self.visits.get(key)
-            if visit and time.monotonic() - visit.seen > IDLE_SECONDS:
-                del self.visits[key]
-                return None
-        if visit:
-            visit.seen = time.monotonic()
-        return visit
+            self.visits = {key: visit for key, visit in self.visits.items() if now - visit.seen <= IDLE_SECONDS}
+            if found := self.visits.get(digest(request.cookies.get(COOKIE, ""))):
+                found.seen = now
+            return found
 
     def begin(self, response: Response, initials: str) -> None:
         """Starts a visit. Cookies know no ports, so this one is for the secret path of this desk: no other server of

@@ -32,15 +32,16 @@ TABLE = MAKE + """
 print(json.dumps([[rule.rule, sorted(rule.methods - {'HEAD', 'OPTIONS'})] for rule in app.url_map.iter_rules()]))
 """
 IDLE = MAKE + """
-visits = app.extensions['guard'].visits
-visits[guard.digest('secret')] = visit = guard.Visit('ab', 'x')
+here = app.extensions['guard']
+here.visits = {guard.digest(cookie): guard.Visit('ab', 'x') for cookie in ('secret', 'other')}
 client = app.test_client()
 client.set_cookie('localhost', 'desk', 'secret')
 def ask():
     return client.get('/candidates').headers['Location']
 first = ask()
-visit.seen -= 8 * 3600 + 1
-print(first, ask(), len(visits))
+for visit in here.visits.values():
+    visit.seen -= 8 * 3600 + 1
+print(first, len(here.visits), ask(), len(here.visits))
 """
 
 
@@ -293,7 +294,7 @@ class TestProcess(DeskSchool):
 class TestIdle(unittest.TestCase):
     def test_a_visit_ends_after_eight_hours_without_a_click(self):
         done = subprocess.run([PYTHON, "-c", IDLE, DESK], capture_output=True, text=True, check=True)
-        self.assertEqual(done.stdout.split(), ["/", "/enter", "0"])
+        self.assertEqual(done.stdout.split(), ["/", "2", "/enter", "0"])
 
 
 @unittest.skipUnless(HAS_FLASK, "Flask or waitress is missing")
