@@ -11,7 +11,7 @@ from exam_desk.trouble import Trouble
 if TYPE_CHECKING:
     from argparse import ArgumentParser
 
-PORT, DAYS = "8080", 30  # where candidates are served, and how many copies of days are kept
+PORT, DAYS = "8080", 30
 FIRST, PORTS = 8717, 20  # the first port of a desk that is tried where none is given, and how many after it
 PYTHON = "/usr/bin/python3"  # that has Debian's modules
 READY = """The desk of {} is open. In a browser:
@@ -71,12 +71,15 @@ def keep(parser: ArgumentParser) -> bool:
     from exam_desk import beside, keeping
     parser.add_argument("what", choices=["start", "run", "stop", "status"])
     parser.add_argument("place", type=place_of, nargs="?", default=PORT, help="a port, or a folder for the socket")
+    parser.add_argument("--days", type=int, default=DAYS, help=f"how many copies of days are kept ({DAYS})")
     given = parser.parse_args()
+    if given.days < 1:
+        parser.error("DAYS is 1 or more")
     office = command.existing_office()
     beside.refuse_stranger(office.path)
     beside.refuse_strange(beside.folder(office.path))
     if given.what == "run":
-        keeping.run(office, given.place, DAYS)
+        keeping.run(office, given.place, given.days)
         return False
     if given.what == "stop":
         keeping.stop(office)
@@ -84,7 +87,7 @@ def keep(parser: ArgumentParser) -> bool:
         return False
     where = given.place if given.place.isdigit() else os.path.dirname(given.place)
     status = (keeping.status(office) if given.what == "status" else
-              keeping.start(office, [sys.executable, command.OFFICE, "keep", "run", where]))
+              keeping.start(office, [sys.executable, command.OFFICE, "keep", "run", where, "--days", str(given.days)]))
     print(status.sentence)
     return not status.serves
 
