@@ -4,8 +4,7 @@ import logging
 import os
 import secrets
 import socket
-from collections.abc import Callable, Iterator, Sequence
-from io import FileIO
+from collections.abc import Callable, Sequence
 
 import waitress
 
@@ -16,16 +15,9 @@ from exam_web import application, guard
 from exam_web.desk import Desk
 
 HOST = "127.0.0.1"  # no option names another
-LOCK = "desk.lock"
+LOCK = "desk.lock"  # of the desk that runs; it says where
 THREADS = 6
 SILENCE = 120  # seconds after which a connection without a request is closed
-
-
-@contextlib.contextmanager
-def lock_of(office: Office) -> Iterator[FileIO | None]:
-    """The lock of the office's desk; None where another desk has it."""
-    with turns.lock_file(office, LOCK) as file:
-        yield file if turns.try_lock(file) else None
 
 
 def listener(ports: Sequence[int]) -> socket.socket:
@@ -40,8 +32,8 @@ def listener(ports: Sequence[int]) -> socket.socket:
 
 def another_link(office: Office) -> str:
     """A new link to the desk that runs. Raises `Trouble` where none does."""
-    with lock_of(office) as lock:
-        if lock is not None:
+    with turns.lock_file(office, LOCK) as lock:
+        if turns.try_lock(lock):
             raise Trouble("no desk of this office runs: `office desk` opens one")
     return link_of_running(office)
 
@@ -56,8 +48,8 @@ def link_of_running(office: Office) -> str:
 def serve(office: Office, ports: Sequence[int], pretended: bool, ready: Callable[[str], None]) -> None:
     """Serves until a signal ends it; `ready` is given the first link. Where a desk of the office runs already it is
     given a link to that one."""
-    with lock_of(office) as lock, contextlib.ExitStack() as stack:
-        if lock is None:
+    with turns.lock_file(office, LOCK) as lock, contextlib.ExitStack() as stack:
+        if not turns.try_lock(lock):
             ready(link_of_running(office))
             return
         listening = stack.enter_context(listener(ports))
