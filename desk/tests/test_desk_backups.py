@@ -69,8 +69,8 @@ class TestBroughtBack(Backups):
         self.office("school", "Hill School")
         copy = os.path.join(self.folder, "copy.db")
         rows = [f"{number:07},{'Di Berg' if number == 1051 else 'Ann'},OTHER{number}\n" for number in range(1001, 1101)]
-        for words in [["init"], ["import", "sessions", self.write("s.csv", "session,date,start\nMON-AM,2027-06-07,09:00\n"
-                                                                  "MON-PM,2026-06-07,13:30\n")],
+        sessions = "session,date,start\nMON-AM,2027-06-07,09:00\nMON-PM,2026-06-07,13:30\n"
+        for words in [["init"], ["import", "sessions", self.write("s.csv", sessions)],
                       ["import", "candidates", self.write("c.csv", "number,name,code\n" + "".join(rows))]]:
             self.office(*words, OFFICE=copy)
         parts = {name[len(self.folder) + 1:]: pathlib.Path(name).read_bytes() for name in glob.glob(copy + "*")}
@@ -81,8 +81,9 @@ class TestBroughtBack(Backups):
             page, _ = self.browser.send(*BRING, ("other.zip", found))
             text = self.browser.get(page)
             lost = list(map(html.unescape, re.findall('name="lost" value="([^"]+)"', text)))
-            self.assertEqual(lost[0], "59 of 60 candidates and 2 of 3 sessions of the office are not in it, and 99 of its "
-                                      "100 candidates and 1 of its 2 sessions are not in the office: is it another school's?")
+            self.assertEqual(lost[0], "59 of 60 candidates and 2 of 3 sessions of the office are not in it, and 99 of "
+                                      "its 100 candidates and 1 of its 2 sessions are not in the office: is it another "
+                                      "school's?")
             self.assertEqual(len(lost), said, lost)
             self.assertNotRegex(text, "<b>Dale|\u202e")
             for some in ({}, {"lost": lost[1:]}):
