@@ -12,8 +12,8 @@ from dataclasses import dataclass, replace
 from typing import TypeVar
 
 import command
-from exam_desk import (beside, changing, consequences, copies, listed, lists, lodging, notebook, private, refusals,
-                       running, turns, typed)
+from exam_desk import (beside, changing, consequences, copies, listed, lists, lodging, losses, notebook, private,
+                       refusals, running, turns, typed)
 from exam_desk.changing import Answered, Rehearsal, Step, Tried
 from exam_desk.office import Office
 from exam_desk.reading import Reading
@@ -130,7 +130,7 @@ class Back(Change):
 
     def said(self, rehearsal: Rehearsal) -> int:
         office = rehearsal.office
-        self.tell("would be", copies.taken_away(office, self.copy), notebook.others_than_in(office, self.copy))
+        self.tell("would be", losses.found(office, self.copy), notebook.others_than_in(office, self.copy))
         return 0
 
     def tell(self, verb: str, taken: list[str], others: list[str]) -> None:
@@ -148,7 +148,7 @@ class Back(Change):
         others = notebook.others_than_in(office, self.copy)
         question = f"put back the office of {when}, before `{plain(what)}`? What was done since then is undone."
         seen = changing.state_of(office)
-        asked = None if self.is_agreed else (seen, agreed(question, copies.taken_away(office, self.copy)))
+        asked = None if self.is_agreed else (seen, agreed(question, losses.found(office, self.copy)))
         while not (done := changing.go_back(
                 office, self.title.split(), self.copy,
                 lambda lines: asked is None or asked == (changing.state_of(office), lines))).is_done:

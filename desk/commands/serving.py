@@ -6,11 +6,13 @@ import sys
 from typing import TYPE_CHECKING
 
 import command
+from exam_desk.trouble import Trouble
 
 if TYPE_CHECKING:
     from argparse import ArgumentParser
 
 PORT, DAYS = "8080", 30
+FIRST, PORTS = 8717, 20  # the first port of a desk that is tried where none is given, and how many after it
 PYTHON = "/usr/bin/python3"  # that has Debian's modules
 READY = """The desk of {} is open. In a browser:
 
@@ -18,6 +20,8 @@ READY = """The desk of {} is open. In a browser:
 
 The link works once, within ten minutes; `office desk --link` prints another. Ctrl-C closes the desk.
 """
+MISSING = ("the desk in a browser needs python3-{}: `apt install python3-flask python3-waitress`, as root; every other "
+           "command works without them")
 
 
 @command.named("""Opens the officer's desk in a browser: desk [--port NUMBER] [--link]
@@ -32,16 +36,20 @@ other commands. Ctrl-C ends it. It needs python3-flask and python3-waitress.
 def desk(parser: ArgumentParser) -> None:
     if sys.executable != PYTHON:
         os.execv(PYTHON, [PYTHON, command.OFFICE, "desk", *sys.argv[1:]])
-    from exam_web import serving
-    parser.add_argument("--port", type=int, metavar="NUMBER", help=f"{serving.PORT} or the next that is free")
+    parser.add_argument("--port", type=int, metavar="NUMBER", help=f"{FIRST} or the next that is free")
     given = command.given(parser, "--link: print another link of the desk that runs")
     office = command.office()
+    try:
+        from exam_web import serving
+    except ModuleNotFoundError as fault:
+        raise Trouble(MISSING.format(fault.name)) from None
     if given.link:
         command.say(serving.another_link(office) + "\n")
         return
     output = os.fstat(sys.stdout.fileno())
     is_journal = os.environ.get("JOURNAL_STREAM") == f"{output.st_dev}:{output.st_ino}"  # no link is to stand there
-    serving.serve(office, given.port, bool(os.environ.get("TODAY")),
+    ports = range(FIRST, FIRST + PORTS) if given.port is None else [given.port]
+    serving.serve(office, ports, bool(os.environ.get("TODAY")),
                   lambda link: None if is_journal else command.say(READY.format(office.path, link)))
 
 
@@ -63,7 +71,7 @@ def keep(parser: ArgumentParser) -> bool:
     from exam_desk import beside, keeping
     parser.add_argument("what", choices=["start", "run", "stop", "status"])
     parser.add_argument("place", type=place_of, nargs="?", default=PORT, help="a port, or a folder for the socket")
-    parser.add_argument("--days", type=int, default=DAYS, help="how many copies of days are kept (30)")
+    parser.add_argument("--days", type=int, default=DAYS, help=f"how many copies of days are kept ({DAYS})")
     given = parser.parse_args()
     if given.days < 1:
         parser.error("DAYS is 1 or more")
@@ -77,12 +85,9 @@ def keep(parser: ArgumentParser) -> bool:
         keeping.stop(office)
         print("ended")
         return False
-    if given.what == "start":
-        where = given.place if given.place.isdigit() else os.path.dirname(given.place)
-        line = [sys.executable, command.OFFICE, "keep", "run", where, "--days", str(given.days)]
-        status = keeping.start(office, line)
-    else:
-        status = keeping.status(office)
+    where = given.place if given.place.isdigit() else os.path.dirname(given.place)
+    status = (keeping.status(office) if given.what == "status" else
+              keeping.start(office, [sys.executable, command.OFFICE, "keep", "run", where, "--days", str(given.days)]))
     print(status.sentence)
     return not status.serves
 

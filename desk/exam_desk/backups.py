@@ -2,7 +2,8 @@
 in a private folder, which is looked at and put in the place of the office as other copies are.
 
 Its bytes may be anybody's. The two files get the names of this office, and the rest is left but for what has the name
-of a notebook's file; at most so much comes out of it as all copies may take; and the program looks at it first.
+of a notebook's file. A zip may say of its files that they are as large as all copies may be, and gives no more of them
+than it says. The program looks at the office first.
 """
 from __future__ import annotations
 
@@ -11,6 +12,7 @@ import functools
 import json
 import os
 import pathlib
+import shutil
 import zipfile
 import zlib
 from collections.abc import Callable, Iterator, Mapping
@@ -24,7 +26,6 @@ from exam_desk.workbook.cells import PASSWORD
 OFFICE, ZIP = b"SQLite format 3\0", b"PK\3\4"  # how their bytes begin
 MOST_PARTS = 2000
 MOST_NOTES = 16 << 20  # bytes of a file of a notebook
-PIECE = 1 << 20  # bytes that are copied together
 NO_OFFICE = "there is no office in it: bring the zip that the page Office hands out, or office.db and office.db-wal"
 SEVERAL = "there are several offices in it: bring one of them alone"
 BROKEN = "it is broken or cut short: bring it again, or another backup"
@@ -34,9 +35,9 @@ Parts = Mapping[str, Callable[[], IO[bytes]]]  # by name, what opens them
 
 
 @contextlib.contextmanager
-def brought(office: Office, given: Mapping[str, IO[bytes]]) -> Iterator[str]:
-    """The path of a copy of what was brought, as long as the context lasts. Raises `Trouble` where that is no good
-    office; one of an earlier version is carried over."""
+def brought(office: Office, given: Mapping[str, IO[bytes]]) -> Iterator[tuple[str, bool]]:
+    """The path of a copy of what was brought, as long as the context lasts, and whether it came without its second
+    file. Raises `Trouble` where that is no good office; one of an earlier version is carried over."""
     with copies.workplace(office) as folder:
         copy = os.path.join(folder, copies.named(0, next(iter(given), "")))
         os.mkdir(copy, 0o700)
@@ -48,27 +49,26 @@ def brought(office: Office, given: Mapping[str, IO[bytes]]) -> Iterator[str]:
             if isinstance(fault, OSError) and fault.errno in private.ELSEWHERE:  # of this disk
                 raise
             raise Trouble(BROKEN) from fault
+        is_alone = not os.path.exists(path + "-wal")
         copies.check(office, path)
         running.run_over(office, path, "migrate")
-        yield copy
-
-
-def is_alone(given: Mapping[str, IO[bytes]]) -> bool:
-    """Whether the first of an office's two files came alone: what the second held would be lost."""
-    return all(from_the_start(stream).read(len(OFFICE)) == OFFICE for stream in given.values())
+        yield copy, is_alone
 
 
 def parts_of(given: Mapping[str, IO[bytes]], stack: contextlib.ExitStack) -> Parts:
     """The files that were brought, and in the place of a zip what it holds, as long as the stack lasts."""
     found: dict[str, Callable[[], IO[bytes]]] = {}
     for name, stream in given.items():
-        if stream.read(len(ZIP)) == ZIP:
-            archive = stack.enter_context(zipfile.ZipFile(stream))
-            if any(part.flag_bits & 1 for part in archive.infolist()):
-                raise Trouble(PASSWORD)
-            found |= {part.filename: functools.partial(archive.open, part) for part in archive.infolist()}
-        else:
+        if stream.read(len(ZIP)) != ZIP:
             found[name] = functools.partial(from_the_start, stream)
+            continue
+        archive = stack.enter_context(zipfile.ZipFile(stream))
+        parts = archive.infolist()
+        if any(part.flag_bits & 1 for part in parts):
+            raise Trouble(PASSWORD)
+        if len(parts) > MOST_PARTS or sum(part.file_size for part in parts) > copies.MOST_BYTES:
+            raise Trouble(TOO_LARGE)
+        found |= {part.filename: functools.partial(archive.open, part) for part in parts}
     return found
 
 
@@ -82,17 +82,18 @@ def unpack(parts: Parts, path: str) -> None:
     office, notes = office_of(parts, path), notes_of(parts, os.path.join(os.path.dirname(path), notebook.PLACE))
     if notes:
         os.mkdir(os.path.dirname(next(iter(notes))), 0o700)
-    room = copies.MOST_BYTES
     for target, opened in {**office, **notes}.items():
-        room -= copy_out(opened(), target, room if target in office else min(room, MOST_NOTES))
-    for target in notes:
-        json.loads(pathlib.Path(target).read_bytes())
+        with open(target, "xb", opener=private.no_link) as file:
+            shutil.copyfileobj(opened(), file)
+            os.fsync(file.fileno())
+    for note in map(pathlib.Path, notes):
+        if note.stat().st_size > MOST_NOTES:
+            raise Trouble(TOO_LARGE)
+        json.loads(note.read_bytes())
 
 
 def office_of(parts: Parts, path: str) -> Parts:
     """The two files of the one office among the parts, by the paths that they get."""
-    if len(parts) > MOST_PARTS:
-        raise Trouble(TOO_LARGE)
     found = [name for name, opened in parts.items() if opened().read(len(OFFICE)) == OFFICE]
     if len(found) != 1:
         raise Trouble(SEVERAL if found else NO_OFFICE)
@@ -108,16 +109,3 @@ def notes_of(parts: Parts, folder: str) -> Parts:
         if match and match[1] in notebook.WORDS and (match[2] is None or files.is_code(match[2].encode())):
             found[os.path.join(folder, base)] = opened
     return found
-
-
-def copy_out(source: IO[bytes], target: str, room: int) -> int:
-    """Copies a part to a new file, and gives its length. Raises `Trouble` where that is more than the room."""
-    length = 0
-    with open(target, "xb", opener=private.no_link) as file:
-        while piece := source.read(PIECE):
-            length += len(piece)
-            if length > room:
-                raise Trouble(TOO_LARGE)
-            file.write(piece)
-        os.fsync(file.fileno())
-    return length

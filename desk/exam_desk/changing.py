@@ -24,7 +24,7 @@ from dataclasses import dataclass
 from io import FileIO
 from typing import NamedTuple
 
-from exam_desk import beside, copies, files, logbook, private, refusals, running, states, turns
+from exam_desk import beside, copies, files, logbook, losses, private, refusals, running, states, turns
 from exam_desk.office import Office
 from exam_desk.trouble import Stale, Trouble
 
@@ -287,7 +287,7 @@ def go_back(office: Office, words: Sequence[str], copy: str, may_go: Callable[[l
             stack.enter_context(turn(office, " ".join(words), made_from))
             if not os.path.isdir(copy):
                 raise Trouble("this copy is gone by now: `office back` lists what is there; nothing is changed")
-            lines = copies.taken_away(office, copy)
+            lines = losses.found(office, copy)
             if not may_go(lines):
                 return Back(False, lines, None)
             outcome = stack.enter_context(logbook.logged(office, words))

@@ -11,7 +11,7 @@ import sqlite3
 import textwrap
 from collections.abc import Iterator
 
-from exam_desk import appeals, beside, files, notebook, private, running
+from exam_desk import beside, files, notebook, private, running
 from exam_desk.office import Office
 from exam_desk.trouble import Trouble
 from exam_desk.words import plain
@@ -23,7 +23,6 @@ PLACE, DAYS, TITLE = "copies", "days", "title"  # of copies, of those of days, o
 NAME = re.compile(r"(?:([0-9]+) )?([0-9]{4}-[0-9]{2}-[0-9]{2}) ([0-9.]{8,15}) (.*)")  # version 1.0.0 gave no numbers
 DAY = re.compile("[0-9]{4}-[0-9]{2}-[0-9]{2}")
 EMPTY_LOG = 41  # bytes of a second file that holds no change
-UNKNOWN = "nobody can say which appeals and decisions, since what the office holds now cannot be read"
 
 
 def keep_copy(office: Office, command: str) -> str:
@@ -175,15 +174,6 @@ def check(office: Office, path: str) -> None:
             said = running.run_over(office, copy, "migrate")
     if said.status != 0:
         raise Trouble(f"this copy is no good office ({(said.answer + said.complaint).strip()}); nothing is changed")
-
-
-def taken_away(office: Office, copy: str) -> list[str]:
-    """A line for each appeal and decision that the office has and a copy has not; none where there is no office."""
-    place = os.path.realpath(office.path)
-    if not os.path.exists(place):
-        return []
-    now, then = appeals.read(office, place), appeals.read(office, file_in(office, copy))
-    return [UNKNOWN] if now is None else appeals.lost(now, then or {})
 
 
 def in_one_file(path: str) -> None:

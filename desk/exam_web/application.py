@@ -94,6 +94,8 @@ def problem(fault: Exception) -> ResponseReturnValue:
     """A fault in words: of a request, or what the package, a file or the database refuses."""
     said, status = wording.said(str(fault)), 500
     if isinstance(fault, HTTPException):
+        if fault.code == 401 and request.method == "POST":
+            return guard.page("visit"), 401
         if fault.code == 401:
             return redirect(url_for("entering.page"))
         status = fault.code or 500

@@ -41,8 +41,7 @@ class View:
 
     def __init__(self, office: Office, path: str | None = None) -> None:
         self.began = time.monotonic()
-        self.lock = threading.Lock()  # of the locks of what is worked out
-        self.locks: dict[Any, threading.RLock] = {}
+        self.locks: dict[Any, threading.RLock] = {}  # of what is worked out
         self.found: dict[Any, Any] = {}
         self.reading = Reading(office, path)
         weakref.finalize(self, self.reading.stack.close)
@@ -75,8 +74,7 @@ def once(make: Callable[Concatenate[View, Asked], Found]) -> Callable[Concatenat
     says, and raises `StillReading` then."""
     def found(view: View, /, *asked: Asked.args, **more: Asked.kwargs) -> Found:
         key = (make, asked, *more.items())
-        with view.lock:
-            lock = view.locks.setdefault(key, threading.RLock())
+        lock = view.locks.setdefault(key, threading.RLock())  # one step, so each thread gets the same
         if not lock.acquire(timeout=patience()):
             raise StillReading(COUNTING)
         try:

@@ -42,7 +42,7 @@ HEADERS = {
 POLICY = ("default-src 'none'; script-src 'self'; style-src 'self'{}; img-src 'self'; connect-src 'self'; "
           "form-action 'self'; frame-ancestors 'none'; base-uri 'none'")
 STRANGE_HOST = "The desk answers to its own address alone: http://{}. Open it by that address, not by a name.\n"
-NOTHING = "Nothing is here. `office desk --link` prints a link to the desk.\n"
+NOTHING = "Nothing is here, and nothing was done. `office desk --link` prints a link to the desk.\n"
 REFUSED = {"X-Content-Type-Options": "nosniff", "Cache-Control": "no-store"}
 
 
@@ -50,7 +50,7 @@ REFUSED = {"X-Content-Type-Options": "nosniff", "Cache-Control": "no-store"}
 class Visit:
     """A browser that came in by a link. All of it goes when the desk ends or the screen is locked."""
     initials: str  # of who works
-    mark: str = field(default_factory=lambda: secrets.token_urlsafe(24))  # stands in each form
+    mark: str  # stands in each form
     seen: float = field(default_factory=time.monotonic)
     said: list[tuple[str, Any]] = field(default_factory=list)  # what the next page says once
     proposals: dict[str, Any] = field(default_factory=dict)
@@ -96,6 +96,7 @@ class Guard:
     def __init__(self, app: Flask, address: str, prefix: str) -> None:
         self.app, self.address, self.prefix = app, address, prefix
         self.visits: dict[str, Visit] = {}  # by the hash of their cookie
+        self.mark = secrets.token_urlsafe(24)  # of all visits: a form that outlives its own is sent by the next one
         self.lock = threading.Lock()
         app.config["MAX_CONTENT_LENGTH"] = MOST_UPLOAD
         app.before_request(self.check)
@@ -130,16 +131,13 @@ class Guard:
             abort(403)
 
     def found(self) -> Visit | None:
-        """The visit of the cookie; one that was idle too long is over."""
-        key = digest(request.cookies.get(COOKIE, ""))
+        """The visit of the cookie. Those that were idle too long are over, whoever asks, and what they brought goes."""
+        now = time.monotonic()
         with self.lock:
-            visit = self.visits.get(key)
-            if visit and time.monotonic() - visit.seen > IDLE_SECONDS:
-                del self.visits[key]
-                return None
-        if visit:
-            visit.seen = time.monotonic()
-        return visit
+            self.visits = {key: visit for key, visit in self.visits.items() if now - visit.seen <= IDLE_SECONDS}
+            if found := self.visits.get(digest(request.cookies.get(COOKIE, ""))):
+                found.seen = now
+            return found
 
     def begin(self, response: Response, initials: str) -> None:
         """Starts a visit. Cookies know no ports, so this one is for the secret path of this desk: no other server of
@@ -148,7 +146,7 @@ class Guard:
         with self.lock:
             while len(self.visits) >= MOST_VISITS:
                 del self.visits[min(self.visits, key=lambda key: self.visits[key].seen)]
-            self.visits[digest(secret)] = Visit(initials)
+            self.visits[digest(secret)] = Visit(initials, self.mark)
         response.set_cookie(COOKIE, secret, path=self.prefix + "/", httponly=True, samesite="Strict")
 
     def end(self, response: Response) -> None:

@@ -105,7 +105,7 @@ def take_zip(upload: Upload, name: str, stream: IO[bytes], way: Way) -> None:
     try:
         with zipfile.ZipFile(stream) as archive:
             members = [each for each in archive.infolist() if not each.is_dir() and bare(each.filename)]
-            if len(members) > MOST_MEMBERS:
+            if not 0 < len(members) <= MOST_MEMBERS:
                 upload.note(name, text("it holds {count} files; give the seven alone", count=len(members)))
                 return
             for member in members:
@@ -172,7 +172,7 @@ def with_cells(upload: Upload, books: list[Book]) -> Iterator[tuple[Book, OpenBo
         yield book, found
 
 
-def rows_beside(upload: Upload, book: Book | None = None) -> dict[str, list[tuple[bytes, ...]]]:
+def rows_beside(upload: Upload, book: Book) -> dict[str, list[tuple[bytes, ...]]]:
     """What the files bring that are taken, and the workbooks that were read, without one of them."""
     brought = {kind: [record.fields for record in below_header(content)] for kind, content in upload.texts.items()}
     others = [brought, *(other.rows for other in upload.workbooks if other is not book)]
@@ -215,11 +215,12 @@ def take_book(upload: Upload, book: Book, opened: OpenBook, reading: Reading) ->
     book.has_hidden = any(sheet.hidden or sheet.hidden_rows for sheet in opened.sheets) and (
         book.hidden != "" or any(HIDDEN in line.text for line in report.lines))
     book.has_dates = book.way.dates != "" or any(BOTH_DATES in line.text for line in report.lines)
-    book.kinds = [kind for kind in reading.records if not book.mistakes and kind not in upload.texts]
-    for kind, records in reading.records.items() if not book.mistakes else ():
+    if book.mistakes:
+        return
+    book.kinds, book.rows = [kind for kind in reading.records if kind not in upload.texts], {}
+    for kind, records in reading.records.items():
         upload.take(kind, files.file_of(kind, [record.fields for record in records]), book.name,
                     *{record.sheet.name for record in records})
-    book.rows = book.rows if book.mistakes else {}
 
 
 def below_header(content: bytes) -> Iterator[files.Record]:

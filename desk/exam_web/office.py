@@ -12,7 +12,7 @@ from flask import Blueprint, abort, g, render_template, request
 from markupsafe import Markup, escape
 from werkzeug.wrappers import Response
 
-from exam_desk import backups, beside, changing, copies, keeping, logbook, notebook, private, turns
+from exam_desk import backups, beside, changing, copies, keeping, logbook, losses, notebook, private, turns
 from exam_desk.trouble import Stale, Trouble
 from exam_web.desk import View, desk, office, once, sums, view
 from exam_web.forms import Wrong, archive, at_field, lead, whole
@@ -34,8 +34,7 @@ class Backup:
 
     def __init__(self, given: Mapping[str, IO[bytes]]) -> None:
         stack = contextlib.ExitStack()
-        self.path = stack.enter_context(backups.brought(desk().office, given))
-        self.is_alone = backups.is_alone(given)
+        self.path, self.is_alone = stack.enter_context(backups.brought(desk().office, given))
         weakref.finalize(self, stack.close)
 
 
@@ -73,8 +72,14 @@ def copy(key: str) -> str:
     return render_template("copy.html", key=key, when=when, what=what, is_brought=copies.is_brought(path),
                            e=compared(now, path) if now else None,
                            held=[] if now else [*sums(view_of(path)).values()],
-                           most=MOST_ROWS, lost=copies.taken_away(desk().office, path),
+                           most=MOST_ROWS, lost=lost_by(path),
                            log=[line for line in log_since(when) if line[3] not in (logbook.BEGINS, logbook.STEP)])
+
+
+def lost_by(path: str) -> dict[str, Markup]:
+    """What is lost if a copy is put back: the line of each that is ticked, and how the page says it."""
+    return {sentence.format(**values): text(sentence, **values)
+            for sentence, values in losses.said(desk().office, path)}
 
 
 def view_of(path: str) -> View:
@@ -167,6 +172,7 @@ def backup() -> Response:
     def fill(folder: str) -> None:
         path = os.path.join(folder, here.base_name())
         private.copy_files(os.path.realpath(here.path), path)
+        pathlib.Path(path + "-wal").touch()  # where there is none nothing is missing, and the backup says so
         os.mkdir(beside.folder(path), 0o700)
         notebook.copy_into(here, beside.folder(path))
     return archive("office", fill)

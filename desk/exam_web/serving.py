@@ -4,76 +4,55 @@ import logging
 import os
 import secrets
 import socket
-from collections.abc import Callable, Iterator
-from io import FileIO
+from collections.abc import Callable, Sequence
+
+import waitress
 
 from exam_desk import turns
 from exam_desk.office import Office
 from exam_desk.trouble import Trouble
+from exam_web import application, guard
+from exam_web.desk import Desk
 
 HOST = "127.0.0.1"  # no option names another
-PORT, PORTS = 8717, 20  # the first that is tried where none is given, and how many after it
-LOCK = "desk.lock"
+LOCK = "desk.lock"  # of the desk that runs; it says where
 THREADS = 6
 SILENCE = 120  # seconds after which a connection without a request is closed
-MISSING = ("the desk in a browser needs {}: `apt install python3-flask python3-waitress`, as root; every other command "
-           "works without them")
 
 
-def import_waitress() -> None:
-    """Raises `Trouble` where a library is not there."""
-    for name in ("flask", "waitress"):
+def listener(ports: Sequence[int]) -> socket.socket:
+    """A socket at the first port that is free. It listens before a link is printed, since a browser may be quick."""
+    for port in ports:
         try:
-            __import__(name)
-        except ImportError:
-            raise Trouble(MISSING.format(f"python3-{name}")) from None
-
-
-@contextlib.contextmanager
-def lock_of(office: Office) -> Iterator[FileIO | None]:
-    """The lock of the office's desk; None where another desk has it."""
-    with turns.lock_file(office, LOCK) as file:
-        yield file if turns.try_lock(file) else None
-
-
-def running_at(office: Office) -> tuple[str, str]:
-    said = turns.text_of(office, LOCK).split()
-    if len(said) != 2:
-        raise Trouble("a desk of this office begins or ends just now; try again")
-    return said[0], said[1]
-
-
-def listener(port: int | None) -> socket.socket:
-    """A socket that listens before a link is printed, since a browser may be quick."""
-    for each in [port] if port is not None else range(PORT, PORT + PORTS):
-        try:
-            return socket.create_server((HOST, each), backlog=64)
+            return socket.create_server((HOST, port), backlog=64)
         except OSError as fault:
             why = os.strerror(fault.errno or 0)
-    raise Trouble(f"port {port or PORT} of {HOST} cannot be had: {why}; name another with --port")
+    raise Trouble(f"port {ports[0]} of {HOST} cannot be had: {why}; name another with --port")
 
 
 def another_link(office: Office) -> str:
     """A new link to the desk that runs. Raises `Trouble` where none does."""
-    from exam_web import guard
-    with lock_of(office) as lock:
-        if lock is not None:
+    with turns.lock_file(office, LOCK) as lock:
+        if turns.try_lock(lock):
             raise Trouble("no desk of this office runs: `office desk` opens one")
-    return guard.new_link(office.path, *running_at(office))
+    return link_of_running(office)
 
 
-def serve(office: Office, port: int | None, pretended: bool, ready: Callable[[str], None]) -> None:
+def link_of_running(office: Office) -> str:
+    place = turns.text_of(office, LOCK).split()
+    if len(place) != 2:
+        raise Trouble("a desk of this office begins or ends just now; try again")
+    return guard.new_link(office.path, *place)
+
+
+def serve(office: Office, ports: Sequence[int], pretended: bool, ready: Callable[[str], None]) -> None:
     """Serves until a signal ends it; `ready` is given the first link. Where a desk of the office runs already it is
     given a link to that one."""
-    import_waitress()
-    import waitress
-    from exam_web import application, guard
-    from exam_web.desk import Desk
-    with lock_of(office) as lock, contextlib.ExitStack() as stack:
-        if lock is None:
-            ready(guard.new_link(office.path, *running_at(office)))
+    with turns.lock_file(office, LOCK) as lock, contextlib.ExitStack() as stack:
+        if not turns.try_lock(lock):
+            ready(link_of_running(office))
             return
-        listening = stack.enter_context(listener(port))
+        listening = stack.enter_context(listener(ports))
         address, prefix = f"{HOST}:{listening.getsockname()[1]}", f"/{secrets.token_urlsafe(12)}"
         desk = Desk(office, address, prefix, pretended)
         stack.callback(desk.close)  # behind the two below

@@ -41,7 +41,7 @@ class Browser:
     def __init__(self, office):
         self.app = application.make(desk.Desk(office, "127.0.0.1:1", "", False))
         self.client = self.app.test_client()
-        self.visit = guard.Visit("ab")
+        self.visit = guard.Visit("ab", "mark")
         self.app.extensions["guard"].visits[guard.digest("secret")] = self.visit
         self.client.set_cookie("localhost", "desk", "secret")
         self.visit.uploads["files"] = uploads.Upload({"halls": b"hall,title,features\nR20,x,-\n",

@@ -17,7 +17,7 @@ from jinja2 import nodes
 
 DESK = pathlib.Path(__file__).resolve().parent.parent
 sys.path.insert(0, str(DESK))
-from exam_desk import appeals, backups, keeping, left_behind, mistakes, refusals  # noqa: E402
+from exam_desk import appeals, backups, keeping, left_behind, losses, mistakes, refusals  # noqa: E402
 from exam_desk.workbook import cells, opening  # noqa: E402
 from exam_web import application, desk, forms, proposals, session, wording  # noqa: E402
 
@@ -39,7 +39,7 @@ TABLES = {  # by what stands in the call
     "appeals.KINDS[row.kind]": appeals.KINDS.values(), "appeals.STATES[row.state]": appeals.STATES.values(),
     "kind": appeals.KINDS.values(), "PROBLEMS[fault.code]": application.PROBLEMS.values(),
     "str(stage)": [desk.COPYING, desk.COUNTING], "mistakes.CURES[column].removesuffix(SHEET_HINT)": CURES,
-    "v.kind": appeals.KINDS.values(),
+    "v.kind": appeals.KINDS.values(), "sentence": [losses.OTHERS, losses.NAMED, losses.UNKNOWN],
     "f'{date:%a}'": [f"{date:%a}" for date in DAYS], "f'{date:%b}'": [f"{date:%b}" for date in MONTHS],
 }
 SENTENCE = re.compile(r"[a-z]{2,} [a-z]{2,}.* [a-z]{2,}")

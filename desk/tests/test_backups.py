@@ -43,7 +43,7 @@ class Backups(sample.SampleSchool):
     def brought(self, **given):
         """The files of the copy of a backup, by their paths in it; and the copy."""
         streams = {name.replace("_", "."): io.BytesIO(text) for name, text in given.items()}
-        with backups.brought(self.value, streams) as copy:
+        with backups.brought(self.value, streams) as (copy, _):
             yield copy, {os.path.relpath(os.path.join(place, name), copy): os.path.join(place, name)
                          for place, _, names in os.walk(copy) for name in names}
 
@@ -102,10 +102,14 @@ class TestRefused(Backups):
         whole = zipped({"office.db": self.first})
         locked = bytearray(whole)
         locked[locked.find(b"PK\1\2") + 8] |= 1  # says that the part is encrypted
+        lying = bytearray(whole)
+        length = lying.find(b"PK\1\2") + 24
+        lying[length:length + 4] = (100).to_bytes(4, "little")  # says that the part is small
         for said, content in ((backups.NO_OFFICE, b""), (backups.NO_OFFICE, b"%PDF-1.4"),
                               (backups.NO_OFFICE, zipped({"a.csv": b"number,paper\n"})),
                               (backups.SEVERAL, zipped({"a.db": self.first, "b.db": self.first})),
                               (backups.BROKEN, whole[:-40]), ("it has a password", bytes(locked)),
+                              (backups.BROKEN, bytes(lying)),
                               (backups.BROKEN, whole[:len(whole) // 2] + b"x" * 9 + whole[len(whole) // 2 + 9:]),
                               (r"this copy is no good office \(bad office", self.bytes_of("other.db")),
                               (r"this copy is no good office \(bad seat", self.bytes_of("bad.db"))):

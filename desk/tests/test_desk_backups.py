@@ -2,6 +2,7 @@
 there is none, or where it cannot be read, too."""
 import glob
 import html
+import json
 import os
 import pathlib
 import re
@@ -9,6 +10,7 @@ import unittest
 
 from desk_client import MARK, DeskSchool
 from exam_desk import states
+from test_backups import zipped
 
 BRING = ("/office/bring", "/office", "backup")
 FIRST = ("/office/bring", "/", "backup")
@@ -43,7 +45,7 @@ class TestBroughtBack(Backups):
         later = states.name_now(self.value)
         page, _ = self.browser.send(*BRING, (name, content))
         words = self.browser.words(page)
-        for said in (name, "What would change", "1 would join a session", f"undone: tick it {LOST}"):
+        for said in (name, "What would change", "1 would join a session", f"lost: tick each {LOST}"):
             self.assertIn(said, words)
         self.assertIn(f"{name} a backup that you brought", self.browser.words("/office"))
         self.put_back(page, 422)
@@ -61,12 +63,57 @@ class TestBroughtBack(Backups):
         self.put_back(copy)
         self.assertEqual((states.name_now(self.value), len(self.rows("SELECT * FROM appeal"))), (later, 1))
 
+    def test_another_school_s_wants_a_tick(self):
+        """It has the same numbers; one of its candidates is this school's, with another code; one session has another
+        day."""
+        self.office("school", "Hill School")
+        copy = os.path.join(self.folder, "copy.db")
+        rows = [f"{number:07},{'Di Berg' if number == 1051 else 'Ann'},OTHER{number}\n" for number in range(1001, 1101)]
+        sessions = "session,date,start\nMON-AM,2027-06-07,09:00\nMON-PM,2026-06-07,13:30\n"
+        for words in [["init"], ["import", "sessions", self.write("s.csv", sessions)],
+                      ["import", "candidates", self.write("c.csv", "number,name,code\n" + "".join(rows))]]:
+            self.office(*words, OFFICE=copy)
+        parts = {name[len(self.folder) + 1:]: pathlib.Path(name).read_bytes() for name in glob.glob(copy + "*")}
+        [name] = [name for number, name in self.rows("SELECT number, name FROM candidate") if number == 1051]
+        self.assertEqual(name, "Di Berg")
+        for school, said in ("Hill School", 1), ("<b>Dale\u202e</b>", 2):
+            found = zipped({**parts, "notebook/school.json": json.dumps(school)})
+            page, _ = self.browser.send(*BRING, ("other.zip", found))
+            text = self.browser.get(page)
+            lost = list(map(html.unescape, re.findall('name="lost" value="([^"]+)"', text)))
+            self.assertEqual(lost[0], "59 of 60 candidates and 2 of 3 sessions of the office are not in it, and 99 of "
+                                      "its 100 candidates and 1 of its 2 sessions are not in the office: is it another "
+                                      "school's?")
+            self.assertEqual(len(lost), said, lost)
+            self.assertNotRegex(text, "<b>Dale|\u202e")
+            for some in ({}, {"lost": lost[1:]}):
+                self.assertIn("tick each of these", self.put_back(page, 422, **some)[1])
+        self.put_back(page, lost=lost)
+        self.assertEqual(len(self.rows("SELECT * FROM candidate")), 100)
+        self.assertIn("another school's?", self.log().splitlines()[-1])
+        self.assertIn("taken away: 99 of 100 candidates and 1 of 2 sessions ", self.office("what-if", "back", "1"))
+
+    def test_an_empty_one_wants_a_tick_and_the_first_import_is_taken_back_without(self):
+        parts = {os.path.basename(name): pathlib.Path(name).read_bytes() for name in glob.glob(self.path + "*")}
+        empty = os.path.join(self.folder, "empty.db")
+        self.office("init", OFFICE=empty)
+        page, _ = self.browser.send(*BRING, ("empty.db", pathlib.Path(empty).read_bytes()))
+        self.assertIn("60 of 60 candidates and 3 of 3 sessions", self.browser.words(page))
+        self.put_back(page, 422)
+        for name in parts:
+            os.replace(empty + name.removeprefix("office.db"), os.path.join(self.folder, name))
+        self.office("import", "candidates", self.examples / "candidates.csv")
+        self.assertNotIn("taken away", self.office("back", "1", "--yes"))
+
     def test_one_of_its_two_files_alone(self):
         files = [(f"office.db{ending}", pathlib.Path(self.path + ending).read_bytes()) for ending in ("", "-wal")]
-        for found, said in ((files[:1], ["office.db"]), (files, []), ([self.handed_out()], [])):
+        self.office("withdraw", "0001051", "PH-1")
+        self.office("back", "1", "--yes")
+        self.assertFalse(os.path.exists(self.path + "-wal"))  # a copy that is put back is one file
+        for found, is_alone in ((files[:1], True), ([("x.zip", zipped(dict(files[:1])))], True), (files, False),
+                                ([self.handed_out()], False)):
             page, _ = self.browser.send(*BRING, *found)
-            self.assertEqual(re.findall("Without (.*) -wal the last changes may be missing", self.browser.words(page)),
-                             said)
+            self.assertEqual("the last changes may be missing" in self.browser.words(page), is_alone, found[0][0])
 
     def test_what_is_none_is_refused_at_its_field(self):
         before = states.name_now(self.value)

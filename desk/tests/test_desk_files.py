@@ -490,6 +490,7 @@ class TestFiles(Uploads):
         text = self.browser.words(self.upload(("many.zip", out.getvalue())))
         self.assertIn("many.zip : it holds 65 files", text)
         self.assertIn("Nothing could be taken", text)
+        self.assertIn("none.zip : it holds 0 files", self.browser.words(self.upload(("none.zip", zipped({})))))
         self.assertEqual(self.upload(), "/files")
 
     def test_broken_files(self):

@@ -32,15 +32,16 @@ TABLE = MAKE + """
 print(json.dumps([[rule.rule, sorted(rule.methods - {'HEAD', 'OPTIONS'})] for rule in app.url_map.iter_rules()]))
 """
 IDLE = MAKE + """
-visits = app.extensions['guard'].visits
-visits[guard.digest('secret')] = visit = guard.Visit('ab')
+here = app.extensions['guard']
+here.visits = {guard.digest(cookie): guard.Visit('ab', 'x') for cookie in ('secret', 'other')}
 client = app.test_client()
 client.set_cookie('localhost', 'desk', 'secret')
 def ask():
     return client.get('/candidates').headers['Location']
 first = ask()
-visit.seen -= 8 * 3600 + 1
-print(first, ask(), len(visits))
+for visit in here.visits.values():
+    visit.seen -= 8 * 3600 + 1
+print(first, len(here.visits), ask(), len(here.visits))
 """
 
 
@@ -65,7 +66,7 @@ class TestRoutes(DeskSchool):
                     if not is_open:
                         answer, text = self.browser.ask(method, path, body, {"Cookie": None})
                         self.assertEqual((answer.status, answer.headers["Location"]),
-                                         (302, self.browser.prefix + "/enter"))
+                                         (302, self.browser.prefix + "/enter") if method == "GET" else (401, None))
                         self.assertNotIn("Di Berg", text)
                     self.assertEqual(self.browser.ask(method, path, body, {"Sec-Fetch-Site": "cross-site"})[0].status,
                                      403)
@@ -133,6 +134,23 @@ class TestEntering(DeskSchool):
         self.browser.post("/leave", "/office")
         answer, _ = self.browser.ask("GET", "/office")
         self.assertEqual(answer.headers["Location"], self.browser.prefix + "/enter")
+
+    def test_a_form_that_outlives_its_visit_says_so_and_is_sent_by_the_next_one(self):
+        text = self.browser.get("/candidates/1051")
+        values = {"mark": re.search(MARK, text)[1], "number": "0001051", "session": "MON-PM", "kind": "arrangement",
+                  "wanted_extra": "17", "reason": "asthma"}
+        sent = "POST", "/propose/lodge", urllib.parse.urlencode(values)
+        self.browser.post("/leave", "/office")
+        answer, text = self.browser.ask(*sent)
+        self.assertEqual(answer.status, 401)
+        self.assertIn("Your visit has ended, so nothing was done", text)
+        self.assertNotIn("asthma", text)  # whoever sits here may be another
+        other = self.another()
+        other.enter("cd")
+        self.browser.cookie = other.cookie
+        answer, _ = self.browser.ask(*sent)
+        self.assertEqual(answer.status, 303)
+        self.assertIn("17 % extra time", self.browser.get(answer.headers["Location"].removeprefix(self.browser.prefix)))
 
 
 class TestPages(DeskSchool):
@@ -276,17 +294,18 @@ class TestProcess(DeskSchool):
 class TestIdle(unittest.TestCase):
     def test_a_visit_ends_after_eight_hours_without_a_click(self):
         done = subprocess.run([PYTHON, "-c", IDLE, DESK], capture_output=True, text=True, check=True)
-        self.assertEqual(done.stdout.split(), ["/", "/enter", "0"])
+        self.assertEqual(done.stdout.split(), ["/", "2", "/enter", "0"])
 
 
 @unittest.skipUnless(HAS_FLASK, "Flask or waitress is missing")
 class TestWithoutFlask(sample.SampleSchool):
     def test_it_says_what_to_install(self):
         for name in ("flask", "waitress"):
-            self.write(f"{name}.py", "raise ImportError")
-            done = self.run_office("desk", PYTHONPATH=self.folder)
-            self.assertEqual(done.returncode, 1)
-            self.assertIn(f"python3-{name}", done.stderr)
+            self.write(f"{name}.py", f"raise ModuleNotFoundError(name='{name}')")
+            for words in ["desk"], ["desk", "--link"]:
+                done = self.run_office(*words, PYTHONPATH=self.folder)
+                self.assertEqual(done.returncode, 1)
+                self.assertIn(f"needs python3-{name}: ", done.stderr)
             os.remove(os.path.join(self.folder, f"{name}.py"))
 
 

@@ -253,7 +253,7 @@ from exam_web import application, desk, guard, office
 print(office.HANDBOOK)
 office.HANDBOOK = None
 app = application.make(desk.Desk(Office('none.db', 'none', datetime.date.today, 'x'), '127.0.0.1:1', '', False))
-app.extensions['guard'].visits[guard.digest('secret')] = guard.Visit('ab')
+app.extensions['guard'].visits[guard.digest('secret')] = guard.Visit('ab', 'mark')
 client = app.test_client()
 client.set_cookie('localhost', 'desk', 'secret')
 print(client.get('/').text.partition('helpline')[2].partition('</p>')[0])

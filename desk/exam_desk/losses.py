@@ -1,0 +1,71 @@
+"""What is lost where a copy, or a backup that somebody brings, is put in the place of the office: appeals, decisions,
+and the office itself where the other is of other people."""
+from __future__ import annotations
+
+import contextlib
+import json
+import os
+import sqlite3
+from typing import Any
+
+from exam_desk import appeals, copies, notebook, private
+from exam_desk.office import Office
+from exam_desk.trouble import Trouble
+from exam_desk.words import plain
+
+UNKNOWN = "nobody can say which appeals and decisions, since what the office holds now cannot be read"
+OTHERS = ("{gone} of {candidates} candidates and {over} of {sessions} sessions of the office are not in it, and "
+          "{new} of its {brought} candidates and {later} of its {held} sessions are not in the office: is it another "
+          "school's?")
+NAMED = "the name of its school is {other}, that of the office is {school}: is it another school's?"
+COUNTS = ("SELECT (SELECT count(*) FROM now.{0}), (SELECT count(*) FROM other.{0}), "
+          "(SELECT count(*) FROM now.{0} AS old JOIN other.{0} AS new ON {1})")
+CANDIDATES = COUNTS.format("candidate", "old.number = new.number AND (old.name = new.name OR old.code = new.code)")
+SESSIONS = COUNTS.format("session", "old.code = new.code AND old.day = new.day")
+Said = tuple[str, dict[str, Any]]  # a sentence, and the values in its braces
+
+
+def found(office: Office, copy: str) -> list[str]:
+    """A line for each thing that the office has and a copy has not; none where there is no office."""
+    return [sentence.format(**values) for sentence, values in said(office, copy)]
+
+
+def said(office: Office, copy: str) -> list[Said]:
+    place = os.path.realpath(office.path)
+    if not os.path.exists(place):
+        return []
+    now, then = appeals.read(office, place), appeals.read(office, copies.file_in(office, copy))
+    if now is None:
+        return [(UNKNOWN, {})]
+    return [*of_others(office, copy), *(("{line}", {"line": line}) for line in appeals.lost(now, then or {}))]
+
+
+def of_others(office: Office, copy: str) -> list[Said]:
+    """Why a copy may be another school's; nothing where it is not, or nobody can say. One from before the first import
+    has no candidate, and is this office's all the same."""
+    why: list[Said] = []
+    with contextlib.suppress(OSError, sqlite3.Error):
+        (candidates, brought, alike), (sessions, held, same) = counted(office, copy)
+        if 2 * alike < (candidates if copies.is_brought(copy) else min(candidates, brought)):
+            why.append((OTHERS, {
+                "gone": candidates - alike, "candidates": candidates, "over": sessions - same, "sessions": sessions,
+                "new": brought - alike, "brought": brought, "later": held - same, "held": held}))
+    with contextlib.suppress(OSError, ValueError, Trouble):  # none stands beside it, or the office's is damaged
+        with open(os.path.join(copy, notebook.PLACE, "school.json"), "rb", opener=private.no_link) as file:
+            school, other = notebook.school_name(office), plain(str(json.loads(file.read())))
+        if copies.is_brought(copy) and school and other and plain(school) != other:
+            why.append((NAMED, {"other": other, "school": plain(school)}))
+    return why
+
+
+def counted(office: Office, copy: str) -> list[tuple[int, int, int]]:
+    """How many candidates the office has, how many the copy, and how many both: alike in number, and in name or code.
+    Then so for sessions, which are alike in code and day."""
+    with contextlib.ExitStack() as stack:
+        paths = [stack.enter_context(private.private_copy(path, office.path))
+                 for path in (office.path, copies.file_in(office, copy))]
+        both = stack.enter_context(contextlib.closing(sqlite3.connect(":memory:")))
+        for moment, path in zip(("now", "other"), paths):
+            both.execute(f"ATTACH ? AS {moment}", [path])
+        counts = [both.execute(query).fetchone() for query in (CANDIDATES, SESSIONS)]
+    return counts
