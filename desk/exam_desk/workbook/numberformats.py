@@ -12,9 +12,18 @@ MOST_NUMBER = 10 ** 15  # a spreadsheet keeps fifteen digits
 LONG_NUMBER = 10 ** 11  # from here on the format General shows a power of ten
 WINDOWS, MACINTOSH = datetime.datetime(1899, 12, 30), datetime.datetime(1904, 1, 1)  # the day 0
 MACHINE_DATE = "m/d/yy?"  # the date that each machine shows in its own way
-BUILT_IN = {  # formats by number, beside those that openpyxl knows
-            14: MACHINE_DATE, 22: MACHINE_DATE + " h:mm", 32: "h:mm", 33: "h:mm",
-            **{number: MACHINE_DATE for number in (*range(27, 32), *range(34, 37), *range(50, 59))}}
+GENERAL = "General"
+BUILT_IN = {  # formats by number
+    **dict(enumerate([GENERAL, "0", "0.00", "#,##0", "#,##0.00"])), **dict.fromkeys((5, 6), '"$"#,##0_);("$"#,##0)'),
+    **dict.fromkeys((7, 8), '"$"#,##0.00_);("$"#,##0.00)'), 9: "0%", 10: "0.00%", 11: "0.00E+00", 12: "# ?/?",
+    13: "# ??/??", 14: MACHINE_DATE, 15: "d-mmm-yy", 16: "d-mmm", 17: "mmm-yy", 18: "h:mm AM/PM",
+    19: "h:mm:ss AM/PM", 20: "h:mm", 21: "h:mm:ss", 22: MACHINE_DATE + " h:mm", 32: "h:mm", 33: "h:mm",
+    **dict.fromkeys((*range(27, 32), *range(34, 37), *range(50, 59)), MACHINE_DATE),
+    **dict.fromkeys((37, 38), "#,##0_);(#,##0)"), **dict.fromkeys((39, 40), "#,##0.00_);(#,##0.00)"),
+    41: r'_(* #,##0_);_(* \(#,##0\);_(* "-"_);_(@_)', 42: r'_("$"* #,##0_);_("$"* \(#,##0\);_("$"* "-"_);_(@_)',
+    43: r'_(* #,##0.00_);_(* \(#,##0.00\);_(* "-"??_);_(@_)',
+    44: r'_("$"* #,##0.00_);_("$"* \(#,##0.00\);_("$"* "-"??_);_(@_)',
+    45: "mm:ss", 46: "[h]:mm:ss", 47: "mmss.0", 48: "##0.0E+0", 49: "@"}
 PAINTED = {  # the words of a format of dates, in python's; n is a minute
     "yyyy": "%Y", "yy": "%y", "mmmm": "%B", "mmm": "%b", "mm": "%m", "m": "%-m", "dddd": "%A", "ddd": "%a", "dd": "%d",
     "d": "%-d", "hh": "%H", "h": "%-H", "nn": "%M", "n": "%-M", "ss": "%S", "s": "%-S", "am/pm": "%p", ".": ".",
@@ -110,12 +119,12 @@ def shown_number(form: str, number: decimal.Decimal) -> str | None:
     parts = sections(form)
     if locale_of(form) >= OTHER_DIGITS or any(re.match(r"\[[<>=]", token) for part in parts for token in part):
         return ""
-    numeric = parts[:3] if len(parts) > 1 or "@" not in parts[0] else [["General"]]
+    numeric = parts[:3] if len(parts) > 1 or "@" not in parts[0] else [[GENERAL]]
     place = 0 if number > 0 else 1 if number < 0 else 2
     section = numeric[place] if place < len(numeric) else numeric[0]
     if not "".join(section).strip() and len(parts) > 1:
         return None
-    pieces = [shown_token(token, abs(number)) for token in section or ["General"]]
+    pieces = [shown_token(token, abs(number)) for token in section or [GENERAL]]
     if None in pieces or sum(token.lower() == "general" or token[0] in "0#?" for token in section) > 1:
         return ""
     return ("-" if number < 0 and place >= len(numeric) else "") + "".join(map(str, pieces)).strip()
@@ -148,7 +157,7 @@ def shown_token(token: str, number: decimal.Decimal) -> str | None:
 
 def shown_text(form: str, text: str) -> str | None:
     """How a text is shown under a number format: none where nothing is shown."""
-    if form in ("General", "@"):
+    if form in (GENERAL, "@"):
         return text
     parts = sections(form)
     section = parts[3] if len(parts) > 3 else next((part for part in parts if "@" in part), ["@"])

@@ -112,6 +112,16 @@ case("ods-comment-in-text", ods('<table:table table:name="Candidates">' + ods_ro
      '<table:table-cell office:value-type="string"><text:p>Ada Lin<office:annotation><text:p>left</text:p></office:annotation></text:p></table:table-cell>',
      ADA[2]) + "</table:table>"), files={"candidates": [ADA_LINE]}, suffix="ods", told=[["Candidates!B2", "comment"]])
 
+STYLES = (f'<styleSheet xmlns="{MAIN}"><fonts><font/><font><strike val="0"/></font></fonts><cellXfs><xf/><xf numFmtId="14" fontId="1"/>'
+          '<xf numFmtId="18"/><xf numFmtId="43"/><xf numFmtId="9"/></cellXfs></styleSheet>')
+case("formats-by-number", xlsx(sheet("Sessions", SESSIONS, ["S1", ("raw", '<c r="{ref}" s="1"><v>46539</v></c>'), ("raw", '<c r="{ref}" s="2"><v>0.375</v></c>')]),
+     sheet("Openings", OPENINGS, ["S1", "A", ("raw", '<c r="{ref}" s="3"><v>24</v></c>'), "12:00", "no"]),
+     sheet("Arrangements", ARRANGEMENTS, ["0000001", "-", ("raw", '<c r="{ref}" s="4"><v>0.25</v></c>')]), parts={"xl/styles.xml": STYLES}),
+     files={"sessions": ["S1,2027-06-01,09:00"], "openings": ["S1,A,24,12:00,no"], "arrangements": ["0000001,-,25"]},
+     told=[["Sessions!B2", "Tuesday"], ["Sessions!C2", "9:00 AM became 09:00"], ["Openings!C2", "24.00 became 24"]])
+case("other-namespace", changed(xlsx(sheet("Halls", HALLS, ["A", "Hall A", "-"]), candidates(ADA)), "xl/worksheets/sheet1.xml", MAIN, "urn:other"),
+     files={"candidates": [ADA_LINE]}, told=[["", "the sheet Halls is no table"]])
+
 # what is not named, and what is not read
 case("merged-header", xlsx(candidates(["0000001", "Lin", "CODE0001"], merge=["B1:C1"])), 1, only=True, mistakes=[["Candidates!B1", "merged over columns"]])
 case("sheet-by-header", xlsx(sheet("Plan", CANDIDATES, ADA)), files={"candidates": [ADA_LINE]}, told=[["Plan", "is read as candidates, by its header"]])
