@@ -146,10 +146,11 @@ def tell_no_header(job: Job, kind: str, sheet: Sheet) -> None:
     have = {folded(text) for text in text_cells(sheet.rows[row]).values()}
     lacks_session = kind == "openings" and not HEADER_WORDS[kind, "session"] & have
     if lacks_session and len(sheet.rows[row]) > 2:
-        cure = "a table of halls by sessions does not say until when, and who for: write a row for each opening, with "
+        cure = "a table of halls by sessions does not say until when, and who for: write a row for each opening, " \
+            "with the columns "
     elif len(nearest.columns) > 1:
         row, columns = nearest.row, [name for name in columns if name not in nearest.columns]
         cure = f"this header of {kind} lacks "
     else:
-        cure = f"no row of the first {WITHIN} is a header of {kind}; it needs "
-    job.report.mistake(cure + f"the columns {', '.join(columns)}", sheet, row)
+        cure = f"no row of the first {WITHIN} is a header of {kind}; it needs the columns "
+    job.report.mistake(cure + ", ".join(columns), sheet, row)

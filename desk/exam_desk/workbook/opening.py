@@ -12,7 +12,8 @@ from collections import Counter
 from exam_desk import files
 from exam_desk.trouble import Trouble
 from exam_desk.workbook.child import MISSING
-from exam_desk.workbook.cells import MOST_FILE, NO_WORKBOOK, OPEN_AND_SAVE, PASSWORD, Book, Budget, Cell, Sheet, unpacked
+from exam_desk.workbook.cells import (MOST_FILE, NO_WORKBOOK, OPEN_AND_SAVE, PASSWORD, Book, Budget, Cell, Sheet,
+                                      unpacked)
 
 CHILD = pathlib.Path(__file__).resolve().parent / "child.py"
 PYTHON = "/usr/bin/python3"  # the one for which Debian installs its libraries

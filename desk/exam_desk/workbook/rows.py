@@ -236,8 +236,8 @@ class Table(Headed):
                 f"{name} {files.shown(shown_of(cell).encode('utf-8', 'replace'))}: {fault}"
             self.mistake(row, place, what, f"{name} {fault}")
             return (cell.text if cell else ""), True
-        if value.why and not (cell is not None and value.text == cell.shown):
-            why = f" ({value.why})" if value.why.strip() else ""
+        if value.text != (cell.shown if cell else ""):
+            why = f" ({value.why})" if value.why else ""
             group = name if name == "date" else name + value.why.split(",")[0]
             self.change(row, place, f"{name} {shown_of(cell)} became {value.text or '(empty)'}{why}", group)
         if value.note:

@@ -5,14 +5,14 @@ import re
 from collections import defaultdict
 from collections.abc import Callable, Iterable, Mapping
 from dataclasses import dataclass, field
-from functools import partialmethod
+from functools import partial, partialmethod
 from typing import NamedTuple
 
 from exam_desk import files, mistakes
 from exam_desk.workbook.cells import Cell, Sheet, letters_of, place_name
 from exam_desk.workbook.headers import (HEADER_WORDS, MARKED, OF_PEOPLE, Given, Header, folded, is_called_list, seen,
                                         text_cells)
-from exam_desk.workbook.values import SHORT_FEATURES, UNREAD, Value, Way, Wrong, is_mark, read_value, shown_of
+from exam_desk.workbook.values import NEAR, SHORT_FEATURES, UNREAD, Value, Way, Wrong, is_mark, read_value, shown_of
 
 WORDS = {"change": "", "note": "NOTE: ", "mistake": "MISTAKE: "}  # in the order in which they are printed
 MOST_PLACES = 5  # of lines that stand together
@@ -102,7 +102,7 @@ class Job:
     days: dict[str, str] = field(default_factory=dict)  # of the sessions that are imported with it
 
     def __post_init__(self) -> None:
-        read = functools.partial(read_value, way=self.way)
+        read = partial(read_value, way=self.way)
         self.value: Callable[[str, Cell | None], Value] = functools.lru_cache(MOST_VALUES)(read)
 
     def of_kind(self, kind: str) -> Given:
@@ -253,6 +253,12 @@ class Headed:
             return f"the {'paper' if self.kind == 'entries' else 'feature'} {name} has two columns" if is_second else ""
         if self.kind in MARKED and place in self.crossed and place in crosses and self.marked in self.header.columns:
             return f"{self.crossed[place]} has crosses beside the column {self.marked}: keep one of the two"
+        if self.kind in MARKED and place in crosses and folded(said) in NEAR:
+            return f"{said!r} has crosses and is no feature: call it {NEAR[folded(said)]} if that is meant, or delete " \
+                "the column"
+        if self.kind == "entries" and (row := self.first_places(partial(says_gone, said)).get(place)):
+            where = place_name(self.sheet, row, place)
+            return f"{where} seems to say that an entry is withdrawn: delete each such row, then the column"
         if self.kind == "entries" and place in crosses and folded(said) not in OF_PEOPLE:
             what = f"{said!r} is no paper that is known" if cell else "the column has no header"
             where = place_name(self.sheet, crosses[place], place)
@@ -265,3 +271,8 @@ class Headed:
             return f"what stands below {shown_of(cell)} is not read here: put papers on a sheet Entries, and needs " \
                 "on a sheet Arrangements, with the numbers"
         return ""
+
+
+def says_gone(header: str, cell: Cell) -> bool:
+    """Whether a cell below a header says that an entry does not count."""
+    return is_mark(cell) is not False if is_called_list(header) else cell.kind == "text" and is_called_list(cell.text)

@@ -30,7 +30,7 @@ NO = {"no", "n", "false", "0", "-", "nein", "falsch", "non", "faux", ""}
 NONE = {"", "-", "none", "no", "keine"}
 SHORT_FEATURES = {name.replace("-", ""): name for name in FEATURES}
 NEAR = {"wheelchair": "step-free", "accessible": "step-free", "pc": "computer", "laptop": "computer",
-        "separateroom": "small-room"}
+        "separateroom": "small-room", "computers": "computer", "laptops": "computer", "wheelchairs": "step-free"}
 MONTHS = {name: place for place, names in enumerate(
     ["jan january januar", "feb february februar", "mar march mär märz", "apr april", "may mai", "jun june juni",
      "jul july juli", "aug august", "sep sept september", "oct october okt oktober", "nov november",
@@ -97,7 +97,7 @@ class Value(NamedTuple):
     """The value of a cell, as the import files have it."""
 
     text: str
-    why: str = ""  # what was done, where the value is another text than the cell shows
+    why: str = ""  # what was done
     note: str = ""  # what only the officer's eye can judge
     day: str = ""  # of a time the day that stands in its cell too
 
@@ -122,8 +122,7 @@ def read_value(column: str, cell: Cell | None, way: Way) -> Value:
     is_none = column == "code" and not value.text
     if not is_none and not mistakes.RIGHT[column](value.text.encode("utf-8", "surrogatepass")):
         raise Wrong(mistakes.needed(column, value.text.encode("utf-8", "replace")) if cell else "is missing")
-    is_as_shown = value.text == ((cell.shown or None) if cell else "")
-    return value._replace(why=reason(done, value.why) or " " * (not is_as_shown))
+    return value._replace(why=reason(done, value.why))
 
 
 def refuse_other_digits(cell: Cell) -> None:
@@ -274,7 +273,7 @@ def read_date(column: str, cell: Cell, text: str, way: Way) -> Value:
         raise Wrong(f"a number without the format of a date: if {day} is meant, give the column the format date")
     refuse_other_digits(cell)
     said = parts_of(text, DATES)
-    if not said or cell.shown == text and "time" in said and len(text) == 10:
+    if not said:
         return Value(text)
     if "short" in said:
         raise Wrong("the year has two digits: write a date as 2027-06-07")

@@ -8,9 +8,9 @@ from collections.abc import Iterator
 from xml.etree.ElementTree import Element, parse
 
 from exam_desk.trouble import Trouble
-from exam_desk.workbook.cells import (MOST_COLUMN, MOST_ROW, MOST_SHEETS, NO_WORKBOOK, OPEN_AND_SAVE, Book, Budget, Cell,
-                                      Parts, Sheet, local, place_name, whole_day)
-from exam_desk.workbook.numberformats import BUILT_IN, GENERAL, MACINTOSH, WINDOWS, number_cell, shown_text
+from exam_desk.workbook.cells import (MOST_COLUMN, MOST_ROW, MOST_SHEETS, NO_WORKBOOK, OPEN_AND_SAVE, Book, Budget,
+                                      Cell, Parts, Sheet, local, place_name, whole_day)
+from exam_desk.workbook.numberformats import BUILT_IN, GENERAL, MACINTOSH, WINDOWS, number_cell, text_cell
 
 STRICT = "http://purl.oclc.org/ooxml/"  # begins the names of the elements of another form
 SPACE = "http://schemas.openxmlformats.org/spreadsheetml/2006/main"
@@ -181,9 +181,7 @@ class Reader:
         if kind == "n":
             found = number_cell(text, form, self.epoch)
         elif kind in TEXTS:
-            text = unescaped(text) if kind == "str" else text
-            shown = shown_text(form, text)
-            found = Cell("unseen" if shown is None else "text", text, shown or "")
+            found = text_cell(unescaped(text) if kind == "str" else text, form)
         elif kind == "e":
             found = Cell("error", text, text)
         elif kind == "b":
