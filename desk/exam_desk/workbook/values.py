@@ -1,6 +1,7 @@
 """What a cell says as a value of the office: `read_value` has a rule for each column of the import files."""
 import datetime
 import decimal
+import enum
 import functools
 import re
 import unicodedata
@@ -169,16 +170,20 @@ def parts_of(text: str, forms: list[re.Pattern[str]]) -> dict[str, str]:
     return next((match.groupdict("") for match in (form.fullmatch(text) for form in forms) if match), {})
 
 
-def is_mark(cell: Cell | None) -> bool | None:
-    """Whether a cell of a table of crosses holds a cross; none where that cannot be said."""
+class Mark(enum.Enum):
+    """What a cell of a table of crosses holds."""
+
+    NONE, CROSS, UNCLEAR = range(3)
+
+
+def mark_of(cell: Cell | None) -> Mark:
     if cell is None:
-        return False
+        return Mark.NONE
     if cell.kind not in ("text", "number", "bool") or cell.struck or len(cell.text) > 20:
-        return None
-    if cell.kind == "bool":
-        return cell.text == "true"
-    word = bare(cell.shown).translate(DASHES).lower()
-    return True if word in YES else False if word in NO and (word or cell.kind == "text") else None
+        return Mark.UNCLEAR
+    word = cell.text if cell.kind == "bool" else bare(cell.shown).translate(DASHES).lower()
+    is_none = word in NO and (word or cell.kind == "text")
+    return Mark.CROSS if word in YES else Mark.NONE if is_none else Mark.UNCLEAR
 
 
 # -- numbers of candidates, codes and names
@@ -321,11 +326,7 @@ def slashed(first: int, second: int, year: str, way: Way) -> Value:
 def read_time(column: str, cell: Cell, text: str, way: Way) -> Value:
     """The time of a cell, with the day that stands there too. A number is none, whatever part of a day it is."""
     if cell.kind == "number":
-        minutes = decimal.Decimal(text) * 1440
-        if 0 < minutes < 1440 and abs(minutes - round(minutes)) < decimal.Decimal("1e-6"):
-            clock = clock_text(round(minutes) * decimal.Decimal(60))[:5]
-            raise Wrong(f"a number without the format of a time: if {clock} is meant, give the column the format time")
-        raise Wrong(mistakes.TIME_CURE)
+        raise Wrong("a number: type a time as 09:00, or give the column the format time")
     text = clock_text(decimal.Decimal(text)) if cell.kind == "time" else text
     said = parts_of(text, TIMES)
     if not said and SECONDS.search(text):
