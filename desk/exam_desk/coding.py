@@ -15,6 +15,7 @@ from exam_desk.trouble import NoCandidate, NoOffice, Trouble
 if TYPE_CHECKING:
     from exam_desk.workbook.reading import Reading
 
+SOME_CODE = b"AAAAAAAA"  # of the right form
 LETTERS, DIGITS, LENGTH = "BCDFGHJKMNPQRSTVWXYZ", "23456789", 10
 
 
@@ -36,10 +37,10 @@ def in_office(office: Office) -> dict[str, list[str]]:
 def read(text: bytes, path: str) -> list[list[str]]:
     """The rows of a file after the header. Raises `Trouble` where an import would not take them, were there a code in
     each empty last column."""
-    found = []
+    found, forms = [], files.FORMS["candidates"]
     for row in files.below_header(text, path, files.HEADERS["candidates"]):
-        column = files.bad_column("candidates", row)
-        if not row.closed or column in (0, 1, 2) or (column == 3 and row.fields[2]):
+        coded = [*row.fields[:2], *(code or SOME_CODE for code in row.fields[2:])]
+        if not row.closed or len(coded) != len(forms) or not all(right(value) for right, value in zip(forms, coded)):
             raise Trouble(f"line {row.line} is wrong; `office check-files` says how", path)
         found.append([value.decode() for value in row.fields])
     return found

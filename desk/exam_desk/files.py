@@ -220,16 +220,6 @@ def is_header(kind: str, record: Record | None) -> bool:
     return record is not None and record.fields == tuple(map(str.encode, HEADERS[kind]))
 
 
-def bad_column(kind: str, record: Record) -> int | None:
-    """The first bad column of a record, from 1; 0 for a wrong count of fields, None where all is right."""
-    if len(record.fields) != len(HEADERS[kind]):
-        return 0
-    for place, (field, right) in enumerate(zip(record.fields, FORMS[kind]), 1):
-        if not right(field):
-            return place
-    return None
-
-
 def needed_columns(kind: str) -> set[str]:
     """The columns without which no row of a kind can be read: its key, and what refers to other kinds."""
     header = HEADERS[kind]

@@ -9,7 +9,7 @@ from collections.abc import Callable, Iterator, Sequence
 from functools import partial
 from typing import NamedTuple
 
-from exam_desk import files, states, words
+from exam_desk import files, lists, states, words
 
 MOST_COUNTED = 100_000  # mistakes of a file; what is behind the last of them is not looked at
 MOST_TO_MEND = 200  # bytes of a value for which a better one is sought
@@ -163,8 +163,8 @@ def cure(column: str, field: bytes) -> Cure:
 
 def no_codes(count: int) -> str:
     """What is said once of all candidates without an access code."""
-    who = f"{count:,} candidate{' has' if count == 1 else 's have'}"
-    return f"{who} no access code; `office take .. --codes` makes them"
+    verb = "has" if count == 1 else "have"
+    return f"{lists.count(count, 'candidate')} {verb} no access code; `office take .. --codes` makes them"
 
 
 def with_zeros(field: bytes) -> bytes:
@@ -365,5 +365,6 @@ def fault_of(record: files.Record, wanted: int) -> str:
     if not any(record.fields):
         cure = EMPTY_ROW
     if count != wanted:
-        return f"{count} fields in place of {wanted}; {cure if record.closed else 'a quote is not closed'}"
+        why = cure if record.closed else "a quote is not closed"
+        return f"{lists.count(count, 'field')} in place of {wanted}; {why}"
     return "" if any(record.fields) else EMPTY_ROW

@@ -203,7 +203,7 @@ class Words(unittest.TestCase):
             "semicolons part the columns: save it with commas",
             "the column code is missing: add it (leave it empty; `office take .. --codes` makes the codes)",
             "leading zeros lost? 0001000 (seven digits; format the column as text)", "1 to 80 bytes; it has 0",
-            "1 fields in place of 3; values are missing"], []))
+            "1 field in place of 3; values are missing"], []))
         self.assertEqual(self.mistakes_in("candidates", b" Number,,name,code\n1000,,Ada,CODE0001\n"), ([
             "columns without a name: delete them",
             "leading zeros lost? 0001000 (seven digits; format the column as text)"], []))

@@ -12,7 +12,7 @@ import xml.parsers.expat
 import zipfile
 from collections.abc import Iterable, Iterator, Sequence
 from dataclasses import dataclass, field
-from typing import IO, NamedTuple
+from typing import NamedTuple
 from xml.etree.ElementTree import Element, iterparse
 
 from exam_desk.trouble import Trouble
@@ -29,6 +29,7 @@ PIECE = 1 << 16  # bytes that are looked at together
 CELL = "http://schemas.openxmlformats.org/spreadsheetml/2006/main c"
 OPEN_AND_SAVE = "open it in a spreadsheet and save it again"
 PASSWORD = "it has a password: save it without one"
+NO_WORKBOOK = "it is no workbook, whatever its name: open it in a spreadsheet and save it as .xlsx or .ods"
 
 
 class Cell(NamedTuple):
@@ -154,15 +155,6 @@ class Parts:
 
     def look(self, name: str) -> str:
         """Looks through a part, and gives the name of its first element, behind its namespace."""
-        try:
-            with self.archive.open(name) as stream:
-                return self.parse(stream)
-        except (zipfile.BadZipFile, OSError, EOFError, NotImplementedError) as fault:
-            raise Trouble(f"its part {name} is broken: {fault}") from fault
-        except (xml.parsers.expat.ExpatError, ValueError, LookupError, ArithmeticError) as fault:
-            raise Trouble(f"a part of it is broken ({fault}): {OPEN_AND_SAVE}") from fault
-
-    def parse(self, stream: IO[bytes]) -> str:
         parser = xml.parsers.expat.ParserCreate(namespace_separator=" ")
         depth = tags = cells = before = quiet = 0
         root = ""
@@ -181,15 +173,16 @@ class Parts:
             depth -= 1
         parser.StartDoctypeDeclHandler = refuse_type
         parser.StartElementHandler, parser.EndElementHandler = start, stop
-        while piece := stream.read(PIECE):
-            parser.Parse(piece)
-            quiet, before = quiet + len(piece) if tags == before else 0, tags
-            if quiet > MOST_QUIET:
-                raise Trouble("a piece of its XML has no end: it is no workbook of a school")
-            if cells > MOST_CELLS:
-                Budget().keep("", cells)
-            if tags > self.tags:
-                raise Trouble(f"it has more than {MOST_TAGS:,} elements: it is no workbook of a school")
+        with self.archive.open(name) as stream:
+            while piece := stream.read(PIECE):
+                parser.Parse(piece)
+                quiet, before = quiet + len(piece) if tags == before else 0, tags
+                if quiet > MOST_QUIET:
+                    raise Trouble("a piece of its XML has no end: it is no workbook of a school")
+                if cells > MOST_CELLS:
+                    Budget().keep("", cells)
+                if tags > self.tags:
+                    raise Trouble(f"it has more than {MOST_TAGS:,} elements: it is no workbook of a school")
         parser.Parse(b"", True)
         self.tags -= tags
         return root

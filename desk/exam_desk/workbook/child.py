@@ -8,6 +8,8 @@ import pathlib
 import resource
 import sys
 import zipfile
+import zlib
+from xml.parsers.expat import ExpatError
 
 MOST_MEMORY = 1 << 30  # bytes
 MOST_SECONDS = 60  # of the processor
@@ -25,7 +27,7 @@ def limit(most_written: int) -> None:
 
 def read(data: bytes) -> bytes:
     from exam_desk.trouble import Trouble
-    from exam_desk.workbook.cells import PASSWORD, packed
+    from exam_desk.workbook.cells import OPEN_AND_SAVE, PASSWORD, packed
     try:
         with zipfile.ZipFile(io.BytesIO(data)) as archive:
             names = archive.namelist()
@@ -35,17 +37,15 @@ def read(data: bytes) -> bytes:
                 from exam_desk.workbook.ods import read_ods as reader
             elif "xl/workbook.bin" in names:
                 raise Trouble("it is of the form .xlsb: save it as .xlsx")
-            elif "[Content_Types].xml" not in names or "_rels/.rels" not in names:
-                raise Trouble("it is no workbook: save it as .xlsx or .ods")
             else:
                 from exam_desk.workbook.xlsx import read_xlsx as reader
             return "\n".join(packed(reader(archive))).encode()
-    except (zipfile.BadZipFile, ValueError, NotImplementedError, EOFError) as fault:
+    except (zipfile.BadZipFile, zlib.error, OSError, EOFError, NotImplementedError) as fault:
         why = f"it is broken or cut short: {fault}"
+    except (ExpatError, ValueError, LookupError, ArithmeticError) as fault:
+        why = f"a part of it is broken ({type(fault).__name__}: {fault}): {OPEN_AND_SAVE}"
     except Trouble as trouble:
         why = trouble.sentence
-    except ModuleNotFoundError:
-        why = MISSING
     except MemoryError:
         why = f"it asks for more than {MOST_MEMORY >> 30} GB: it is no school's workbook"
     return json.dumps({"refused": why}).encode()

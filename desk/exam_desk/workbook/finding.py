@@ -1,8 +1,7 @@
 """Which sheet of a workbook is what."""
 from exam_desk import files
 from exam_desk.workbook.cells import Book, Sheet, place_name
-from exam_desk.workbook.headers import (HEADER_WORDS, WITHIN, find_header, folded, named_kind, possible_headers,
-                                        text_cells)
+from exam_desk.workbook.headers import WITHIN, find_header, folded, named_kind, possible_headers
 from exam_desk.workbook.rows import Table
 from exam_desk.workbook.tables import Job
 
@@ -21,8 +20,6 @@ def usable_sheets(job: Job, book: Book) -> list[Sheet]:
             job.report.note("is not read, as you said", sheet)
         elif sheet.rows:
             (hidden if sheet.hidden and wanted is None else usable).append(sheet)
-        elif not sheet.hidden and named_kind(sheet):
-            job.report.note("is empty", sheet)
     job.papers = named_papers(job, usable)
     tell_hidden(job, hidden, usable)
     return usable
@@ -143,13 +140,9 @@ def chosen(job: Job, kind: str, tables: list[Table]) -> list[Table]:
 def tell_no_header(job: Job, kind: str, sheet: Sheet) -> None:
     nearest = max(possible_headers(kind, sheet, job.of_kind(kind)), key=lambda header: len(header.columns))
     row, columns = min(sheet.rows), files.HEADERS[kind]
-    have = {folded(text) for text in text_cells(sheet.rows[row]).values()}
-    lacks_session = kind == "openings" and not HEADER_WORDS[kind, "session"] & have
-    if lacks_session and len(sheet.rows[row]) > 2:
-        cure = "a table of halls by sessions does not say until when, and who for: write a row for each opening, with "
-    elif len(nearest.columns) > 1:
+    if len(nearest.columns) > 1:
         row, columns = nearest.row, [name for name in columns if name not in nearest.columns]
         cure = f"this header of {kind} lacks "
     else:
-        cure = f"no row of the first {WITHIN} is a header of {kind}; it needs "
-    job.report.mistake(cure + f"the columns {', '.join(columns)}", sheet, row)
+        cure = f"no row of the first {WITHIN} is a header of {kind}; it needs the columns "
+    job.report.mistake(cure + ", ".join(columns), sheet, row)

@@ -12,9 +12,18 @@ MOST_NUMBER = 10 ** 15  # a spreadsheet keeps fifteen digits
 LONG_NUMBER = 10 ** 11  # from here on the format General shows a power of ten
 WINDOWS, MACINTOSH = datetime.datetime(1899, 12, 30), datetime.datetime(1904, 1, 1)  # the day 0
 MACHINE_DATE = "m/d/yy?"  # the date that each machine shows in its own way
-BUILT_IN = {  # formats by number, beside those that openpyxl knows
-            14: MACHINE_DATE, 22: MACHINE_DATE + " h:mm", 32: "h:mm", 33: "h:mm",
-            **{number: MACHINE_DATE for number in (*range(27, 32), *range(34, 37), *range(50, 59))}}
+GENERAL = "General"
+BUILT_IN = {  # formats by number
+    **dict(enumerate([GENERAL, "0", "0.00", "#,##0", "#,##0.00"])), **dict.fromkeys((5, 6), '"$"#,##0_);("$"#,##0)'),
+    **dict.fromkeys((7, 8), '"$"#,##0.00_);("$"#,##0.00)'), 9: "0%", 10: "0.00%", 11: "0.00E+00", 12: "# ?/?",
+    13: "# ??/??", 14: MACHINE_DATE, 15: "d-mmm-yy", 16: "d-mmm", 17: "mmm-yy", 18: "h:mm AM/PM",
+    19: "h:mm:ss AM/PM", 20: "h:mm", 21: "h:mm:ss", 22: MACHINE_DATE + " h:mm", 32: "h:mm", 33: "h:mm",
+    **dict.fromkeys((*range(27, 32), *range(34, 37), *range(50, 59)), MACHINE_DATE),
+    **dict.fromkeys((37, 38), "#,##0_);(#,##0)"), **dict.fromkeys((39, 40), "#,##0.00_);(#,##0.00)"),
+    41: r'_(* #,##0_);_(* \(#,##0\);_(* "-"_);_(@_)', 42: r'_("$"* #,##0_);_("$"* \(#,##0\);_("$"* "-"_);_(@_)',
+    43: r'_(* #,##0.00_);_(* \(#,##0.00\);_(* "-"??_);_(@_)',
+    44: r'_("$"* #,##0.00_);_("$"* \(#,##0.00\);_("$"* "-"??_);_(@_)',
+    45: "mm:ss", 46: "[h]:mm:ss", 47: "mmss.0", 48: "##0.0E+0", 49: "@"}
 PAINTED = {  # the words of a format of dates, in python's; n is a minute
     "yyyy": "%Y", "yy": "%y", "mmmm": "%B", "mmm": "%b", "mm": "%m", "m": "%-m", "dddd": "%A", "ddd": "%a", "dd": "%d",
     "d": "%-d", "hh": "%H", "h": "%-H", "nn": "%M", "n": "%-M", "ss": "%S", "s": "%-S", "am/pm": "%p", ".": ".",
@@ -25,6 +34,10 @@ LOCALE = re.compile(r"\[\$[^\]-]*-([0-9A-F]+)\]", re.I)  # a language in the las
 GREGORIAN = (0, 1, 2)  # calendars, in the eight bits between
 OTHER_DIGITS = 2 << 24  # the first number of a language and its digits where these are of another script
 DIGITS = re.compile(r"(?P<group>#,)?#*(?P<zeros>0*)(?:\.(?P<places>0+))?")
+
+
+class Unknown(Exception):
+    """How a cell is shown under its number format is not known here."""
 
 
 @functools.lru_cache(1 << 16)
@@ -41,9 +54,12 @@ def number_cell(raw: str, form: str, epoch: datetime.datetime = WINDOWS) -> Cell
     marks = format_marks(form)
     if marks & {"date", "time"}:
         return moment_cell(number, plain, form, marks, epoch)
-    shown = shown_number(form, tidy * 100 if "percent" in marks else tidy)
-    if shown is None:
-        return Cell("unseen", plain, "") if tidy else None
+    try:
+        shown = shown_number(form, tidy * 100 if "percent" in marks else tidy)
+        if not shown:
+            return Cell("unseen", plain, "") if tidy else None
+    except Unknown:
+        shown = ""
     if "percent" in marks:
         times = format((tidy * 100).normalize(), "f") if tidy else "0"
         return Cell("percent", times, shown or f"{times}%")
@@ -105,40 +121,42 @@ def format_marks(form: str) -> frozenset[str]:
     return frozenset(mark for mark, has in marks.items() if has)
 
 
-def shown_number(form: str, number: decimal.Decimal) -> str | None:
-    """How a number is shown: '' where that is not known, none where nothing is shown."""
+def shown_number(form: str, number: decimal.Decimal) -> str:
+    """How a number is shown, '' where nothing is; raises `Unknown`."""
     parts = sections(form)
     if locale_of(form) >= OTHER_DIGITS or any(re.match(r"\[[<>=]", token) for part in parts for token in part):
-        return ""
-    numeric = parts[:3] if len(parts) > 1 or "@" not in parts[0] else [["General"]]
+        raise Unknown(form)
+    numeric = parts[:3] if len(parts) > 1 or "@" not in parts[0] else [[GENERAL]]
     place = 0 if number > 0 else 1 if number < 0 else 2
     section = numeric[place] if place < len(numeric) else numeric[0]
     if not "".join(section).strip() and len(parts) > 1:
-        return None
-    pieces = [shown_token(token, abs(number)) for token in section or ["General"]]
-    if None in pieces or sum(token.lower() == "general" or token[0] in "0#?" for token in section) > 1:
         return ""
-    return ("-" if number < 0 and place >= len(numeric) else "") + "".join(map(str, pieces)).strip()
+    pieces = [shown_token(token, abs(number)) for token in section or [GENERAL]]
+    if sum(token.lower() == "general" or token[0] in "0#?" for token in section) > 1:
+        raise Unknown(form)
+    return ("-" if number < 0 and place >= len(numeric) else "") + "".join(pieces).strip()
 
 
-def literal(token: str) -> str | None:
-    """The letters that a piece of a number format shows as they are; none of a piece that means something."""
-    if len(token) > 1 and token[0] in '_*"\\':
-        return {"_": " ", "*": "", '"': token.strip('"'), "\\": token[1:]}[token[0]]
-    return token if token in " -+/():!^&'~{}<>=$€£%" else None
-
-
-def shown_token(token: str, number: decimal.Decimal) -> str | None:
-    """What a piece of a number format shows; none where that is not known."""
-    if token.lower() == "general":
-        return f"{float(number):.5E}" if number >= LONG_NUMBER else format(number, "f") if number else "0"
+def literal(token: str) -> str:
+    """The letters that a piece of a number format shows whatever the cell holds; raises `Unknown`."""
     if token[0] == "[":
         return token[2:-1].split("-")[0] if token.startswith("[$") else ""
+    if len(token) > 1 and token[0] in '_*"\\':
+        return {"_": " ", "*": "", '"': token.strip('"'), "\\": token[1:]}[token[0]]
+    if token not in " -+/():!^&'~{}<>=$€£%":
+        raise Unknown(token)
+    return token
+
+
+def shown_token(token: str, number: decimal.Decimal) -> str:
+    """What a piece of a number format shows; raises `Unknown`."""
+    if token.lower() == "general":
+        return f"{float(number):.5E}" if number >= LONG_NUMBER else format(number, "f") if number else "0"
     if token[0] not in "0#":
         return literal(token)
     match = DIGITS.fullmatch(token.replace("#,##", "#,"))
     if not match:
-        return None
+        raise Unknown(token)
     places = len(match["places"] or "")
     rounded = number.quantize(decimal.Decimal(1).scaleb(-places), decimal.ROUND_HALF_UP)
     whole, _, rest = format(rounded, "f").partition(".")
@@ -146,14 +164,17 @@ def shown_token(token: str, number: decimal.Decimal) -> str | None:
     return (f"{int(whole or 0):,}" if match["group"] else whole) + (f".{rest}" if rest else "")
 
 
-def shown_text(form: str, text: str) -> str | None:
-    """How a text is shown under a number format: none where nothing is shown."""
-    if form in ("General", "@"):
-        return text
+def text_cell(text: str, form: str) -> Cell:
+    """The cell of a text under a number format, which may show nothing of it."""
+    if form in (GENERAL, "@"):
+        return Cell("text", text, text)
     parts = sections(form)
     section = parts[3] if len(parts) > 3 else next((part for part in parts if "@" in part), ["@"])
-    pieces = [text if token == "@" else literal(token) or "" for token in section]
-    return "".join(pieces) if pieces else None
+    try:
+        shown = "".join(text if token == "@" else literal(token) for token in section)
+    except Unknown:
+        return Cell("text", text, "")
+    return Cell("text" if shown else "unseen", text, shown)
 
 
 def locale_of(form: str) -> int:
@@ -174,5 +195,7 @@ def painted(form: str, when: datetime.datetime) -> str:
     for near in ("h[^hsdy]*", "[^hsdy]*s"):  # behind hours and before seconds a month is a minute
         letters = re.sub(near, lambda match: match[0].replace("m", "n"), letters)
     words = [word.replace("m", letter) if word in ("m", "mm") else word for word, letter in zip(words, letters)]
-    shown = ["" if word[0] == "[" else when.strftime(known[word]) if word in known else literal(word) for word in words]
-    return "" if None in shown else "".join(map(str, shown)).strip()
+    try:
+        return "".join(when.strftime(known[word]) if word in known else literal(word) for word in words).strip()
+    except Unknown:
+        return ""

@@ -6,8 +6,8 @@ from collections.abc import Iterator
 from xml.etree.ElementTree import Element
 
 from exam_desk.trouble import Trouble
-from exam_desk.workbook.cells import (MOST_COLUMN, MOST_ROW, MOST_SHEETS, OPEN_AND_SAVE, PASSWORD, Book, Budget, Cell,
-                                      Parts, Sheet, local, whole_day)
+from exam_desk.workbook.cells import (MOST_COLUMN, MOST_ROW, MOST_SHEETS, PASSWORD, Book, Budget, Cell, Parts,
+                                      Sheet, local, whole_day)
 from exam_desk.workbook.numberformats import number_cell, whole_seconds
 
 ASIDE = ("tracked-changes", "shapes", "dde-links", "forms")  # what stands among sheets and rows, and has no cells
@@ -21,7 +21,7 @@ Style = tuple[str, str | None]  # a family and a name, none of what all of the f
 
 
 def read_ods(archive: zipfile.ZipFile) -> Book:
-    """The workbook of a zip; raises `Trouble` where it cannot be read whole."""
+    """The workbook of a zip; raises `Trouble` or what `child` catches where it cannot be read whole."""
     parts = Parts(archive)
     names = [name for name in ("META-INF/manifest.xml", "styles.xml", "content.xml") if name in parts.names]
     for name in names:
@@ -29,12 +29,9 @@ def read_ods(archive: zipfile.ZipFile) -> Book:
         if any(local(element) == "encryption-data" for _, element in parts.elements(name, "start")):
             raise Trouble(PASSWORD)
     reader = OdsReader()
-    try:
-        for name in names[-2:]:
-            for event, element in parts.elements(name, "start", "end"):
-                reader.take(event == "start", local(element), element)
-    except (ValueError, LookupError, ArithmeticError) as fault:
-        raise Trouble(f"a part of it is broken ({fault}): {OPEN_AND_SAVE}") from fault
+    for name in names[-2:]:
+        for event, element in parts.elements(name, "start", "end"):
+            reader.take(event == "start", local(element), element)
     if not reader.spreadsheet:
         raise Trouble("it is a document of another kind: save the table as .xlsx or .ods")
     return Book("ods", reader.sheets, parts.notes(r"(Basic|Scripts)/"))

@@ -12,13 +12,13 @@ from collections import Counter
 from exam_desk import files
 from exam_desk.trouble import Trouble
 from exam_desk.workbook.child import MISSING
-from exam_desk.workbook.cells import MOST_FILE, OPEN_AND_SAVE, PASSWORD, Book, Budget, Cell, Sheet, unpacked
+from exam_desk.workbook.cells import (MOST_FILE, NO_WORKBOOK, OPEN_AND_SAVE, PASSWORD, Book, Budget, Cell, Sheet,
+                                      unpacked)
 
 CHILD = pathlib.Path(__file__).resolve().parent / "child.py"
 PYTHON = "/usr/bin/python3"  # the one for which Debian installs its libraries
 MOST_SECONDS = 600  # of the clock, for the process that reads; of the processor it has fewer
 OLD = b"\xd0\xcf\x11\xe0\xa1\xb1\x1a\xe1"  # of Microsoft's compound files
-NO_WORKBOOK = "it is no workbook, whatever its name: open it in a spreadsheet and save it as .xlsx or .ods"
 OLD_FORM = "it is of the old form .xls: open it in a spreadsheet and save it as .xlsx or .ods"
 NO_UTF_8 = "its letters are no UTF-8: save it as CSV UTF-8, or say --encoding cp1252 if a Windows program of Western " \
     "Europe wrote it"

@@ -1,4 +1,5 @@
 """The rows of a table: which of them count, and what their cells say."""
+import enum
 import functools
 from collections.abc import Iterator, Mapping
 from typing import NamedTuple
@@ -8,7 +9,8 @@ from exam_desk.trouble import Trouble
 from exam_desk.workbook.cells import MOST_MERGED, Cell, Sheet, letters_of, place_name
 from exam_desk.workbook.headers import HEADER_WORDS, MARKED, Given, folded, match_header, seen, text_cells
 from exam_desk.workbook.tables import Headed, Progress
-from exam_desk.workbook.values import AS_TEXT, MAY_BE_EMPTY, NO_DAY, STRUCK, UNREAD, Wrong, bare, is_mark, shown_of
+from exam_desk.workbook.values import (AS_TEXT, MAY_BE_EMPTY, NO_DAY, STRUCK, UNREAD, Mark, Wrong, bare, mark_of,
+                                       shown_of)
 from exam_desk.words import FEATURES
 
 TOTALS = {"total", "totals", "sum", "summe", "gesamt", "count", "anzahl", "grand total", "subtotal"}
@@ -161,13 +163,13 @@ class Table(Headed):
     def is_total(self, row: int, here: Row, is_last: bool) -> bool:
         """Whether a row is a total below the table: it is left out, and a line says so."""
         cells, columns = self.sheet.rows[row].values(), self.header.columns
-        if not any(cell.formula or totals(cell) is not None for cell in cells):
+        if not any(cell.formula or total_of(cell) for cell in cells):
             return False
         header = files.HEADERS[self.kind]
         keys = [here.get(columns[name][0]) for name in header[:files.KEYS.get(self.kind, 1)] if name in columns]
-        word = any(map(totals, cells))
+        word = Total.SAID in map(total_of, cells)
         computed = any(cell and cell.formula for cell in here.values())
-        key_is_word = any(totals(cell) is not None for cell in keys)
+        key_is_word = any(map(total_of, keys))
         if not (key_is_word or word and not all(keys) or computed and not any(keys)):
             return False
         needed = [name for name in header if name not in MAY_BE_EMPTY]
@@ -200,12 +202,12 @@ class Table(Headed):
         return [Record(self.sheet, row, places, fields)]
 
     def read_marks(self, row: int, here: Row) -> list[int]:
-        marks = {place: is_mark(here[place]) for place in self.marks}
-        for place in [place for place, mark in marks.items() if mark is None]:
+        marks = {place: mark_of(here[place]) for place in self.marks}
+        for place in [place for place, mark in marks.items() if mark is Mark.UNCLEAR]:
             cell = here[place]
             why = cell and (STRUCK if cell.struck else UNREAD.get(cell.kind)) or "is neither a cross nor empty"
             self.mistake(row, place, f"below {self.marks[place]} {shown_of(cell)!r}: {why}", "cross")
-        return [place for place, mark in marks.items() if mark]
+        return [place for place, mark in marks.items() if mark is Mark.CROSS]
 
     def read_field(self, row: int, name: str, here: Row) -> Field:
         """The field of a row, which may be joined of several cells."""
@@ -236,8 +238,8 @@ class Table(Headed):
                 f"{name} {files.shown(shown_of(cell).encode('utf-8', 'replace'))}: {fault}"
             self.mistake(row, place, what, f"{name} {fault}")
             return (cell.text if cell else ""), True
-        if value.why and not (cell is not None and value.text == cell.shown):
-            why = f" ({value.why})" if value.why.strip() else ""
+        if value.text != (cell.shown if cell else ""):
+            why = f" ({value.why})" if value.why else ""
             group = name if name == "date" else name + value.why.split(",")[0]
             self.change(row, place, f"{name} {shown_of(cell)} became {value.text or '(empty)'}{why}", group)
         if value.note:
@@ -258,13 +260,19 @@ def is_example(here: Row) -> bool:
     return first is not None and first.kind == "text" and first.text.startswith(EXAMPLE)
 
 
+class Total(enum.IntEnum):
+    """Whether a cell says that its row is a total; perhaps where it begins with a word such as sum."""
+
+    NO, PERHAPS, SAID = range(3)
+
+
 @functools.lru_cache(1 << 16)
-def totals(cell: Cell | None) -> bool | None:
-    """Whether a cell says a total; none where it does not begin with a word such as sum."""
+def total_of(cell: Cell | None) -> Total:
     if cell is None or cell.kind != "text" or cell.text[:1].isdigit():
-        return None
+        return Total.NO
     word = bare(cell.text[:101]).lower().rstrip(":")
     first = word.split(" ")[0].rstrip(":")
     if word not in TOTALS and first not in TOTALS:
-        return None
-    return len(cell.text) <= 100 and (word in TOTALS or first in ("total", "totals", "summe"))
+        return Total.NO
+    is_said = len(cell.text) <= 100 and (word in TOTALS or first in ("total", "totals", "summe"))
+    return Total.SAID if is_said else Total.PERHAPS

@@ -5,14 +5,14 @@ import re
 from collections import defaultdict
 from collections.abc import Callable, Iterable, Mapping
 from dataclasses import dataclass, field
-from functools import partialmethod
+from functools import partial, partialmethod
 from typing import NamedTuple
 
 from exam_desk import files, mistakes
 from exam_desk.workbook.cells import Cell, Sheet, letters_of, place_name
 from exam_desk.workbook.headers import (HEADER_WORDS, MARKED, OF_PEOPLE, Given, Header, folded, is_called_list, seen,
                                         text_cells)
-from exam_desk.workbook.values import SHORT_FEATURES, UNREAD, Value, Way, Wrong, is_mark, read_value, shown_of
+from exam_desk.workbook.values import NEAR, SHORT_FEATURES, UNREAD, Mark, Value, Way, Wrong, mark_of, read_value, shown_of
 
 WORDS = {"change": "", "note": "NOTE: ", "mistake": "MISTAKE: "}  # in the order in which they are printed
 MOST_PLACES = 5  # of lines that stand together
@@ -102,7 +102,7 @@ class Job:
     days: dict[str, str] = field(default_factory=dict)  # of the sessions that are imported with it
 
     def __post_init__(self) -> None:
-        read = functools.partial(read_value, way=self.way)
+        read = partial(read_value, way=self.way)
         self.value: Callable[[str, Cell | None], Value] = functools.lru_cache(MOST_VALUES)(read)
 
     def of_kind(self, kind: str) -> Given:
@@ -172,8 +172,8 @@ class Headed:
     def first_crosses(self) -> dict[int, int]:
         """Of each column with crosses below the header the first row with one. Numbers count as crosses where a column
         has nothing else than 1 and 0."""
-        others = self.first_places(lambda cell: is_mark(cell) is None)
-        return {place: row for place, row in self.first_places(is_mark).items()
+        others = self.first_places(lambda cell: mark_of(cell) is Mark.UNCLEAR)
+        return {place: row for place, row in self.first_places(lambda cell: mark_of(cell) is Mark.CROSS).items()
                 if place not in others or self.sheet.rows[row][place].kind != "number"}
 
     # -- lines on the header
@@ -253,6 +253,12 @@ class Headed:
             return f"the {'paper' if self.kind == 'entries' else 'feature'} {name} has two columns" if is_second else ""
         if self.kind in MARKED and place in self.crossed and place in crosses and self.marked in self.header.columns:
             return f"{self.crossed[place]} has crosses beside the column {self.marked}: keep one of the two"
+        if self.kind in MARKED and place in crosses and folded(said) in NEAR:
+            return f"{said!r} has crosses and is no feature: call it {NEAR[folded(said)]} if that is meant, or delete " \
+                "the column"
+        if self.kind == "entries" and (row := self.first_places(partial(says_gone, said)).get(place)):
+            where = place_name(self.sheet, row, place)
+            return f"{where} seems to say that an entry is withdrawn: delete each such row, then the column"
         if self.kind == "entries" and place in crosses and folded(said) not in OF_PEOPLE:
             what = f"{said!r} is no paper that is known" if cell else "the column has no header"
             where = place_name(self.sheet, crosses[place], place)
@@ -265,3 +271,10 @@ class Headed:
             return f"what stands below {shown_of(cell)} is not read here: put papers on a sheet Entries, and needs " \
                 "on a sheet Arrangements, with the numbers"
         return ""
+
+
+def says_gone(header: str, cell: Cell) -> bool:
+    """Whether a cell below a header says that an entry does not count."""
+    if is_called_list(header):
+        return mark_of(cell) is not Mark.NONE
+    return cell.kind == "text" and is_called_list(cell.text)

@@ -1,6 +1,7 @@
 """What a cell says as a value of the office: `read_value` has a rule for each column of the import files."""
 import datetime
 import decimal
+import enum
 import functools
 import re
 import unicodedata
@@ -30,7 +31,7 @@ NO = {"no", "n", "false", "0", "-", "nein", "falsch", "non", "faux", ""}
 NONE = {"", "-", "none", "no", "keine"}
 SHORT_FEATURES = {name.replace("-", ""): name for name in FEATURES}
 NEAR = {"wheelchair": "step-free", "accessible": "step-free", "pc": "computer", "laptop": "computer",
-        "separateroom": "small-room"}
+        "separateroom": "small-room", "computers": "computer", "laptops": "computer", "wheelchairs": "step-free"}
 MONTHS = {name: place for place, names in enumerate(
     ["jan january januar", "feb february februar", "mar march mär märz", "apr april", "may mai", "jun june juni",
      "jul july juli", "aug august", "sep sept september", "oct october okt oktober", "nov november",
@@ -97,7 +98,7 @@ class Value(NamedTuple):
     """The value of a cell, as the import files have it."""
 
     text: str
-    why: str = ""  # what was done, where the value is another text than the cell shows
+    why: str = ""  # what was done
     note: str = ""  # what only the officer's eye can judge
     day: str = ""  # of a time the day that stands in its cell too
 
@@ -122,8 +123,7 @@ def read_value(column: str, cell: Cell | None, way: Way) -> Value:
     is_none = column == "code" and not value.text
     if not is_none and not mistakes.RIGHT[column](value.text.encode("utf-8", "surrogatepass")):
         raise Wrong(mistakes.needed(column, value.text.encode("utf-8", "replace")) if cell else "is missing")
-    is_as_shown = value.text == ((cell.shown or None) if cell else "")
-    return value._replace(why=reason(done, value.why) or " " * (not is_as_shown))
+    return value._replace(why=reason(done, value.why))
 
 
 def refuse_other_digits(cell: Cell) -> None:
@@ -170,16 +170,20 @@ def parts_of(text: str, forms: list[re.Pattern[str]]) -> dict[str, str]:
     return next((match.groupdict("") for match in (form.fullmatch(text) for form in forms) if match), {})
 
 
-def is_mark(cell: Cell | None) -> bool | None:
-    """Whether a cell of a table of crosses holds a cross; none where that cannot be said."""
+class Mark(enum.Enum):
+    """What a cell of a table of crosses holds."""
+
+    NONE, CROSS, UNCLEAR = range(3)
+
+
+def mark_of(cell: Cell | None) -> Mark:
     if cell is None:
-        return False
+        return Mark.NONE
     if cell.kind not in ("text", "number", "bool") or cell.struck or len(cell.text) > 20:
-        return None
-    if cell.kind == "bool":
-        return cell.text == "true"
-    word = bare(cell.shown).translate(DASHES).lower()
-    return True if word in YES else False if word in NO and (word or cell.kind == "text") else None
+        return Mark.UNCLEAR
+    word = cell.text if cell.kind == "bool" else bare(cell.shown).translate(DASHES).lower()
+    is_none = word in NO and (word or cell.kind == "text")
+    return Mark.CROSS if word in YES else Mark.NONE if is_none else Mark.UNCLEAR
 
 
 # -- numbers of candidates, codes and names
@@ -274,7 +278,7 @@ def read_date(column: str, cell: Cell, text: str, way: Way) -> Value:
         raise Wrong(f"a number without the format of a date: if {day} is meant, give the column the format date")
     refuse_other_digits(cell)
     said = parts_of(text, DATES)
-    if not said or cell.shown == text and "time" in said and len(text) == 10:
+    if not said:
         return Value(text)
     if "short" in said:
         raise Wrong("the year has two digits: write a date as 2027-06-07")
@@ -322,11 +326,7 @@ def slashed(first: int, second: int, year: str, way: Way) -> Value:
 def read_time(column: str, cell: Cell, text: str, way: Way) -> Value:
     """The time of a cell, with the day that stands there too. A number is none, whatever part of a day it is."""
     if cell.kind == "number":
-        minutes = decimal.Decimal(text) * 1440
-        if 0 < minutes < 1440 and abs(minutes - round(minutes)) < decimal.Decimal("1e-6"):
-            clock = clock_text(round(minutes) * decimal.Decimal(60))[:5]
-            raise Wrong(f"a number without the format of a time: if {clock} is meant, give the column the format time")
-        raise Wrong(mistakes.TIME_CURE)
+        raise Wrong("a number: type a time as 09:00, or give the column the format time")
     text = clock_text(decimal.Decimal(text)) if cell.kind == "time" else text
     said = parts_of(text, TIMES)
     if not said and SECONDS.search(text):

@@ -1,54 +1,37 @@
-"""Reads .xlsx and .xlsm: the package and its styles by openpyxl, the sheets row by row, after a look at each part. No
-formula and no macro is run, no link followed."""
+"""Reads .xlsx and .xlsm: the sheets row by row, after a look at each part. No formula and no macro is run, no link to
+another file followed."""
+import functools
+import posixpath
 import re
-import warnings
 import zipfile
 from collections.abc import Iterator
-from typing import Any
-from xml.etree.ElementTree import Element
-
-from openpyxl.cell import Cell as StyledCell
-from openpyxl.packaging import relationship
-from openpyxl.reader.excel import ExcelReader
-from openpyxl.styles import stylesheet
-from openpyxl.styles.numbers import BUILTIN_FORMATS
-from openpyxl.utils import cell as places
-from openpyxl.utils import datetime as days
-from openpyxl.worksheet.cell_range import CellRange
-from openpyxl.xml.constants import COMMENTS_NS, SHEET_MAIN_NS
+from xml.etree.ElementTree import Element, parse
 
 from exam_desk.trouble import Trouble
-from exam_desk.workbook.cells import (MOST_COLUMN, MOST_ROW, MOST_SHEETS, OPEN_AND_SAVE, Book, Budget, Cell, Parts,
-                                      Sheet, local, place_name, whole_day)
-from exam_desk.workbook.numberformats import BUILT_IN, MACINTOSH, WINDOWS, number_cell, shown_text
+from exam_desk.workbook.cells import (MOST_COLUMN, MOST_ROW, MOST_SHEETS, NO_WORKBOOK, OPEN_AND_SAVE, Book, Budget,
+                                      Cell, Parts, Sheet, local, place_name, whole_day)
+from exam_desk.workbook.numberformats import BUILT_IN, GENERAL, MACINTOSH, WINDOWS, number_cell, text_cell
 
 STRICT = "http://purl.oclc.org/ooxml/"  # begins the names of the elements of another form
-STYLES = "xl/styles.xml"  # the only place where openpyxl looks for them
-MAIN = f"{{{SHEET_MAIN_NS}}}"  # before the names of the elements of a sheet
+SPACE = "http://schemas.openxmlformats.org/spreadsheetml/2006/main"
+MAIN = f"{{{SPACE}}}"  # before the names of the elements of a sheet
+LINK = "{http://schemas.openxmlformats.org/officeDocument/2006/relationships}id"
 TAGS = {MAIN + name: name for name in ("row", "col", "mergeCell", "sheetFormatPr")}
 CELL, VALUE, FORMULA, INLINE = MAIN + "c", MAIN + "v", MAIN + "f", MAIN + "is"
 TEXTS = ("s", "str", "inlineStr")  # shared, the result of a formula, in the cell
-relations: Any = relationship  # openpyxl is typed in part, and only where python3-typeshed is there
-styles_reader: Any = stylesheet
-moments: Any = days
+TRUE = ("1", "true")
 PENDING = Cell("pending", "", "", True)  # a formula that nobody has computed
 Letters = tuple[str, bool]  # a text in which nothing is left to be turned, and whether a part of it is struck out
+Look = tuple[str, bool]  # the number format of a style, and whether it strikes out
 
 
 def read_xlsx(archive: zipfile.ZipFile) -> Book:
-    """The workbook of a zip; raises `Trouble` where it cannot be read whole."""
-    warnings.simplefilter("ignore")  # on what is lost when openpyxl saves
-    BUILTIN_FORMATS.update(BUILT_IN)
+    """The workbook of a zip; raises `Trouble` or what `child` catches where it cannot be read whole."""
     parts = Parts(archive)
     roots = {name: parts.look(name) for name in sorted(parts.names) if re.search(r"\.(xml|rels)$", name, re.I)}
     if any(root.startswith(STRICT) for root in roots.values()):
         raise Trouble("it is in the form Strict Open XML: save it as an Excel workbook (.xlsx)")
-    try:
-        return Reader(parts, roots).book()
-    except (Trouble, MemoryError):
-        raise
-    except Exception as fault:  # openpyxl raises whatever its code comes upon
-        raise Trouble(f"a part of it is broken ({type(fault).__name__}: {fault}): {OPEN_AND_SAVE}") from fault
+    return Reader(parts, roots).book()
 
 
 def unescaped(text: str) -> str:
@@ -56,64 +39,87 @@ def unescaped(text: str) -> str:
     return re.sub("_x([0-9A-Fa-f]{4})_", lambda match: chr(int(match[1], 16)), text) if "_x" in text else text
 
 
-def letters_of(element: Element | tuple[()]) -> Letters:
+def letters_of(element: Element) -> Letters:
     """The letters of an element <si> or <is>, without the <rPh> that say how it is spoken."""
     said = [part for child in element if local(child) != "rPh" for part in child.iter()]
-    text = unescaped("".join(part.text or "" for part in said if local(part) == "t"))
-    return text, any(local(part) == "strike" and part.get("val", "1") not in ("0", "false") for part in said)
+    return unescaped("".join(part.text or "" for part in said if local(part) == "t")), is_struck(element)
+
+
+def is_struck(element: Element) -> bool:
+    return any(part.get("val", "1") in TRUE for part in element.iterfind(".//{*}strike"))
+
+
+@functools.cache
+def column_of(letters: str) -> int:
+    """A column by its letters: AB is 28."""
+    if not re.fullmatch("[A-Za-z]{1,3}", letters):
+        raise ValueError(f"{letters[:40]!r} is no column")
+    return functools.reduce(lambda column, letter: 26 * column + ord(letter) - 64, letters.upper(), 0)
+
+
+def place_of(reference: str) -> tuple[int, int]:
+    """The row and the column of a place such as B7."""
+    letters = reference.rstrip("0123456789")
+    return int(reference[len(letters):]), column_of(letters)
 
 
 class Reader:
     """Reads the sheets of one workbook, whose parts have these first elements."""
 
     def __init__(self, parts: Parts, roots: dict[str, str]) -> None:
-        self.parts, self.archive, self.budget = parts, parts.archive, Budget()
-        self.roots = {name: root.rpartition(" ") for name, root in roots.items()}
-        if styles := [name for name in self.of_root("styleSheet") if name != STYLES]:
-            raise Trouble(f"its styles stand in an unusual part, {styles[0]}: {OPEN_AND_SAVE}")
-        self.reader = ExcelReader(self.archive.fp, keep_links=False)
-        self.reader.read_manifest()
-        self.reader.read_workbook()
-        self.epoch = MACINTOSH if self.reader.wb.epoch.year == 1904 else WINDOWS
-        styles_reader.apply_stylesheet(self.archive, self.reader.wb)
-        parent = self.reader.wb.create_sheet()
-        styled = (StyledCell(parent, style_array=style) for style in self.reader.wb._cell_styles)
-        self.styles = {number: (cell.number_format, bool(cell.font and cell.font.strike))
-                       for number, cell in enumerate(styled)}
-        if len(tables := self.of_root("sst")) > 1:
-            raise Trouble(f"it has two tables of texts, as no spreadsheet writes it: {OPEN_AND_SAVE}")
-        self.texts: dict[int, Letters] = {}
-        for number, element in enumerate(self.elements(tables, "si")):
-            self.texts[number] = letters_of(element)
-            self.budget.keep(self.texts[number][0])
+        self.parts, self.budget = parts, Budget()
+        self.roots = {name: root.removeprefix(f"{SPACE} ") for name, root in roots.items()}
+        if not (found := self.with_root("workbook")):
+            raise Trouble(NO_WORKBOOK)
+        self.main, self.links = self.tree(found[0]), self.links_of(found[0])
+        is_1904 = any(properties.get("date1904") in TRUE for properties in self.main.iterfind("{*}workbookPr"))
+        self.epoch = MACINTOSH if is_1904 else WINDOWS
+        self.looks = [look for part in self.with_root("styleSheet") for look in looks_of(self.tree(part))] \
+            or [(GENERAL, False)]
+        self.texts = [letters for part in self.with_root("sst") for letters in self.shared(part)]
 
-    def of_root(self, root: str) -> list[str]:
-        return [name for name, (_, _, found) in self.roots.items() if found == root]
+    def with_root(self, root: str) -> list[str]:
+        """The part with this first element, if there is one."""
+        found = [name for name, first in self.roots.items() if first == root]
+        if len(found) > 1:
+            raise Trouble(f"it has {' and '.join(found)}, where a spreadsheet writes one: {OPEN_AND_SAVE}")
+        return found
 
-    def elements(self, parts: list[str], name: str) -> Iterator[Element]:
-        for part in parts:
-            for _, element in self.parts.elements(part, "end"):
-                if local(element) == name:
-                    yield element
-                    element.clear()
+    def tree(self, part: str) -> Element:
+        with self.parts.archive.open(part) as stream:
+            return parse(stream).getroot()
+
+    def links_of(self, part: str) -> dict[str, str]:
+        """The parts that a part refers to, by the names that stand for them there."""
+        folder, name = posixpath.split(part)
+        beside = f"{folder}/_rels/{name}.rels"
+        links = self.tree(beside).findall("*") if beside in self.roots else []
+        return {link.attrib["Id"]: posixpath.normpath(posixpath.join(f"/{folder}", link.attrib["Target"])).lstrip("/")
+                for link in links if link.get("TargetMode") != "External"}
+
+    def shared(self, part: str) -> Iterator[Letters]:
+        """The texts to which cells refer by their numbers."""
+        for _, element in self.parts.elements(part, "end"):
+            if local(element) == "si":
+                letters = letters_of(element)
+                self.budget.keep(letters[0])
+                yield letters
+                element.clear()
 
     def book(self) -> Book:
-        if len(self.reader.parser.sheets) > MOST_SHEETS:
-            raise Trouble(f"it has more than {MOST_SHEETS} sheets")
         notes = ["it counts its days from 1904; its dates are read so"] * (self.epoch is MACINTOSH)
         notes += self.parts.notes(".*vbaProject[.]bin$")
-        sheets = []
-        for named in self.reader.parser.sheets:
-            part = self.reader.parser.rels[named.id].target
+        named, sheets = self.main.findall("{*}sheets/{*}sheet"), list[Sheet]()
+        if len(named) > MOST_SHEETS:
+            raise Trouble(f"it has more than {MOST_SHEETS} sheets")
+        for each in named:
+            name, part = each.attrib["name"], self.links[each.attrib[LINK]]
             if part not in self.roots:
                 raise Trouble(f"its part {part} is missing: {OPEN_AND_SAVE}")
-            space, _, root = self.roots[part]
-            if root != "worksheet":
-                notes.append(f"the sheet {named.name} is no table ({root}); it is not read")
-            elif space != SHEET_MAIN_NS:
-                raise Trouble(f"openpyxl cannot read the sheet {named.name}: {OPEN_AND_SAVE}")
+            if self.roots[part] == "worksheet":
+                sheets.append(self.sheet(Sheet(name, each.get("state", "visible") != "visible"), part))
             else:
-                sheets.append(self.sheet(Sheet(named.name, named.state != "visible"), part))
+                notes.append(f"the sheet {name} is no table ({self.roots[part]}); it is not read")
         return Book("xlsx", sheets, notes)
 
     def sheet(self, sheet: Sheet, part: str) -> Sheet:
@@ -127,20 +133,22 @@ class Reader:
                 sheet.hidden_rows += [(row, row)] * is_hidden(element, "ht", height)
                 element.clear()
             elif tag == "sheetFormatPr":
-                height = "0" if element.get("zeroHeight", "0") in ("1", "true") else "1"
+                height = "0" if element.get("zeroHeight") in TRUE else "1"
             elif tag == "col" and is_hidden(element, "width"):
                 sheet.hidden_columns.append((int(element.attrib["min"]), int(element.attrib["max"])))
             elif tag == "mergeCell":
-                area = CellRange(element.attrib["ref"])
-                sheet.merge(area.min_row, area.min_col, area.max_row, area.max_col)
-        sheet.comments = [places.coordinate_to_tuple(ref.partition(":")[0]) for ref in self.comments(part)]
+                first, _, last = element.attrib["ref"].partition(":")
+                sheet.merge(*place_of(first), *place_of(last or first))
+        for linked in self.links_of(part).values():
+            if self.roots.get(linked) == "comments":
+                sheet.comments += [place_of(each.attrib["ref"]) for each in self.tree(linked).iterfind(".//{*}comment")]
         return sheet
 
     def keep_row(self, sheet: Sheet, row: int, element: Element) -> None:
         column = 0
         for part in element.iterfind(CELL):
             try:
-                at, column = places.coordinate_to_tuple(part.attrib["r"]) if part.get("r") else (row, column + 1)
+                at, column = place_of(part.attrib["r"]) if part.get("r") else (row, column + 1)
                 cell = self.cell(part)
             except (Trouble, ValueError, LookupError, ArithmeticError) as fault:
                 why = fault.sentence if isinstance(fault, Trouble) else "is broken"
@@ -161,40 +169,40 @@ class Reader:
         if formula and not text and (text is None or kind not in TEXTS):
             return PENDING
         if kind == "inlineStr":
-            text, struck = letters_of(part.find(INLINE) or ())
+            inside = part.find(INLINE)
+            text, struck = ("", False) if inside is None else letters_of(inside)
         elif kind == "s" and text:
-            if (number := int(text)) not in self.texts:
+            if (number := int(text)) not in range(len(self.texts)):
                 raise Trouble("refers to a text that is not there")
             text, struck = self.texts[number]
         if not text:
             return None
-        form, all_struck = self.styles[int(part.get("s", "0"))]
+        form, all_struck = self.looks[int(part.get("s", "0"))]
         if kind == "n":
             found = number_cell(text, form, self.epoch)
         elif kind in TEXTS:
-            text = unescaped(text) if kind == "str" else text
-            shown = shown_text(form, text)
-            found = Cell("unseen" if shown is None else "text", text, shown or "")
+            found = text_cell(unescaped(text) if kind == "str" else text, form)
         elif kind == "e":
             found = Cell("error", text, text)
         elif kind == "b":
             shown = str(bool(int(text)))
             found = Cell("bool", shown.lower(), shown.upper())
         elif kind == "d":
-            moments.from_ISO8601(text)  # raises ValueError where it is none
             found = Cell("date", whole_day(text.removesuffix("Z")), "")
         else:
             raise Trouble(f"is of the kind {kind}, which is not known here")
         is_plain = not (formula or struck or all_struck)
         return found if is_plain else found and found._replace(formula=formula, struck=struck or all_struck)
 
-    def comments(self, part: str) -> Iterator[str]:
-        beside = relations.get_rels_path(part)
-        links = relations.get_dependents(self.archive, beside).find(COMMENTS_NS) if beside in self.roots else []
-        for element in self.elements([link.target for link in links if link.target in self.roots], "comment"):
-            self.budget.keep("")
-            yield element.attrib["ref"]
+
+def looks_of(styles: Element) -> list[Look]:
+    """How the cells of each style look. A number without a format of its own is one that every spreadsheet knows."""
+    forms = BUILT_IN | {int(form.attrib["numFmtId"]): form.attrib["formatCode"]
+                        for form in styles.iterfind("{*}numFmts/{*}numFmt")}
+    struck = [is_struck(font) for font in styles.iterfind("{*}fonts/{*}font")]
+    return [(forms.get(int(style.get("numFmtId", "0")), GENERAL), struck[int(style.get("fontId", "0"))])
+            for style in styles.iterfind("{*}cellXfs/{*}xf")]
 
 
 def is_hidden(element: Element, size: str, usual: str = "1") -> bool:
-    return element.get("hidden", "0") in ("1", "true") or float(element.get(size, usual)) == 0
+    return element.get("hidden") in TRUE or float(element.get(size, usual)) == 0

@@ -44,6 +44,7 @@ case("rounded", xlsx(candidates([("n", "16.6", "0"), "Ada Lin", "CODE0001"]),
                      sheet("Papers", PAPERS, ["MA-1", "Maths", "S1", ("n", "1.5", "0"), "-"], ["FR", "French", "S1", ("n", "1.5", "0.00"), "-"])),
      1, only=True, mistakes=[["Candidates!A2", "number '17': is the number 16.6, but shown as 17"],
                              ["Papers!D2", "is the number 1.5, but shown as 2"], ["Papers!D3", "a whole number"]])
+case("two-numbers-of-one", xlsx(candidates([("n", "17", "0-0"), "Ada Lin", "CODE0001"])), 1, only=True, mistakes=[["Candidates!A2", "a format of its own"]])
 case("stored-nonsense", xlsx(candidates([("raw", '<c r="{ref}"><v>1_7</v></c>'), "Ada Lin", "CODE0001"])), 1,
      stderr=["Candidates!A2 is broken"])
 case("stored-too-much", xlsx(candidates([("raw", '<c r="{ref}"><v>1e99999999999</v></c>'), "Ada Lin", "CODE0001"])), 1,
@@ -111,6 +112,27 @@ case("ods-hidden", ods('<table:table table:name="Candidates"><table:table-column
 case("ods-comment-in-text", ods('<table:table table:name="Candidates">' + ods_row(*CANDIDATES) + ods_row(ADA[0],
      '<table:table-cell office:value-type="string"><text:p>Ada Lin<office:annotation><text:p>left</text:p></office:annotation></text:p></table:table-cell>',
      ADA[2]) + "</table:table>"), files={"candidates": [ADA_LINE]}, suffix="ods", told=[["Candidates!B2", "comment"]])
+
+STYLES = (f'<styleSheet xmlns="{MAIN}"><fonts><font/><font><strike val="0"/></font></fonts><cellXfs><xf/><xf numFmtId="14" fontId="1"/>'
+          '<xf numFmtId="18"/><xf numFmtId="43"/><xf numFmtId="9"/></cellXfs></styleSheet>')
+case("formats-by-number", xlsx(sheet("Sessions", SESSIONS, ["S1", ("raw", '<c r="{ref}" s="1"><v>46539</v></c>'), ("raw", '<c r="{ref}" s="2"><v>0.375</v></c>')]),
+     sheet("Openings", OPENINGS, ["S1", "A", ("raw", '<c r="{ref}" s="3"><v>24</v></c>'), "12:00", "no"]),
+     sheet("Arrangements", ARRANGEMENTS, ["0000001", "-", ("raw", '<c r="{ref}" s="4"><v>0.25</v></c>')]), parts={"xl/styles.xml": STYLES}),
+     files={"sessions": ["S1,2027-06-01,09:00"], "openings": ["S1,A,24,12:00,no"], "arrangements": ["0000001,-,25"]},
+     told=[["Sessions!B2", "Tuesday"], ["Sessions!C2", "9:00 AM became 09:00"], ["Openings!C2", "24.00 became 24"]])
+case("other-namespace", changed(xlsx(sheet("Halls", HALLS, ["A", "Hall A", "-"]), candidates(ADA)), "xl/worksheets/sheet1.xml", MAIN, "urn:other"),
+     files={"candidates": [ADA_LINE]}, told=[["", "the sheet Halls is no table"]])
+
+# columns that say more than is read
+case("features-by-other-names", xlsx(sheet("Halls", ["Room", "Name", "Capacity", "Step free?", "Computers"], ["A", "Hall A", 30, "Yes", "No"], ["B", "Hall B", 30, "No", "Y"]),
+     sheet("Arrangements", ["number", "reader", "Wheelchair", "extra"], ["0000001", "x", None, 0], ["0000002", None, "x", 25])), 1, only=True,
+     mistakes=[["Halls!E1", "'Computers' has crosses", "call it computer"], ["Arrangements!C1", "call it step-free"]], told=[["Halls!C1", "not read"]])
+case("entries-with-a-state", xlsx(TWO_PAPERS, sheet("Entries", [*ENTRIES, "status"], ["0000001", "MA-1", "entered"], ["0000002", "FR", "WITHDRAWN"])), 1,
+     only=True, mistakes=[["Entries!C1", "Entries!C3", "withdrawn"]])
+case("entries-withdrawn", xlsx(TWO_PAPERS, sheet("Entries", [*ENTRIES, "Withdrawn?"], ["0000001", "MA-1", "no"], ["0000002", "FR", "x"])), 1,
+     only=True, mistakes=[["Entries!C1", "Entries!C3", "withdrawn"]])
+case("entries-none-withdrawn", xlsx(TWO_PAPERS, sheet("Entries", [*ENTRIES, "Withdrawn", "Form"], ["0000001", "MA-1", "no", "11A"], ["0000002", "FR", None, "11B"])),
+     files={"papers": ["MA-1,Maths,S1,90,-", "FR,French,S1,60,-"], "entries": ["0000001,MA-1", "0000002,FR"]}, told=[["Entries!C1", "not read"], ["Entries!D1", "not read"]])
 
 # what is not named, and what is not read
 case("merged-header", xlsx(candidates(["0000001", "Lin", "CODE0001"], merge=["B1:C1"])), 1, only=True, mistakes=[["Candidates!B1", "merged over columns"]])
