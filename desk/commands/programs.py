@@ -110,9 +110,7 @@ class List(Change):
             carried = listed.carry_out(command.office(), self.title, self.rows,
                                        lambda line, answered: statuses.append(said_of_row(line, answered)))
         except SystemExit:  # a signal
-            command.warn(f"stopped after {len(statuses)} of {lists.count(len(self.rows), 'row')}: what came before and "
-                         "was not refused is done, and look whether the next one is; `office back 1` takes all of it "
-                         "back")
+            command.warn(self.stopped(len(statuses)))
             raise
         done = sum(answered.ran.status == 0 for answered in carried.answers)
         back = "; `office back 1` takes all of it back" if done else ""
@@ -120,6 +118,14 @@ class List(Change):
         printed(Ran(0, f"{done} of {lists.count(len(self.rows), 'row')} {verb} done{back}\n", ""))
         command.tell_consequences(carried.copy)
         return int(any(statuses) or len(carried.answers) < len(self.rows))
+
+    def stopped(self, done: int) -> str:
+        """What is said where a signal stops it behind so many rows."""
+        titles = [f"line {line}, {step.title()}" for line, step in self.rows.items()]
+        last = f"; the last was {titles[done - 1]}" if done else ""
+        following = f"; look whether the next is done, {titles[done]}" if done < len(titles) else ""
+        return (f"stopped after {done} of {lists.count(len(titles), 'row')}{last}{following}; `office back 1` takes all of "
+                "it back")
 
 
 @dataclass

@@ -120,9 +120,12 @@ def alone(office: Office, words: Sequence[str]) -> Iterator[FileIO]:
             yield lock
 
 
-def is_taken(office: Office) -> bool:
-    with lock_file(office, "want.lock") as want:
-        return not is_free(want)
+def is_taken(office: Office, *names: str) -> bool:
+    """Whether somebody has the lock on a file beside the office; nobody has that on one that is not there."""
+    with (contextlib.suppress(FileNotFoundError),
+          open(beside.open_file(office.path, *names, flags=os.O_RDONLY), "rb", buffering=0) as file):
+        return not is_free(file)
+    return False
 
 
 def keep_state(office: Office) -> Said | None:

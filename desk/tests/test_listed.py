@@ -4,6 +4,7 @@ import os
 import re
 import signal
 import subprocess
+import sys
 import threading
 import time
 import unittest
@@ -17,6 +18,13 @@ from exam_desk.trouble import Trouble
 
 GOOD = "number,paper\n0001000,MA-1\n0001017,MA-1\n"
 NAME = 'leave, "=1+1".csv'
+LISTED = f"withdraw --list {NAME} for 0001000 0001017 0001034"
+SLOWLY = f"""import runpy, sys
+sys.path.insert(0, {str(sample.DESK)!r})
+from exam_desk import listed
+listed.TURN, listed.BETWEEN = 0, {sample.PATIENCE}
+sys.argv = sys.argv[1:]
+runpy.run_path(sys.argv[0], run_name="__main__")"""
 
 
 class Listed(test_changing.Changing):
@@ -156,8 +164,7 @@ class Listed(test_changing.Changing):
             self.assertEqual(self.carried(GOOD, tell), ["withdrawn", "withdrawn"])
         self.assertEqual(others[0].wait(sample.PATIENCE), 0)
         self.assertEqual([what for what, status, _ in self.log() if status == "0"],
-                         ["withdraw 0001000 MA-1", "withdraw --list x", "withdraw 0001034 FR", "withdraw 0001017 MA-1",
-                          "withdraw --list x"])
+                         ["withdraw 0001000 MA-1", "withdraw 0001034 FR", "withdraw 0001017 MA-1", "withdraw --list x"])
 
     def test_an_office_that_cannot_be_used(self):
         """The program is out of memory from the second row on: it is not asked again, and the first row stays."""
@@ -175,8 +182,8 @@ class Listed(test_changing.Changing):
         done = self.run_list(GOOD, EXAMOFFICE=program)
         self.assertEqual(done.returncode, 128 + signal.SIGINT)
         self.assertEqual(done.stdout, "line 2: withdraw 0001000 MA-1: withdrawn\n")
-        self.assertEqual(done.stderr, "office: stopped after 1 of 2 rows: what came before and was not refused is done, and look "
-                                      "whether the next one is; `office back 1` takes all of it back\n")
+        self.assertEqual(done.stderr, "office: stopped after 1 of 2 rows; the last was line 2, withdraw 0001000 MA-1; look whether "
+                                      "the next is done, line 3, withdraw 0001017 MA-1; `office back 1` takes all of it back\n")
         self.assertEqual([line[:2] for line in self.log()[1:4]], [
             ["withdraw 0001000 MA-1", "step"], ["withdraw 0001000 MA-1", "0"], ["withdraw 0001017 MA-1", "step"]])
         self.assertEqual([line[1:] for line in self.log()[4:]], [["1", "stopped: look whether it is done"]] * 2)
@@ -192,6 +199,41 @@ class Listed(test_changing.Changing):
                                "`withdraw 0001000 MA-1`: `office back` lists the copy of .*, before withdraw --list .*\n$")
         self.run_office("back", "1", "--yes")
         self.assertEqual(self.state(), self.before)
+
+    @contextlib.contextmanager
+    def pausing(self):
+        """A list of three rows, while it lets others have the office behind the first."""
+        path = self.write(NAME, f"{GOOD}0001034,FR\n")
+        with subprocess.Popen([sys.executable, "-c", SLOWLY, sample.DESK / "office", "withdraw", "--list", path],
+                              env=self.environment, stdout=subprocess.DEVNULL, stderr=subprocess.PIPE,
+                              encoding="utf-8") as process:
+            try:
+                sample.until(lambda: self.log()[-1:] == [[LISTED, "step", "1 of 3 rows"]])
+                yield process
+            finally:
+                process.kill()
+
+    def test_after_a_kill_between_two_turns_it_is_said_once(self):
+        """Also where another change had the office before the kill; who looks hears it until a change has said it."""
+        with self.pausing() as process:
+            self.office("look", "1000")
+            self.office("withdraw", "0001017", "EN-2")
+            self.office("look", "1000")
+            process.kill()
+        said = [self.run_office(*words).stderr for words in (("look", "1000"), ("reinstate", "0001017", "EN-2"))]
+        for text in said:
+            self.assertRegex(text, f"^office: `{re.escape(LISTED)}` of .* was broken off behind `withdraw 0001000 MA-1`: `office back` "
+                                   "lists the copy of .*, before withdraw --list .*, and puts it back\n")
+        self.office("look", "1000")
+        self.office("withdraw", "0001017", "EN-2")
+        self.assertIn([LISTED, "1", "broken off"], self.log())
+
+    def test_ctrl_c_between_two_turns(self):
+        with self.pausing() as process:
+            process.send_signal(signal.SIGINT)
+            said = process.communicate(timeout=sample.PATIENCE)[1]
+        self.assertEqual(said, "office: stopped after 1 of 3 rows; the last was line 2, withdraw 0001000 MA-1; look whether the "
+                               "next is done, line 3, withdraw 0001017 MA-1; `office back 1` takes all of it back\n")
 
     def test_a_program_that_does_not_start_in_the_middle(self):
         program = self.program("")
