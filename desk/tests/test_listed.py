@@ -133,13 +133,25 @@ class Listed(test_changing.Changing):
         self.assertIn("office: the office has no candidate 0008888; ", self.refused("withdraw", "8888", "--all"))
 
     def test_words(self):
-        for words in (["withdraw", "--list"], ["withdraw", "--list", "a", "b"]):
-            done = self.run_office(*words)
-            self.assertEqual((done.returncode, done.stderr), (2, "line not understood\n  --list takes one file\n  Usage: "
-                                                                 "office withdraw --list FILE.csv\n"))
+        usage = ("  Usage: office withdraw <number> <paper>\n         office withdraw --list FILE.csv\n"
+                 "         office withdraw <number> --all\n  Arguments:\n")
+        for words, wrong in ((["--list"], "--list takes one file"), (["--list", "a", "b"], "--list takes one file"),
+                             (["-list", "A"], "number '-list': seven digits")):
+            done = self.run_office("withdraw", *words)
+            self.assertEqual(done.returncode, 2)
+            self.assertTrue(done.stderr.startswith(f"line not understood\n  {wrong}\n{usage}"), done.stderr)
         self.assertTrue(self.refused("reinstate", "1017", "--all").startswith("office: --all goes with `withdraw` alone; `office "
                                                                               "back` lists the copy"))
         self.assertIn("office reinstate --list FILE.csv\n", self.office("reinstate", "--help"))
+        self.assertIn("\n  `office --help` lists the commands", self.run_office("--list").stderr)
+
+    def test_what_a_word_processor_makes_of_quotes(self):
+        """Also in a reason, which is private."""
+        for word, said in (("\u2014list", "\u2014"), ("\u201ca draught", "\u201c")):
+            done = self.run_office("decide", "1017", "HA1", "granted", word, "x")
+            self.assertIn(f"office: NOTE a word begins with {said} of a word processor: type \", ' or -- there\n", done.stderr)
+            self.assertNotIn(word[1:], done.stderr)
+        self.assertNotIn("NOTE", self.run_office("decide", "1017", "HA1", "granted", "it\u2019s \u201cfine\u201d").stderr)
 
     def test_turns(self):
         for seconds, turns in ((listed.TURN, 1), (0, 2)):
