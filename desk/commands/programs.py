@@ -31,6 +31,7 @@ With the entries of a file, whose header is number,paper: office {0} --list FILE
 ALL_HELP = """
 Each entry of a candidate who leaves, in the same way: office withdraw NUMBER --all
 """
+COPY_OF_A_LIST = "`office back` lists the copy that"  # where others may have had their turn
 MOST_NAMED = 20  # of those who lose a desk, move or sit otherwise
 
 
@@ -110,7 +111,8 @@ class List(Change):
             command.warn(self.stopped(len(statuses)))
             raise
         done = sum(answered.ran.status == 0 for answered in carried.answers)
-        back = "; `office back 1` takes all of it back" if done else ""
+        way = "`office back 1`" if copies.listed(command.office())[:1] == [carried.copy] else COPY_OF_A_LIST
+        back = f"; {way} takes all of it back" if done else ""
         verb = "is" if 1 in (done, len(self.rows)) else "are"
         put(f"{done} of {lists.count(len(self.rows), 'row')} {verb} done{back}\n")
         command.tell_consequences(carried.copy)
@@ -121,8 +123,8 @@ class List(Change):
         titles = [f"line {line}, {step.title()}" for line, step in self.rows.items()]
         last = f"; the last was {titles[done - 1]}" if done else ""
         following = f"; look whether the next is done, {titles[done]}" if done < len(titles) else ""
-        return (f"stopped after {done} of {lists.count(len(titles), 'row')}{last}{following}; `office back 1` takes all of "
-                "it back")
+        return (f"stopped after {done} of {lists.count(len(titles), 'row')}{last}{following}; {COPY_OF_A_LIST} takes all "
+                "of it back")
 
 
 @dataclass

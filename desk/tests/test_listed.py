@@ -1,5 +1,6 @@
 """Lists of withdrawals and of their way back: a refusal leaves the other rows, and others have their turns."""
 import contextlib
+import io
 import os
 import re
 import signal
@@ -12,6 +13,7 @@ from unittest import mock
 
 import sample
 import test_changing
+from commands import programs
 from exam_desk import listed, logbook
 from exam_desk.office import Office
 from exam_desk.trouble import Trouble
@@ -178,6 +180,16 @@ class Listed(test_changing.Changing):
         self.assertEqual([what for what, status, _ in self.log() if status == "0"],
                          ["withdraw 0001000 MA-1", "withdraw 0001034 FR", "withdraw 0001017 MA-1", "withdraw --list x"])
 
+    def test_the_last_copy_may_be_of_another_command(self):
+        """Another officer's command comes between two turns: `office back 1` would take that one back."""
+        others = iter([["withdraw", "0001034", "FR"]])
+        clock = mock.Mock(monotonic=time.monotonic, sleep=lambda _: [self.office(*words) for words in others])
+        with (mock.patch.dict(os.environ, self.environment), mock.patch.object(listed, "TURN", 0),
+              mock.patch.object(listed, "time", clock), contextlib.redirect_stderr(io.StringIO()),
+              contextlib.redirect_stdout(io.StringIO()) as said):
+            programs.run(self.value, ["withdraw", "--list", self.write(NAME, GOOD)])
+        self.assertIn("2 of 2 rows are done; `office back` lists the copy that takes all of it back\n", said.getvalue())
+
     def test_an_office_that_cannot_be_used(self):
         """The program is out of memory from the second row on: it is not asked again, and the first row stays."""
         program = self.program('[ "$5 $6" = "withdraw 0001017" ] && echo refused 22 >&2 && exit 1')
@@ -195,7 +207,8 @@ class Listed(test_changing.Changing):
         self.assertEqual(done.returncode, 128 + signal.SIGINT)
         self.assertEqual(done.stdout, "line 2: withdraw 0001000 MA-1: withdrawn\n")
         self.assertEqual(done.stderr, "office: stopped after 1 of 2 rows; the last was line 2, withdraw 0001000 MA-1; look whether "
-                                      "the next is done, line 3, withdraw 0001017 MA-1; `office back 1` takes all of it back\n")
+                                      "the next is done, line 3, withdraw 0001017 MA-1; `office back` lists the copy that takes "
+                                      "all of it back\n")
         self.assertEqual([line[:2] for line in self.log()[1:4]], [
             ["withdraw 0001000 MA-1", "step"], ["withdraw 0001000 MA-1", "0"], ["withdraw 0001017 MA-1", "step"]])
         self.assertEqual([line[1:] for line in self.log()[4:]], [["1", "stopped: look whether it is done"]] * 2)
@@ -245,7 +258,8 @@ class Listed(test_changing.Changing):
             process.send_signal(signal.SIGINT)
             said = process.communicate(timeout=sample.PATIENCE)[1]
         self.assertEqual(said, "office: stopped after 1 of 3 rows; the last was line 2, withdraw 0001000 MA-1; look whether the "
-                               "next is done, line 3, withdraw 0001017 MA-1; `office back 1` takes all of it back\n")
+                               "next is done, line 3, withdraw 0001017 MA-1; `office back` lists the copy that takes all of "
+                               "it back\n")
 
     def test_a_program_that_does_not_start_in_the_middle(self):
         program = self.program("")
