@@ -84,7 +84,8 @@ def office_page(version, day, commands):
     page = heading("office", version, day)
     page += ".SH NAME\noffice \\- runs a command of the exam office\n.SH SYNOPSIS\n.B office\nCOMMAND [VALUE ..]\n"
     about = ast.get_docstring(ast.parse(OFFICE.read_text(encoding="utf-8"))) or ""
-    page += f".SH DESCRIPTION\n{escaped(about).replace(chr(10) * 2, chr(10) + '.PP' + chr(10))}\n.SH COMMANDS OF THE DESK\n"
+    paragraphs = escaped(about).replace("\n\n", "\n.PP\n")
+    page += f".SH DESCRIPTION\n{paragraphs}\n.SH COMMANDS OF THE DESK\n"
     for name, said in commands.items():
         page += f".SS {escaped(name)}\n{verbatim(said)}"
     return page + ".SH SEE ALSO\n.BR examoffice (1),\nthe handbook in /usr/share/doc/examoffice\n"

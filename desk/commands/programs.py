@@ -21,7 +21,7 @@ from exam_desk.trouble import Stale, Trouble
 from exam_desk.words import plain
 
 CHANGES, MIGRATE = changing.CHANGES, "migrate"
-LISTED = {"withdraw": ["--list FILE.csv", "<number> --all"], "reinstate": ["--list FILE.csv"]}  # take a list, so typed, too
+LISTED = {"withdraw": ["--list FILE.csv", "<number> --all"], "reinstate": ["--list FILE.csv"]}  # how a list is typed
 LIST_HELP = """
 With the entries of a file, whose header is number,paper: office {0} --list FILE.csv
   One copy of the office is kept, and each row has a line in the log. Where a number or a paper is not known nothing is
@@ -123,8 +123,8 @@ class List(Change):
         titles = [f"line {line}, {step.title()}" for line, step in self.rows.items()]
         last = f"; the last was {titles[done - 1]}" if done else ""
         following = f"; look whether the next is done, {titles[done]}" if done < len(titles) else ""
-        return (f"stopped after {done} of {lists.count(len(titles), 'row')}{last}{following}; {COPY_OF_A_LIST} takes all "
-                "of it back")
+        return (f"stopped after {done} of {lists.count(len(titles), 'row')}{last}{following}; {COPY_OF_A_LIST} takes "
+                "all of it back")
 
 
 @dataclass
