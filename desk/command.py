@@ -14,7 +14,7 @@ from typing import TYPE_CHECKING, NamedTuple
 
 from exam_desk import beside, typed
 from exam_desk.office import Office
-from exam_desk.trouble import Trouble
+from exam_desk.trouble import NoOffice, Trouble
 from exam_desk.words import plain
 
 if TYPE_CHECKING:
@@ -96,6 +96,9 @@ def begin() -> None:
         if signal.getsignal(number) != signal.SIG_IGN:
             signal.signal(number, leave)
     os.umask(0o077)
+    for name in ("stdin", "stdout", "stderr"):
+        if getattr(sys, name) is None:  # whoever began the command closed it
+            setattr(sys, name, open(os.devnull, "r" if name == "stdin" else "w", encoding="utf-8"))
     for stream in (sys.stdout, sys.stderr):
         stream.reconfigure(encoding="utf-8", errors="backslashreplace")  # type: ignore[attr-defined]
     sys.excepthook = tell
@@ -110,7 +113,7 @@ def tell(kind: type[BaseException], fault: BaseException, place: TracebackType |
         warn(fault)
     elif isinstance(fault, OSError):
         who = f" to the user {beside.user_name(os.getuid())}" if isinstance(fault, PermissionError) else ""
-        warn(f"{fault.filename}: {fault.strerror}{who}" if fault.filename else fault)
+        warn(f"{fault.filename or 'the output'}: {fault.strerror}{who}")
     elif isinstance(fault, sqlite3.Error):
         warn(f"{office_path()}: {fault}")
     else:
@@ -186,7 +189,7 @@ def existing_office() -> Office:
     """The office that is meant. Raises `Trouble` where it is not there."""
     found = office()
     if not os.path.isfile(found.path):
-        raise Trouble(f"there is no office {found.path}; `office init` makes one")
+        raise NoOffice(found.path)
     return found
 
 

@@ -1,6 +1,10 @@
 """Makes the man pages and the completion for bash from what `--help` and `COMMAND --help` print."""
+import ast
+import pathlib
 import re
 from typing import NamedTuple
+
+OFFICE = pathlib.Path(__file__).resolve().parent.parent / "desk/office"
 
 
 class Help(NamedTuple):
@@ -79,10 +83,9 @@ def office_page(version, day, commands):
     """The man page of the front script: `commands` has what each of the desk's commands prints as its help."""
     page = heading("office", version, day)
     page += ".SH NAME\noffice \\- runs a command of the exam office\n.SH SYNOPSIS\n.B office\nCOMMAND [VALUE ..]\n"
-    page += (".SH DESCRIPTION\nRuns a command of the desk, or one of\n.BR examoffice (1)\nover the office's file with "
-             "today's date.\nThe variable OFFICE names another file than office.db, TODAY another date, EXAMOFFICE\n"
-             "another program.\n")
-    page += ".SH COMMANDS OF THE DESK\n"
+    about = ast.get_docstring(ast.parse(OFFICE.read_text(encoding="utf-8"))) or ""
+    paragraphs = escaped(about).replace("\n\n", "\n.PP\n")
+    page += f".SH DESCRIPTION\n{paragraphs}\n.SH COMMANDS OF THE DESK\n"
     for name, said in commands.items():
         page += f".SS {escaped(name)}\n{verbatim(said)}"
     return page + ".SH SEE ALSO\n.BR examoffice (1),\nthe handbook in /usr/share/doc/examoffice\n"

@@ -9,7 +9,6 @@ import subprocess
 import sys
 from collections.abc import Callable, Iterator, Sequence
 from dataclasses import dataclass, replace
-from typing import TypeVar
 
 import command
 from exam_desk import (beside, changing, consequences, copies, listed, lists, lodging, losses, notebook, private,
@@ -22,10 +21,9 @@ from exam_desk.trouble import Stale, Trouble
 from exam_desk.words import plain
 
 CHANGES, MIGRATE = changing.CHANGES, "migrate"
-LISTED = ["withdraw", "reinstate"]  # take a list too
-OF_A_LIST = "office {0} --list FILE.csv"
+LISTED = {"withdraw": ["--list FILE.csv", "<number> --all"], "reinstate": ["--list FILE.csv"]}  # how a list is typed
 LIST_HELP = """
-With the entries of a file, whose header is number,paper: {0}
+With the entries of a file, whose header is number,paper: office {0} --list FILE.csv
   One copy of the office is kept, and each row has a line in the log. Where a number or a paper is not known nothing is
   changed; zeros in front of a number may be left out. A row that is refused is printed, and the others are carried out;
   `office back 1` takes all of it back.
@@ -33,8 +31,8 @@ With the entries of a file, whose header is number,paper: {0}
 ALL_HELP = """
 Each entry of a candidate who leaves, in the same way: office withdraw NUMBER --all
 """
+COPY_OF_A_LIST = "`office back` lists the copy that"  # where others may have had their turn
 MOST_NAMED = 20  # of those who lose a desk, move or sit otherwise
-Value = TypeVar("Value")
 
 
 @dataclass
@@ -110,16 +108,23 @@ class List(Change):
             carried = listed.carry_out(command.office(), self.title, self.rows,
                                        lambda line, answered: statuses.append(said_of_row(line, answered)))
         except SystemExit:  # a signal
-            command.warn(f"stopped after {len(statuses)} of {lists.count(len(self.rows), 'row')}: what came before and "
-                         "was not refused is done, and look whether the next one is; `office back 1` takes all of it "
-                         "back")
+            command.warn(self.stopped(len(statuses)))
             raise
         done = sum(answered.ran.status == 0 for answered in carried.answers)
-        back = "; `office back 1` takes all of it back" if done else ""
+        way = "`office back 1`" if copies.listed(command.office())[:1] == [carried.copy] else COPY_OF_A_LIST
+        back = f"; {way} takes all of it back" if done else ""
         verb = "is" if 1 in (done, len(self.rows)) else "are"
-        printed(Ran(0, f"{done} of {lists.count(len(self.rows), 'row')} {verb} done{back}\n", ""))
+        put(f"{done} of {lists.count(len(self.rows), 'row')} {verb} done{back}\n")
         command.tell_consequences(carried.copy)
         return int(any(statuses) or len(carried.answers) < len(self.rows))
+
+    def stopped(self, done: int) -> str:
+        """What is said where a signal stops it behind so many rows."""
+        titles = [f"line {line}, {step.title()}" for line, step in self.rows.items()]
+        last = f"; the last was {titles[done - 1]}" if done else ""
+        following = f"; look whether the next is done, {titles[done]}" if done < len(titles) else ""
+        return (f"stopped after {done} of {lists.count(len(titles), 'row')}{last}{following}; {COPY_OF_A_LIST} takes "
+                "all of it back")
 
 
 @dataclass
@@ -195,13 +200,9 @@ def rehearsed(change: Change) -> Iterator[tuple[int, Rehearsal]]:
 
 def run(office: Office, words: list[str]) -> int:
     """Runs a command of the program; the status."""
-    if words[0].startswith("-"):
-        with running.starting(office):
-            os.execv(office.program, ["examoffice", *words])
     if not {"-h", "--help"}.isdisjoint(itertools.takewhile(lambda word: word != "--", words)):
         found = running.help_text(office, words[0])
-        command.say(found + (LIST_HELP.format(OF_A_LIST.format(words[0])) if words[0] in LISTED else "")
-                    + ALL_HELP * (words[0] == "withdraw"))
+        command.say(found + LIST_HELP.format(words[0]) * (words[0] in LISTED) + ALL_HELP * (words[0] == "withdraw"))
         return 0 if found else outcome(words, Ran(2, "", "line not understood\n"))
     if words[0] == "serve" and len(words) > 1:
         beside.refuse_stranger(office.path)
@@ -221,37 +222,30 @@ def dispatch(office: Office, words: list[str]) -> Ran:
         from exam_desk import new_office  # here, since it alone needs it
         return new_office.make(office)
     if words[0] == "check" and os.path.isfile(office.path):  # changes no facts, but needs the office for itself
-        with if_possible(turns.alone(office, words), None):
+        with contextlib.suppress(OSError), turns.alone(office, words):
             return changing.run_patiently(office, changing.Step(tuple(words)))
     if words[0] not in running.SHEETS:
         return running.run_over(office, office.path, *words, output=None)
-    with if_possible(private.private_copy(office.path, office.path), office.path) as path:
+    with contextlib.ExitStack() as stack:
+        path = office.path
+        with contextlib.suppress(OSError):  # such as beside a file that is not there: the program says what is wrong
+            path = stack.enter_context(private.private_copy(path, path))
         ran = running.run_over(office, path, *words, output=subprocess.PIPE if sys.stdout.isatty() else None)
     return ran._replace(answer="\n".join(map(plain, ran.answer.split("\n"))))
-
-
-@contextlib.contextmanager
-def if_possible(context: contextlib.AbstractContextManager[Value], instead: Value) -> Iterator[Value]:
-    """A context; or a value where it cannot begin, such as beside a file that is not there: the program says what is
-    wrong."""
-    with contextlib.ExitStack() as stack:
-        value = instead
-        with contextlib.suppress(OSError):
-            value = stack.enter_context(context)
-        yield value
 
 
 def of_program(words: list[str]) -> Change | None:
     """The change that a command of the program makes; None where it makes none. Raises `Trouble` where it is a list
     with a mistake. A number comes first, where the program takes one; it says so."""
-    if words[0] in LISTED and len(words) == 3 and words[1] == "--list":
-        return of_list(words[0], words[2])
-    if words[0] in LISTED and words[2:] == ["--all"]:
-        if words[0] != "withdraw":
+    match words:
+        case ["withdraw" | "reinstate" as name, "--list", path]:
+            return of_list(name, path)
+        case ["withdraw", number, "--all"]:
+            rows = listed.of_candidate(command.office(), number)
+            return List([*rows.values()], f"withdraw {rows[1].words[1]} --all", rows=rows)
+        case ["reinstate", _, "--all"]:
             raise Trouble("--all goes with `withdraw` alone; `office back` lists the copy from before that, which "
                           "takes it back, and `office reinstate NUMBER PAPER` takes one entry back")
-        rows = listed.of_candidate(command.office(), words[1])
-        return List([*rows.values()], f"withdraw {rows[1].words[1]} --all", rows=rows)
     if words[0] not in CHANGES:
         return None
     first = 2 if words[1:2] == ["--"] else 1
@@ -280,10 +274,10 @@ def said(answered: Answered) -> int:
 def said_of_row(line: int, answered: Answered) -> int:
     """Prints what became of the row of a list; the status."""
     words = plain(f"line {line}: {answered.step.title()}: {answered.first_line()}")
-    if not answered.ran.status:
-        return printed(Ran(0, f"{words}\n", "")).status
-    complain(words, answered)
-    return answered.ran.status
+    if answered.ran.status:
+        complain(words, answered)
+        return answered.ran.status
+    return int(not put(f"{words}\n"))
 
 
 def refuse(tried: Tried) -> None:
@@ -300,13 +294,18 @@ def complain(line: str, refused: Answered) -> None:
 
 
 def printed(ran: Ran) -> Ran:
-    """Prints the answer. Where it cannot be written the command is done all the same."""
+    """Prints the answer."""
+    return ran if put(ran.answer) else ran._replace(status=1, complaint=ran.complaint + "write fault\n")
+
+
+def put(text: str) -> bool:
+    """Prints a text, and says whether it could be written: if not, the command is done all the same."""
     try:
-        command.say(ran.answer)
+        command.say(text)
     except OSError:
         command.drop_output()
-        return ran._replace(status=1, complaint=ran.complaint + "write fault\n")
-    return ran
+        return False
+    return True
 
 
 def outcome(words: Sequence[str], ran: Ran, data: bytes | None = None) -> int:
@@ -318,8 +317,9 @@ def outcome(words: Sequence[str], ran: Ran, data: bytes | None = None) -> int:
         text = running.help_text(command.office(), words[0])
         wrong = typed.wrong(running.takes(text), [word for word in words[1:] if word != "--"]) if text else []
         usage = [line for line in text.split("\n") if line][1:]
+        usage[1:1] = [f"       office {words[0]} {form}" for form in LISTED.get(words[0], [])]
         if words[0] in LISTED and "--list" in words[1:2]:
-            wrong, usage = ["--list takes one file"], [f"Usage: {OF_A_LIST.format(words[0])}"]
+            wrong = ["--list takes one file"]
         lines = [f"  {line}" for line in
                  [*wrong, *usage] or [f"`office --help` lists the commands{meant(words[0])}"]]
     sys.stderr.write(ran.complaint + "".join(f"{line}\n" for line in lines))

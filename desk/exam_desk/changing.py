@@ -227,6 +227,7 @@ def turn(office: Office, title: str, made_from: str | None = None, tell: Tell = 
             raise Stale("the office has changed since you looked at it, so nothing is changed: look again")
         if found := logbook.unfinished(office):
             office.warn(way_on(office, found))
+            logbook.write_done(office, [found.command], 1, "broken off")
         yield Turn(office, lock, tell)
 
 

@@ -2,7 +2,12 @@
 is begun in the background, ended, and asked whether it serves.
 
 It begins `serve` anew whatever ends it or keeps it from beginning. Nothing ends `keep` itself but its signals, or a
-port or a socket that cannot be had.
+port or a socket that cannot be had. What it does with the locks of `turns`, again and again:
+
+    1. It waits for want.lock, then for office.lock; where candidates wait meanwhile, it takes turn.lock for them.
+    2. It begins `serve`, and lets go of want.lock: from then on a command can ask it to step aside.
+    3. It hands requests on. Once those who waited have their answers, or after TURN_SECONDS, it lets go of turn.lock.
+    4. When a command asks, the day ends or `serve` fails, it ends `serve`, and lets go of office.lock.
 """
 from __future__ import annotations
 
@@ -67,14 +72,10 @@ class Keep:
         self.hold = hold.Hold()
         self.ending = False
 
-    def show(self, **state: object) -> None:
+    def show(self, state: str = "aside", **more: object) -> None:
         """Writes into the lock file what `keep` does."""
-        said = {"pid": os.getpid(), "place": self.place, **state}
+        said = {"pid": os.getpid(), "place": self.place, "state": plain(state)[:MOST_FAULT], **more}
         turns.note(self.lock, json.dumps(said, ensure_ascii=False))
-
-    def show_fault(self, fault: str) -> None:
-        say(fault)
-        self.show(state=plain(fault)[:MOST_FAULT])
 
     def end(self) -> None:
         self.ending = True
@@ -100,7 +101,8 @@ class Keep:
             except Exception as wrong:  # whatever it is, candidates wait
                 fault = f"serve cannot begin: {wrong or type(wrong).__name__}"
             if fault:
-                self.show_fault(fault)
+                say(fault)
+                self.show(fault)
             failures = failures + 1 if fault and time.monotonic() - began < LONGEST_PAUSE else 0
             if failures and not self.ending:
                 await asyncio.sleep(min(0.1 * 2 ** failures, LONGEST_PAUSE))
@@ -114,16 +116,16 @@ class Keep:
             await self.locked(office, turn)
             return "" if self.ending else await self.serve_once(want, turn)
 
-    async def locked(self, file: FileIO, first: FileIO) -> None:
-        """Waits until a lock is had or `keep` ends; takes the lock of who goes first while candidates wait."""
+    async def locked(self, file: FileIO, turn: FileIO) -> None:
+        """Waits until a lock is had or `keep` ends."""
         while not self.ending and not turns.try_lock(file):
             if self.hold.waiting():
-                turns.try_lock(first)
+                turns.try_lock(turn)
             await asyncio.sleep(turns.PAUSE)
 
     async def serve_once(self, want: FileIO, turn: FileIO) -> str:
-        """Runs one `serve`, with the office alone; frees want.lock once it has begun. Gives its fault, or "". No length
-        of a night is reckoned, so a missing midnight or a set clock does no harm."""
+        """Runs one `serve`, with the office alone; gives its fault, or "". No length of a night is reckoned, so a
+        missing midnight or a set clock does no harm."""
         self.hold.over.clear()  # a command wants the office only while it holds want.lock
         self.hold.fault = ""
         day = self.office.today()
@@ -144,20 +146,19 @@ class Keep:
             finally:
                 opening.cancel()
                 self.hold.close()
-                self.show(state=fault[:MOST_FAULT] or "aside")
+                self.show(fault or "aside")
                 process.kill()  # what it answered is kept in any case
                 last = await ended
         return ": ".join(filter(None, [fault, last])) if fault else ""
 
     async def open(self, process: subprocess.Popen[bytes], server: asking.Server, day: datetime.date,
                    turn: FileIO) -> None:
-        """Hands requests on once `serve` has said that it serves. Frees turn.lock once those candidates have their
-        answers who wait then."""
+        """Hands requests on once `serve` has said that it serves."""
         assert process.stdout
         if (await asyncio.to_thread(process.stdout.readline)).startswith(b"serving"):  # else it ends
             if asking.listens(server):
                 self.hold.open(server)
-                self.show(state="serving", serve=process.pid, day=day.isoformat())
+                self.show("serving", serve=process.pid, day=day.isoformat())
             else:
                 self.hold.give_up(f"/proc does not show that serve has port {server.place}")
         waited, until = self.hold.asked, time.monotonic() + TURN_SECONDS

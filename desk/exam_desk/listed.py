@@ -2,11 +2,12 @@
 from __future__ import annotations
 
 import contextlib
+import itertools
 import os
 import time
 from collections.abc import Callable, Iterator
 
-from exam_desk import changing, checking, copies, facts, files, lists, logbook, mistakes, refusals
+from exam_desk import changing, checking, copies, facts, files, lists, logbook, mistakes, refusals, turns
 from exam_desk.changing import Answered, Step
 from exam_desk.office import Office
 from exam_desk.snapshot import rows as rows_now
@@ -73,15 +74,16 @@ def carry_out(office: Office, title: str, rows: Rows, tell: Tell) -> changing.Ca
     the program is not to be had; the rows before are done then."""
     answers: list[Answered] = []
     copy = ""
-    left = iter(rows.items())
     try:
-        while len(answers) < len(rows) and not is_hopeless(answers):
-            with changing.unchanged(office), changing.turn(office, title) as taken:
-                copy = copy or copies.keep_copy(office, title)
-                with logbook.logged(office, [title], answer=os.path.basename(copy)) as outcome:
-                    in_one_turn(taken, left, answers, tell)
-                    outcome.status, outcome.answer = 0, f"{len(answers)} of {lists.count(len(rows), 'row')}"
-            time.sleep(BETWEEN)
+        with contextlib.ExitStack() as whole:
+            while not is_over(rows, answers):
+                with changing.unchanged(office), changing.turn(office, title) as taken:
+                    copy = copy or whole.enter_context(locked_copy(office, title))
+                    with logbook.logged(office, [title], answer=os.path.basename(copy)) as outcome:
+                        in_one_turn(taken, rows, answers, tell)
+                        outcome.status = 0 if is_over(rows, answers) else logbook.STEP
+                        outcome.answer = f"{len(answers)} of {lists.count(len(rows), 'row')}"
+                time.sleep(BETWEEN)
     except Trouble as fault:
         kept(office, answers, copy)
         if not answers:
@@ -90,14 +92,27 @@ def carry_out(office: Office, title: str, rows: Rows, tell: Tell) -> changing.Ca
     return changing.Carried(answers, kept(office, answers, copy), None)
 
 
-def in_one_turn(taken: changing.Turn, left: Iterator[tuple[int, Step]], answers: list[Answered], tell: Tell) -> None:
+@contextlib.contextmanager
+def locked_copy(office: Office, title: str) -> Iterator[str]:
+    """The path of a new copy; a lock on its title says, between two turns too, that the list is under way."""
+    copy = copies.keep_copy(office, title)
+    with open(os.path.join(copy, copies.TITLE), "rb", buffering=0) as lock:
+        turns.try_lock(lock)
+        yield copy
+
+
+def in_one_turn(taken: changing.Turn, rows: Rows, answers: list[Answered], tell: Tell) -> None:
     """Carries out rows until others have their turn."""
     until = time.monotonic() + TURN
-    for line, step in left:
+    for line, step in itertools.islice(rows.items(), len(answers), None):
         answers.append(taken.carried(step, logbook.STEP))
         tell(line, answers[-1])
-        if time.monotonic() >= until or is_hopeless(answers):
+        if time.monotonic() >= until or is_over(rows, answers):
             break
+
+
+def is_over(rows: Rows, answers: list[Answered]) -> bool:
+    return len(answers) == len(rows) or is_hopeless(answers)
 
 
 def is_hopeless(answers: list[Answered]) -> bool:

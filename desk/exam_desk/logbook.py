@@ -27,7 +27,7 @@ ALL_BYTES = 1 << 40
 @dataclass
 class Outcome:
     """What the log says after a change: as long as the change says nothing else, that it was stopped."""
-    status: int = 1
+    status: int | str = 1
     answer: str = "stopped: look whether it is done"
 
 
@@ -39,6 +39,7 @@ class Unfinished:
     copy: str  # the name of the copy from before a list of steps; "" of a single command
     done: str = ""  # the last step that has an end
     begun: str = ""  # the last one that has begun
+    lets_go: bool = False  # whether others have the office, until the list goes on
 
 
 def shown(words: Sequence[str]) -> list[str]:
@@ -55,7 +56,7 @@ def write(office: Office, words: Sequence[str], status: int | str, answer: str) 
         log_file.write(line.encode("utf-8", "backslashreplace"))
 
 
-def write_done(office: Office, words: Sequence[str], status: int, answer: str) -> None:
+def write_done(office: Office, words: Sequence[str], status: int | str, answer: str) -> None:
     """A line in the log on what is done. In place of one that cannot be written a warning has to do."""
     try:
         write(office, words, status, answer)
@@ -76,18 +77,27 @@ def logged(office: Office, words: Sequence[str], status: str = BEGINS, answer: s
 
 
 def unfinished(office: Office) -> Unfinished | None:
-    """The last change of the log where it has no end. Call it with the office alone: else it may be under way."""
-    found: Unfinished | None = None
+    """A change of the log that has no end. Call it with the office alone: else it may be under way. A list that lets go
+    of the office is under way as long as it has a lock on its copy."""
+    from exam_desk import copies  # here, since the copies need the log
+    found = dict[str, Unfinished]()  # by command: the last change, and lists that let go
+    last: Unfinished | None = None
     for when, _, command, status, answer in last_lines(office):
         if status == BEGINS and command.split(" ")[0] not in BESIDE_OTHERS:
-            found = Unfinished(when, command, answer)
-        elif found and status == STEP:
-            found.begun = command
-        elif found and command == found.command:
-            found = None
-        elif found and command == found.begun:
-            found.done = command
-    return found
+            found = {title: each for title, each in found.items() if each.lets_go}
+            last = found.setdefault(command, Unfinished(when, command, answer))
+            last.lets_go = False
+        elif command in found and status == STEP:
+            found[command].lets_go = True
+        elif command in found:
+            del found[command]
+        elif last and status == STEP:
+            last.begun = command
+        elif last and command == last.begun:
+            last.done = command
+    return next((each for each in found.values()
+                 if not each.lets_go or not turns.is_taken(office, copies.PLACE, each.copy, copies.TITLE)),
+                None)
 
 
 def made(office: Office) -> str:
@@ -99,7 +109,7 @@ def made(office: Office) -> str:
 def broken_off(office: Office) -> Unfinished | None:
     """The last change of the log where it has no end and nobody has the office, who could still end it."""
     found = unfinished(office)
-    return found if found and not turns.is_taken(office) and unfinished(office) == found else None
+    return found if found and not turns.is_taken(office, "want.lock") and unfinished(office) == found else None
 
 
 def closings(office: Office) -> dict[tuple[str, str], str]:

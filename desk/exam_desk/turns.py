@@ -8,9 +8,9 @@ Beside office.db the folder desk-office.db (mode 0700) holds four lock files (fl
     keep.lock     held by `keep` as long as it lives (fcntl(2), which tells its process); its text says where it serves
 
 A command takes want.lock once turn.lock is free, asks `keep` to step aside, and takes office.lock. `keep` needs both to
-serve again, so it never comes between. The system lets go of the locks of a process that ends, in whatever way. The one
-child that inherits a lock, office.lock, is the program that a change runs: where the command is killed, the next one
-waits until that program has ended.
+serve again, so it never comes between. A list (`listed`) has a lock on its copy, too, as long as it is under way. The
+system lets go of the locks of a process that ends, in whatever way. The one child that inherits a lock, office.lock, is
+the program that a change runs: where the command is killed, the next one waits until that program has ended.
 """
 from __future__ import annotations
 
@@ -100,11 +100,7 @@ class Wait:
 @contextlib.contextmanager
 def alone(office: Office, words: Sequence[str]) -> Iterator[FileIO]:
     """The office for this process alone, and office.lock: waits up to PATIENCE seconds for others, then raises
-    `Trouble`.
-
-    Candidates who wait go first: `keep` holds turn.lock for them, and takes it while a command has want.lock, so
-    whoever has want.lock looks at turn.lock again.
-    """
+    `Trouble`. `keep` takes turn.lock while a command has want.lock, so whoever has that looks at turn.lock again."""
     wait = Wait(office)
     with lock_file(office, "turn.lock") as turn, lock_file(office, "want.lock") as want:
         while not (is_free(turn) and try_lock(want) and is_free(turn)):
@@ -120,9 +116,12 @@ def alone(office: Office, words: Sequence[str]) -> Iterator[FileIO]:
             yield lock
 
 
-def is_taken(office: Office) -> bool:
-    with lock_file(office, "want.lock") as want:
-        return not is_free(want)
+def is_taken(office: Office, *names: str) -> bool:
+    """Whether somebody has the lock on a file beside the office; nobody has that on one that is not there."""
+    with (contextlib.suppress(FileNotFoundError),
+          open(beside.open_file(office.path, *names, flags=os.O_RDONLY), "rb", buffering=0) as file):
+        return not is_free(file)
+    return False
 
 
 def keep_state(office: Office) -> Said | None:

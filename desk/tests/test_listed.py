@@ -1,9 +1,11 @@
 """Lists of withdrawals and of their way back: a refusal leaves the other rows, and others have their turns."""
 import contextlib
+import io
 import os
 import re
 import signal
 import subprocess
+import sys
 import threading
 import time
 import unittest
@@ -11,12 +13,20 @@ from unittest import mock
 
 import sample
 import test_changing
+from commands import programs
 from exam_desk import listed, logbook
 from exam_desk.office import Office
 from exam_desk.trouble import Trouble
 
 GOOD = "number,paper\n0001000,MA-1\n0001017,MA-1\n"
 NAME = 'leave, "=1+1".csv'
+LISTED = f"withdraw --list {NAME} for 0001000 0001017 0001034"
+SLOWLY = f"""import runpy, sys
+sys.path.insert(0, {str(sample.DESK)!r})
+from exam_desk import listed
+listed.TURN, listed.BETWEEN = 0, {sample.PATIENCE}
+sys.argv = sys.argv[1:]
+runpy.run_path(sys.argv[0], run_name="__main__")"""
 
 
 class Listed(test_changing.Changing):
@@ -125,13 +135,25 @@ class Listed(test_changing.Changing):
         self.assertIn("office: the office has no candidate 0008888; ", self.refused("withdraw", "8888", "--all"))
 
     def test_words(self):
-        for words in (["withdraw", "--list"], ["withdraw", "--list", "a", "b"]):
-            done = self.run_office(*words)
-            self.assertEqual((done.returncode, done.stderr), (2, "line not understood\n  --list takes one file\n  Usage: "
-                                                                 "office withdraw --list FILE.csv\n"))
+        usage = ("  Usage: office withdraw <number> <paper>\n         office withdraw --list FILE.csv\n"
+                 "         office withdraw <number> --all\n  Arguments:\n")
+        for words, wrong in ((["--list"], "--list takes one file"), (["--list", "a", "b"], "--list takes one file"),
+                             (["-list", "A"], "number '-list': seven digits")):
+            done = self.run_office("withdraw", *words)
+            self.assertEqual(done.returncode, 2)
+            self.assertTrue(done.stderr.startswith(f"line not understood\n  {wrong}\n{usage}"), done.stderr)
         self.assertTrue(self.refused("reinstate", "1017", "--all").startswith("office: --all goes with `withdraw` alone; `office "
                                                                               "back` lists the copy"))
         self.assertIn("office reinstate --list FILE.csv\n", self.office("reinstate", "--help"))
+        self.assertIn("\n  `office --help` lists the commands", self.run_office("--list").stderr)
+
+    def test_what_a_word_processor_makes_of_quotes(self):
+        """Also in a reason, which is private."""
+        for word, said in (("\u2014list", "\u2014"), ("\u201ca draught", "\u201c")):
+            done = self.run_office("decide", "1017", "HA1", "granted", word, "x")
+            self.assertIn(f"office: NOTE a word begins with {said} of a word processor: type \", ' or -- there\n", done.stderr)
+            self.assertNotIn(word[1:], done.stderr)
+        self.assertNotIn("NOTE", self.run_office("decide", "1017", "HA1", "granted", "it\u2019s \u201cfine\u201d").stderr)
 
     def test_turns(self):
         for seconds, turns in ((listed.TURN, 1), (0, 2)):
@@ -156,8 +178,17 @@ class Listed(test_changing.Changing):
             self.assertEqual(self.carried(GOOD, tell), ["withdrawn", "withdrawn"])
         self.assertEqual(others[0].wait(sample.PATIENCE), 0)
         self.assertEqual([what for what, status, _ in self.log() if status == "0"],
-                         ["withdraw 0001000 MA-1", "withdraw --list x", "withdraw 0001034 FR", "withdraw 0001017 MA-1",
-                          "withdraw --list x"])
+                         ["withdraw 0001000 MA-1", "withdraw 0001034 FR", "withdraw 0001017 MA-1", "withdraw --list x"])
+
+    def test_the_last_copy_may_be_of_another_command(self):
+        """Another officer's command comes between two turns: `office back 1` would take that one back."""
+        others = iter([["withdraw", "0001034", "FR"]])
+        clock = mock.Mock(monotonic=time.monotonic, sleep=lambda _: [self.office(*words) for words in others])
+        with (mock.patch.dict(os.environ, self.environment), mock.patch.object(listed, "TURN", 0),
+              mock.patch.object(listed, "time", clock), contextlib.redirect_stderr(io.StringIO()),
+              contextlib.redirect_stdout(io.StringIO()) as said):
+            programs.run(self.value, ["withdraw", "--list", self.write(NAME, GOOD)])
+        self.assertIn("2 of 2 rows are done; `office back` lists the copy that takes all of it back\n", said.getvalue())
 
     def test_an_office_that_cannot_be_used(self):
         """The program is out of memory from the second row on: it is not asked again, and the first row stays."""
@@ -175,8 +206,9 @@ class Listed(test_changing.Changing):
         done = self.run_list(GOOD, EXAMOFFICE=program)
         self.assertEqual(done.returncode, 128 + signal.SIGINT)
         self.assertEqual(done.stdout, "line 2: withdraw 0001000 MA-1: withdrawn\n")
-        self.assertEqual(done.stderr, "office: stopped after 1 of 2 rows: what came before and was not refused is done, and look "
-                                      "whether the next one is; `office back 1` takes all of it back\n")
+        self.assertEqual(done.stderr, "office: stopped after 1 of 2 rows; the last was line 2, withdraw 0001000 MA-1; look whether "
+                                      "the next is done, line 3, withdraw 0001017 MA-1; `office back` lists the copy that takes "
+                                      "all of it back\n")
         self.assertEqual([line[:2] for line in self.log()[1:4]], [
             ["withdraw 0001000 MA-1", "step"], ["withdraw 0001000 MA-1", "0"], ["withdraw 0001017 MA-1", "step"]])
         self.assertEqual([line[1:] for line in self.log()[4:]], [["1", "stopped: look whether it is done"]] * 2)
@@ -192,6 +224,42 @@ class Listed(test_changing.Changing):
                                "`withdraw 0001000 MA-1`: `office back` lists the copy of .*, before withdraw --list .*\n$")
         self.run_office("back", "1", "--yes")
         self.assertEqual(self.state(), self.before)
+
+    @contextlib.contextmanager
+    def pausing(self):
+        """A list of three rows, while it lets others have the office behind the first."""
+        path = self.write(NAME, f"{GOOD}0001034,FR\n")
+        with subprocess.Popen([sys.executable, "-c", SLOWLY, sample.DESK / "office", "withdraw", "--list", path],
+                              env=self.environment, stdout=subprocess.DEVNULL, stderr=subprocess.PIPE,
+                              encoding="utf-8") as process:
+            try:
+                sample.until(lambda: self.log()[-1:] == [[LISTED, "step", "1 of 3 rows"]])
+                yield process
+            finally:
+                process.kill()
+
+    def test_after_a_kill_between_two_turns_it_is_said_once(self):
+        """Also where another change had the office before the kill; who looks hears it until a change has said it."""
+        with self.pausing() as process:
+            self.office("look", "1000")
+            self.office("withdraw", "0001017", "EN-2")
+            self.office("look", "1000")
+            process.kill()
+        said = [self.run_office(*words).stderr for words in (("look", "1000"), ("reinstate", "0001017", "EN-2"))]
+        for text in said:
+            self.assertRegex(text, f"^office: `{re.escape(LISTED)}` of .* was broken off behind `withdraw 0001000 MA-1`: `office back` "
+                                   "lists the copy of .*, before withdraw --list .*, and puts it back\n")
+        self.office("look", "1000")
+        self.office("withdraw", "0001017", "EN-2")
+        self.assertIn([LISTED, "1", "broken off"], self.log())
+
+    def test_ctrl_c_between_two_turns(self):
+        with self.pausing() as process:
+            process.send_signal(signal.SIGINT)
+            said = process.communicate(timeout=sample.PATIENCE)[1]
+        self.assertEqual(said, "office: stopped after 1 of 3 rows; the last was line 2, withdraw 0001000 MA-1; look whether the "
+                               "next is done, line 3, withdraw 0001017 MA-1; `office back` lists the copy that takes all of "
+                               "it back\n")
 
     def test_a_program_that_does_not_start_in_the_middle(self):
         program = self.program("")

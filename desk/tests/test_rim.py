@@ -136,13 +136,27 @@ class Starting(sample.SampleSchool):
             return file.read()
 
     def test_a_long_fault_is_cut_and_a_cut_text_is_none(self):
-        with mock.patch("exam_desk.keeping.say"):
-            lock = turns.lock_file(self.value, "keep.lock")
-            keeping.Keep(self.value, "8080", 2, lock).show_fault("\u6f22\"\n" * 1000)
+        with turns.lock_file(self.value, "keep.lock") as lock:
+            keeping.Keep(self.value, "8080", 2, lock).show("\u6f22\"\n" * 1000)
             self.assertEqual(json.loads(turns.text_of(self.value, "keep.lock"))["place"], "8080")
-            lock.close()
         for said in (b'{"pid": 7, "place": "8080", "state": "serve ended: \xc3', b"[1, 2]", b"[" * 1000, b"\xff\x00", b"7"):
             self.assertEqual(turns.said_by(7, said), {"pid": 7})
+
+
+class Closed(sample.SampleSchool):
+    def test_whoever_begins_a_command_may_have_closed_its_input_and_outputs(self):
+        self.office("withdraw", "0001000", "MA-1")
+        for words, closed, status, said in ((["back", "1"], "<&-", 1, "office: nothing is changed\n"),
+                                            (["look", "1000"], ">&-", 0, ""), (["look", "1000"], "2>&-", 0, "")):
+            line = ["sh", "-c", f'exec "$@" {closed}', "sh", sample.DESK / "office", *words]
+            done = subprocess.run(line, env=self.environment, capture_output=True, encoding="utf-8", check=False)
+            self.assertEqual((done.returncode, done.stderr), (status, said))
+
+    def test_a_page_that_finds_no_room(self):
+        with open("/dev/full", "w", encoding="utf-8") as full:
+            done = subprocess.run([sample.DESK / "office", "doors", "MON-AM"], env=self.environment, stdout=full,
+                                  stderr=subprocess.PIPE, encoding="utf-8", check=False)
+        self.assertEqual((done.returncode, done.stderr), (1, "office: the output: No space left on device\n"))
 
 
 class Strangers(sample.SampleSchool):
