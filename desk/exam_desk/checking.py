@@ -12,6 +12,7 @@ from dataclasses import replace
 from exam_desk import changing, coding, consequences, files, lists, mistakes, overlaps, private, running, snapshot
 from exam_desk.asking import Progress
 from exam_desk.changing import Step, Tell
+from exam_desk.effects import Effects
 from exam_desk.office import Office
 from exam_desk.reading import Reading
 from exam_desk.trouble import Trouble
@@ -89,10 +90,11 @@ def would_do(office: Office, texts: Mapping[str, bytes], tell: Tell, progress: P
                 raise Trouble(f"the program says {refused.first_line()} to {refused.step.words[-1]}")
             with (Reading(office, rehearsal.before, progress) as before,
                   Reading(office, rehearsal.after, progress) as after):
-                met = {kind: people for kind, people in consequences.groups(before, after).items()
+                effects = Effects(before, after)
+                met = {kind: people for kind, people in consequences.groups(effects).items()
                        if kind not in (consequences.TWICE, consequences.HALLS)}
                 found = [*consequences.short_at_first(before, after), *consequences.brief(met),
-                         *consequences.other_codes(before, after), *overlaps.lines(after, overlaps.found(after))]
+                         *consequences.other_codes(effects), *overlaps.lines(after, overlaps.found(after))]
         return [f"once imported: {line}" for line in found]
     except (Trouble, OSError, sqlite3.Error, MemoryError) as fault:
         return [f"nobody can say what the files would do: {plain(fault) or 'there is no memory'}"]

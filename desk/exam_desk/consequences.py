@@ -1,17 +1,18 @@
-"""What a change does to candidates and sessions, in short: from two readings of an office, before and after it."""
+"""What a change does to candidates and sessions, in short, in lines for a terminal."""
 from __future__ import annotations
 
 import sqlite3
 from collections import Counter, defaultdict
-from collections.abc import Collection, Iterable, Iterator
+from collections.abc import Iterable, Iterator, Mapping
 from typing import NamedTuple
 
-from exam_desk import copies, facts, lists, logbook, notebook, overlaps, telling
+from exam_desk import copies, facts, lists, notebook, telling
 from exam_desk.asking import Progress
+from exam_desk.effects import Effects, figures, has_seats, openings, other_figures
 from exam_desk.left_behind import left_behind
 from exam_desk.office import Office
-from exam_desk.reading import Person, Reading
-from exam_desk.telling import Change, Touched, counted
+from exam_desk.reading import Reading
+from exam_desk.telling import Change, counted
 from exam_desk.trouble import Trouble
 from exam_desk.words import clock, few, plain
 
@@ -34,16 +35,9 @@ CODES = ("has another access code", "have other access codes")
 ENTERED_AGAIN = "`office back 1` or `office reinstate ..`, then "  # before who has left can be noted as absent
 LISTED_BY = {OPENED: "", SHUT: "", CLASHES: "clashes {}", TWICE: "summary {}", HALLS: "summary {}",
              PRINTED: "printed {} --look"}
-OPENINGS = ("SELECT session, hall, day, until, start FROM opening JOIN session ON code = session "
-            "ORDER BY day, start, code, hall")
 GRAVEST = 4  # groups that have a line of their own in a short answer
 MOST_NAMED = 3  # candidates in such a line, or sessions
 COUNTED = ["gets", "leaves", "joins", "desk"]  # not named where the others are listed with what becomes of them
-FIGURES = ("SELECT code, coalesce(entered, 0), coalesce(seated, 0) FROM session "
-           "LEFT JOIN (SELECT session AS code, count(DISTINCT number) AS entered FROM entry "
-           "JOIN paper ON paper.code = paper WHERE live = 1 GROUP BY session) USING (code) "
-           "LEFT JOIN (SELECT session AS code, count(*) AS seated FROM seat GROUP BY session) USING (code) "
-           "ORDER BY day, start, code")
 
 
 class Met(NamedTuple):
@@ -63,12 +57,12 @@ Groups = dict[str, list[Met]]  # whom a change meets, by kind, the gravest first
 def between(before: Reading, after: Reading, at_most: int | None) -> list[str]:
     """What the steps of a rehearsal would do, of those who are named at most so many in each way; then a line for each
     session whose candidates or seats are other ones: how many they are, counted by their rows."""
-    sessions, was = telling.touched(before, after), figures(before)
-    met = groups(before, after, sessions)
+    effects, was = Effects(before, after), figures(before)
+    met = groups(effects)
     numbers = [f"session {code}: {lists.count(people, 'candidate')}, {people - seats:,} without a desk"
                + (f" (before: {was[code][0]:,} and {was[code][0] - was[code][1]:,})" if code in was else "")
-               for code, (people, seats) in other_figures(before, after).items() if code in sessions]
-    others = [*other(before, after, at_most), *other_codes(before, after)]
+               for code, (people, seats) in other_figures(before, after).items() if code in effects.touched]
+    others = [*other(before, after, at_most), *other_codes(effects)]
     return [*map(str, left_behind(before, after)), *(lines(met, at_most) if met or has_seats(before) else []), *others,
             *numbers, *notes(before, after, met)]
 
@@ -81,7 +75,8 @@ def done(office: Office, copy: str, progress: Progress) -> list[str]:
               Reading(office, None, progress) as after):
             if copies.listed(office)[:1] != [copy]:
                 raise Trouble("the office has changed again meanwhile")
-            met = groups(before, after)
+            effects = Effects(before, after)
+            met = groups(effects)
             short = [f"{line}; `office summary` has all sessions" for line in short_at_first(before, after)]
             shown = [*map(str, left_behind(before, after)), *short, *brief(met)]
             shown += other(before, after, MOST_NAMED, UNSEEN)
@@ -89,67 +84,29 @@ def done(office: Office, copy: str, progress: Progress) -> list[str]:
             words = [f"`office {words}` lists them" for words in listing(met, place)]
             words += [f"`office back {place}` takes it back"] if SLIPS & met.keys() else []
             shown += ["; ".join(words)] if words else []
-            return shown + other_codes(before, after) + notes(before, after, met, ENTERED_AGAIN)
+            return shown + other_codes(effects) + notes(before, after, met, ENTERED_AGAIN)
     except (Trouble, OSError, sqlite3.Error, MemoryError) as fault:
         reason = plain(str(fault)) or "there is no memory"
         return [f"the change is done, but nobody can say what it did to candidates: {reason}; try `office changes 1`"]
 
 
-def groups(before: Reading, after: Reading, sessions: Touched | None = None) -> Groups:
-    """Those whom a change meets in each way, the gravest first, in the sessions that it touches. Where nobody has a
-    seat yet, nobody can lose or change one."""
-    sessions = telling.touched(before, after) if sessions is None else sessions
-    different = telling.of_touched(before, after, sessions) if has_seats(before) else []
-    twice = list(overlaps.new(before, after, list(sessions)))
-    clashes = [Met(session, person.shown(), f"does not sit {', '.join(missed)}")
-               for session, person, missed in new_clashes(before, after, sessions)]
-    return grouped(different, {
+def groups(effects: Effects) -> Groups:
+    """Those whom a change meets in each way, the gravest first."""
+    return grouped(effects.kinds, {
         OVER: [Met(code, f"of {day} for {lists.count(people, 'candidate')}", "is it the right session, or an old file?")
-               for code, (day, people) in over(before, after, different, clashes).items()],
+               for code, (day, people) in effects.over.items()],
         OPENED: [Met(code, f"{hall} (closed on {when[:10]})", f"afterwards `office close-hall {code} {hall}` closes it")
-                 for (code, hall), when in opened(before, after).items()],
+                 for (code, hall), when in effects.opened.items()],
         SHUT: [Met(code, f"{hall} (open until {clock(until)})", f"the session begins at {clock(start)}")
-               for code, hall, _, until, start in shut(before, after)],
-        CLASHES: clashes,
+               for code, hall, _, until, start in effects.shut],
+        CLASHES: [Met(code, person.shown(), f"does not sit {', '.join(missed)}")
+                  for code, person, missed in effects.clashes],
         TWICE: [Met(each.late, person.shown(), f"sits in {each.early} then")
-                for each in twice for person in by_name(after, each.candidates)],
+                for each, people in effects.overlaps for person in people],
         HALLS: [Met(each.early, f"and {each.late} in {hall}", "both number their desks from 1")
-                for each in twice for hall in each.halls],
+                for each, _ in effects.overlaps for hall in each.halls],
         PRINTED: [Met(code, f"for {', '.join(halls)}", f"afterwards `office {LISTED_BY[PRINTED].format(code)}`")
-                  for code, halls in out_of_date(before, after, sessions).items()]})
-
-
-def over(before: Reading, after: Reading, changes: Iterable[Change],
-         clashes: Iterable[Met] = ()) -> dict[str, tuple[str, int]]:
-    """The sessions whose day, before or after, is before today, each with this day and how many are met there: by more
-    than another name, or by a new clash. Where nobody had a seat all who are entered count."""
-    met = {(code, each.person()) for each in changes if each.kind() != "name" for code in each.sessions()}
-    counts = Counter(code for code, _ in met | {(each.session, each.person) for each in clashes})
-    if not has_seats(before):
-        counts = Counter({code: people for code, (people, _) in other_figures(before, after).items()})
-    days = sorted((day, code) for reading in (before, after) for code, day, _ in facts.sessions(reading.rows))
-    first = {code: day for day, code in reversed(days)}
-    return {code: (day, counts[code]) for code, day in reversed(first.items())
-            if after.office.is_over(day) and counts[code]}
-
-
-def openings(reading: Reading) -> dict[tuple[str, str], sqlite3.Row]:
-    """The open halls, by session and hall, in the order of the sessions."""
-    return {(row["session"], row["hall"]): row for row in reading.rows.execute(OPENINGS)}
-
-
-def opened(before: Reading, after: Reading) -> dict[tuple[str, str], str]:
-    """The halls that a change opens again, by session, each with the moment at which `close-hall` closed it by the
-    log."""
-    new = openings(after).keys() - openings(before).keys()
-    closed = logbook.closings(after.office) if new else {}
-    return {each: closed[each] for each in sorted(new) if each in closed}
-
-
-def shut(before: Reading, after: Reading) -> list[sqlite3.Row]:
-    """The openings that are other ones, and that end before anybody can sit there: the session begins then or later."""
-    was = openings(before)
-    return [row for key, row in openings(after).items() if row["until"] <= row["start"] and was.get(key) != row]
+                  for code, halls in effects.out_of_date.items()]})
 
 
 def notes(before: Reading, after: Reading, met: Groups, first: str = "") -> list[str]:
@@ -190,44 +147,6 @@ def still_open(before: Reading, after: Reading) -> list[str]:
     return [f"NOTE: still open: {'; '.join(found[:MOST_NAMED])}"] if found else []
 
 
-def out_of_date(before: Reading, after: Reading, sessions: Touched) -> dict[str, list[str]]:
-    """By session the halls whose papers are noted as printed and hold no longer, of those whom a change can meet."""
-    found = {code: halls_out_of_date(before, after, code, people) for code, people in sessions.items()}
-    return {code: sorted(halls) for code, halls in found.items() if halls}
-
-
-def halls_out_of_date(before: Reading, after: Reading, session: str, people: Collection[int] | None) -> set[str]:
-    """The halls of those of these people, or of all, who are otherwise than before and not as on paper, now and there;
-    where a hall has another title or end they are all who sit there by the papers."""
-    paper = notebook.on_paper(after.office, session).lines
-    if not paper:
-        return set()
-    was, ends = ({each.hall: (each.title, each.until) for each in facts.openings(reading.rows, session)}
-                 for reading in (before, after))
-    there = {int(number) for number, line in paper.items() if was.get(line.desk.hall) != ends.get(line.desk.hall)}
-    asked = None if people is None else there.union(people)
-    then, now = (notebook.lines_of(reading, session, reading.members(session, telling.entered(reading, session, asked)))
-                 for reading in (before, after))
-    lines = (line for number in notebook.moved(then, now) if paper.get(number) != now.get(number)
-             for line in (paper.get(number), now.get(number)))
-    return {line.desk.hall for line in lines if line}
-
-
-def new_clashes(before: Reading, after: Reading, sessions: Touched) -> Iterator[tuple[str, Person, list[str]]]:
-    """Who misses papers of a session that they did not miss before, of those whom a change can meet there, with the
-    session and these papers; by session and name."""
-    for session, people in sessions.items():
-        several = ((reading, telling.entered(reading, session, people, 2)) for reading in (before, after))
-        old, new = (reading.clashes(session, [*map("{:07}".format, numbers)]) for reading, numbers in several)
-        missed = {number: sorted(set(papers) - set(old.get(number, []))) for number, papers in new.items()}
-        for person in by_name(after, (number for number, papers in missed.items() if papers)):
-            yield session, person, missed[person.number]
-
-
-def by_name(reading: Reading, numbers: Iterable[str]) -> list[Person]:
-    return lists.by_name(reading.person(int(number)) for number in numbers)
-
-
 def short_at_first(before: Reading, after: Reading) -> list[str]:
     """How many have no desk where nobody had one before, counted by the rows of the sessions that are other ones."""
     short = Counter({code: people - seats for code, (people, seats) in other_figures(before, after).items()})
@@ -244,17 +163,16 @@ def other(before: Reading, after: Reading, at_most: int | None, kinds: Iterable[
     return [f"{lists.count(len(found), 'value')} of rows changed: {shown}"] if found else []
 
 
-def other_codes(before: Reading, after: Reading) -> list[str]:
+def other_codes(effects: Effects) -> list[str]:
     """A line on those whose access code is another, since the slip that they hold opens nothing then."""
-    others = [key for key, column, *_ in telling.other_values(before, after, ["candidates"]) if column == "code"]
-    people = by_name(after, others) if len(others) <= MOST_NAMED else []
-    who = ": " + "; ".join(person.shown() for person in people) if people else ""
-    return [f"{counted(CODES, others)}{who}; a slip with the old code opens nothing"] if others else []
+    people = effects.codes
+    who = ": " + "; ".join(person.shown() for person in people) if len(people) <= MOST_NAMED else ""
+    return [f"{counted(CODES, people)}{who}; a slip with the old code opens nothing"] if people else []
 
 
-def grouped(changes: list[Change], people: Groups) -> Groups:
+def grouped(found: Mapping[str, list[Change]], people: Groups) -> Groups:
     """The changes, another name once and not in each session, and besides those who are met in other ways, by kind."""
-    found, renamed = telling.by_kind(changes), dict[str, Change]()
+    renamed = dict[str, Change]()
     for change in found.get("name", []):
         renamed.setdefault(change.number, change)
     people |= {kind: [Met(each.session, each.person(), each.what()) for each in part]
@@ -315,16 +233,3 @@ def first(words: list[str], between: str) -> str:
     return between.join(words[:MOST_NAMED] + [".."] * (len(words) > MOST_NAMED))
 
 
-def figures(reading: Reading) -> dict[str, tuple[int, int]]:
-    """How many are entered and how many have a seat, by session, in the order of the sessions."""
-    return {code: (entered, seated) for code, entered, seated in reading.rows.execute(FIGURES)}
-
-
-def other_figures(before: Reading, after: Reading) -> dict[str, tuple[int, int]]:
-    """As `figures` after a change, of the sessions that had other ones before it."""
-    was = figures(before)
-    return {code: now for code, now in figures(after).items() if was.get(code) != now}
-
-
-def has_seats(reading: Reading) -> bool:
-    return reading.rows.execute("SELECT 1 FROM seat LIMIT 1").fetchone() is not None

@@ -10,7 +10,7 @@ from markupsafe import Markup
 from werkzeug.datastructures import MultiDict
 from werkzeug.wrappers import Response
 
-from exam_desk import coding, facts, lists, lodging, notebook, overlaps, second_sitting
+from exam_desk import coding, effects, facts, lists, lodging, notebook, overlaps, second_sitting
 from exam_desk.changing import Step
 from exam_desk.reading import Person
 from exam_desk.sheets import slips as slip_pages
@@ -164,7 +164,7 @@ def at_one_time(found: View) -> list[overlaps.Overlap]:
 
 @clash_pages.get("/overlaps")
 def overlapping() -> str:
-    found = proposals.named(view().reading, at_one_time(view()))
+    found = effects.with_people(view().reading, at_one_time(view()))
     return render_template("overlaps.html", overlaps=found, most=MOST_SHOWN)
 
 

@@ -14,7 +14,7 @@ from typing import Any, Concatenate, NamedTuple, ParamSpec, TypeVar
 
 from flask import abort, current_app, g, has_request_context, request
 
-from exam_desk import consequences, facts
+from exam_desk import effects, facts
 from exam_desk.office import Office
 from exam_desk.reading import Reading
 from exam_desk.trouble import Trouble
@@ -110,7 +110,7 @@ class Sums(NamedTuple):
 @once
 def sums(view: View) -> dict[str, Sums]:
     """All sessions by code, in the order of their days."""
-    people, clashing = consequences.figures(view.reading), two_papers(view)
+    people, clashing = effects.figures(view.reading), two_papers(view)
     desks = dict(view.rows("SELECT session, sum(desks) FROM opening GROUP BY session"))
     waiting = dict(view.rows("SELECT session, count(*) FROM appeal WHERE state = 1 GROUP BY session"))
     return {code: Sums(code, day, start, *people[code], desks.get(code, 0), len(clashing.get(code, ())),

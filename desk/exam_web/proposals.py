@@ -15,7 +15,7 @@ import sqlite3
 import threading
 import time
 from collections import Counter
-from collections.abc import Callable, Iterable, Mapping, Sequence
+from collections.abc import Callable, Mapping, Sequence
 from dataclasses import dataclass, field
 from functools import partial
 from operator import attrgetter
@@ -25,13 +25,13 @@ from flask import Blueprint, abort, g, render_template, request, url_for
 from markupsafe import Markup
 from werkzeug.wrappers import Response
 
-from exam_desk import (changing, consequences, copies, facts, files, lodging, logbook, overlaps, private, refusals,
+from exam_desk import (changing, consequences, copies, effects, facts, files, lodging, logbook, private, refusals,
                        second_sitting, states, telling, words)
 from exam_desk.changing import Answered, Step
 from exam_desk.left_behind import left_behind
 from exam_desk.listed import OF_THE_OFFICE
 from exam_desk.office import Office
-from exam_desk.reading import Person, Reading
+from exam_desk.reading import Reading
 from exam_desk.trouble import Stale, Trouble
 from exam_web.desk import PATIENCE, Desk, View, desk, office, sums, unseated, view
 from exam_web.forms import Asked, Form, Page, Wrong, attached, keep, lead
@@ -57,41 +57,30 @@ KINDS = ["short", *consequences.KINDS, "codes"]  # the gravest first; their word
 NUMBERS = attrgetter("members", "desks", "short", "clashes")  # of a session
 
 
-class Effects:
-    """What a change does: to people, the gravest first, and to sessions."""
+class Effects(effects.Effects):
+    """What a change does, as the page shows it: to people, the gravest first, and to sessions."""
 
     def __init__(self, before: View, after: View) -> None:
-        """Where nobody has a seat yet, nobody can lose or change one: then the sessions say all."""
         then, now, was = before.reading, after.reading, sums(before)
-        met, codes = telling.touched(then, now), facts.access_codes(then.rows)
-        changes = telling.of_touched(then, now, met) if consequences.has_seats(then) else []
-        kinds = telling.by_kind(changes)
-        self.changes = [each for part in kinds.values() for each in part]
+        super().__init__(then, now, MOST_CLASHES)
         self.to_tell = [each for each in self.changes if each.is_to_tell()]
-        self.desk_only = Counter(each.session for each in kinds.get("desk", []))  # by session
-        codes_now = facts.access_codes(now.rows)
-        self.new = codes_now.keys() - codes.keys()  # candidates who have no page before it is done
-        self.codes = consequences.by_name(now, [str(number) for number, code in codes_now.items()
-                                                if codes.get(number, code) != code])
-        self.sessions = [(was.get(code), each) for code, each in sums(after).items()
-                         if code in met and (code not in was or NUMBERS(was[code]) != NUMBERS(each))]
+        self.desk_only = Counter(each.session for each in self.kinds.get("desk", []))  # by session
+        # candidates who have no page before it is done
+        self.new = facts.access_codes(now.rows).keys() - facts.access_codes(then.rows).keys()
+        self.sessions = [(was.get(code), each) for code, each in sums(after).items() if code in self.touched
+                         and (code not in was or NUMBERS(was[code]) != NUMBERS(each))]
         self.rows = [*itertools.islice(telling.other_values(then, now), MOST_ROWS)]
         arranged = {*map(tuple, then.rows.execute(ARRANGED))}
         self.granted = [(now.person(row[0]), found) for row in now.rows.execute(OF_GRANTED).fetchall()
                         if tuple(row) not in arranged and (found := granted(now, row[0]))]
-        clashes = itertools.islice(consequences.new_clashes(then, now, met), MOST_CLASHES)
-        self.clashes = [(code, now.member(code, person.number), missed) for code, person, missed in clashes]
-        self.overlaps = named(now, overlaps.new(then, now, [*met]))
-        self.out_of_date = consequences.out_of_date(then, now, met)
-        self.over, self.opened = consequences.over(then, now, changes), consequences.opened(then, now)
-        self.shut = consequences.shut(then, now)
-        short = set() if changes else unseated(after) - unseated(before)
-        self.short = [(code, person) for code in sums(after) for person in consequences.by_name(
+        self.clashing = [(code, now.member(code, person.number), missed) for code, person, missed in self.clashes]
+        short = set() if self.changes else unseated(after) - unseated(before)
+        self.short = [(code, person) for code in sums(after) for person in effects.by_name(
             now, [str(number) for session, number in short if session == code])][:MOST_ROWS]
-        who: dict[str, list[Any]] = {kind: [each.number for each in part] for kind, part in kinds.items()} | {
+        who: dict[str, list[Any]] = {kind: [each.number for each in part] for kind, part in self.kinds.items()} | {
             "over": list(self.over), "opened": list(self.opened), "shut": self.shut,
             "short": [number for _, number in short],
-            "clashes": [member.number for _, member, _ in self.clashes if member],
+            "clashes": [person.number for _, person, _ in self.clashes],
             "twice": [person.number for _, people in self.overlaps for person in people],
             "halls": [(each.early, each.late, hall) for each, _ in self.overlaps for hall in each.halls],
             "codes": [person.number for person in self.codes]}
@@ -107,11 +96,6 @@ def granted(reading: Reading, number: int) -> list[str]:
     _, needs, extra = reading.rows.execute(f"{ARRANGED} WHERE number = ?", [number]).fetchone() or (number, 0, 0)
     return [session for session, sits in reading.all_of(f"{number:07}").items()
             if (sits.needs, sits.extra) != (tuple(words.features(needs)), extra)]
-
-
-def named(reading: Reading, found: Iterable[overlaps.Overlap]) -> list[tuple[overlaps.Overlap, list[Person]]]:
-    """Two sessions at one time, with who is in both."""
-    return [(each, consequences.by_name(reading, each.candidates)) for each in found]
 
 
 @dataclass

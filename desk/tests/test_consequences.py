@@ -20,7 +20,7 @@ def change(old=SITTING, new=SITTING, number="0000001", session="S1", name="Ada",
 
 
 def brief(changes, clashing=()):
-    return consequences.brief(consequences.grouped(list(changes), {consequences.CLASHES: list(clashing)}))
+    return consequences.brief(consequences.grouped(telling.by_kind(changes), {consequences.CLASHES: list(clashing)}))
 
 
 class Kinds(unittest.TestCase):
@@ -76,7 +76,7 @@ class Kinds(unittest.TestCase):
             "2 sit at other times (4 sittings):", "2 have other desks in the same hall:",
             "2 to tell (4 sittings), 1 with another desk only", ""])
         self.assertTrue(telling.text(changes[:3]).startswith("1 sits at another time (3 sessions):\n"))
-        [title, *_] = consequences.lines(consequences.grouped(changes, {}), 1)
+        [title, *_] = consequences.lines(consequences.grouped(telling.by_kind(changes), {}), 1)
         self.assertEqual(title, "2 sit at other times (4 sittings)")
         with mock.patch.object(papers, "told", lambda *_: [""]):
             page = papers.changes(mock.MagicMock(), mock.MagicMock(office=self.office), changes, "Since 1")

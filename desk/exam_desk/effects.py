@@ -1,0 +1,127 @@
+"""What a change does to candidates, sessions and papers: from two readings of an office, before and after it."""
+from __future__ import annotations
+
+import itertools
+import sqlite3
+from collections import Counter
+from collections.abc import Collection, Iterable, Iterator
+
+from exam_desk import facts, lists, logbook, notebook, overlaps, telling
+from exam_desk.overlaps import Overlap
+from exam_desk.reading import Person, Reading
+from exam_desk.telling import Touched
+
+OPENINGS = ("SELECT session, hall, day, until, start FROM opening JOIN session ON code = session "
+            "ORDER BY day, start, code, hall")
+FIGURES = ("SELECT code, coalesce(entered, 0), coalesce(seated, 0) FROM session "
+           "LEFT JOIN (SELECT session AS code, count(DISTINCT number) AS entered FROM entry "
+           "JOIN paper ON paper.code = paper WHERE live = 1 GROUP BY session) USING (code) "
+           "LEFT JOIN (SELECT session AS code, count(*) AS seated FROM seat GROUP BY session) USING (code) "
+           "ORDER BY day, start, code")
+
+
+class Effects:
+    """Whom a change meets in which way. Where nobody has a seat yet, nobody can lose or change one."""
+
+    def __init__(self, before: Reading, after: Reading, most_clashes: int | None = None) -> None:
+        """Of new clashes the first ones, or all."""
+        self.touched = telling.touched(before, after)
+        self.kinds = telling.by_kind(telling.of_touched(before, after, self.touched) if has_seats(before) else [])
+        self.changes = [each for part in self.kinds.values() for each in part]
+        self.clashes = [*itertools.islice(new_clashes(before, after, self.touched), most_clashes)]
+        self.overlaps = with_people(after, overlaps.new(before, after, [*self.touched]))
+        met = {(code, each.number) for each in self.changes if each.kind() != "name" for code in each.sessions()}
+        self.over = over(before, after, met | {(code, person.number) for code, person, _ in self.clashes})
+        self.opened, self.shut = opened(before, after), shut(before, after)
+        self.out_of_date = out_of_date(before, after, self.touched)
+        self.codes = by_name(after, [key for key, column, *_ in telling.other_values(before, after, ["candidates"])
+                                     if column == "code"])
+
+
+def over(before: Reading, after: Reading, met: Collection[tuple[str, str]]) -> dict[str, tuple[str, int]]:
+    """The sessions whose day, before or after, is before today, each with this day and how many are met there, by
+    session and number. Where nobody had a seat all who are entered count."""
+    counts = Counter(code for code, _ in met)
+    if not has_seats(before):
+        counts = Counter({code: people for code, (people, _) in other_figures(before, after).items()})
+    days = sorted((day, code) for reading in (before, after) for code, day, _ in facts.sessions(reading.rows))
+    first = {code: day for day, code in reversed(days)}
+    return {code: (day, counts[code]) for code, day in reversed(first.items())
+            if after.office.is_over(day) and counts[code]}
+
+
+def openings(reading: Reading) -> dict[tuple[str, str], sqlite3.Row]:
+    """The open halls, by session and hall, in the order of the sessions."""
+    return {(row["session"], row["hall"]): row for row in reading.rows.execute(OPENINGS)}
+
+
+def opened(before: Reading, after: Reading) -> dict[tuple[str, str], str]:
+    """The halls that a change opens again, by session, each with the moment at which `close-hall` closed it by the
+    log."""
+    new = openings(after).keys() - openings(before).keys()
+    closed = logbook.closings(after.office) if new else {}
+    return {each: closed[each] for each in sorted(new) if each in closed}
+
+
+def shut(before: Reading, after: Reading) -> list[sqlite3.Row]:
+    """The openings that are other ones, and that end before anybody can sit there: the session begins then or later."""
+    was = openings(before)
+    return [row for key, row in openings(after).items() if row["until"] <= row["start"] and was.get(key) != row]
+
+
+def out_of_date(before: Reading, after: Reading, sessions: Touched) -> dict[str, list[str]]:
+    """By session the halls whose papers are noted as printed and hold no longer, of those whom a change can meet."""
+    found = {code: halls_out_of_date(before, after, code, people) for code, people in sessions.items()}
+    return {code: sorted(halls) for code, halls in found.items() if halls}
+
+
+def halls_out_of_date(before: Reading, after: Reading, session: str, people: Collection[int] | None) -> set[str]:
+    """The halls of those of these people, or of all, who are otherwise than before and not as on paper, now and there;
+    where a hall has another title or end they are all who sit there by the papers."""
+    paper = notebook.on_paper(after.office, session).lines
+    if not paper:
+        return set()
+    was, ends = ({each.hall: (each.title, each.until) for each in facts.openings(reading.rows, session)}
+                 for reading in (before, after))
+    there = {int(number) for number, line in paper.items() if was.get(line.desk.hall) != ends.get(line.desk.hall)}
+    asked = None if people is None else there.union(people)
+    then, now = (notebook.lines_of(reading, session, reading.members(session, telling.entered(reading, session, asked)))
+                 for reading in (before, after))
+    lines = (line for number in notebook.moved(then, now) if paper.get(number) != now.get(number)
+             for line in (paper.get(number), now.get(number)))
+    return {line.desk.hall for line in lines if line}
+
+
+def new_clashes(before: Reading, after: Reading, sessions: Touched) -> Iterator[tuple[str, Person, list[str]]]:
+    """Who misses papers of a session that they did not miss before, of those whom a change can meet there, with the
+    session and these papers; by session and name."""
+    for session, people in sessions.items():
+        several = ((reading, telling.entered(reading, session, people, 2)) for reading in (before, after))
+        old, new = (reading.clashes(session, [*map("{:07}".format, numbers)]) for reading, numbers in several)
+        missed = {number: sorted(set(papers) - set(old.get(number, []))) for number, papers in new.items()}
+        for person in by_name(after, (number for number, papers in missed.items() if papers)):
+            yield session, person, missed[person.number]
+
+
+def with_people(reading: Reading, found: Iterable[Overlap]) -> list[tuple[Overlap, list[Person]]]:
+    """Two sessions at one time, with who is in both."""
+    return [(each, by_name(reading, each.candidates)) for each in found]
+
+
+def by_name(reading: Reading, numbers: Iterable[str]) -> list[Person]:
+    return lists.by_name(reading.person(int(number)) for number in numbers)
+
+
+def figures(reading: Reading) -> dict[str, tuple[int, int]]:
+    """How many are entered and how many have a seat, by session, in the order of the sessions."""
+    return {code: (entered, seated) for code, entered, seated in reading.rows.execute(FIGURES)}
+
+
+def other_figures(before: Reading, after: Reading) -> dict[str, tuple[int, int]]:
+    """As `figures` after a change, of the sessions that had other ones before it."""
+    was = figures(before)
+    return {code: now for code, now in figures(after).items() if was.get(code) != now}
+
+
+def has_seats(reading: Reading) -> bool:
+    return reading.rows.execute("SELECT 1 FROM seat LIMIT 1").fetchone() is not None
