@@ -67,6 +67,9 @@ case("whole-row-with-a-number", xlsx(sheet("Openings", OPENINGS, ["TOTAL", "A", 
      mistakes=[["Openings!2", "total?"]])
 case("struck-cross", xlsx(TWO_PAPERS, sheet("Entries", ["number", "MA-1"], ["0000001", ("strike", "x")])), 1, only=True,
      mistakes=[["Entries!B2", "struck out"]])
+case("cross-of-an-unknown-look", xlsx(TWO_PAPERS, sheet("Entries", ["number", "MA-1"], ["0000001", ("n", "1", "0-0")])), 1, only=True,
+     mistakes=[["Entries!B2", "neither a cross nor empty"]])
+case("name-like-a-total", xlsx(candidates([None, "Count Basie", "CODE0001"], BO)), 1, only=True, mistakes=[["Candidates!A2", "missing"]])
 case("rows-without-number", xlsx(candidates([None, "Ada Lin", "CODE0001"], [None, "Bo Berg", "CODE0002"], BO)), 1, only=True,
      mistakes=[["Candidates!A2", "missing"], ["Candidates!A3", "missing"]])
 
