@@ -17,8 +17,8 @@ from markupsafe import Markup, escape
 from exam_desk.names import parted
 from exam_desk.words import Said, clock, features, plain
 
-LEADING = re.compile("(`[^`]+`|[A-Z0-9-]+)")
-COMMAND = re.compile("`office (?P<name>[a-z-]+) ?(?:(?P<number>[0-9]{7}) .*|.*)`")
+COMMAND = re.compile("(`[^`]+`)")
+NAMED = re.compile("`office (?P<name>[a-z-]+) ?(?:(?P<number>[0-9]{7}) .*|.*)`")
 PAGES = {"back": "office.page", "init": "season.page", "look": "candidates.find"}  # by the command that does the same
 MOST_LETTERS = 10  # of a name at a desk
 RIGHT_TO_LEFT = ("ar", "fa", "he", "ur")
@@ -37,23 +37,32 @@ def text(english: str, **values: object) -> Markup:
     return found.format(**{name: shown(value) for name, value in values.items()}) if values else found
 
 
-def said(words: str, pages: Mapping[str, str] = {}) -> Markup:
+def said(words: str | Said, pages: Mapping[str, str] = {}) -> Markup:
     """What a function of the package says: in the reader's language where the table has it, else as it is. A command of
-    the terminal leads to the page that does the same, and a word that has a page to that."""
+    the terminal leads to the page that does the same, and a value that has a page to that."""
+    if isinstance(words, Said):
+        return text(words.text, **{name: value_said(value, pages) for name, value in words.values.items()})
     if found := LANGUAGES.get(language(), {}).get(words):
         return Markup(found)
-    parts = [Markup('<a href="{}">{}</a>').format(address, part) if (address := address_of(part, pages)) else part
-             for part in LEADING.split(plain(words))]
-    return Markup("<bdi>{}</bdi>").format(Markup("").join(parts))
+    return Markup("<bdi>{}</bdi>").format(Markup("").join(map(command_said, COMMAND.split(plain(words)))))
 
 
-def address_of(part: str, pages: Mapping[str, str]) -> str:
-    """The address to which a part of a text leads; nothing where it leads nowhere."""
-    if not (found := COMMAND.fullmatch(part)):
-        return pages.get(part, "")
-    if found["number"]:
-        return url_for("candidates.page", number=int(found["number"]))
-    return url_for(PAGES[found["name"]]) if found["name"] in PAGES else ""
+def value_said(value: object, pages: Mapping[str, str]) -> Markup:
+    if isinstance(value, list):
+        return Markup(", ").join(value_said(each, pages) for each in value)
+    if isinstance(value, Said):
+        return said(value, pages)
+    return Markup('<a href="{}">{}</a>').format(pages[value], shown(value)) if value in pages else shown(value)
+
+
+def command_said(part: str) -> str:
+    """A part of a text, which leads to a page where it is a command that has one."""
+    found, address = NAMED.fullmatch(part), ""
+    if found and found["number"]:
+        address = url_for("candidates.page", number=int(found["number"]))
+    elif found and found["name"] in PAGES:
+        address = url_for(PAGES[found["name"]])
+    return Markup('<a href="{}">{}</a>').format(address, part) if address else part
 
 
 def many(count: int, one: str, more: str, **values: object) -> Markup:
@@ -62,12 +71,7 @@ def many(count: int, one: str, more: str, **values: object) -> Markup:
 
 
 def shown(value: object) -> Markup:
-    """A value of the office: what hides in it is shown as `?`, and its direction stays its own. Or a text of the table
-    with its values, or several of them."""
-    if isinstance(value, Said):
-        return text(value.text, **value.values)
-    if isinstance(value, list):
-        return Markup(", ").join(map(shown, value))
+    """A value of the office: what hides in it is shown as `?`, and its direction stays its own."""
     if isinstance(value, Markup) or not isinstance(value, str):
         return escape(value)
     return Markup("<bdi>{}</bdi>").format(plain(value))

@@ -30,6 +30,14 @@ SIGNS = [b'"', b",", b"\n", b"\r", b"\0", b"\xff", b"-", b" ", b"0"]
 KNOWN = [7, 7, 7, 5, 3, 1, 0]  # how many kinds of rows an office has
 
 
+def bad_column(kind: str, record: files.Record) -> int | None:
+    """The first bad column of a record, from 1; 0 for a wrong count of fields, None where all is right."""
+    if len(record.fields) != len(files.HEADERS[kind]):
+        return 0
+    rights = (right(field) for field, right in zip(record.fields, files.FORMS[kind]))
+    return next((place for place, is_right in enumerate(rights, 1) if not is_right), None)
+
+
 def first_refusal(kind: str, text: bytes, known: mistakes.Known) -> str | None:
     """What the program says of a file, over an office that knows this: its line, or None where it takes the file."""
     if len(text) > files.MOST_BYTES:
@@ -39,7 +47,7 @@ def first_refusal(kind: str, text: bytes, known: mistakes.Known) -> str | None:
         return "refused 2"
     seen: dict = {}
     for place, record in enumerate(found, 1):
-        column = files.bad_column(kind, record)
+        column = bad_column(kind, record)
         if column is not None:
             return f"refused 1 record {place} column {column}"
         if seen.setdefault(files.key_of(kind, record.fields), record.fields) != record.fields:

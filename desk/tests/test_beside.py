@@ -258,7 +258,7 @@ class Log(Beside):
         self.run_office(*words, EXAMOFFICE=self.program("kill -9 $PPID"))
         self.assertEqual(self.log(), [[" ".join(words), "begins", ""]])
         self.run_office(*words, EXAMOFFICE=self.program("kill -TERM $PPID; exec sleep 5"))
-        self.assertEqual(self.log()[1:], [[" ".join(words), "begins", ""],
+        self.assertEqual(self.log()[1:], [[" ".join(words), "1", "broken off"], [" ".join(words), "begins", ""],
                                           [" ".join(words), "1", "stopped: look whether it is done"]])
 
     def test_a_copy_says_what_it_is_from_before(self):

@@ -491,7 +491,7 @@ class Taking(Changing):
         self.assertIn("entries.csv: added 2 changed 0 same 172\n", said)
 
     def test_no_office(self):
-        self.assertIn("`office init` makes one", self.refused("take", self.facts(), OFFICE=self.path + ".none"))
+        self.assertIn("`office init` makes a new one", self.refused("take", self.facts(), OFFICE=self.path + ".none"))
 
 
 if __name__ == "__main__":

@@ -116,7 +116,7 @@ class TestSessions(Rows):
         self.assertIn("SHORT-2 in S1-2 , a second sitting of SHORT , stays as it is", words)
         text = self.browser.get(page)
         for path, form in (("/sessions/S1-2#session", 'id="session"'), ("/papers/SHORT-2", 'id="paper"')):
-            self.assertIn(f'<a href="{self.browser.prefix}{path}">', text)
+            self.assertIn(f'<a href="{self.browser.prefix}{path}"><bdi>', text)
             self.assertIn(form, self.browser.get(path.partition("#")[0]))
 
     def test_refused_at_its_field(self):

@@ -88,7 +88,7 @@ class Many(unittest.TestCase):
         from exam_web import wording
         lines = left_behind(self.reading(), self.reading(90, "<b>"))
         with Flask(__name__).test_request_context(headers={"Accept-Language": "de"}):
-            shown = [re.sub("</?bdi>", "", wording.shown(line)) for line in lines]
+            shown = [re.sub("</?bdi>", "", wording.said(line)) for line in lines]
         self.assertEqual(shown[0], "HINWEIS: A-2 in S-2, eine zweite Sitzung von A, bleibt, wie sie ist (60 Minuten, der Titel "
                                    "?Maths), für 0000001 Ada: auch für S-2 oder A-2 eine Zeile einlesen")
         self.assertEqual(shown[5], "HINWEIS: .. und 2 weitere zweite Sitzungen, die bleiben, wie sie sind")
