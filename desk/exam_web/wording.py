@@ -52,7 +52,8 @@ def value_said(value: object, pages: Mapping[str, str]) -> Markup:
         return Markup(", ").join(value_said(each, pages) for each in value)
     if isinstance(value, Said):
         return said(value, pages)
-    return Markup('<a href="{}">{}</a>').format(pages[value], shown(value)) if value in pages else shown(value)
+    address = pages.get(str(value))
+    return Markup('<a href="{}">{}</a>').format(address, shown(value)) if address else shown(value)
 
 
 def command_said(part: str) -> str:
