@@ -76,7 +76,7 @@ class TestBroughtBack(Backups):
         parts = {name[len(self.folder) + 1:]: pathlib.Path(name).read_bytes() for name in glob.glob(copy + "*")}
         [name] = [name for number, name in self.rows("SELECT number, name FROM candidate") if number == 1051]
         self.assertEqual(name, "Di Berg")
-        for school, said in ("Hill School", 1), ("<b>Dale\u202e</b>", 2):
+        for school, said in ("Hill School", 1), ("<b>Dale\u202e\ud800</b>", 2):
             found = zipped({**parts, "notebook/school.json": json.dumps(school)})
             page, _ = self.browser.send(*BRING, ("other.zip", found))
             text = self.browser.get(page)
