@@ -9,6 +9,7 @@ from exam_desk import snapshot
 from exam_desk.office import Office
 
 GRANTED = 2  # the state of an appeal
+MOST_AT_ONCE = 1000  # rows
 DECIDING = {  # of each table that decides or shows seats which rows; so candidates who lodge change no name
     "session": "", "paper": "", "hall": "", "opening": "", "candidate": "", "entry": "", "arrangement": "",
     "appeal": f"WHERE state = {GRANTED}", "standing": "", "seat": "",
@@ -17,11 +18,13 @@ DECIDING = {  # of each table that decides or shows seats which rows; so candida
 
 def name_of(rows: sqlite3.Connection) -> str:
     """The name of the state that these rows are: the digits of a SHA-256."""
-    found = hashlib.sha256()
+    found, cursor = hashlib.sha256(), rows.cursor()
+    cursor.row_factory = None  # a tuple takes less time
     for table, which in DECIDING.items():
         found.update(f"{table}\n".encode())
-        for row in rows.execute(f"SELECT * FROM {table} {which} ORDER BY 1, 2"):
-            found.update(f"{tuple(row)!r}\n".encode("utf-8", "surrogatepass"))
+        cursor.execute(f"SELECT * FROM {table} {which} ORDER BY 1, 2")
+        while part := cursor.fetchmany(MOST_AT_ONCE):
+            found.update(repr(part).encode("utf-8", "surrogatepass"))
     return found.hexdigest()
 
 
