@@ -113,7 +113,8 @@ def tell(kind: type[BaseException], fault: BaseException, place: TracebackType |
         warn(fault)
     elif isinstance(fault, OSError):
         who = f" to the user {beside.user_name(os.getuid())}" if isinstance(fault, PermissionError) else ""
-        warn(f"{fault.filename or 'the output'}: {fault.strerror}{who}")
+        place = f"{fault.filename}: " if fault.filename else ""
+        warn(f"{place}{fault.strerror or fault}{who}")
     elif isinstance(fault, sqlite3.Error):
         warn(f"{office_path()}: {fault}")
     else:
@@ -131,8 +132,12 @@ def warn(message: object) -> None:
 
 def say(text: str) -> None:
     """Prints a text and makes sure that it went out whole."""
-    sys.stdout.write(text)
-    sys.stdout.flush()
+    try:
+        sys.stdout.write(text)
+        sys.stdout.flush()
+    except OSError as fault:
+        fault.filename = "the output"
+        raise
 
 
 def say_lines(lines: Iterable[str]) -> None:
