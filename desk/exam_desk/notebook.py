@@ -79,7 +79,7 @@ class Move(NamedTuple):
 class Paper(NamedTuple):
     """What was printed for a session."""
     lines: dict[str, Line]  # by number
-    who: str  # noted it, and when; "" where an earlier version did
+    who: str  # noted it, and when
     when: str
 
 
@@ -152,13 +152,10 @@ def can_stand(rows: Rows) -> bool:
 
 
 def on_paper(office: Office, session: str) -> Paper:
-    """What was printed for a session; no line where nobody said that it was. Of a line that has its desk alone nothing
-    else is known."""
+    """What was printed for a session; no line where nobody said that it was."""
     found = read(office, f"printed.{session}", dict[str, list[Any]](), is_line)
-    who, _, *when = found.pop(NOTED, ["", 0])
-    lines = {number: Line(Desk(hall, desk), shown if len(shown) == len(SHOWN) else [""] * len(SHOWN))
-             for number, (hall, desk, *shown) in found.items()}
-    return Paper(lines, who, "".join(when))
+    who, _, when, *_ = found.pop(NOTED, ["", 0, ""])
+    return Paper({number: Line(Desk(hall, desk), shown) for number, (hall, desk, *shown) in found.items()}, who, when)
 
 
 def printed(office: Office, session: str) -> dict[str, Desk]:
@@ -287,11 +284,12 @@ def attendance(reading: Reading, session: str) -> str:
 
 
 def is_text(part: object) -> bool:
-    return isinstance(part, str)
+    """Whether it is a text without halves of letters, which no page can hold."""
+    return isinstance(part, str) and part.encode("utf-8", "ignore").decode() == part
 
 
 def is_line(part: object) -> bool:
-    return isinstance(part, list) and [*map(type, part[:2])] == [str, int] and all(map(is_text, part[2:]))
+    return isinstance(part, list) and [*map(type, part)] in ([str, int, str], [str, int, *[str] * len(SHOWN)])
 
 
 def is_rows(part: object) -> bool:
@@ -323,7 +321,7 @@ def read(office: Office, name: str, empty: Held, right: Callable[[object], bool]
         file = beside.open_file(office.path, PLACE, f"{name}.json", flags=os.O_RDONLY)
     except FileNotFoundError:
         return empty
-    with open(file, "rb") as opened, contextlib.suppress(ValueError):
+    with open(file, "rb") as opened, contextlib.suppress(ValueError, RecursionError):
         held = json.loads(opened.read())
         parts = held.values() if isinstance(held, dict) else held
         if isinstance(held, type(empty)) and all(map(right, parts)):

@@ -146,7 +146,8 @@ class Notebook(unittest.TestCase):
         notebook.set_school_name(self.office, "Hill")
         victim = pathlib.Path(self.path).with_name("victim")
         victim.write_text('"stranger"')
-        for text in (b"", b"{", b"[]", b"null", b"\xff", b'{"0000001": 1}'):
+        for text in (b"", b"{", b"[]", b"null", b"\xff", b'{"0000001": 1}', b"[" * 100_000,
+                     b'{"0000001": "\\ud800"}'):
             (self.place / "notes.json").write_bytes(text)
             with self.assertRaisesRegex(Trouble, "is damaged"):
                 notebook.notes(self.office)
@@ -155,6 +156,7 @@ class Notebook(unittest.TestCase):
                 ("rows", b'{"GYM": [0, "down"]}', notebook.rows_of_halls),
                 ("rows", b'{"GYM": [1]}', notebook.rows_of_halls),
                 ("printed.S", b'{"0000001": [1, "GYM"]}', lambda office: notebook.printed(office, "S")),
+                ("printed.S", b'{"0000001": ["GYM", 1]}', lambda office: notebook.printed(office, "S")),
                 ("printed.S", b'{"0000001": ["GYM", 1, 2]}', lambda office: notebook.printed(office, "S")),
                 ("absent.S", b"[1]", lambda office: notebook.absent(office, "S")),
                 ("absent.S", b'{"0000001": "a"}', lambda office: notebook.absent(office, "S"))):
@@ -289,16 +291,6 @@ class Commands(sample.SampleSchool):
         self.assertEqual(paper.who, lines[1][1])
         self.assertTrue(before <= paper.when <= lines[1][0], (before, paper.when, lines))
         self.assertEqual(len(paper.lines), int(answers[1].split()[0]))
-
-    def test_a_line_that_has_its_desk_alone(self):
-        """Its desk is known, so papers show where another one was; and it has to be printed again."""
-        for line in (["GYM", 99], ["AULA", 4, "a text"]):
-            with notebook.alone(self.value) as folder:
-                notebook.write(self.value, folder, "printed.MON-AM", {"0001000": line})
-            self.assertEqual("was GYM 99" in self.office("board", "MON-AM"), line[0] == "GYM")
-            places = "AULA 4" if line[0] == "AULA" else "GYM 99 -> AULA 4"
-            self.assertRegex(self.office("printed", "MON-AM", "--look"),
-                             f"(?m)^0001000 Ada Lin: {places}, name - -> Ada Lin, paper - -> MA-1, date - -> 2027-06-07, ")
 
     def test_what_else_is_on_paper(self):
         """A line is another one where the desk is the same: each part of it that papers show, with old and new."""
