@@ -18,7 +18,7 @@ from exam_desk.office import Office
 from exam_desk.reading import Reading
 from exam_desk.running import Ran
 from exam_desk.trouble import Stale, Trouble
-from exam_desk.words import plain
+from exam_desk.words import Said, plain
 
 CHANGES, MIGRATE = changing.CHANGES, "migrate"
 LISTED = {"withdraw": ["--list FILE.csv", "<number> --all"], "reinstate": ["--list FILE.csv"]}  # how a list is typed
@@ -138,7 +138,7 @@ class Back(Change):
         self.tell("would be", losses.found(office, self.copy), notebook.others_than_in(office, self.copy))
         return 0
 
-    def tell(self, verb: str, taken: list[str], others: list[str]) -> None:
+    def tell(self, verb: str, taken: list[Said], others: list[str]) -> None:
         """Says what is taken away, and what is left as it is beside the office though the copy has it otherwise."""
         when, what = copies.when_and_what(self.copy)
         print(f"the office {verb} as it was on {when}, before {plain(what)}")
@@ -333,7 +333,7 @@ def meant(name: str) -> str:
     return f"; is `office {found[0]}` meant?" if found else ""
 
 
-def agreed(question: str, lines: list[str]) -> list[str]:
+def agreed(question: str, lines: list[Said]) -> list[Said]:
     """Raises `Trouble` unless the answer is yes; gives the lines of what was asked about."""
     command.say_lines(f"taken away: {line}" for line in lines)
     command.ask(question)

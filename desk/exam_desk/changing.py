@@ -27,6 +27,7 @@ from typing import NamedTuple
 from exam_desk import beside, copies, files, logbook, losses, private, refusals, running, states, turns
 from exam_desk.office import Office
 from exam_desk.trouble import Stale, Trouble
+from exam_desk.words import Said
 
 CHANGES = ["import", "withdraw", "reinstate", "close-hall", "decide", "migrate"]
 PAUSE = 0.2  # seconds from one try to the next
@@ -108,7 +109,7 @@ class Rehearsal(Tried):
 class Back(NamedTuple):
     """What became of a copy that was to be put back."""
     is_done: bool
-    lines: list[str]  # for each appeal and decision that this takes away
+    lines: list[Said]  # for each appeal and decision that this takes away
     copy: str | None  # the path of the copy of what was there
 
 
@@ -279,7 +280,7 @@ def carried_all(taken: Turn, title: str, steps: Sequence[Step], copy: str) -> li
     return answers
 
 
-def go_back(office: Office, words: Sequence[str], copy: str, may_go: Callable[[list[str]], bool],
+def go_back(office: Office, words: Sequence[str], copy: str, may_go: Callable[[list[Said]], bool],
             made_from: str | None = None) -> Back:
     """Puts a copy in the place of the office, in one turn, where `may_go` agrees to the appeals and decisions that this
     takes away. Raises as `turn`, and `Trouble` where the copy is gone or no good office."""
@@ -293,7 +294,7 @@ def go_back(office: Office, words: Sequence[str], copy: str, may_go: Callable[[l
                 return Back(False, lines, None)
             outcome = stack.enter_context(logbook.logged(office, words))
         kept = copies.put_back(office, copy)
-        outcome.status, outcome.answer = 0, "; ".join([copies.state_of(copy), *lines])
+        outcome.status, outcome.answer = 0, "; ".join([copies.state_of(copy), *map(str, lines)])
     return Back(True, lines, kept)
 
 

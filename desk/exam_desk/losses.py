@@ -6,12 +6,11 @@ import contextlib
 import json
 import os
 import sqlite3
-from typing import Any
 
 from exam_desk import appeals, copies, notebook, private
 from exam_desk.office import Office
 from exam_desk.trouble import Trouble
-from exam_desk.words import plain
+from exam_desk.words import Said, plain
 
 UNKNOWN = "nobody can say which appeals and decisions, since what the office holds now cannot be read"
 OTHERS = ("{gone} of {candidates} candidates and {over} of {sessions} sessions of the office are not in it, and "
@@ -22,22 +21,17 @@ COUNTS = ("SELECT (SELECT count(*) FROM now.{0}), (SELECT count(*) FROM other.{0
           "(SELECT count(*) FROM now.{0} AS old JOIN other.{0} AS new ON {1})")
 CANDIDATES = COUNTS.format("candidate", "old.number = new.number AND (old.name = new.name OR old.code = new.code)")
 SESSIONS = COUNTS.format("session", "old.code = new.code AND old.day = new.day")
-Said = tuple[str, dict[str, Any]]  # a sentence, and the values in its braces
 
 
-def found(office: Office, copy: str) -> list[str]:
-    """A line for each thing that the office has and a copy has not; none where there is no office."""
-    return [sentence.format(**values) for sentence, values in said(office, copy)]
-
-
-def said(office: Office, copy: str) -> list[Said]:
+def found(office: Office, copy: str) -> list[Said]:
+    """What is said of each thing that the office has and a copy has not; nothing where there is no office."""
     place = os.path.realpath(office.path)
     if not os.path.exists(place):
         return []
     now, then = appeals.read(office, place), appeals.read(office, copies.file_in(office, copy))
     if now is None:
-        return [(UNKNOWN, {})]
-    return [*of_others(office, copy), *(("{line}", {"line": line}) for line in appeals.lost(now, then or {}))]
+        return [Said(UNKNOWN, {})]
+    return [*of_others(office, copy), *(Said("{line}", {"line": line}) for line in appeals.lost(now, then or {}))]
 
 
 def of_others(office: Office, copy: str) -> list[Said]:
@@ -47,14 +41,14 @@ def of_others(office: Office, copy: str) -> list[Said]:
     with contextlib.suppress(OSError, sqlite3.Error):
         (candidates, brought, alike), (sessions, held, same) = counted(office, copy)
         if 2 * alike < (candidates if copies.is_brought(copy) else min(candidates, brought)):
-            why.append((OTHERS, {
+            why.append(Said(OTHERS, {
                 "gone": candidates - alike, "candidates": candidates, "over": sessions - same, "sessions": sessions,
                 "new": brought - alike, "brought": brought, "later": held - same, "held": held}))
-    with contextlib.suppress(OSError, ValueError, Trouble):  # none stands beside it, or the office's is damaged
+    with contextlib.suppress(OSError, ValueError, RecursionError, Trouble):  # none stands beside it, or the office's is damaged
         with open(os.path.join(copy, notebook.PLACE, "school.json"), "rb", opener=private.no_link) as file:
             school, other = notebook.school_name(office), plain(str(json.loads(file.read())))
         if copies.is_brought(copy) and school and other and plain(school) != other:
-            why.append((NAMED, {"other": other, "school": plain(school)}))
+            why.append(Said(NAMED, {"other": other, "school": plain(school)}))
     return why
 
 

@@ -72,14 +72,8 @@ def copy(key: str) -> str:
     return render_template("copy.html", key=key, when=when, what=what, is_brought=copies.is_brought(path),
                            e=compared(now, path) if now else None,
                            held=[] if now else [*sums(view_of(path)).values()],
-                           most=MOST_ROWS, lost=lost_by(path),
+                           most=MOST_ROWS, lost=losses.found(desk().office, path),
                            log=[line for line in log_since(when) if line[3] not in (logbook.BEGINS, logbook.STEP)])
-
-
-def lost_by(path: str) -> dict[str, Markup]:
-    """What is lost if a copy is put back: the line of each that is ticked, and how the page says it."""
-    return {sentence.format(**values): text(sentence, **values)
-            for sentence, values in losses.said(desk().office, path)}
 
 
 def view_of(path: str) -> View:
@@ -106,7 +100,7 @@ def back(key: str) -> Response:
     when, what = copies.when_and_what(path)
     try:
         with desk().rehearsing:
-            is_back, _, kept = changing.go_back(office(), ["back"], path, lambda lost: ticked.issuperset(lost),
+            is_back, _, kept = changing.go_back(office(), ["back"], path, lambda lost: ticked.issuperset(map(str, lost)),
                                                 request.form.get("state", ""))
     except Stale:
         said = text("Nothing is changed: the office is another than the page showed. This is how it stands now.")

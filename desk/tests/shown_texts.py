@@ -39,7 +39,7 @@ TABLES = {  # by what stands in the call
     "appeals.KINDS[row.kind]": appeals.KINDS.values(), "appeals.STATES[row.state]": appeals.STATES.values(),
     "kind": appeals.KINDS.values(), "PROBLEMS[fault.code]": application.PROBLEMS.values(),
     "str(stage)": [desk.COPYING, desk.COUNTING], "mistakes.CURES[column].removesuffix(SHEET_HINT)": CURES,
-    "v.kind": appeals.KINDS.values(), "sentence": [losses.OTHERS, losses.NAMED, losses.UNKNOWN],
+    "v.kind": appeals.KINDS.values(),
     "f'{date:%a}'": [f"{date:%a}" for date in DAYS], "f'{date:%b}'": [f"{date:%b}" for date in MONTHS],
 }
 SENTENCE = re.compile(r"[a-z]{2,} [a-z]{2,}.* [a-z]{2,}")
@@ -154,7 +154,7 @@ def main():
     found.update(re.findall(r'\btext\("((?:[^"\\]|\\.)*)"', (DESK / "exam_web/wording.py").read_text("utf-8")))
     for table in TABLES.values():
         found.update(table)
-    found.update(SAID, OPENED, OWN, left_behind.TEXTS)
+    found.update(SAID, OPENED, OWN, left_behind.TEXTS, [losses.OTHERS, losses.NAMED, losses.UNKNOWN])
     print(json.dumps({"found": sorted(found), "lost": lost}))
 
 
