@@ -46,6 +46,7 @@ WIDE = "WFA"  # letters that are as wide as high, or may be
 MARKS = {"Mn", "Me", "Cf"}  # stand over other letters, or nowhere
 Row = tuple[list[object], float]  # the cells of a candidate, and how high they are
 
+
 class NotDrawn(Trouble):
     """Nobody has said how the desks of halls stand."""
 
