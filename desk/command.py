@@ -113,8 +113,8 @@ def tell(kind: type[BaseException], fault: BaseException, place: TracebackType |
         warn(fault)
     elif isinstance(fault, OSError):
         who = f" to the user {beside.user_name(os.getuid())}" if isinstance(fault, PermissionError) else ""
-        place = f"{fault.filename}: " if fault.filename else ""
-        warn(f"{place}{fault.strerror or fault}{who}")
+        where = f"{fault.filename}: " if fault.filename else ""
+        warn(f"{where}{fault.strerror or fault}{who}")
     elif isinstance(fault, sqlite3.Error):
         warn(f"{office_path()}: {fault}")
     else:
