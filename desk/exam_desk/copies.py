@@ -42,11 +42,13 @@ def named(number: int, what: str) -> str:
 
 
 def keep_day(office: Office, day: datetime.date, most: int) -> str | None:
-    """Copies the office for a day that has no copy yet, and gives its path; of all days the last ones stay."""
+    """Copies the office for a day that has no copy yet, and gives its path; of all days the last ones stay, and none to
+    come, which a wrong clock has made."""
     if os.path.lexists(beside.folder(office.path, DAYS, day.isoformat())):
         return None
     copy = make(office, DAYS, day.isoformat())
-    others = [path for path in sorted(folders(office, DAYS, DAY)) if path != copy]
+    others = [path for path in folders(office, DAYS, DAY) if path != copy]
+    others.sort(key=lambda path: (path <= copy, path))
     for old in others[:max(len(others) + 1 - most, 0)]:
         drop(old)
     return copy
@@ -225,5 +227,10 @@ def put_back(office: Office, copy: str) -> str | None:
         elif is_brought(copy):
             with contextlib.suppress(OSError):  # it has none, or one is here already
                 os.rename(os.path.join(copy, notebook.PLACE), beside.folder(office.path, notebook.PLACE))
-        move_in(office, path)
+        try:
+            move_in(office, path)
+        except OSError:
+            if kept:
+                kept_if_other(office, kept)
+            raise
     return kept

@@ -61,21 +61,21 @@ class Effects(effects.Effects):
     """What a change does, as the page shows it: to people, the gravest first, and to sessions."""
 
     def __init__(self, before: View, after: View) -> None:
-        then, now, was = before.reading, after.reading, sums(before)
+        then, now, was, are = before.reading, after.reading, sums(before), sums(after)
         super().__init__(then, now, MOST_CLASHES)
         self.to_tell = [each for each in self.changes if each.is_to_tell()]
         self.desk_only = Counter(each.session for each in self.kinds.get("desk", []))  # by session
         # candidates who have no page before it is done
         self.new = facts.access_codes(now.rows).keys() - facts.access_codes(then.rows).keys()
-        self.sessions = [(was.get(code), each) for code, each in sums(after).items() if code in self.touched
-                         and (code not in was or NUMBERS(was[code]) != NUMBERS(each))]
+        self.sessions = [(was.get(code), are.get(code)) for code in {**are, **was} if code in self.touched
+                         and not (code in was and code in are and NUMBERS(was[code]) == NUMBERS(are[code]))]
         self.rows = [*itertools.islice(telling.other_values(then, now), MOST_ROWS)]
         arranged = {*map(tuple, then.rows.execute(ARRANGED))}
         self.granted = [(now.person(row[0]), found) for row in now.rows.execute(OF_GRANTED).fetchall()
                         if tuple(row) not in arranged and (found := granted(now, row[0]))]
         self.clashing = [(code, now.member(code, person.number), missed) for code, person, missed in self.clashes]
         short = set() if self.changes else unseated(after) - unseated(before)
-        self.short = [(code, person) for code in sums(after) for person in effects.by_name(
+        self.short = [(code, person) for code in are for person in effects.by_name(
             now, [str(number) for session, number in short if session == code])][:MOST_ROWS]
         who: dict[str, list[Any]] = {kind: [each.number for each in part] for kind, part in self.kinds.items()} | {
             "over": list(self.over), "opened": list(self.opened), "shut": self.shut,

@@ -164,12 +164,13 @@ def draw(code: str) -> Response:
 
 @pages.post("/sessions/<code>/absent")
 def note_absent(code: str) -> Response:
-    """Notes as absent who is ticked, or named by number; whoever is listed and not ticked was there."""
-    shown, ticked = Session(code), request.form.getlist("absent")
+    """Notes as absent who is named by number, or newly ticked; who was shown as absent and is not ticked was there. So
+    what somebody else has noted meanwhile stays."""
+    shown, ticked, was = Session(code), *(set(request.form.getlist(name)) for name in ("absent", "was"))
     typed = request.form.get("numbers", "").replace(",", " ").split()
-    there = set(request.form.getlist("listed")).difference(ticked)
     with at_field(shown.page, "absent", "numbers"):
-        found = notebook.note_absent(office(), view().reading, code, [*ticked, *typed], there, "nobody" in request.form)
+        found = notebook.note_absent(office(), view().reading, code, [*sorted(ticked - was), *typed], was - ticked,
+                                     "nobody" in request.form)
     told = many(len(found), "{count} candidate is noted as absent in {session}.",
                 "{count} candidates are noted as absent in {session}.", session=code)
     return lead("session.page", told, code=code, _anchor="absent")

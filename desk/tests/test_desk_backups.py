@@ -86,6 +86,8 @@ class TestBroughtBack(Backups):
                                       "school's?")
             self.assertEqual(len(lost), said, lost)
             self.assertNotRegex(text, "<b>Dale|\u202e")
+            sessions = text.partition('id="of-sessions"')[2].partition("</table>")[0]
+            self.assertRegex(sessions, r'(?s)TUE-AM .*?<small>\d+ →</small> <b>–</b>')  # it is gone then
             for some in ({}, {"lost": lost[1:]}):
                 self.assertIn("tick each of these", self.put_back(page, 422, **some)[1])
         self.put_back(page, lost=lost)

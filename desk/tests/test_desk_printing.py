@@ -186,7 +186,7 @@ class TestPrinting(DeskSchool):
             self.assertNotIn("Note who was absent", text)
             self.assertNotIn("attendance.csv", text)
             self.assertNotIn('name="absent"', text)
-        for values in ({"numbers": "0001051"}, {"nobody": "1"}, {"listed": ["0001051"]}):
+        for values in ({"numbers": "0001051"}, {"nobody": "1"}, {"was": ["0001051"]}):
             _, text = self.browser.post(page + "/absent", page, 422, **values)
             self.assertIn("nobody can have been present or absent before that day", text)
         answer, text = self.browser.ask("GET", page + "/attendance.csv")
@@ -247,7 +247,7 @@ class TestTheDay(DeskSchool):
         said = self.browser.words(page)
         self.assertIn("2 candidates are noted as absent in MON-AM", said)
         self.assertNotIn(self.NOTHING_NOTED, said)
-        self.browser.post(page + "/absent", page + "/halls/PC1", absent=["0001051"], listed=["0001051", "0001119"])
+        self.browser.post(page + "/absent", page + "/halls/PC1", absent=["0001051"], was=["0001051", "0001119"])
         text = self.browser.get(page + "/halls/PC1")
         self.assertEqual(re.findall(r'value="(\d{7})"[^>]*checked', text), ["0001051"])
         self.assertEqual(self.browser.ask("GET", page + "/attendance.csv")[1], self.office("absent", "MON-AM"))
@@ -256,12 +256,24 @@ class TestTheDay(DeskSchool):
             _, text = self.browser.post(page + "/absent", page, 422, numbers=wrong)
             self.assertRegex(text, 'name="numbers"[^>]*aria-invalid="true"')
         self.browser.post("/sessions/NONE/absent", page, 404, numbers="0001051")
-        self.browser.post(page + "/absent", page, listed=["0001051"])
+        self.browser.post(page + "/absent", page, was=["0001051"])
         self.assertIn(self.NOTHING_NOTED, self.browser.words(page))
         self.browser.post(page + "/absent", page, nobody="1")
         self.assertNotIn(self.NOTHING_NOTED, self.browser.words(page))
         self.assertNotIn('"absent"', self.office("absent", "MON-AM"))
         self.assertEqual(self.seats(), before)
+
+    def test_what_a_colleague_has_noted_stays(self):
+        """A list that was loaded before is sent, with one more tick in it, and without one that it showed."""
+        page = "/sessions/MON-AM"
+        self.office("absent", "MON-AM", "0001119")
+        self.assertEqual(re.findall(r'name="was" value="(\d+)"', self.browser.get(page + "/halls/PC1")), ["0001119"])
+        self.office("absent", "MON-AM", "0001000")
+        self.browser.post(page + "/absent", page + "/halls/PC1", absent=["0001051"], was=["0001119"])
+        self.assertEqual(notebook.absent(self.value, "MON-AM"), {"0001000", "0001051"})
+        self.office("absent", "MON-AM", "--there", "0001051")
+        self.browser.post(page + "/absent", page + "/halls/PC1", absent=["0001051", "0001119"], was=["0001051"])
+        self.assertEqual(notebook.absent(self.value, "MON-AM"), {"0001000", "0001119"})
 
     def test_who_was_absent_and_is_gone(self):
         page = "/sessions/MON-AM"
@@ -272,7 +284,7 @@ class TestTheDay(DeskSchool):
         text, said = self.browser.get(page), self.browser.words(page)
         self.assertIn("so the list for the exam board lacks them: 0001051 ", said)
         self.assertNotIn("Nobody was absent", said)
-        self.assertNotIn('name="listed"', text)
+        self.assertNotIn('name="was"', text)
         self.browser.post(page + "/absent", page, numbers="0001119")
         self.assertRegex(self.log(), r"\(ab, desk\)\tabsent MON-AM\t0\tabsent 0001119\n")
         self.assertEqual(notebook.absent(self.value, "MON-AM"), {"0001051", "0001119"})

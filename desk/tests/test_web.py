@@ -174,6 +174,24 @@ class Titles(SampleSchool):
             self.assertEqual(file.read(), self.titles().stdout)
         self.assertEqual(self.titles(os.path.join(self.folder.name, "no/titles.json")).returncode, 1)
 
+    def test_only_a_file_of_titles_is_written_over(self):
+        """A slip would cost the office, its log, or somebody else's file."""
+        before = self.kept()
+        for name, content in (("office.db", None), ("page.html", b"<p>"), ("other.json", b'{"sessions": {}}'),
+                              ("list.json", b"[1]"), ("number.json", b"1"), ("deep.json", b"[" * 100_000)):
+            path = os.path.join(self.folder.name, name)
+            if content is not None:
+                pathlib.Path(path).write_bytes(content)
+            done = self.titles(path)
+            self.assertEqual(done.returncode, 1, name)
+            self.assertIn("is no file of titles", done.stderr)
+            if content is not None:
+                self.assertEqual(pathlib.Path(path).read_bytes(), content)
+        self.assertEqual(self.kept(), before)
+        for content in ("", '{"sessions": {}, "papers": {}, "halls": {}}'):
+            pathlib.Path(path).write_text(content, "ascii")
+            self.assertEqual(self.titles(path).returncode, 0, content)
+
     def test_hostile_titles_stay_data(self):
         title = '</script><b>"=1+1" \u009b2J \u202eevil \u2028 end'
         halls = os.path.join(self.folder.name, "halls.csv")
