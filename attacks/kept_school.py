@@ -19,7 +19,6 @@ import built
 TODAY = "2027-05-01"
 NOBODY = 65534
 SECONDS = 60  # that a client waits for its answer
-MOST_AT_ONCE = 200  # connections of all clients of a script
 LARGE = {  # an office of some candidates, who all sit one paper; by kind the header and the rows
     "sessions": ("session,date,start", ["MON-AM,2027-06-07,09:00"]),
     "papers": ("paper,title,session,minutes,requires", ["MA-1,Mathematics,MON-AM,120,-"]),
