@@ -17,6 +17,7 @@ OTHERS = ("{gone} of {candidates} candidates and {over} of {sessions} sessions o
           "{new} of its {brought} candidates and {later} of its {held} sessions are not in the office: is it another "
           "school's?")
 NAMED = "the name of its school is {other}, that of the office is {school}: is it another school's?"
+DOUBTS = [OTHERS, NAMED]
 COUNTS = ("SELECT (SELECT count(*) FROM now.{0}), (SELECT count(*) FROM other.{0}), "
           "(SELECT count(*) FROM now.{0} AS old JOIN other.{0} AS new ON {1})")
 CANDIDATES = COUNTS.format("candidate", "old.number = new.number AND (old.name = new.name OR old.code = new.code)")

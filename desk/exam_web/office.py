@@ -72,7 +72,7 @@ def copy(key: str) -> str:
     return render_template("copy.html", key=key, when=when, what=what, is_brought=copies.is_brought(path),
                            e=compared(now, path) if now else None,
                            held=[] if now else [*sums(view_of(path)).values()],
-                           most=MOST_ROWS, lost=losses.found(desk().office, path),
+                           most=MOST_ROWS, lost=losses.found(desk().office, path), doubts=losses.DOUBTS,
                            log=[line for line in log_since(when) if line[3] not in (logbook.BEGINS, logbook.STEP)])
 
 
@@ -100,7 +100,8 @@ def back(key: str) -> Response:
     when, what = copies.when_and_what(path)
     try:
         with desk().rehearsing:
-            is_back, _, kept = changing.go_back(office(), ["back"], path, lambda lost: ticked.issuperset(map(str, lost)),
+            is_back, _, kept = changing.go_back(office(), ["back"], path,
+                                                lambda lost: ticked.issuperset(map(str, lost)),
                                                 request.form.get("state", ""))
     except Stale:
         said = text("Nothing is changed: the office is another than the page showed. This is how it stands now.")
