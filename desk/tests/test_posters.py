@@ -92,6 +92,12 @@ class Posters(sample.SampleSchool):
         self.assertEqual(names, [f"Zoe Quist {one}", f"zoé QUIST {other}", f"Yves Lone {lone}"])
         self.assertEqual(sorted(re.findall(r"\b0001\d{3}\b", text)), sorted([one, other, lone]))
 
+    def test_namesakes_whose_spaces_a_browser_joins_have_their_numbers(self):
+        written = {number: name for number, name in zip(self.seats(), ("Ada Quist", "Ada  Quist", "Ada Quist ", "Olga"))}
+        for number, name in written.items():
+            self.change("UPDATE candidate SET name = ? WHERE number = ?", (name, int(number)))
+        self.assertEqual(sorted(re.findall(r"\b0001\d{3}\b", self.page("poster", "MON-AM")[0])), sorted(written)[:3])
+
     def test_poster_of_one_hall(self):
         sheets = self.office("poster", "MON-AM").split("<div class=sheet>")[1:]
         [sheet] = self.office("poster", "MON-AM", "PC1").split("<div class=sheet>")[1:]
