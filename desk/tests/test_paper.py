@@ -48,7 +48,8 @@ class Papers(sample.SampleSchool):
         self.assertIn("with 50 % extra time, reader", text)
         self.assertIn("<b>no desk yet: ask the office</b>", text)
         self.assertIn("desk&nbsp;1<", self.office("slips", "--desks", "MON-AM"))
-        self.assertEqual(self.office("slips", "--only", "1051"), self.office("slips", "--only", "0001051"))
+        self.assertEqual(*(self.office("slips", "--only", number, TODAY="2027-05-01 08:15")
+                           for number in ("1051", "0001051")))
         self.assertIn("there is no candidate 9999999", self.refused("slips", "--only", "9999999"))
         self.assertIn("0001000 sits nothing in TUE-AM", self.refused("slips", "--only", "1000", "TUE-AM"))
         for wrong in ("x1051", "00001051", "000", ""):
@@ -201,7 +202,7 @@ class Papers(sample.SampleSchool):
             html = self.office(*words, TODAY="2027-05-01 08:15")
             page, _ = self.browse(words[0], html, "--print-to-pdf={}.pdf")
             text = subprocess.run(["pdftotext", "-raw", f"{page}.pdf", "-"], check=True, capture_output=True).stdout
-            self.assertEqual(text.count(b"\f"), text.count(b"printed 2027-05-01 08:15, state "))
+            self.assertEqual(text.count(b"\f"), text.count(b"printed 2027-05-01 08:15:00, state "))
             if words[0] == "doors":  # each page of a hall says which it is
                 self.assertEqual(text.count(b"\f"), html.count("<div class=sheet>"))
             self.assertEqual(text.count(b"W") - text.count(b"Wanda") - text.count(b"Weiss") - text.count(b"Willem"), 80)
@@ -223,13 +224,13 @@ class Papers(sample.SampleSchool):
     def test_each_page_says_when_it_was_printed(self):
         for hall in ("AULA", "GYM", "LIB", "PC1", "R12"):
             self.office("rows", hall, "5")
-        foot = f"printed 2027-05-01 08:15, state {states.name_now(self.value)[:8]}"
+        foot = f"printed 2027-05-01 08:15:00, state {states.name_now(self.value)[:8]}"
         for words in PAGES:
             self.assertEqual(self.office(*words, TODAY="2027-05-01 08:15").count(foot), 1, words)
-        now = datetime.datetime.now().replace(second=0, microsecond=0)
+        now = datetime.datetime.now().replace(microsecond=0)
         [day, clock] = re.findall(r"printed (\S+) (\S+), state", self.office("board", "MON-AM"))[0]
         later = datetime.datetime.combine(now, datetime.time.fromisoformat(clock)) - now
-        self.assertEqual((day, later.seconds < 600), (sample.TODAY, True))
+        self.assertEqual((day, later.seconds < 600), (sample.TODAY, True))  # not before, as without its seconds
         self.run_office("withdraw", "0001000", "MA-1")
         self.assertNotIn(foot, self.office("board", "MON-AM", TODAY="2027-05-01 08:15"))
         self.assertIn("TODAY is 2027-05-01 25:00", self.refused("board", "MON-AM", TODAY="2027-05-01 25:00"))
