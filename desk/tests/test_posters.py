@@ -104,6 +104,20 @@ class Posters(sample.SampleSchool):
         self.assertEqual([each for each in sheets if "PC1" in each], [sheet.replace("</body></html>\n", "")])
         self.assertIn("nobody sits in X", self.refused("poster", "MON-AM", "X"))
 
+    def test_where_nobody_has_a_desk(self):
+        self.office("school", "Hill <School>")
+        for hall in ("AULA", "GYM", "LIB", "PC1", "R12", "R14"):
+            self.assertEqual(self.run_office("close-hall", "TUE-AM", hall).returncode, 0)
+        self.change("INSERT INTO session SELECT 'WED', '2027-06-09', start FROM session WHERE code = 'TUE-AM'")
+        for command in ("doors", "poster", "cards", "chart"):
+            for session, day, said in (
+                    ("TUE-AM", "Tuesday, 8 June", "48 candidates, none has a desk: office why TUE-AM says why"),
+                    ("WED", "Wednesday, 9 June", "nobody is entered")):
+                body = self.office(command, session).partition("<body>")[2]
+                self.assertEqual(re.sub("<br>|<[^>]*>", "", body.replace("<br>", ", ")).split("\n")[1:3], [
+                    f"Hill &lt;School&gt;, {day} 2027, 09:00 ({session})", said])
+        self.assertIn("nobody has a desk in TUE-AM\n", self.refused("doors", "TUE-AM", "AULA"))
+
     def test_cards(self):
         text, _ = self.page("cards", "MON-AM")
         seats, names = self.seats(), self.names()

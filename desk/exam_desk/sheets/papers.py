@@ -60,10 +60,18 @@ def when(reading: Reading, session: str) -> Markup:
     return html("{}, {} ({})", long_day(head["day"]), clock(head["start"]), session)
 
 
-def of_desks(reading: Reading, title: str, sheets: Iterable[Markup], name: str) -> str:
-    """A document of sheets on who has a desk, each on pages of its own."""
+def of_desks(reading: Reading, session: str, title: str, sheets: Iterable[Markup], name: str) -> str:
+    """A document of sheets on who has a desk in a session, each on pages of its own."""
     found = joined(html("<div class=sheet>{}</div>\n", sheet) for sheet in sheets)
-    return document(reading, title, found or Markup("<p>Nobody has a desk.</p>\n"), "paper", name)
+    return document(reading, f"{title} {session}", found or nobody(reading, session), "paper", name)
+
+
+def nobody(reading: Reading, session: str) -> Markup:
+    """What stands in place of sheets where nobody has a desk in a session."""
+    members = lists.count(len(reading.members(session)), "candidate")
+    why = html("{}, none has a desk: <code>office why {}</code> says why", members, session)
+    return html("<h2>{}{}</h2>\n<p>{}</p>\n", school(reading.office, "<br>"), when(reading, session),
+                why if reading.members(session) else "nobody is entered")
 
 
 def desk(member: Member, before: Mapping[str, Desk]) -> Markup:
@@ -100,7 +108,7 @@ def board(reading: Reading, session: str) -> str:
 def poster(reading: Reading, session: str, asked: Collection[str] = ()) -> str:
     """Posters for the doors: each hall from a page of its own on, names with desks and nothing private."""
     moment, name, names = when(reading, session), school(reading.office, " &middot; "), named(reading.members(session))
-    return of_desks(reading, f"Posters {session}", (
+    return of_desks(reading, session, "Posters", (
         html(POSTER, fitted(text(opening.title), ON_POSTER), moment, name, opening.hall,
              lists.count(len(there), "candidate"),
              table(["Name", "n:Desk"], [[names[each.number], each.sitting.desk] for each in lists.by_name(there)]))
@@ -113,7 +121,7 @@ def cards(reading: Reading, session: str, asked: Collection[str] = ()) -> str:
     found = [html(CARD, sits.desk, fitted(text(name), ON_CARD), number, fitted(papers[sits.paper], LINES_OF_CARD),
                   fitted(html("{}, {}, {}", short_day(sits.date), sits.start, text(opening.title)), LINES_OF_CARD))
              for opening, there in lists.halls(reading, session, asked) for number, name, sits in there]
-    return of_desks(reading, f"Desk cards {session}",
+    return of_desks(reading, session, "Desk cards",
                     (joined(found[at:at + CARDS], "\n") for at in range(0, len(found), CARDS)), "cards")
 
 
@@ -123,7 +131,7 @@ def chart(reading: Reading, session: str, asked: Collection[str] = ()) -> str:
     moment, name, papers = when(reading, session), school(reading.office, ". "), paper_names(reading.rows, CODE)
     if unknown := [opening.hall for opening, _ in halls if opening.hall not in rows]:
         raise NotDrawn(unknown)
-    return of_desks(reading, f"Seating charts {session}", (
+    return of_desks(reading, session, "Seating charts", (
         html(CHART, text(opening.title), opening.hall, name, moment, lists.count(len(there), "candidate"),
              joined(drawn(opening.desks, there, rows[opening.hall], papers))) for opening, there in halls), "chart")
 
@@ -175,7 +183,7 @@ def doors(reading: Reading, session: str, asked: Collection[str] = ()) -> str:
     heading, titles = school(reading.office, "<br>") + when(reading, session), paper_names(reading.rows, HEADED)
     notes, printed = notebook.notes(reading.office), notebook.printed(reading.office, session)
     papers = paper_names(reading.rows, CODE)
-    return of_desks(reading, f"Invigilators' sheets {session}", (
+    return of_desks(reading, session, "Invigilators' sheets", (
         page for opening, there in lists.halls(reading, session, asked)
         for page in of_door(heading, titles, opening, there,
                             [row_of(member, papers, notes, printed) for member in there])), "doors")
