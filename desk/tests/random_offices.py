@@ -254,7 +254,7 @@ class RandomOffice:
         posters = [[[name, seat.desk] for name, seat in shown if seat.hall == hall]
                    for hall in sorted({seat.hall for _, seat in seats} - {"-"})]
         sheets = (page := papers.poster(reading, session)).split("<div class=sheet>")[1:]
-        equal([Cells(sheet).rows[1:] for sheet in sheets], posters, "poster", page)
+        equal([Cells(sheet).tables[1][1:] for sheet in sheets], posters, "poster", page)
         self.compared["namesakes"] += sum(names[fold(seat.name)] > 1 for _, seat in seats)
 
     def counts(self, reading, session):
@@ -268,7 +268,7 @@ class RandomOffice:
                    ""] for key in sorted(copies) for _, hall, paper in [key]]
         wanted_sums = [[self.titled(paper), str(total[paper]), last_of_all[paper]] for paper in sorted(total)]
         tables = Cells(page := papers.counts(reading, session)).tables
-        equal((tables[0][2:], tables[1][1:]), (wanted, wanted_sums), "counts", page)
+        equal((tables[0][2:], tables[1][2:]), (wanted, wanted_sums), "counts", page)
 
     def titled(self, code):
         return f"{plain(self.titles[code])} ({code})"

@@ -23,7 +23,7 @@ const all = (which) => [...document.querySelectorAll(which)], bottom = (each) =>
 document.body.textContent = all(".card").filter((card) => bottom(card.lastChild) > bottom(card)).length + " "
   + all(".card i, .card p").filter((text) =>
     text.scrollHeight > text.clientHeight + 1 || text.scrollWidth > text.clientWidth).length + " "
-  + new Set(all(".chart tr").map((row) => Math.round(row.getBoundingClientRect().height))).size</script>"""
+  + new Set(all(".chart tbody tr").map((row) => Math.round(row.getBoundingClientRect().height))).size</script>"""
 HOSTILE = ["=1+1", "<script>alert(1)</script>", "\"quotes\" & 'more'", "C1 \u009b2J \u0085 end", "left \u202eright",
            "line\u2028end", "</bdi></td></table>", "W" * 80, "\u00e9" * 40, "Ada Lin", " "]
 
@@ -207,6 +207,18 @@ class Papers(sample.SampleSchool):
                 self.assertEqual(text.count(b"\f"), html.count("<div class=sheet>"))
             self.assertEqual(text.count(b"W") - text.count(b"Wanda") - text.count(b"Weiss") - text.count(b"Willem"), 80)
 
+    def test_the_hall_stands_on_each_page(self):
+        if not shutil.which("pdftotext"):
+            self.skipTest("there is no pdftotext")
+        self.change(("UPDATE candidate SET name = ?", ["W" * 80]))
+        self.office("rows", "GYM", "1")
+        for name in ("poster", "chart"):
+            html = self.office(name, "MON-AM", "GYM").replace("size: A4", "size: 210mm 230mm")
+            page, _ = self.browse(name, html, "--print-to-pdf={}.pdf")
+            text = subprocess.run(["pdftotext", "-raw", f"{page}.pdf", "-"], check=True, capture_output=True).stdout
+            self.assertGreater(text.count(b"\f"), 1)
+            self.assertEqual(text.count(b"Gymnasium"), text.count(b"\f"), name)
+
     def looked_at(self, name, *words):
         return re.findall("<body>(.*)</body>", self.browse(name, self.office(name, *words) + LOOK, "--dump-dom")[1])
 
@@ -226,7 +238,9 @@ class Papers(sample.SampleSchool):
             self.office("rows", hall, "5")
         foot = f"printed 2027-05-01 08:15:00, state {states.name_now(self.value)[:8]}"
         for words in PAGES:
-            self.assertEqual(self.office(*words, TODAY="2027-05-01 08:15").count(foot), 1, words)
+            text = self.office(*words, TODAY="2027-05-01 08:15")
+            title = re.findall("<title>(.*)</title>", text)[0].replace("&#39;", r"\27 ")
+            self.assertEqual(text.count(f'content: "{title}, {foot}"'), 1, words)
         now = datetime.datetime.now().replace(microsecond=0)
         [day, clock] = re.findall(r"printed (\S+) (\S+), state", self.office("board", "MON-AM"))[0]
         later = datetime.datetime.combine(now, datetime.time.fromisoformat(clock)) - now
@@ -243,10 +257,10 @@ class Papers(sample.SampleSchool):
         self.assertIn("|MA-1-2 Mathematics 1, second sitting of MA-1: 1", self.rows("doors", "MON-AM-2")[0][0])
         self.assertEqual(self.rows("doors", "MON-AM-2")[2][3:5], ["MA-1-2 (MA-1)", "13:00"])
         self.assertEqual([row[:3] for row in self.rows("counts", "MON-AM-2")[2:]],
-                         [["Room 14 (R14)", named, "1"], ["Paper, all halls", "Copies", "Last finish"],
-                          [named, "1", "13:00"]])
+                         [["Room 14 (R14)", named, "1"], ["Monday, 7 June 2027, 11:00 (MON-AM-2)"],
+                          ["Paper, all halls", "Copies", "Last finish"], [named, "1", "13:00"]])
         self.assertIn(f"<p>{named}</p>", re.sub("</?(bdi|small)>", "", self.office("cards", "MON-AM-2")))
-        self.assertEqual(self.rows("chart", "MON-AM-2")[0][0], "1Henrik Haddad 0001561 MA-1-2 (MA-1)")
+        self.assertEqual(self.rows("chart", "MON-AM-2")[1][0], "1Henrik Haddad 0001561 MA-1-2 (MA-1)")
         self.assertIn(["1", "0001561", "Henrik Haddad", "MA-1-2 (MA-1)"],
                       [row[:4] for row in self.rows("session-page", "MON-AM-2")])
         slip = self.rows("slips", "--only", "0001561")

@@ -134,7 +134,7 @@ class Posters(sample.SampleSchool):
         self.assertIn("say once how the desks stand in AULA", self.refused("chart", "MON-AM", "AULA"))
         self.assertEqual(self.office("rows"), "nothing is kept\n")
         self.assertEqual(self.office("rows", "AULA", "4", "down"), "AULA: rows of 4, down\n")
-        text, rows = self.page("chart", "MON-AM", "AULA")
+        text, [_, *rows] = self.page("chart", "MON-AM", "AULA")
         seats, names = self.seats(), self.names()
         for number, (hall, desk) in seats.items():
             if hall == "AULA":

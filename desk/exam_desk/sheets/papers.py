@@ -22,12 +22,14 @@ from exam_desk.words import clock, long_day, short_day
 
 BOARD = "<h1>{}{}</h1>\n<p class=legend>{}</p>\n<div class=columns>{}</div>\n"
 ASK = Markup("<b>ask the office</b>")  # in place of a hall
-POSTER = "<h1>{}</h1>\n<h2>{}</h2>\n<p>{}{} &middot; {}</p>\n<div class=columns>{}</div>"
+# What stands in a head of a table comes on each page again.
+POSTER = ("<table class=door><thead><tr><th><h1>{}</h1>\n<h2>{}</h2>\n<p>{}{} &middot; {}</p></th></tr></thead>\n"
+          "<tbody><tr><td><div class=columns>{}</div></td></tr></tbody></table>")
 CARD = "<div class=card><b>{}</b><i>{}</i><p>{}</p><p>{}</p><p>{}</p></div>"
 CARDS = 10  # on a page
 NO_PLACE = Markup("<td class=none></td>")
-CHART = ("<h1>{} ({})</h1>\n<p>{}{}. Front of the hall above. {}</p>\n"
-         "<table class=chart><tbody>\n{}</tbody></table>")
+CHART = ("<table class=chart><thead><tr><th colspan={}><h1>{} ({})</h1>\n"
+         "<p>{}{}. Front of the hall above. {}</p></th></tr></thead>\n<tbody>\n{}</tbody></table>")
 COPIES = ["Hall", "Paper", "n:Copies", "n:Last finish", "box:Spare", "box:Packed"]
 ALL_COPIES = ["Paper, all halls", "n:Copies", "n:Last finish"]
 TOLD = ["w:Session", "w:Number", "Name", "Before", "Now", "box:Told"]
@@ -132,7 +134,8 @@ def chart(reading: Reading, session: str, asked: Collection[str] = ()) -> str:
     if unknown := [opening.hall for opening, _ in halls if opening.hall not in rows]:
         raise NotDrawn(unknown)
     return of_desks(reading, session, "Seating charts", (
-        html(CHART, text(opening.title), opening.hall, name, moment, lists.count(len(there), "candidate"),
+        html(CHART, rows[opening.hall].across, text(opening.title), opening.hall, name, moment,
+             lists.count(len(there), "candidate"),
              joined(drawn(opening.desks, there, rows[opening.hall], papers))) for opening, there in halls), "chart")
 
 
@@ -173,9 +176,10 @@ def counts(reading: Reading, session: str) -> str:
     rows = [[halls[hall], papers[code], len(found), max(found), "", ""]
             for (_, hall, code), found in sorted(in_halls.items())]
     total = [[papers[code], len(found), max(found)] for code, found in sorted(in_all.items())]
-    above = html("{}<b>Copies</b> &emsp; {}", school(reading.office, "<br>"), when(reading, session))
-    return document(reading, f"Copies {session}", table(COPIES, rows, above) + table(ALL_COPIES, total), "paper",
-                    "counts")
+    moment = when(reading, session)
+    above = html("{}<b>Copies</b> &emsp; {}", school(reading.office, "<br>"), moment)
+    return document(reading, f"Copies {session}", table(COPIES, rows, above) + table(ALL_COPIES, total, moment),
+                    "paper", "counts")
 
 
 def doors(reading: Reading, session: str, asked: Collection[str] = ()) -> str:
