@@ -219,6 +219,16 @@ class Papers(sample.SampleSchool):
             self.assertGreater(text.count(b"\f"), 1)
             self.assertEqual(text.count(b"Gymnasium"), text.count(b"\f"), name)
 
+    def test_numbers_stand_in_one_line_of_a_chart(self):
+        """However long the rows of desks are: of 12 on an upright page, of more on a wide one, smaller."""
+        if not shutil.which("pdftotext"):
+            self.skipTest("there is no pdftotext")
+        for across in ("8", "12", "13", "20", "24"):
+            self.office("rows", "GYM", across)
+            page, _ = self.browse("chart", self.office("chart", "MON-AM", "GYM"), "--print-to-pdf={}.pdf")
+            text = subprocess.run(["pdftotext", "-raw", f"{page}.pdf", "-"], check=True, capture_output=True).stdout
+            self.assertEqual(len(re.findall(rb"\b0001\d{3}\b", text)), 24, across)
+
     def looked_at(self, name, *words):
         return re.findall("<body>(.*)</body>", self.browse(name, self.office(name, *words) + LOOK, "--dump-dom")[1])
 

@@ -93,7 +93,7 @@ class Posters(sample.SampleSchool):
         self.assertEqual(sorted(re.findall(r"\b0001\d{3}\b", text)), sorted([one, other, lone]))
 
     def test_namesakes_whose_spaces_a_browser_joins_have_their_numbers(self):
-        written = {number: name for number, name in zip(self.seats(), ("Ada Quist", "Ada  Quist", "Ada Quist ", "Olga"))}
+        written = {number: name for number, name in zip(self.seats(), ("Di Quist", "Di  Quist", "Di Quist ", "Olga"))}
         for number, name in written.items():
             self.change("UPDATE candidate SET name = ? WHERE number = ?", (name, int(number)))
         self.assertEqual(sorted(re.findall(r"\b0001\d{3}\b", self.page("poster", "MON-AM")[0])), sorted(written)[:3])

@@ -27,9 +27,10 @@ POSTER = ("<table class=door><thead><tr><th><h1>{}</h1>\n<h2>{}</h2>\n<p>{}{} &m
           "<tbody><tr><td><div class=columns>{}</div></td></tr></tbody></table>")
 CARD = "<div class=card><b>{}</b><i>{}</i><p>{}</p><p>{}</p><p>{}</p></div>"
 CARDS = 10  # on a page
+UPRIGHT = 12  # desks in a row at most where a page is upright
 NO_PLACE = Markup("<td class=none></td>")
-CHART = ("<table class=chart><thead><tr><th colspan={}><h1>{} ({})</h1>\n"
-         "<p>{}{}. Front of the hall above. {}</p></th></tr></thead>\n<tbody>\n{}</tbody></table>")
+CHART = ("<table class='{0}' style='--across: {1}'><thead><tr><th colspan={1}><h1>{2} ({3})</h1>\n"
+         "<p>{4}{5}. Front of the hall above. {6}</p></th></tr></thead>\n<tbody>\n{7}</tbody></table>")
 COPIES = ["Hall", "Paper", "n:Copies", "n:Last finish", "box:Spare", "box:Packed"]
 ALL_COPIES = ["Paper, all halls", "n:Copies", "n:Last finish"]
 TOLD = ["w:Session", "w:Number", "Name", "Before", "Now", "box:Told"]
@@ -133,10 +134,13 @@ def chart(reading: Reading, session: str, asked: Collection[str] = ()) -> str:
     moment, name, papers = when(reading, session), school(reading.office, ". "), paper_names(reading.rows, CODE)
     if unknown := [opening.hall for opening, _ in halls if opening.hall not in rows]:
         raise NotDrawn(unknown)
-    return of_desks(reading, session, "Seating charts", (
-        html(CHART, rows[opening.hall].across, text(opening.title), opening.hall, name, moment,
-             lists.count(len(there), "candidate"),
-             joined(drawn(opening.desks, there, rows[opening.hall], papers))) for opening, there in halls), "chart")
+    sheets = []
+    for opening, there in halls:
+        stand = rows[opening.hall]
+        sheets.append(html(CHART, "chart wide" if stand.across > UPRIGHT else "chart", stand.across,
+                           text(opening.title), opening.hall, name, moment, lists.count(len(there), "candidate"),
+                           joined(drawn(opening.desks, there, stand, papers))))
+    return of_desks(reading, session, "Seating charts", sheets, "chart")
 
 
 def drawn(desks: int, members: Iterable[Member], rows: Rows, papers: Mapping[str, Markup]) -> Iterator[Markup]:
