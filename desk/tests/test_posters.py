@@ -124,7 +124,9 @@ class Posters(sample.SampleSchool):
         found = re.findall(r"<div class=card><b>(\d+)</b><i><bdi>(.*?)</bdi></i><p>(\d{7})</p>", text)
         self.assertEqual({number: (names[number], desk) for desk, _, number in found},
                          {number: (names[number], desk) for number, (_, desk) in seats.items()})
-        self.assertEqual((len(found), text.count("<div class=sheet>")), (len(seats), -(-len(seats) // 10)))
+        halls = [hall for hall, _ in seats.values()]
+        self.assertEqual((len(found), text.count("<div class=sheet>")),
+                         (len(seats), sum(-(-halls.count(hall) // 10) for hall in {*halls})))
         self.assertNotRegex(text, r"\d\d:\d\d[^,]{0,3}\d\d:\d\d")  # a finish would show who has extra time
         one = self.page("cards", "MON-AM", "PC1")[0]
         self.assertEqual(one.count("<div class=card>"), sum(hall == "PC1" for hall, _ in seats.values()))

@@ -119,13 +119,14 @@ def poster(reading: Reading, session: str, asked: Collection[str] = ()) -> str:
 
 
 def cards(reading: Reading, session: str, asked: Collection[str] = ()) -> str:
-    """Cards for desks, ten on a page, by hall and desk; without what others need not know."""
-    papers = paper_names(reading.rows)
-    found = [html(CARD, sits.desk, fitted(text(name), ON_CARD), number, fitted(papers[sits.paper], LINES_OF_CARD),
-                  fitted(html("{}, {}, {}", short_day(sits.date), sits.start, text(opening.title)), LINES_OF_CARD))
-             for opening, there in lists.halls(reading, session, asked) for number, name, sits in there]
-    return of_desks(reading, session, "Desk cards",
-                    (joined(found[at:at + CARDS], "\n") for at in range(0, len(found), CARDS)), "cards")
+    """Cards for desks, by hall and desk, ten on a page; each hall begins one. Without what others need not know."""
+    papers, sheets = paper_names(reading.rows), list[Markup]()
+    for opening, there in lists.halls(reading, session, asked):
+        found = [html(CARD, sits.desk, fitted(text(name), ON_CARD), number, fitted(papers[sits.paper], LINES_OF_CARD),
+                      fitted(html("{}, {}, {}", short_day(sits.date), sits.start, text(opening.title)), LINES_OF_CARD))
+                 for number, name, sits in there]
+        sheets += (joined(found[at:at + CARDS], "\n") for at in range(0, len(found), CARDS))
+    return of_desks(reading, session, "Desk cards", sheets, "cards")
 
 
 def chart(reading: Reading, session: str, asked: Collection[str] = ()) -> str:
