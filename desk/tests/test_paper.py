@@ -132,9 +132,11 @@ class Papers(sample.SampleSchool):
         self.assertIn(["Library (LIB)", "Chemistry (CH-1)", "1", "12:00"], halls)
 
     def test_session_page(self):
+        self.office("school", "Hill <School>")
         text = self.office("session-page", "TUE-AM")
         self.assertEqual(Cells(text).strange, set())
-        for part in ("48 candidates: 46 seated, 2 without a desk.", "4 candidates = 2 desks + 2 unseated",
+        for part in ("<p><bdi>Hill &lt;School&gt;</bdi><br>Tuesday, 8 June 2027, starts",
+                     "48 candidates: 46 seated, 2 without a desk.", "4 candidates = 2 desks + 2 unseated",
                      "Each of these 4 candidates can sit only in LIB, which has 2 desks.",
                      "<li>AULA, GYM, PC1, R12, R14: <bdi>no reader</bdi></li>",
                      "<li>LIB: <bdi>suits, but 2 of 2 desks are taken: "):
