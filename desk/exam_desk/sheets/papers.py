@@ -12,7 +12,7 @@ from markupsafe import Markup
 
 from exam_desk import facts, lists, notebook, telling
 from exam_desk.names import fold
-from exam_desk.notebook import Desk, Rows
+from exam_desk.notebook import SHOWN, Desk, Line, Rows
 from exam_desk.reading import Member, Reading, Sitting
 from exam_desk.sheets.pages import (CODE, HEADED, document, hall_names, html, joined, paper_names, safe, school, table,
                                     text)
@@ -77,13 +77,21 @@ def nobody(reading: Reading, session: str) -> Markup:
                 why if reading.members(session) else "nobody is entered")
 
 
-def desk(member: Member, before: Mapping[str, Desk]) -> Markup:
+def desk(member: Member, before: Mapping[str, Line]) -> Markup:
     """The desk of a candidate, with the one that was printed where that is another."""
-    now, old = Desk(member.sitting.hall or "", member.sitting.desk or 0), before.get(member.number)
+    now, line = Desk(member.sitting.hall or "", member.sitting.desk or 0), before.get(member.number)
+    old = line and line.desk
     if not before or old == now:
         return safe(now.desk)
     words = "new" if old is None else f"was {old.desk}" if old.hall == now.hall else f"was {old.hall} {old.desk}"
     return html("{} <small>{}</small>", now.desk, words)
+
+
+def finish(member: Member, before: Mapping[str, Line]) -> Markup:
+    """The finish of a candidate, with the one that was printed below it where that is another."""
+    now, line = member.sitting.finish, before.get(member.number)
+    old = line.shown[SHOWN.index("finish")] if line else ""
+    return html("{}<br><small>was {}</small>", now, old) if old not in ("", now) else safe(now)
 
 
 def named(members: Collection[Member]) -> dict[str, Markup]:
@@ -97,7 +105,7 @@ def board(reading: Reading, session: str) -> str:
     """A notice board, by name."""
     members = lists.by_name(reading.members(session))
     names = named(members)
-    titles, printed = facts.hall_titles(reading.rows), notebook.printed(reading.office, session)
+    titles, printed = facts.hall_titles(reading.rows), notebook.on_paper(reading.office, session).lines
     used = sorted({member.sitting.hall for member in members if member.sitting.hall})
     legend = joined((html("<b>{}</b> {}", code, text(titles[code])) for code in used), "<br>")
     moment = when(reading, session)
@@ -190,7 +198,7 @@ def counts(reading: Reading, session: str) -> str:
 def doors(reading: Reading, session: str, asked: Collection[str] = ()) -> str:
     """Invigilators' sheets: each hall from a page of its own on, by desk."""
     heading, titles = school(reading.office, "<br>") + when(reading, session), paper_names(reading.rows, HEADED)
-    notes, printed = notebook.notes(reading.office), notebook.printed(reading.office, session)
+    notes, printed = notebook.notes(reading.office), notebook.on_paper(reading.office, session).lines
     papers = paper_names(reading.rows, CODE)
     return of_desks(reading, session, "Invigilators' sheets", (
         page for opening, there in lists.halls(reading, session, asked)
@@ -214,11 +222,13 @@ def of_door(heading: Markup, titles: Mapping[str, Markup], opening: facts.Openin
         yield table(DOORS, rows[part], head, BELOW if place == len(parts) else Markup())
 
 
-def row_of(member: Member, papers: Mapping[str, Markup], notes: Mapping[str, str], printed: Mapping[str, Desk]) -> Row:
+def row_of(member: Member, papers: Mapping[str, Markup], notes: Mapping[str, str], printed: Mapping[str, Line]) -> Row:
     sits, paper = member.sitting, papers[member.sitting.paper]
     arranged = [*filter(None, (lists.allowance(sits), notes.get(member.number)))]
-    height = 1 + LINE * max(lines([member.name], NAME), lines(arranged, ARRANGEMENT), len(paper.striptags().split()))
-    return [desk(member, printed), member.number, text(member.name), paper, sits.finish,
+    until = finish(member, printed)
+    height = 1 + LINE * max(lines([member.name], NAME), lines(arranged, ARRANGEMENT), len(paper.striptags().split()),
+                            1 + until.count("<br>"))
+    return [desk(member, printed), member.number, text(member.name), paper, until,
             joined(map(text, arranged), "<br>"), ""], max(ROW, height)
 
 
