@@ -240,7 +240,8 @@ def now() -> datetime.datetime:
     clock = datetime.datetime.now()
     given = os.environ.get("TODAY") or clock.date().isoformat()
     try:
-        return datetime.datetime.strptime(given if " " in given else f"{given} {clock:%H:%M}", "%Y-%m-%d %H:%M")
+        moment = f"{given}:00" if " " in given else f"{given} {clock:%H:%M:%S}"
+        return datetime.datetime.strptime(moment, "%Y-%m-%d %H:%M:%S")
     except ValueError:
         raise Trouble(f"TODAY is {given}; write a date as 2027-05-30") from None
 

@@ -25,7 +25,8 @@ beside the name. Print it after the last change.
 """),
     "cards": ("session hall*", """Prints cards for the desks of a session: cards SESSION [HALL ..] >cards.html
 
-A page for a browser, ten cards on a sheet of A4, by hall and desk: desk, name, number, paper, start and hall.
+A page for a browser, ten cards on a sheet of A4, by hall and desk: desk, name, number, paper, start and hall. Each hall
+begins a sheet.
 """),
     "chart": ("session hall*", """Draws the seating charts of a session: chart SESSION [HALL ..] >chart.html
 

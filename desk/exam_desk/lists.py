@@ -28,7 +28,8 @@ def halls(reading: Reading, session: str, asked: Collection[str] = ()) -> list[t
     found = {opening.hall: (opening, there) for opening in facts.openings(reading.rows, session)
              if (there := by_desk(members, opening.hall))}
     if missing := [code for code in asked if code not in found]:
-        raise Trouble(f"nobody sits in {missing[0]} in {session}; somebody sits in {', '.join(found) or 'no hall'}")
+        raise Trouble(f"nobody sits in {missing[0]} in {session}; somebody sits in {', '.join(found)}" if found else
+                      f"nobody has a desk in {session}")
     return [found[code] for code in found if not asked or code in asked]
 
 

@@ -10,10 +10,11 @@ COMMA = re.compile("[,،]")  # folding makes a Latin comma of a Chinese one
 
 
 def fold(text: str) -> str:
-    """A text without accents, invisible marks and capitals, as people look names up."""
+    """A text without accents, invisible marks and capitals, as people look names up; with one space where a page shows
+    one."""
     parts = unicodedata.normalize("NFKD", unicodedata.normalize("NFKD", text).casefold())
-    return "".join(part for part in parts if not unicodedata.combining(part)
-                   and unicodedata.category(part) != "Cf").translate(LETTERS)
+    return " ".join("".join(part for part in parts if not unicodedata.combining(part)
+                            and unicodedata.category(part) != "Cf").translate(LETTERS).split())
 
 
 def letters(text: str) -> str:

@@ -6,11 +6,11 @@ only of those whom the rows leave in doubt: nobody sits in a hall for longer tha
 from __future__ import annotations
 
 import itertools
-from collections.abc import Collection, Iterator
+from collections.abc import Collection, Iterable, Iterator, Mapping
 from typing import NamedTuple
 
 from exam_desk.lists import count
-from exam_desk.reading import Reading
+from exam_desk.reading import Reading, Sitting
 from exam_desk.words import few
 
 LONGEST = 1200  # minutes that somebody without a desk may sit: those of the longest paper, and as many more
@@ -83,8 +83,7 @@ def certain(reading: Reading, doubtful: Collection[Doubtful]) -> list[Overlap]:
     reading.ask(map(reading.person, numbers_of(doubtful)))
     overlaps: dict[Pair, Overlap] = {}
     for pair, hall, number in doubtful:
-        sitting = reading.all_of(number)[pair.early]
-        if of_day(sitting.finish) - of_day(sitting.start) > pair.gap:
+        if length(reading.all_of(number)[pair.early]) > pair.gap:
             each = overlaps.setdefault(pair, Overlap(pair.early, pair.late, [], []))
             if hall is None:
                 each.candidates.append(number)
@@ -111,6 +110,22 @@ def pairs(reading: Reading, asked: Collection[str]) -> list[Pair]:
     return [Pair(early, late, then - now) for place, (early, now) in enumerate(sessions)
             for late, then in itertools.takewhile(lambda each: each[1] < now + LONGEST, sessions[place + 1:])
             if not asked or early in asked or late in asked]
+
+
+def starts(reading: Reading) -> dict[str, int]:
+    """The minute in which each session begins, by its code."""
+    return dict(reading.rows.execute(SESSIONS).fetchall())
+
+
+def beside(starts: Mapping[str, int], sits: Sitting, all_of: Iterable[Sitting]) -> list[str]:
+    """The papers among all that a candidate sits that are in another session, and at the time of this sitting."""
+    now = starts[sits.session]
+    return [each.paper for each in all_of if each.session != sits.session
+            and starts[each.session] - now < length(sits) and now - starts[each.session] < length(each)]
+
+
+def length(sitting: Sitting) -> int:
+    return of_day(sitting.finish) - of_day(sitting.start)
 
 
 def of_day(clock: str) -> int:

@@ -254,7 +254,7 @@ class RandomOffice:
         posters = [[[name, seat.desk] for name, seat in shown if seat.hall == hall]
                    for hall in sorted({seat.hall for _, seat in seats} - {"-"})]
         sheets = (page := papers.poster(reading, session)).split("<div class=sheet>")[1:]
-        equal([Cells(sheet).rows[1:] for sheet in sheets], posters, "poster", page)
+        equal([Cells(sheet).tables[1][1:] for sheet in sheets], posters, "poster", page)
         self.compared["namesakes"] += sum(names[fold(seat.name)] > 1 for _, seat in seats)
 
     def counts(self, reading, session):
@@ -268,7 +268,7 @@ class RandomOffice:
                    ""] for key in sorted(copies) for _, hall, paper in [key]]
         wanted_sums = [[self.titled(paper), str(total[paper]), last_of_all[paper]] for paper in sorted(total)]
         tables = Cells(page := papers.counts(reading, session)).tables
-        equal((tables[0][2:], tables[1][1:]), (wanted, wanted_sums), "counts", page)
+        equal((tables[0][2:], tables[1][2:]), (wanted, wanted_sums), "counts", page)
 
     def titled(self, code):
         return f"{plain(self.titles[code])} ({code})"
@@ -329,18 +329,23 @@ class RandomOffice:
         heads = {code: (day, start)
                  for code, day, start in reading.rows.execute("SELECT code, day, start FROM session")}
         order = sorted(self.sessions, key=lambda code: (*heads[code], code))
+        both = at_one_time(reading.rows, self.now)
         equal(sorted(found), sorted({number for seats in self.now.values() for number in seats}), "slips", page)
         for number, table in found.items():
-            wanted = [self.slip_row(number, session, heads[session], clashes[number, session])
+            beside = {session: [self.now[other][number].paper for pair, (numbers, _) in both.items()
+                                if session in pair and number in numbers for other in {*pair} - {session}]
+                      for session in order}
+            wanted = [self.slip_row(number, session, heads[session], clashes[number, session], beside[session])
                       for session in order if number in self.now[session]]
             equal(table[2:], wanted, "slip", page)
             name = next(seats[number].name for seats in self.now.values() if number in seats)
             equal(table[0], [f"access code {self.codes[number]}{number}{plain(name)}"], "slip", page)
 
-    def slip_row(self, number, session, head, clashes):
+    def slip_row(self, number, session, head, clashes, beside):
         seat, day = self.now[session][number], datetime.date.fromisoformat(head[0])
         notes = [f"with {self.arrangements[number, session]}"] * bool(self.arrangements[number, session])
         notes += [f"not {self.titled(code)}, at the same time: ask the exams office" for code in clashes]
+        notes += [f"also {self.titled(code)}, at the same time: ask the exams office" for code in beside]
         place = "no desk yet: ask the office"
         if seat.hall != "-":
             place = f"{self.titled(seat.hall)}, desk\u00a0{seat.desk}"

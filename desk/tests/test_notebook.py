@@ -380,6 +380,9 @@ class Commands(sample.SampleSchool):
         self.office("withdraw", number, paper)
         self.assertIn("<td class=n>1 <small>was 2</small></td>", self.office("doors", "MON-AM", "GYM"))
         self.assertIn("<td class=n>1 <small>was 2</small></td>", self.office("board", "MON-AM"))
+        self.office("import", "arrangements", self.write("more.csv", "number,needs,extra\n0001051,-,25\n"))
+        self.assertEqual(re.findall("<td class=w>([^<]*<br><small>was .*?)</td>", self.office("doors", "MON-AM")),
+                         ["11:30<br><small>was 11:00</small>"])
 
 
 if __name__ == "__main__":

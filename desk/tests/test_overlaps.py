@@ -1,10 +1,12 @@
 """Sessions at one time, wherever a person is told of them; and what `check-files` says of files without a mistake."""
+import csv
 import os
 import re
 import subprocess
 import unittest
 
 import sample
+from cells import Cells
 
 FILES = {  # MON-AM begins at 09:00: Ada Lin sits there until 11:00, Cy Ferrari, with extra time, until 12:08
     "sessions": "session,date,start\nHL,2027-06-07,10:00\nT1,2027-06-07,11:00\nHM,2027-06-07,11:30\n"
@@ -49,6 +51,17 @@ class Overlaps(sample.SampleSchool):
         for hall in ("AULA", "GYM"):  # a note on a hall is for those who sit there
             number = next(row[1] for row in rows if row[3] == hall)
             self.assertEqual(f"  NOTE: {NOTES[0]}\n" in self.office("look", number), hall == "AULA", number)
+        also = "|also {}, at the same time: ask the exams office"  # T1 begins when Ada Lin's MON-AM ends
+        for number, sat in (("0001034", {"MA-2": "Oral (T2-1)", "T2-1": "Mathematics 2 (MA-2)"}),
+                            ("0001000", {"LT-1": "Oral (NX-1)", "NX-1": "Oral (LT-1)"})):
+            papers = [row[2] for row in Cells(self.office("slips", "--only", number)).rows[2:]]
+            said = {re.findall(r"\(([^)]*)\)", paper)[0]: paper for paper in papers}
+            for code, paper in said.items():
+                self.assertEqual("|" + paper.rpartition("|")[2] if "also" in paper else "",
+                                 also.format(sat[code]) if code in sat else "", paper)
+            self.assertLessEqual(sat.keys(), said.keys())
+        [late] = csv.DictReader(self.office("slips", "--only", "0001000", "LT", "--csv").split("\n"))
+        self.assertEqual((late["not sat"], late["also sat"]), ("", "NX-1"))
         told = self.run_office("withdraw", "0001017", "MA-1").stderr  # what was so before is not told again
         self.assertIn("1 leaves a session: MON-AM 0001017 Bo Ito", told)
         self.assertNotIn("at one time", told)

@@ -23,7 +23,7 @@ const all = (which) => [...document.querySelectorAll(which)], bottom = (each) =>
 document.body.textContent = all(".card").filter((card) => bottom(card.lastChild) > bottom(card)).length + " "
   + all(".card i, .card p").filter((text) =>
     text.scrollHeight > text.clientHeight + 1 || text.scrollWidth > text.clientWidth).length + " "
-  + new Set(all(".chart tr").map((row) => Math.round(row.getBoundingClientRect().height))).size</script>"""
+  + new Set(all(".chart tbody tr").map((row) => Math.round(row.getBoundingClientRect().height))).size</script>"""
 HOSTILE = ["=1+1", "<script>alert(1)</script>", "\"quotes\" & 'more'", "C1 \u009b2J \u0085 end", "left \u202eright",
            "line\u2028end", "</bdi></td></table>", "W" * 80, "\u00e9" * 40, "Ada Lin", " "]
 
@@ -48,7 +48,8 @@ class Papers(sample.SampleSchool):
         self.assertIn("with 50 % extra time, reader", text)
         self.assertIn("<b>no desk yet: ask the office</b>", text)
         self.assertIn("desk&nbsp;1<", self.office("slips", "--desks", "MON-AM"))
-        self.assertEqual(self.office("slips", "--only", "1051"), self.office("slips", "--only", "0001051"))
+        self.assertEqual(*(self.office("slips", "--only", number, TODAY="2027-05-01 08:15")
+                           for number in ("1051", "0001051")))
         self.assertIn("there is no candidate 9999999", self.refused("slips", "--only", "9999999"))
         self.assertIn("0001000 sits nothing in TUE-AM", self.refused("slips", "--only", "1000", "TUE-AM"))
         for wrong in ("x1051", "00001051", "000", ""):
@@ -131,9 +132,11 @@ class Papers(sample.SampleSchool):
         self.assertIn(["Library (LIB)", "Chemistry (CH-1)", "1", "12:00"], halls)
 
     def test_session_page(self):
+        self.office("school", "Hill <School>")
         text = self.office("session-page", "TUE-AM")
         self.assertEqual(Cells(text).strange, set())
-        for part in ("48 candidates: 46 seated, 2 without a desk.", "4 candidates = 2 desks + 2 unseated",
+        for part in ("<p><bdi>Hill &lt;School&gt;</bdi><br>Tuesday, 8 June 2027, starts",
+                     "48 candidates: 46 seated, 2 without a desk.", "4 candidates = 2 desks + 2 unseated",
                      "Each of these 4 candidates can sit only in LIB, which has 2 desks.",
                      "<li>AULA, GYM, PC1, R12, R14: <bdi>no reader</bdi></li>",
                      "<li>LIB: <bdi>suits, but 2 of 2 desks are taken: "):
@@ -201,10 +204,32 @@ class Papers(sample.SampleSchool):
             html = self.office(*words, TODAY="2027-05-01 08:15")
             page, _ = self.browse(words[0], html, "--print-to-pdf={}.pdf")
             text = subprocess.run(["pdftotext", "-raw", f"{page}.pdf", "-"], check=True, capture_output=True).stdout
-            self.assertEqual(text.count(b"\f"), text.count(b"printed 2027-05-01 08:15, state "))
+            self.assertEqual(text.count(b"\f"), text.count(b"printed 2027-05-01 08:15:00, state "))
             if words[0] == "doors":  # each page of a hall says which it is
                 self.assertEqual(text.count(b"\f"), html.count("<div class=sheet>"))
             self.assertEqual(text.count(b"W") - text.count(b"Wanda") - text.count(b"Weiss") - text.count(b"Willem"), 80)
+
+    def test_the_hall_stands_on_each_page(self):
+        if not shutil.which("pdftotext"):
+            self.skipTest("there is no pdftotext")
+        self.change(("UPDATE candidate SET name = ?", ["W" * 80]))
+        self.office("rows", "GYM", "1")
+        for name in ("poster", "chart"):
+            html = self.office(name, "MON-AM", "GYM").replace("size: A4", "size: 210mm 230mm")
+            page, _ = self.browse(name, html, "--print-to-pdf={}.pdf")
+            text = subprocess.run(["pdftotext", "-raw", f"{page}.pdf", "-"], check=True, capture_output=True).stdout
+            self.assertGreater(text.count(b"\f"), 1)
+            self.assertEqual(text.count(b"Gymnasium"), text.count(b"\f"), name)
+
+    def test_numbers_stand_in_one_line_of_a_chart(self):
+        """However long the rows of desks are: of 12 on an upright page, of more on a wide one, smaller."""
+        if not shutil.which("pdftotext"):
+            self.skipTest("there is no pdftotext")
+        for across in ("8", "12", "13", "20", "24"):
+            self.office("rows", "GYM", across)
+            page, _ = self.browse("chart", self.office("chart", "MON-AM", "GYM"), "--print-to-pdf={}.pdf")
+            text = subprocess.run(["pdftotext", "-raw", f"{page}.pdf", "-"], check=True, capture_output=True).stdout
+            self.assertEqual(len(re.findall(rb"\b0001\d{3}\b", text)), 24, across)
 
     def looked_at(self, name, *words):
         return re.findall("<body>(.*)</body>", self.browse(name, self.office(name, *words) + LOOK, "--dump-dom")[1])
@@ -223,13 +248,15 @@ class Papers(sample.SampleSchool):
     def test_each_page_says_when_it_was_printed(self):
         for hall in ("AULA", "GYM", "LIB", "PC1", "R12"):
             self.office("rows", hall, "5")
-        foot = f"printed 2027-05-01 08:15, state {states.name_now(self.value)[:8]}"
+        foot = f"printed 2027-05-01 08:15:00, state {states.name_now(self.value)[:8]}"
         for words in PAGES:
-            self.assertEqual(self.office(*words, TODAY="2027-05-01 08:15").count(foot), 1, words)
-        now = datetime.datetime.now().replace(second=0, microsecond=0)
+            text = self.office(*words, TODAY="2027-05-01 08:15")
+            title = re.findall("<title>(.*)</title>", text)[0].replace("&#39;", r"\27 ")
+            self.assertEqual(text.count(f'content: "{title}, {foot}"'), 1, words)
+        now = datetime.datetime.now().replace(microsecond=0)
         [day, clock] = re.findall(r"printed (\S+) (\S+), state", self.office("board", "MON-AM"))[0]
         later = datetime.datetime.combine(now, datetime.time.fromisoformat(clock)) - now
-        self.assertEqual((day, later.seconds < 600), (sample.TODAY, True))
+        self.assertEqual((day, later.seconds < 600), (sample.TODAY, True))  # not before, as without its seconds
         self.run_office("withdraw", "0001000", "MA-1")
         self.assertNotIn(foot, self.office("board", "MON-AM", TODAY="2027-05-01 08:15"))
         self.assertIn("TODAY is 2027-05-01 25:00", self.refused("board", "MON-AM", TODAY="2027-05-01 25:00"))
@@ -242,10 +269,10 @@ class Papers(sample.SampleSchool):
         self.assertIn("|MA-1-2 Mathematics 1, second sitting of MA-1: 1", self.rows("doors", "MON-AM-2")[0][0])
         self.assertEqual(self.rows("doors", "MON-AM-2")[2][3:5], ["MA-1-2 (MA-1)", "13:00"])
         self.assertEqual([row[:3] for row in self.rows("counts", "MON-AM-2")[2:]],
-                         [["Room 14 (R14)", named, "1"], ["Paper, all halls", "Copies", "Last finish"],
-                          [named, "1", "13:00"]])
+                         [["Room 14 (R14)", named, "1"], ["Monday, 7 June 2027, 11:00 (MON-AM-2)"],
+                          ["Paper, all halls", "Copies", "Last finish"], [named, "1", "13:00"]])
         self.assertIn(f"<p>{named}</p>", re.sub("</?(bdi|small)>", "", self.office("cards", "MON-AM-2")))
-        self.assertEqual(self.rows("chart", "MON-AM-2")[0][0], "1Henrik Haddad 0001561 MA-1-2 (MA-1)")
+        self.assertEqual(self.rows("chart", "MON-AM-2")[1][0], "1Henrik Haddad 0001561 MA-1-2 (MA-1)")
         self.assertIn(["1", "0001561", "Henrik Haddad", "MA-1-2 (MA-1)"],
                       [row[:4] for row in self.rows("session-page", "MON-AM-2")])
         slip = self.rows("slips", "--only", "0001561")

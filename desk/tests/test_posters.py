@@ -92,11 +92,31 @@ class Posters(sample.SampleSchool):
         self.assertEqual(names, [f"Zoe Quist {one}", f"zoé QUIST {other}", f"Yves Lone {lone}"])
         self.assertEqual(sorted(re.findall(r"\b0001\d{3}\b", text)), sorted([one, other, lone]))
 
+    def test_namesakes_whose_spaces_a_browser_joins_have_their_numbers(self):
+        written = {number: name for number, name in zip(self.seats(), ("Di Quist", "Di  Quist", "Di Quist ", "Olga"))}
+        for number, name in written.items():
+            self.change("UPDATE candidate SET name = ? WHERE number = ?", (name, int(number)))
+        self.assertEqual(sorted(re.findall(r"\b0001\d{3}\b", self.page("poster", "MON-AM")[0])), sorted(written)[:3])
+
     def test_poster_of_one_hall(self):
         sheets = self.office("poster", "MON-AM").split("<div class=sheet>")[1:]
         [sheet] = self.office("poster", "MON-AM", "PC1").split("<div class=sheet>")[1:]
         self.assertEqual([each for each in sheets if "PC1" in each], [sheet.replace("</body></html>\n", "")])
         self.assertIn("nobody sits in X", self.refused("poster", "MON-AM", "X"))
+
+    def test_where_nobody_has_a_desk(self):
+        self.office("school", "Hill <School>")
+        for hall in ("AULA", "GYM", "LIB", "PC1", "R12", "R14"):
+            self.assertEqual(self.run_office("close-hall", "TUE-AM", hall).returncode, 0)
+        self.change("INSERT INTO session SELECT 'WED', '2027-06-09', start FROM session WHERE code = 'TUE-AM'")
+        for command in ("doors", "poster", "cards", "chart"):
+            for session, day, said in (
+                    ("TUE-AM", "Tuesday, 8 June", "48 candidates, none has a desk: office why TUE-AM says why"),
+                    ("WED", "Wednesday, 9 June", "nobody is entered")):
+                body = self.office(command, session).partition("<body>")[2]
+                self.assertEqual(re.sub("<br>|<[^>]*>", "", body.replace("<br>", ", ")).split("\n")[1:3], [
+                    f"Hill &lt;School&gt;, {day} 2027, 09:00 ({session})", said])
+        self.assertIn("nobody has a desk in TUE-AM\n", self.refused("doors", "TUE-AM", "AULA"))
 
     def test_cards(self):
         text, _ = self.page("cards", "MON-AM")
@@ -104,7 +124,9 @@ class Posters(sample.SampleSchool):
         found = re.findall(r"<div class=card><b>(\d+)</b><i><bdi>(.*?)</bdi></i><p>(\d{7})</p>", text)
         self.assertEqual({number: (names[number], desk) for desk, _, number in found},
                          {number: (names[number], desk) for number, (_, desk) in seats.items()})
-        self.assertEqual((len(found), text.count("<div class=sheet>")), (len(seats), -(-len(seats) // 10)))
+        halls = [hall for hall, _ in seats.values()]
+        self.assertEqual((len(found), text.count("<div class=sheet>")),
+                         (len(seats), sum(-(-halls.count(hall) // 10) for hall in {*halls})))
         self.assertNotRegex(text, r"\d\d:\d\d[^,]{0,3}\d\d:\d\d")  # a finish would show who has extra time
         one = self.page("cards", "MON-AM", "PC1")[0]
         self.assertEqual(one.count("<div class=card>"), sum(hall == "PC1" for hall, _ in seats.values()))
@@ -114,7 +136,7 @@ class Posters(sample.SampleSchool):
         self.assertIn("say once how the desks stand in AULA", self.refused("chart", "MON-AM", "AULA"))
         self.assertEqual(self.office("rows"), "nothing is kept\n")
         self.assertEqual(self.office("rows", "AULA", "4", "down"), "AULA: rows of 4, down\n")
-        text, rows = self.page("chart", "MON-AM", "AULA")
+        text, [_, *rows] = self.page("chart", "MON-AM", "AULA")
         seats, names = self.seats(), self.names()
         for number, (hall, desk) in seats.items():
             if hall == "AULA":

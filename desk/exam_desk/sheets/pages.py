@@ -88,10 +88,15 @@ def style(*names: str) -> Markup:
     return Markup(found)
 
 
+def quoted(value: str) -> Markup:
+    """A text as it stands between quotes in a style."""
+    return Markup(re.sub(r"[^\w ,.:-]", lambda sign: rf"\{ord(sign[0]):x} ", value))
+
+
 def document(reading: Reading, title: str, body: Markup, *names: str) -> str:
-    """Pages of A4 with the styles of these names. The foot of each says when it was made, and of which state."""
-    printed = f"printed {reading.office.now():%Y-%m-%d %H:%M}, state {reading.name[:8]}"
-    return str(html(DOCUMENT, title, printed, style("page", *names), body))
+    """Pages of A4 with the styles of these names. The foot of each has the title, the time, and the state."""
+    printed = f"{title}, printed {reading.office.now():%Y-%m-%d %H:%M:%S}, state {reading.name[:8]}"
+    return str(html(DOCUMENT, title, quoted(printed), style("page", *names), body))
 
 
 def school(office: Office, behind: str = "") -> Markup:

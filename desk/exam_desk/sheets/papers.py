@@ -12,7 +12,7 @@ from markupsafe import Markup
 
 from exam_desk import facts, lists, notebook, telling
 from exam_desk.names import fold
-from exam_desk.notebook import Desk, Rows
+from exam_desk.notebook import SHOWN, Desk, Line, Rows
 from exam_desk.reading import Member, Reading, Sitting
 from exam_desk.sheets.pages import (CODE, HEADED, document, hall_names, html, joined, paper_names, safe, school, table,
                                     text)
@@ -22,12 +22,15 @@ from exam_desk.words import clock, long_day, short_day
 
 BOARD = "<h1>{}{}</h1>\n<p class=legend>{}</p>\n<div class=columns>{}</div>\n"
 ASK = Markup("<b>ask the office</b>")  # in place of a hall
-POSTER = "<h1>{}</h1>\n<h2>{}</h2>\n<p>{}{} &middot; {}</p>\n<div class=columns>{}</div>"
+# What stands in a head of a table comes on each page again.
+POSTER = ("<table class=door><thead><tr><th><h1>{}</h1>\n<h2>{}</h2>\n<p>{}{} &middot; {}</p></th></tr></thead>\n"
+          "<tbody><tr><td><div class=columns>{}</div></td></tr></tbody></table>")
 CARD = "<div class=card><b>{}</b><i>{}</i><p>{}</p><p>{}</p><p>{}</p></div>"
 CARDS = 10  # on a page
+UPRIGHT = 12  # desks in a row at most where a page is upright
 NO_PLACE = Markup("<td class=none></td>")
-CHART = ("<h1>{} ({})</h1>\n<p>{}{}. Front of the hall above. {}</p>\n"
-         "<table class=chart><tbody>\n{}</tbody></table>")
+CHART = ("<table class='{0}' style='--across: {1}'><thead><tr><th colspan={1}><h1>{2} ({3})</h1>\n"
+         "<p>{4}{5}. Front of the hall above. {6}</p></th></tr></thead>\n<tbody>\n{7}</tbody></table>")
 COPIES = ["Hall", "Paper", "n:Copies", "n:Last finish", "box:Spare", "box:Packed"]
 ALL_COPIES = ["Paper, all halls", "n:Copies", "n:Last finish"]
 TOLD = ["w:Session", "w:Number", "Name", "Before", "Now", "box:Told"]
@@ -61,19 +64,35 @@ def when(reading: Reading, session: str) -> Markup:
     return html("{}, {} ({})", long_day(head["day"]), clock(head["start"]), session)
 
 
-def of_desks(reading: Reading, title: str, sheets: Iterable[Markup], name: str) -> str:
-    """A document of sheets on who has a desk, each on pages of its own."""
+def of_desks(reading: Reading, session: str, title: str, sheets: Iterable[Markup], name: str) -> str:
+    """A document of sheets on who has a desk in a session, each on pages of its own."""
     found = joined(html("<div class=sheet>{}</div>\n", sheet) for sheet in sheets)
-    return document(reading, title, found or Markup("<p>Nobody has a desk.</p>\n"), "paper", name)
+    return document(reading, f"{title} {session}", found or nobody(reading, session), "paper", name)
 
 
-def desk(member: Member, before: Mapping[str, Desk]) -> Markup:
+def nobody(reading: Reading, session: str) -> Markup:
+    """What stands in place of sheets where nobody has a desk in a session."""
+    members = lists.count(len(reading.members(session)), "candidate")
+    why = html("{}, none has a desk: <code>office why {}</code> says why", members, session)
+    return html("<h2>{}{}</h2>\n<p>{}</p>\n", school(reading.office, "<br>"), when(reading, session),
+                why if reading.members(session) else "nobody is entered")
+
+
+def desk(member: Member, before: Mapping[str, Line]) -> Markup:
     """The desk of a candidate, with the one that was printed where that is another."""
-    now, old = Desk(member.sitting.hall or "", member.sitting.desk or 0), before.get(member.number)
+    now, line = Desk(member.sitting.hall or "", member.sitting.desk or 0), before.get(member.number)
+    old = line and line.desk
     if not before or old == now:
         return safe(now.desk)
     words = "new" if old is None else f"was {old.desk}" if old.hall == now.hall else f"was {old.hall} {old.desk}"
     return html("{} <small>{}</small>", now.desk, words)
+
+
+def finish(member: Member, before: Mapping[str, Line]) -> Markup:
+    """The finish of a candidate, with the one that was printed below it where that is another."""
+    now, line = member.sitting.finish, before.get(member.number)
+    old = line.shown[SHOWN.index("finish")] if line else ""
+    return html("{}<br><small>was {}</small>", now, old) if old not in ("", now) else safe(now)
 
 
 def named(members: Collection[Member]) -> dict[str, Markup]:
@@ -87,7 +106,7 @@ def board(reading: Reading, session: str) -> str:
     """A notice board, by name."""
     members = lists.by_name(reading.members(session))
     names = named(members)
-    titles, printed = facts.hall_titles(reading.rows), notebook.printed(reading.office, session)
+    titles, printed = facts.hall_titles(reading.rows), notebook.on_paper(reading.office, session).lines
     used = sorted({member.sitting.hall for member in members if member.sitting.hall})
     legend = joined((html("<b>{}</b> {}", code, text(titles[code])) for code in used), "<br>")
     moment = when(reading, session)
@@ -101,7 +120,7 @@ def board(reading: Reading, session: str) -> str:
 def poster(reading: Reading, session: str, asked: Collection[str] = ()) -> str:
     """Posters for the doors: each hall from a page of its own on, names with desks and nothing private."""
     moment, name, names = when(reading, session), school(reading.office, " &middot; "), named(reading.members(session))
-    return of_desks(reading, f"Posters {session}", (
+    return of_desks(reading, session, "Posters", (
         html(POSTER, fitted(text(opening.title), ON_POSTER), moment, name, opening.hall,
              lists.count(len(there), "candidate"),
              table(["Name", "n:Desk"], [[names[each.number], each.sitting.desk] for each in lists.by_name(there)]))
@@ -109,13 +128,14 @@ def poster(reading: Reading, session: str, asked: Collection[str] = ()) -> str:
 
 
 def cards(reading: Reading, session: str, asked: Collection[str] = ()) -> str:
-    """Cards for desks, ten on a page, by hall and desk; without what others need not know."""
-    papers = paper_names(reading.rows)
-    found = [html(CARD, sits.desk, fitted(text(name), ON_CARD), number, fitted(papers[sits.paper], LINES_OF_CARD),
-                  fitted(html("{}, {}, {}", short_day(sits.date), sits.start, text(opening.title)), LINES_OF_CARD))
-             for opening, there in lists.halls(reading, session, asked) for number, name, sits in there]
-    return of_desks(reading, f"Desk cards {session}",
-                    (joined(found[at:at + CARDS], "\n") for at in range(0, len(found), CARDS)), "cards")
+    """Cards for desks, by hall and desk, ten on a page; each hall begins one. Without what others need not know."""
+    papers, sheets = paper_names(reading.rows), list[Markup]()
+    for opening, there in lists.halls(reading, session, asked):
+        found = [html(CARD, sits.desk, fitted(text(name), ON_CARD), number, fitted(papers[sits.paper], LINES_OF_CARD),
+                      fitted(html("{}, {}, {}", short_day(sits.date), sits.start, text(opening.title)), LINES_OF_CARD))
+                 for number, name, sits in there]
+        sheets += (joined(found[at:at + CARDS], "\n") for at in range(0, len(found), CARDS))
+    return of_desks(reading, session, "Desk cards", sheets, "cards")
 
 
 def chart(reading: Reading, session: str, asked: Collection[str] = ()) -> str:
@@ -124,9 +144,13 @@ def chart(reading: Reading, session: str, asked: Collection[str] = ()) -> str:
     moment, name, papers = when(reading, session), school(reading.office, ". "), paper_names(reading.rows, CODE)
     if unknown := [opening.hall for opening, _ in halls if opening.hall not in rows]:
         raise NotDrawn(unknown)
-    return of_desks(reading, f"Seating charts {session}", (
-        html(CHART, text(opening.title), opening.hall, name, moment, lists.count(len(there), "candidate"),
-             joined(drawn(opening.desks, there, rows[opening.hall], papers))) for opening, there in halls), "chart")
+    sheets = []
+    for opening, there in halls:
+        stand = rows[opening.hall]
+        sheets.append(html(CHART, "chart wide" if stand.across > UPRIGHT else "chart", stand.across,
+                           text(opening.title), opening.hall, name, moment, lists.count(len(there), "candidate"),
+                           joined(drawn(opening.desks, there, stand, papers))))
+    return of_desks(reading, session, "Seating charts", sheets, "chart")
 
 
 def drawn(desks: int, members: Iterable[Member], rows: Rows, papers: Mapping[str, Markup]) -> Iterator[Markup]:
@@ -166,17 +190,18 @@ def counts(reading: Reading, session: str) -> str:
     rows = [[halls[hall], papers[code], len(found), max(found), "", ""]
             for (_, hall, code), found in sorted(in_halls.items())]
     total = [[papers[code], len(found), max(found)] for code, found in sorted(in_all.items())]
-    above = html("{}<b>Copies</b> &emsp; {}", school(reading.office, "<br>"), when(reading, session))
-    return document(reading, f"Copies {session}", table(COPIES, rows, above) + table(ALL_COPIES, total), "paper",
-                    "counts")
+    moment = when(reading, session)
+    above = html("{}<b>Copies</b> &emsp; {}", school(reading.office, "<br>"), moment)
+    return document(reading, f"Copies {session}", table(COPIES, rows, above) + table(ALL_COPIES, total, moment),
+                    "paper", "counts")
 
 
 def doors(reading: Reading, session: str, asked: Collection[str] = ()) -> str:
     """Invigilators' sheets: each hall from a page of its own on, by desk."""
     heading, titles = school(reading.office, "<br>") + when(reading, session), paper_names(reading.rows, HEADED)
-    notes, printed = notebook.notes(reading.office), notebook.printed(reading.office, session)
+    notes, printed = notebook.notes(reading.office), notebook.on_paper(reading.office, session).lines
     papers = paper_names(reading.rows, CODE)
-    return of_desks(reading, f"Invigilators' sheets {session}", (
+    return of_desks(reading, session, "Invigilators' sheets", (
         page for opening, there in lists.halls(reading, session, asked)
         for page in of_door(heading, titles, opening, there,
                             [row_of(member, papers, notes, printed) for member in there])), "doors")
@@ -198,11 +223,13 @@ def of_door(heading: Markup, titles: Mapping[str, Markup], opening: facts.Openin
         yield table(DOORS, rows[part], head, BELOW if place == len(parts) else Markup())
 
 
-def row_of(member: Member, papers: Mapping[str, Markup], notes: Mapping[str, str], printed: Mapping[str, Desk]) -> Row:
+def row_of(member: Member, papers: Mapping[str, Markup], notes: Mapping[str, str], printed: Mapping[str, Line]) -> Row:
     sits, paper = member.sitting, papers[member.sitting.paper]
     arranged = [*filter(None, (lists.allowance(sits), notes.get(member.number)))]
-    height = 1 + LINE * max(lines([member.name], NAME), lines(arranged, ARRANGEMENT), len(paper.striptags().split()))
-    return [desk(member, printed), member.number, text(member.name), paper, sits.finish,
+    until = finish(member, printed)
+    height = 1 + LINE * max(lines([member.name], NAME), lines(arranged, ARRANGEMENT), len(paper.striptags().split()),
+                            1 + until.count("<br>"))
+    return [desk(member, printed), member.number, text(member.name), paper, until,
             joined(map(text, arranged), "<br>"), ""], max(ROW, height)
 
 

@@ -16,7 +16,7 @@ from exam_desk.words import clock, features, few, long_day
 MOST_EXPLAINED = 30  # of those without a desk
 SECTIONS = {"halls": "Halls", "shortage": "Shortage", "seats": "Who sits where", "clashes": "Clashes",
             "appeals": "Appeals"}
-HEADER = ("<header><h1>Session {}</h1><p>{}, starts {}</p><p>{}: {:,} seated, {:,} without a desk. {} with {}, {:,} "
+HEADER = ("<header><h1>Session {}</h1><p>{}{}, starts {}</p><p>{}: {:,} seated, {:,} without a desk. {} with {}, {:,} "
           "free.</p><nav>{}</nav></header>\n")
 SECTION = "<section id={}><h2>{}</h2>\n{}\n</section>\n"
 NONE = Markup("<p>None.</p>")
@@ -49,7 +49,8 @@ class Page:
         code, day, start = self.head["code"], self.head["day"], clock(self.head["start"])
         desks, people, lacking = sum(each.desks for each in self.openings), len(self.members), len(self.unseated)
         links = joined((html("<a href='#{}'>{}</a>", *each) for each in SECTIONS.items()), " ")
-        header = html(HEADER, code, long_day(day), start, count(people, "candidate"), people - lacking, lacking,
+        school = pages.school(self.reading.office, "<br>")
+        header = html(HEADER, code, school, long_day(day), start, count(people, "candidate"), people - lacking, lacking,
                       count(len(self.openings), "hall"), count(desks, "desk"), desks - people + lacking, links)
         parts = [self.halls_part(), self.shortage_part(),
                  html("<div class=columns>{}</div>", joined(map(self.hall_part, self.openings))),

@@ -6,7 +6,7 @@ from typing import NamedTuple
 
 from markupsafe import Markup
 
-from exam_desk import facts, files, lists, notebook
+from exam_desk import facts, files, lists, notebook, overlaps
 from exam_desk.reading import Person, Reading, Sitting
 from exam_desk.sheets import pages
 from exam_desk.sheets.pages import html, joined, text
@@ -15,7 +15,7 @@ from exam_desk.words import few, short_day
 
 HEADS = ["w:Day", "w:Time", "Paper", "Hall"]
 HEADER = ["number", "name", "session", "date", "start", "finish", "paper", "paper title", "hall", "hall title",
-          "arrangement", "not sat", "note", "group", "desk", "code"]
+          "arrangement", "not sat", "also sat", "note", "group", "desk", "code"]
 MOST_GROUP_BYTES = 80
 
 
@@ -28,7 +28,11 @@ class Choice(NamedTuple):
     groups: Mapping[str, str] = {}  # by number: each group begins a page, in the order in which they stand here
 
 
-Sat = tuple[Sitting, list[str]]  # what a candidate sits in a session, and the papers that they miss there
+class Sat(NamedTuple):
+    """What a candidate sits in a session."""
+    sitting: Sitting
+    missed: list[str]  # the papers there that they miss
+    beside: list[str]  # the papers that they sit in other sessions at the same time
 
 
 class Slip(NamedTuple):
@@ -59,7 +63,7 @@ def page(reading: Reading, choice: Choice) -> str:
     school = pages.school(reading.office, "<br>")
     by_group: dict[str, list[Markup]] = {}
     for each in slips_of(reading, choice):
-        rows = [row(choice, *sat, papers, halls) for sat in each.sat]
+        rows = [row(choice, sat, papers, halls) for sat in each.sat]
         above = html("{}{}", school, heading(choice, each))
         by_group.setdefault(each.group, []).append(html("<div class=slip>{}</div>\n", pages.table(HEADS, rows, above)))
     form = "<div class=sheet><h2>{}</h2>\n{}</div>\n" if choice.groups else "{1}"
@@ -75,12 +79,13 @@ def heading(choice: Choice, each: Slip) -> Markup:
     return html("{}{}<span>{}</span><b>{}</b>{}", code, group, each.person.number, text(each.person.name), note)
 
 
-def row(choice: Choice, sits: Sitting, missed: list[str], papers: Mapping[str, Markup],
-        halls: Mapping[str, Markup]) -> list[object]:
+def row(choice: Choice, sat: Sat, papers: Mapping[str, Markup], halls: Mapping[str, Markup]) -> list[object]:
     """When, what and where; below the paper what else holds there in small lines."""
+    sits = sat.sitting
     allowance = lists.allowance(sits)
     notes: list[object] = [f"with {allowance}"] if allowance else []
-    notes += [html("not {}, at the same time: ask the exams office", papers[code]) for code in missed]
+    notes += [html("{} {}, at the same time: ask the exams office", word, papers[code])
+              for word, codes in (("not", sat.missed), ("also", sat.beside)) for code in codes]
     where = Markup("<b>no desk yet: ask the office</b>")
     if sits.hall:
         where = html("{}, desk&nbsp;{}" if choice.desks else "{}", halls[sits.hall], sits.desk)
@@ -91,17 +96,16 @@ def row(choice: Choice, sits: Sitting, missed: list[str], papers: Mapping[str, M
 def csv_text(reading: Reading, choice: Choice) -> str:
     """A row for each candidate and session, in the order of the slips. No spreadsheet finds a formula in it."""
     papers, halls = facts.paper_titles(reading.rows), facts.hall_titles(reading.rows)
-    rows = [csv_row(choice, each, *sat, papers, halls) for each in slips_of(reading, choice) for sat in each.sat]
+    rows = [csv_row(choice, each, sat, papers, halls) for each in slips_of(reading, choice) for sat in each.sat]
     return files.BOM.decode() + files.written([HEADER, *rows])
 
 
-def csv_row(choice: Choice, each: Slip, sits: Sitting, missed: list[str], papers: Mapping[str, str],
-            halls: Mapping[str, str]) -> list[str]:
-    person = each.person
+def csv_row(choice: Choice, each: Slip, sat: Sat, papers: Mapping[str, str], halls: Mapping[str, str]) -> list[str]:
+    person, sits = each.person, sat.sitting
     values = [person.number, person.name, sits.session, sits.date, sits.start, sits.finish, sits.paper,
               papers[sits.paper], sits.hall or "", halls.get(sits.hall or "", ""), lists.allowance(sits),
-              " ".join(missed), each.note, each.group, str(sits.desk or "") if choice.desks else "",
-              person.code if choice.codes else ""]
+              " ".join(sat.missed), " ".join(sat.beside), each.note, each.group,
+              str(sits.desk or "") if choice.desks else "", person.code if choice.codes else ""]
     return [files.guarded(value) for value in values]
 
 
@@ -113,10 +117,12 @@ def slips_of(reading: Reading, choice: Choice) -> list[Slip]:
     people = lists.by_name(map(reading.person, map(int, only) if only else entered))
     reading.ask(people)
     clashes, notes = {code: reading.clashes(code, only) for code in codes}, notebook.notes(reading.office)
+    starts = overlaps.starts(reading)
     slips = []
     for person in people:
         sittings = reading.all_of(person.number)
-        sat = [(sits, clashes[code].get(person.number, [])) for code, sits in sittings.items() if code in codes]
+        sat = [Sat(sits, clashes[code].get(person.number, []), overlaps.beside(starts, sits, sittings.values()))
+               for code, sits in sittings.items() if code in codes]
         if sat:
             slips.append(Slip(person, choice.groups.get(person.number, ""), notes.get(person.number, ""), sat))
     numbers = {each.person.number for each in slips}
