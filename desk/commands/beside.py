@@ -136,13 +136,15 @@ def compared(reading: Reading, session: str) -> list[str]:
 
 def otherwise(move: Move) -> str:
     """Who is not as on paper, where they sat and sit, and what else is another."""
-    was, now = place(move.printed, "not on paper"), place(move.now, "no desk" if move.is_member else "not in the session")
+    was, now = place(move.printed, "not on paper"), place(move.now, "not in the session")
     values = (f"{what} {old or '-'} -> {new or '-'}" for what, old, new in move.others())
     return f"{move.number} {move.name}: {', '.join([was if was == now else f'{was} -> {now}', *values])}"
 
 
 def place(line: Line | None, nowhere: str) -> str:
-    return f"{line.desk.hall} {line.desk.desk}" if line else nowhere
+    if line is None:
+        return nowhere
+    return f"{line.desk.hall} {line.desk.desk}" if line.desk.hall else "no desk"
 
 
 @command.named("""Keeps how the desks of halls stand, for the seating charts: rows [HALL DESKS-IN-A-ROW [RUNNING]]

@@ -105,7 +105,7 @@ def groups(effects: Effects) -> Groups:
                 for each, people in effects.overlaps for person in people],
         HALLS: [Met(each.early, f"and {each.late} in {hall}", "both number their desks from 1")
                 for each, _ in effects.overlaps for hall in each.halls],
-        PRINTED: [Met(code, f"for {', '.join(halls)}", f"afterwards `office {LISTED_BY[PRINTED].format(code)}`")
+        PRINTED: [Met(code, f"for {', '.join(halls) or 'no hall'}", f"afterwards `office {LISTED_BY[PRINTED].format(code)}`")
                   for code, halls in effects.out_of_date.items()]})
 
 

@@ -70,14 +70,15 @@ def shut(before: Reading, after: Reading) -> list[sqlite3.Row]:
 
 
 def out_of_date(before: Reading, after: Reading, sessions: Touched) -> dict[str, list[str]]:
-    """By session the halls whose papers are noted as printed and hold no longer, of those whom a change can meet."""
+    """By session the halls whose papers are noted as printed and hold no longer, of those whom a change can meet; no
+    hall where it meets people without a desk alone."""
     found = {code: halls_out_of_date(before, after, code, people) for code, people in sessions.items()}
-    return {code: sorted(halls) for code, halls in found.items() if halls}
+    return {code: sorted(halls - {""}) for code, halls in found.items() if halls}
 
 
 def halls_out_of_date(before: Reading, after: Reading, session: str, people: Collection[int] | None) -> set[str]:
-    """The halls of those of these people, or of all, who are otherwise than before and not as on paper, now and there;
-    where a hall has another title or end they are all who sit there by the papers."""
+    """The halls of those of these people, or of all, who are otherwise than before and not as on paper, now and there,
+    "" for who has no desk; where a hall has another title or end they are all who sit there by the papers."""
     paper = notebook.on_paper(after.office, session).lines
     if not paper:
         return set()

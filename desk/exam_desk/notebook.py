@@ -48,8 +48,8 @@ class Desk(NamedTuple):
 
 
 class Line(NamedTuple):
-    """What papers show of somebody who has a desk."""
-    desk: Desk
+    """What papers show of somebody."""
+    desk: Desk  # without a hall where they have none
     shown: list[str]  # what else, in the order of SHOWN
 
 
@@ -64,8 +64,7 @@ class Move(NamedTuple):
     number: str
     name: str
     printed: Line | None  # None where they are on no paper
-    now: Line | None  # None where they have no desk
-    is_member: bool  # whether they sit something in the session
+    now: Line | None  # None where they have left the session
 
     def others(self) -> list[tuple[str, str, str]]:
         """What is another than the desk, each with its value on paper and now; a title and an end go with their code."""
@@ -166,13 +165,13 @@ def printed(office: Office, session: str) -> dict[str, Desk]:
 
 
 def lines_of(reading: Reading, session: str, members: Iterable[Member]) -> dict[str, Line]:
-    """What papers of a session show of these members, of those who have a desk."""
+    """What papers of a session show of these members."""
     noted, papers = notes(reading.office), facts.paper_titles(reading.rows)
     halls = {each.hall: [each.title, words.clock(each.until)] for each in facts.openings(reading.rows, session)}
-    return {number: Line(Desk(sits.hall, sits.desk or 0), [
+    return {number: Line(Desk(sits.hall or "", sits.desk or 0), [
         name, sits.paper, papers.get(sits.paper, ""), sits.date, sits.start, sits.finish, "+".join(sits.needs),
-        str(sits.extra), *halls.get(sits.hall, ["", ""]), noted.get(number, "")])
-        for number, name, sits in members if sits.hall}
+        str(sits.extra), *halls.get(sits.hall or "", ["", ""]), noted.get(number, "")])
+        for number, name, sits in members}
 
 
 def note_printed(office: Office, reading: Reading, session: str) -> tuple[int, str]:
@@ -185,10 +184,11 @@ def note_printed(office: Office, reading: Reading, session: str) -> tuple[int, s
     with alone(office) as folder:
         write(office, folder, f"printed.{session}", {NOTED: [office.user, len(lines), when]} | {
             number: [*line.desk, *line.shown] for number, line in lines.items()})
-    others = len(moved(before, lines)) if before else 0
-    said = f"{lists.count(len(lines), 'desk')} noted" + (f", {others} other than before" if others else "")
+    others, desks = len(moved(before, lines)) if before else 0, sum(line.desk.hall != "" for line in lines.values())
+    without = f" and {lists.count(len(lines) - desks, 'candidate')} without one" * (desks < len(lines))
+    said = f"{lists.count(desks, 'desk')} noted{without}" + (f", {others} other than before" if others else "")
     logbook.write_done(office, ["printed", session], 0, said)
-    return len(lines), said
+    return desks, said
 
 
 def compared(reading: Reading, session: str) -> Compared | None:
@@ -197,11 +197,10 @@ def compared(reading: Reading, session: str) -> Compared | None:
     before = on_paper(reading.office, session)
     if not before.lines:
         return None
-    members, names = reading.members(session), facts.candidate_names(reading.rows)
-    now, present = lines_of(reading, session, members), {member.number for member in members}
-    moves = [Move(number, names.get(number, ""), before.lines.get(number), now.get(number), number in present)
+    now, names = lines_of(reading, session, reading.members(session)), facts.candidate_names(reading.rows)
+    moves = [Move(number, names.get(number, ""), before.lines.get(number), now.get(number))
              for number in moved(before.lines, now)]
-    halls = {line.desk.hall for move in moves for line in (move.now, move.printed) if line}
+    halls = {line.desk.hall for move in moves for line in (move.now, move.printed) if line} - {""}
     return Compared(before, moves, sorted(halls), sorted(halls - {line.desk.hall for line in now.values()}))
 
 

@@ -62,7 +62,7 @@ class TestPrinting(DeskSchool):
         self.browser.post(self.PRINTED, "/sessions/MON-AM")
         self.assertRegex(self.browser.words("/sessions/MON-AM"), r"\d+ desks of MON-AM are noted as printed")
         self.assertEqual(self.office("printed", "MON-AM", "--look"), "the papers are up to date\n")
-        [(when, who)] = re.findall(r"^(\S+ \d\d:\d\d):\d\d\t(\S+ \(ab, desk\))\tprinted MON-AM\t0\t\d+ desks noted$",
+        [(when, who)] = re.findall(r"^(\S+ \d\d:\d\d):\d\d\t(\S+ \(ab, desk\))\tprinted MON-AM\t0\t\d+ desks noted and .*$",
                                    self.log(), re.M)
         self.assertIn(f"noted {when} by {who} still right", self.browser.words(self.PRINTED))
         self.office("withdraw", "0001051", "CS-1")

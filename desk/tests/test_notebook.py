@@ -257,7 +257,7 @@ class Commands(sample.SampleSchool):
 
     def test_printed(self):
         self.assertIn("nobody noted", self.refused("printed", "MON-AM", "--look"))
-        self.assertRegex(self.office("printed", "MON-AM"), r"^\d+ desks noted\n$")
+        self.assertEqual(self.office("printed", "MON-AM"), "58 desks noted and 2 candidates without one\n")
         self.assertEqual(self.office("printed", "MON-AM", "--look"), "the papers are up to date\n")
         seats = [line.split(",") for line in self.office("export", "MON-AM").splitlines()[1:]]
         number, paper, hall = next((seat[1], seat[2], seat[3]) for seat in seats if seat[4] == "1")
@@ -266,7 +266,7 @@ class Commands(sample.SampleSchool):
         self.assertTrue(any(re.fullmatch(rf"{number} \S.*: {hall} 1 -> .*", line) for line in lines), lines)
         self.assertFalse([line for line in lines if " :" in line], "whoever left has a name, too")
         self.assertIn(hall, re.findall("[A-Z0-9]+", lines[-1]))
-        self.assertRegex(self.office("printed", "MON-AM"), r"^\d+ desks noted, [1-9]\d* other than before\n$")
+        self.assertRegex(self.office("printed", "MON-AM"), r"^\d+ desks noted.*, [1-9]\d* other than before\n$")
         self.assertEqual(self.office("printed", "MON-AM", "--look"), "the papers are up to date\n")
         self.office("close-hall", "MON-AM", "GYM")
         self.office("withdraw", "0001119", "CS-1")  # so that somebody in another hall has another desk
@@ -288,7 +288,31 @@ class Commands(sample.SampleSchool):
         paper = notebook.on_paper(self.value, "MON-AM")
         self.assertEqual(paper.who, lines[1][1])
         self.assertTrue(before <= paper.when <= lines[1][0], (before, paper.when, lines))
-        self.assertEqual(len(paper.lines), int(answers[1].split()[0]))
+        self.assertEqual(len(paper.lines), 59)  # of 60, one of whom has left
+
+    def test_who_has_no_desk(self):
+        """They stand on the board and the copies, in no hall; a session may have nobody else."""
+        self.office("printed", "TUE-AM")
+        done = self.run_office("withdraw", "0001221", "BI-1")  # who had no desk
+        self.assertIn("(board, counts, slips too): TUE-AM for no hall\n", done.stderr)
+        self.assertEqual(self.office("printed", "TUE-AM", "--look"), "0001221 Nora Haddad: no desk -> not in the session\n"
+                         "to print again: board, counts, slips\n")
+        self.office("printed", "TUE-AM")
+        self.office("reinstate", "0001221", "BI-1")
+        self.assertIn("0001221 Nora Haddad: not on paper -> no desk\n", self.office("printed", "TUE-AM", "--look"))
+        self.office("printed", "TUE-AM")
+        self.office("name", "0001221", "Nora Hall")
+        self.assertIn("0001221 Nora Hall: no desk, name Nora Haddad -> Nora Hall\n",
+                      self.office("printed", "TUE-AM", "--look"))
+        for kind, rows in (("sessions", "session,date,start\nTUE-PM,2027-06-08,14:00\n"),
+                           ("papers", "paper,title,session,minutes,requires\nART,Art,TUE-PM,60,-\n"),
+                           ("entries", "number,paper\n0001051,ART\n")):
+            self.office("import", kind, self.write("new.csv", rows))
+        self.assertEqual(self.office("printed", "TUE-PM"), "0 desks noted and 1 candidate without one\n")
+        self.assertEqual(self.office("printed", "TUE-PM", "--look"), "the papers are up to date\n")
+        self.office("open-hall", "TUE-PM", "GYM", "90", "18:00")
+        self.assertIn("0001051 Di Berg: no desk -> GYM 1\n", self.office("printed", "TUE-PM", "--look"))
+        self.assertIn("<td class=n>1 <small>new</small></td>", self.office("board", "TUE-PM"))
 
     def test_a_line_that_has_its_desk_alone(self):
         """Its desk is known, so papers show where another one was; and it has to be printed again."""

@@ -71,7 +71,7 @@ def desk(member: Member, before: Mapping[str, Desk]) -> Markup:
     now, old = Desk(member.sitting.hall or "", member.sitting.desk or 0), before.get(member.number)
     if not before or old == now:
         return safe(now.desk)
-    words = "new" if old is None else f"was {old.desk}" if old.hall == now.hall else f"was {old.hall} {old.desk}"
+    words = "new" if not (old and old.hall) else f"was {old.desk}" if old.hall == now.hall else f"was {old.hall} {old.desk}"
     return html("{} <small>{}</small>", now.desk, words)
 
 
