@@ -24,13 +24,13 @@ WHOLE = "board, counts, slips"
     office absent MON-AM - <numbers.txt     as many as stand in a file, parted by spaces or lines
     office absent MON-AM --there 0001060    takes one back
     office absent MON-AM --nobody           notes that nobody was absent
-    office absent MON-AM >board.csv         prints number, paper, present or absent, by paper
+    office absent MON-AM >board.csv         prints number, paper, present, absent or no desk, by paper
 
 All of it from the day of the session on. Who was missing is no fact of the office: no seat changes by it. Zeros in
 front of a number may be left out; where one number is wrong nothing is noted. The paper is the one that the candidate
-was to sit, of a second sitting the paper that it was made of. Where nobody noted anything of a session, all are listed
-as present, and a note says so; so does one of who was noted, and has left the session. The log has who was noted, by
-number.
+was to sit, of a second sitting the paper that it was made of. Where nobody noted anything of a session, all who have a
+desk are listed as present, and a note says so; so does one of who was noted, and has left the session. The log has who
+was noted, by number.
 """)
 def absent(parser: ArgumentParser) -> None:
     from exam_desk import lists, notebook
@@ -46,9 +46,8 @@ def absent(parser: ArgumentParser) -> None:
     if notes:
         text = f"{lists.count(len(noted.members) if noted else 0, 'candidate')} absent of {members:,}\n"
     elif noted is None:
-        who = "the only candidate is" if members == 1 else f"all {members:,} are"
-        command.warn(f"NOTE nobody has noted who was absent in {session}: {who} listed as present; `office absent "
-                     f"{session} --nobody` notes that nobody was")
+        command.warn(f"NOTE nobody has noted who was absent in {session}: all who have a desk are listed as present; "
+                     f"`office absent {session} --nobody` notes that nobody was")
     if noted and noted.gone:
         command.warn(f"NOTE the exam board's list lacks who is noted as absent and has left {session}: "
                      f"{few(noted.gone)}")

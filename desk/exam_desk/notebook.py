@@ -275,14 +275,14 @@ def note_absent(office: Office, reading: Reading, session: str, missing: Iterabl
 
 def attendance(reading: Reading, session: str) -> str:
     """A line for each member, by paper, as CSV. The paper is the one that the candidate was to sit, by the code which
-    the exam board knows. Raises `Trouble` before the day of the session."""
+    the exam board knows. Who has no desk cannot have been present. Raises `Trouble` before the day of the session."""
     from exam_desk.second_sitting import own_code  # here, since it makes changes, whose copies have this notebook
     refuse_to_come(reading, session)
     missing, members = absent(reading.office, session) or set(), reading.members(session)
     codes = {paper: own_code(reading.rows, paper) for paper in {member.sitting.paper for member in members}}
-    rows = sorted((codes[member.sitting.paper], member.number) for member in members)
-    return files.written([ATTENDANCE, *([number, paper, "absent" if number in missing else "present"]
-                                        for paper, number in rows)])
+    rows = sorted((codes[sits.paper], number, "absent" if number in missing else "present" if sits.hall else "no desk")
+                  for number, _, sits in members)
+    return files.written([ATTENDANCE, *([number, paper, attended] for paper, number, attended in rows)])
 
 
 def is_text(part: object) -> bool:

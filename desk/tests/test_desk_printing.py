@@ -233,7 +233,7 @@ class TestPrinting(DeskSchool):
 
 class TestTheDay(DeskSchool):
     """Who did not come, on the day of the session."""
-    NOTHING_NOTED = "Nobody has noted who was absent: the list has all as present."
+    NOTHING_NOTED = "Nobody has noted who was absent: the list has all who have a desk as present."
 
     def start(self):
         self.environment["TODAY"] = "2027-06-07"

@@ -11,6 +11,7 @@ import stat
 import sys
 import tempfile
 import unittest
+from collections import Counter
 
 import sample
 
@@ -220,16 +221,19 @@ class Commands(sample.SampleSchool):
         self.assertFalse(os.path.exists(os.path.join(self.desk, "notebook")))
 
     def test_who_noted_nothing(self):
-        note = ("office: NOTE nobody has noted who was absent in MON-AM: all 60 are listed as present; `office absent "
-                "MON-AM --nobody` notes")
+        note = ("office: NOTE nobody has noted who was absent in MON-AM: all who have a desk are listed as present; "
+                "`office absent MON-AM --nobody` notes")
         for self.environment["TODAY"] in ("2027-06-07", "2027-07-01"):
-            self.assertEqual({line[2] for line in self.board(note)[1:]}, {"present"})
+            self.assertEqual({line[2] for line in self.board(note)[1:]}, {"present", "no desk"})
         self.assertIn("no number is given", self.refused("absent", "MON-AM", "-", stdin="\n"))
         self.office("absent", "MON-AM", "1051")
         self.assertEqual(self.office("absent", "MON-AM", "--there", "1051"), "0 candidates absent of 60\n")
         self.board(note)
         self.assertEqual(self.office("absent", "MON-AM", "--nobody"), "0 candidates absent of 60\n")
-        self.assertEqual({line[2] for line in self.board()[1:]}, {"present"})
+        self.assertEqual([line[0] for line in self.board()[1:] if line[2] != "present"], ["0001187", "0001935"])
+        self.office("absent", "MON-AM", "0001187")
+        self.assertEqual([line[2] for line in self.board() if line[0] in ("0001187", "0001935")], ["absent", "no desk"])
+        self.office("absent", "MON-AM", "--there", "0001187")
         self.office("absent", "MON-AM", "0001051")
         self.assertIn("these are absent: 0001051\n", self.refused("absent", "MON-AM", "--nobody"))
         self.assertEqual([line[0] for line in self.board() if line[2] == "absent"], ["0001051"])
@@ -238,7 +242,7 @@ class Commands(sample.SampleSchool):
         self.environment["TODAY"] = "2027-06-07"
         lines = self.board("office: NOTE")
         self.assertEqual(lines[0], ["number", "paper", "attendance"])
-        self.assertEqual({line[2] for line in lines[1:]}, {"present"})
+        self.assertEqual(Counter(line[2] for line in lines[1:]), {"present": 58, "no desk": 2})
         members = [line for line in self.office("export", "MON-AM").splitlines()[1:]]
         self.assertEqual(sorted((line.split(",")[1], line.split(",")[2]) for line in members),
                          sorted((line[0], line[1]) for line in lines[1:]))
