@@ -11,7 +11,7 @@ from exam_desk.words import few, plain
 if TYPE_CHECKING:
     from argparse import ArgumentParser
 
-    from exam_desk.notebook import Line, Move
+    from exam_desk.on_paper import Line, Move
     from exam_desk.reading import Reading
 
 MOST_BYTES = 1 << 16  # of numbers on standard input
@@ -100,36 +100,38 @@ Nothing but this command notes it: to look at a page notes nothing. On the day w
 withdraw, since a withdrawal can give others another desk.
 """)
 def printed(parser: ArgumentParser) -> None:
-    from exam_desk import notebook
+    from exam_desk import on_paper
     given = command.given(parser, "session?", "--look: notes nothing, and compares")
     with command.reading() as reading:
         if given.session is None:
-            command.say_lines(on_paper(reading) or ["nobody noted that papers are printed"])
+            command.say_lines(of_each(reading) or ["nobody noted that papers are printed"])
         elif given.look:
             command.say_lines(compared(reading, given.session))
         else:
-            _, said = notebook.note_printed(command.office(), reading, given.session)
+            _, said = on_paper.note(command.office(), reading, given.session)
             command.say(f"{said}\n")
 
 
-def on_paper(reading: Reading) -> list[str]:
+def of_each(reading: Reading) -> list[str]:
     """A line for each session whose papers are printed."""
-    from exam_desk import facts, lists, notebook
-    found = {code: notebook.compared(reading, code) for code, *_ in facts.sessions(reading.rows)}
-    return [f"{code}: the papers are " + (f"out of date for {lists.count(len(each.moves), 'candidate')}; "
-            f"`office printed {code} --look`" if each.moves else "up to date") for code, each in found.items() if each]
+    from exam_desk import facts, lists, on_paper
+    found = {code: on_paper.compared(reading, code) for code, *_ in facts.sessions(reading.rows)}
+    return [f"{code}: the papers are " + ("up to date" if each.holds() else "out of date" + (
+            f" for {lists.count(len(each.moves), 'candidate')}" if each.moves else "") +
+            f"; `office printed {code} --look`") for code, each in found.items() if each]
 
 
 def compared(reading: Reading, session: str) -> list[str]:
     """Who is not as on paper, and the halls whose paper is out of date."""
-    from exam_desk import notebook
-    found = notebook.compared(reading, session)
+    from exam_desk import on_paper
+    found = on_paper.compared(reading, session)
     if found is None:
         raise Trouble(f"nobody noted which desks are printed for {session}; `office printed {session}` does")
-    if not found.moves:
+    if found.holds():
         return ["the papers are up to date"]
     again = "; ".join(filter(None, [", ".join(hall for hall in found.halls if hall not in found.empty), WHOLE]))
-    return [*map(otherwise, found.moves), f"to print again: {again}",
+    shared = (f"{what} {old or '-'} -> {new or '-'}" for what, old, new in found.others)
+    return [*shared, *map(otherwise, found.moves), f"to print again: {again}",
             *([f"to take away, as nobody sits there now: {', '.join(found.empty)}"] if found.empty else [])]
 
 

@@ -16,9 +16,10 @@ from collections import Counter
 import sample
 
 sys.path.insert(0, str(pathlib.Path(__file__).resolve().parents[1]))
-from exam_desk import beside, copies, files, logbook, notebook  # noqa: E402
-from exam_desk.notebook import Desk, Rows  # noqa: E402
+from exam_desk import beside, copies, files, logbook, notebook, on_paper  # noqa: E402
+from exam_desk.notebook import Rows  # noqa: E402
 from exam_desk.office import Office  # noqa: E402
+from exam_desk.on_paper import Desk  # noqa: E402
 from exam_desk.trouble import Trouble  # noqa: E402
 
 HOSTILE = '=1+1 "quoted", <b>bold</b> \u202eleft \u009b2J é'
@@ -62,7 +63,7 @@ class Notebook(unittest.TestCase):
 
     def test_nothing_is_there_at_first(self):
         self.assertEqual((notebook.school_name(self.office), notebook.notes(self.office)), ("", {}))
-        self.assertEqual((notebook.printed(self.office, "S1"), notebook.absent(self.office, "S1")), ({}, None))
+        self.assertEqual((on_paper.desks(self.office, "S1"), notebook.absent(self.office, "S1")), ({}, None))
         self.assertFalse(self.place.exists())
 
     def test_notes(self):
@@ -102,10 +103,10 @@ class Notebook(unittest.TestCase):
         desks = {"0000001": Desk("A", 1), "0000002": Desk("A", 2), "0000003": Desk("B", 1)}
         with notebook.alone(self.office) as folder:
             notebook.write(self.office, folder, "printed.S1", {number: [*desk, "0"] for number, desk in desks.items()})
-        self.assertEqual((notebook.printed(self.office, "S1"), notebook.printed(self.office, "S2")), (desks, {}))
+        self.assertEqual((on_paper.desks(self.office, "S1"), on_paper.desks(self.office, "S2")), (desks, {}))
         now = {"0000002": Desk("A", 1), "0000003": Desk("B", 1), "0000004": Desk("C", 1)}
-        self.assertEqual(notebook.moved(desks, now), ["0000001", "0000002", "0000004"])
-        self.assertEqual(notebook.moved(desks, desks), [])
+        self.assertEqual(on_paper.moved(desks, now), ["0000001", "0000002", "0000004"])
+        self.assertEqual(on_paper.moved(desks, desks), [])
 
     def test_rows(self):
         notebook.keep_rows(self.office, "A", Rows(100, "down"))
@@ -155,8 +156,8 @@ class Notebook(unittest.TestCase):
                 ("school", b"1", notebook.school_name), ("school", b"[]", notebook.school_name),
                 ("rows", b'{"GYM": [0, "down"]}', notebook.rows_of_halls),
                 ("rows", b'{"GYM": [1]}', notebook.rows_of_halls),
-                ("printed.S", b'{"0000001": [1, "GYM"]}', lambda office: notebook.printed(office, "S")),
-                ("printed.S", b'{"0000001": ["GYM", 1, 2]}', lambda office: notebook.printed(office, "S")),
+                ("printed.S", b'{"0000001": [1, "GYM"]}', lambda office: on_paper.desks(office, "S")),
+                ("printed.S", b'{"0000001": ["GYM", 1, 2]}', lambda office: on_paper.desks(office, "S")),
                 ("absent.S", b"[1]", lambda office: notebook.absent(office, "S")),
                 ("absent.S", b'{"0000001": "a"}', lambda office: notebook.absent(office, "S"))):
             (self.place / f"{name}.json").write_bytes(text)
@@ -289,7 +290,7 @@ class Commands(sample.SampleSchool):
         lines = [line for line in logbook.last_lines(self.value) if line[2] == "printed MON-AM"]
         self.assertEqual([line[3:] for line in lines], [["0", answer[:-1]] for answer in answers])
         self.assertIsNone(logbook.unfinished(self.value))
-        paper = notebook.on_paper(self.value, "MON-AM")
+        paper = on_paper.noted(self.value, "MON-AM")
         self.assertEqual(paper.who, lines[1][1])
         self.assertTrue(before <= paper.when <= lines[1][0], (before, paper.when, lines))
         self.assertEqual(len(paper.lines), 59)  # of 60, one of whom has left
@@ -336,10 +337,6 @@ class Commands(sample.SampleSchool):
                 (("notes", self.write("other.csv", "number,text\n0001306,two\n")), "note a scribe -> two"),
                 (("import", "arrangements", self.write("a.csv", "number,needs,extra\n0001306,-,10\n")),
                  "finish 10:30 -> 10:39, extra 0 -> 10"),  # 90 minutes from 09:00, and 9 more
-                (("import", "halls", self.write("h.csv", "hall,title,features\nAULA,Great hall,-\n")),
-                 "hall title Aula, main building -> Great hall"),
-                (("import", "papers", self.write("p.csv", "paper,title,session,minutes,requires\nLAT,Latin 1,MON-AM,90,-\n")),
-                 "paper title Latin -> Latin 1"),
                 (("import", "sessions", self.write("s.csv", "session,date,start\nMON-AM,2027-06-08,08:30\n")),
                  "date 2027-06-07 -> 2027-06-08, start 09:00 -> 08:30, finish 10:39 -> 10:09")):
             self.office("printed", "MON-AM")
@@ -349,6 +346,27 @@ class Commands(sample.SampleSchool):
             [line] = [line for line in lines if line.startswith("0001306")]
             self.assertRegex(line, rf"^0001306 (Sami Nagy|Another Name): AULA 1, {said}$")
             self.assertIn("AULA", lines[-1], words)
+
+    def test_what_lines_share(self):
+        """A line for a hall, a paper or the school, and none for each candidate; in the halls that show it."""
+        self.office("rows", "AULA", "6")
+        titles = self.write("h.csv", "hall,title,features\nAULA,Great hall,-\n")
+        paper = self.write("p.csv", "paper,title,session,minutes,requires\nLAT,Latin 1,MON-AM,90,-\n")
+        for words, said, halls in (
+                (("open-hall", "MON-AM", "AULA", "16", "13:00"), "AULA: open until 12:30 -> 13:00", ["AULA"]),
+                (("open-hall", "MON-AM", "AULA", "17", "13:00"), "AULA: desks 16 -> 17", ["AULA"]),
+                (("rows", "AULA", "4", "down"), "AULA: rows 6 across -> 4 down", ["AULA"]),
+                (("import", "halls", titles), "AULA: hall title Aula, main building -> Great hall", ["AULA"]),
+                (("import", "papers", paper), "LAT: paper title Latin -> Latin 1", ["AULA"]),
+                (("school", "Hill"), "school: name - -> Hill", ["AULA", "GYM", "LIB", "PC1"])):
+            self.office("printed", "MON-AM")
+            self.office("rows", "PC1", "6")  # there was no chart of it before
+            self.assertEqual(self.office("printed", "MON-AM", "--look"), "the papers are up to date\n")
+            told = self.run_office(*words)
+            self.assertEqual(self.office("printed", "MON-AM", "--look"),
+                             f"{said}\nto print again: {', '.join(halls)}; board, counts, slips\n")
+            self.assertEqual("MON-AM for AULA" in told.stderr, words[0] in ("open-hall", "import"), words)
+            self.assertEqual(self.office("printed"), "MON-AM: the papers are out of date; `office printed MON-AM --look`\n")
 
     def test_who_comes_moves_and_goes(self):
         """Of another hall neither the title nor the end is said, since they go with it; of another paper no title."""
