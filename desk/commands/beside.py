@@ -73,7 +73,8 @@ def numbers(words: list[str]) -> list[str]:
 A note stands on what invigilators and candidates get, and on nothing else. It is no fact of the office: no seat depends
 on it. A later row for a number replaces the note, an empty text takes it away; notes that are not in the file stay. A
 text has at most 200 bytes. Where one row is wrong no row is taken. Notes lie beside the office, for its user alone, and
-in its copies; `office back` leaves them as they are. Which printed papers have another note is said. The log has whose note is another, and no text of it.
+in its copies; `office back` leaves them as they are. A line says which printed papers have another note. The log has
+whose note is another, and no text of it.
 """)
 def notes(parser: ArgumentParser) -> None:
     from exam_desk import consequences, facts, files, notebook, on_paper

@@ -111,8 +111,9 @@ def with_other_notes(office: Office, sessions: Iterable[str], notes: Mapping[str
     found = {}
     for code in sessions:
         lines = noted(office, code).lines
-        if halls := {lines[number].desk.hall for number in lines.keys() & notes if lines[number].shown[-1] != notes[number]}:
-            found[code] = sorted(halls - {""})
+        other = [line for number, line in lines.items() if line.shown[-1] != notes.get(number, line.shown[-1])]
+        if other:
+            found[code] = sorted({line.desk.hall for line in other} - {""})
     return found
 
 
