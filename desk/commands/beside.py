@@ -11,7 +11,7 @@ from exam_desk.words import few, plain
 if TYPE_CHECKING:
     from argparse import ArgumentParser
 
-    from exam_desk.notebook import Line, Move
+    from exam_desk.on_paper import Line, Move
     from exam_desk.reading import Reading
 
 MOST_BYTES = 1 << 16  # of numbers on standard input
@@ -24,13 +24,13 @@ WHOLE = "board, counts, slips"
     office absent MON-AM - <numbers.txt     as many as stand in a file, parted by spaces or lines
     office absent MON-AM --there 0001060    takes one back
     office absent MON-AM --nobody           notes that nobody was absent
-    office absent MON-AM >board.csv         prints number, paper, present or absent, by paper
+    office absent MON-AM >board.csv         prints number, paper, present, absent or no desk, by paper
 
 All of it from the day of the session on. Who was missing is no fact of the office: no seat changes by it. Zeros in
 front of a number may be left out; where one number is wrong nothing is noted. The paper is the one that the candidate
-was to sit, of a second sitting the paper that it was made of. Where nobody noted anything of a session, all are listed
-as present, and a note says so; so does one of who was noted, and has left the session. The log has who was noted, by
-number.
+was to sit, of a second sitting the paper that it was made of. Where nobody noted anything of a session, all who have a
+desk are listed as present, and a note says so; so does one of who was noted, and has left the session. The log has who
+was noted, by number.
 """)
 def absent(parser: ArgumentParser) -> None:
     from exam_desk import lists, notebook
@@ -46,9 +46,8 @@ def absent(parser: ArgumentParser) -> None:
     if notes:
         text = f"{lists.count(len(noted.members) if noted else 0, 'candidate')} absent of {members:,}\n"
     elif noted is None:
-        who = "the only candidate is" if members == 1 else f"all {members:,} are"
-        command.warn(f"NOTE nobody has noted who was absent in {session}: {who} listed as present; `office absent "
-                     f"{session} --nobody` notes that nobody was")
+        command.warn(f"NOTE nobody has noted who was absent in {session}: all who have a desk are listed as present; "
+                     f"`office absent {session} --nobody` notes that nobody was")
     if noted and noted.gone:
         command.warn(f"NOTE the exam board's list lacks who is noted as absent and has left {session}: "
                      f"{few(noted.gone)}")
@@ -74,10 +73,11 @@ def numbers(words: list[str]) -> list[str]:
 A note stands on what invigilators and candidates get, and on nothing else. It is no fact of the office: no seat depends
 on it. A later row for a number replaces the note, an empty text takes it away; notes that are not in the file stay. A
 text has at most 200 bytes. Where one row is wrong no row is taken. Notes lie beside the office, for its user alone, and
-in its copies; `office back` leaves them as they are. The log has whose note is another, and no text of it.
+in its copies; `office back` leaves them as they are. A line says which printed papers have another note. The log has
+whose note is another, and no text of it.
 """)
 def notes(parser: ArgumentParser) -> None:
-    from exam_desk import facts, files, notebook
+    from exam_desk import consequences, facts, files, notebook, on_paper
     from exam_desk.sheets import texts
     given = command.given(parser, "file?")
     office = command.office()
@@ -85,10 +85,12 @@ def notes(parser: ArgumentParser) -> None:
         if not given.file:
             command.say(texts.notes(office, rows))
             return
-        known = set(facts.candidate_names(rows))
+        known, sessions = set(facts.candidate_names(rows)), [code for code, *_ in facts.sessions(rows)]
     texts_given = files.texts_by_number(files.read(given.file), given.file, "text", notebook.MOST_NOTE_BYTES, known)
     noted = notebook.take_notes(office, texts_given)
     command.say(" ".join(f"{word} {noted[word]}" for word in ("added", "changed", "removed", "same")) + "\n")
+    for line in consequences.noted(on_paper.with_other_notes(office, sessions, texts_given)):
+        print(line, file=sys.stderr)
 
 
 @command.named("""Notes what is on paper, and says what is otherwise now: printed [SESSION [--look]]
@@ -101,48 +103,52 @@ Nothing but this command notes it: to look at a page notes nothing. On the day w
 withdraw, since a withdrawal can give others another desk.
 """)
 def printed(parser: ArgumentParser) -> None:
-    from exam_desk import notebook
+    from exam_desk import on_paper
     given = command.given(parser, "session?", "--look: notes nothing, and compares")
     with command.reading() as reading:
         if given.session is None:
-            command.say_lines(on_paper(reading) or ["nobody noted that papers are printed"])
+            command.say_lines(of_each(reading) or ["nobody noted that papers are printed"])
         elif given.look:
             command.say_lines(compared(reading, given.session))
         else:
-            _, said = notebook.note_printed(command.office(), reading, given.session)
+            _, said = on_paper.note(command.office(), reading, given.session)
             command.say(f"{said}\n")
 
 
-def on_paper(reading: Reading) -> list[str]:
+def of_each(reading: Reading) -> list[str]:
     """A line for each session whose papers are printed."""
-    from exam_desk import facts, lists, notebook
-    found = {code: notebook.compared(reading, code) for code, *_ in facts.sessions(reading.rows)}
-    return [f"{code}: the papers are " + (f"out of date for {lists.count(len(each.moves), 'candidate')}; "
-            f"`office printed {code} --look`" if each.moves else "up to date") for code, each in found.items() if each]
+    from exam_desk import facts, lists, on_paper
+    found = {code: on_paper.compared(reading, code) for code, *_ in facts.sessions(reading.rows)}
+    return [f"{code}: the papers are " + ("up to date" if each.holds() else "out of date" + (
+            f" for {lists.count(len(each.moves), 'candidate')}" if each.moves else "") +
+            f"; `office printed {code} --look`") for code, each in found.items() if each]
 
 
 def compared(reading: Reading, session: str) -> list[str]:
     """Who is not as on paper, and the halls whose paper is out of date."""
-    from exam_desk import notebook
-    found = notebook.compared(reading, session)
+    from exam_desk import on_paper
+    found = on_paper.compared(reading, session)
     if found is None:
         raise Trouble(f"nobody noted which desks are printed for {session}; `office printed {session}` does")
-    if not found.moves:
+    if found.holds():
         return ["the papers are up to date"]
     again = "; ".join(filter(None, [", ".join(hall for hall in found.halls if hall not in found.empty), WHOLE]))
-    return [*map(otherwise, found.moves), f"to print again: {again}",
+    shared = (f"{what} {old or '-'} -> {new or '-'}" for what, old, new in found.others)
+    return [*shared, *map(otherwise, found.moves), f"to print again: {again}",
             *([f"to take away, as nobody sits there now: {', '.join(found.empty)}"] if found.empty else [])]
 
 
 def otherwise(move: Move) -> str:
     """Who is not as on paper, where they sat and sit, and what else is another."""
-    was, now = place(move.printed, "not on paper"), place(move.now, "no desk" if move.is_member else "not in the session")
+    was, now = place(move.printed, "not on paper"), place(move.now, "not in the session")
     values = (f"{what} {old or '-'} -> {new or '-'}" for what, old, new in move.others())
     return f"{move.number} {move.name}: {', '.join([was if was == now else f'{was} -> {now}', *values])}"
 
 
 def place(line: Line | None, nowhere: str) -> str:
-    return f"{line.desk.hall} {line.desk.desk}" if line else nowhere
+    if line is None:
+        return nowhere
+    return f"{line.desk.hall} {line.desk.desk}" if line.desk.hall else "no desk"
 
 
 @command.named("""Keeps how the desks of halls stand, for the seating charts: rows [HALL DESKS-IN-A-ROW [RUNNING]]

@@ -6,7 +6,7 @@ import sqlite3
 from collections import Counter
 from collections.abc import Collection, Iterable, Iterator
 
-from exam_desk import facts, lists, logbook, notebook, overlaps, telling
+from exam_desk import facts, lists, logbook, on_paper, overlaps, telling
 from exam_desk.overlaps import Overlap
 from exam_desk.reading import Person, Reading
 from exam_desk.telling import Touched
@@ -70,26 +70,26 @@ def shut(before: Reading, after: Reading) -> list[sqlite3.Row]:
 
 
 def out_of_date(before: Reading, after: Reading, sessions: Touched) -> dict[str, list[str]]:
-    """By session the halls whose papers are noted as printed and hold no longer, of those whom a change can meet."""
+    """By session the halls whose papers are noted as printed and hold no longer, of those whom a change can meet; no
+    hall where it meets people without a desk alone."""
     found = {code: halls_out_of_date(before, after, code, people) for code, people in sessions.items()}
-    return {code: sorted(halls) for code, halls in found.items() if halls}
+    return {code: sorted(halls - {""}) for code, halls in found.items() if halls}
 
 
 def halls_out_of_date(before: Reading, after: Reading, session: str, people: Collection[int] | None) -> set[str]:
-    """The halls of those of these people, or of all, who are otherwise than before and not as on paper, now and there;
-    where a hall has another title or end they are all who sit there by the papers."""
-    paper = notebook.on_paper(after.office, session).lines
-    if not paper:
+    """The halls of those of these people, or of all, who are otherwise than before and not as on paper, now and there,
+    and those with what lines share and is another; "" for who has no desk."""
+    paper = on_paper.noted(after.office, session)
+    if not paper.lines:
         return set()
-    was, ends = ({each.hall: (each.title, each.until) for each in facts.openings(reading.rows, session)}
-                 for reading in (before, after))
-    there = {int(number) for number, line in paper.items() if was.get(line.desk.hall) != ends.get(line.desk.hall)}
-    asked = None if people is None else there.union(people)
-    then, now = (notebook.lines_of(reading, session, reading.members(session, telling.entered(reading, session, asked)))
-                 for reading in (before, after))
-    lines = (line for number in notebook.moved(then, now) if paper.get(number) != now.get(number)
-             for line in (paper.get(number), now.get(number)))
-    return {line.desk.hall for line in lines if line}
+    asked = [(reading, telling.entered(reading, session, people)) for reading in (before, after)]
+    then, now = (on_paper.lines_of(reading, session, reading.members(session, numbers)) for reading, numbers in asked)
+    lines = (line for number in on_paper.moved(then, now) if paper.lines.get(number) != now.get(number)
+             for line in (paper.lines.get(number), now.get(number)))
+    was, shared = (on_paper.shared(reading, session) for reading in (before, after))
+    others = (what for what, *_ in on_paper.others(paper.shared, shared) if was.get(what) != shared[what])
+    halls = (on_paper.halls_with(what, paper.lines) for what in others)
+    return {line.desk.hall for line in lines if line}.union(*halls)
 
 
 def new_clashes(before: Reading, after: Reading, sessions: Touched) -> Iterator[tuple[str, Person, list[str]]]:

@@ -15,7 +15,7 @@ import os
 import re
 from collections import Counter
 from collections.abc import Callable, Collection, Iterable, Iterator, Mapping, Sequence
-from typing import TYPE_CHECKING, Any, NamedTuple, TypeVar
+from typing import TYPE_CHECKING, NamedTuple, TypeVar
 
 from exam_desk import beside, facts, files, logbook, typed, words
 from exam_desk.office import Office
@@ -34,60 +34,14 @@ RUNNING = ["across", "across-and-back", "down", "down-and-up"]  # how the number
 MOST_NOTE_BYTES = 200
 MOST_ACROSS = 100  # desks in a row
 MOST_NAMED, MOST_LOGGED = 5, 20  # numbers in a refusal, and of one kind in a line of the log
-NOTED = "noted"  # beside the lines of what is printed: by whom, how many, and when
-SHOWN = ["name", "paper", "paper title", "date", "start", "finish", "needs", "extra", "hall title", "until", "note"]
-TITLES = {"paper title": "paper", "hall title": "hall", "until": "hall"}  # what goes with a code
 ATTENDANCE = ["number", "paper", "attendance"]
 Held = TypeVar("Held", bound=Collection[object])
-
-
-class Desk(NamedTuple):
-    """Where somebody sits."""
-    hall: str
-    desk: int
-
-
-class Line(NamedTuple):
-    """What papers show of somebody who has a desk."""
-    desk: Desk
-    shown: list[str]  # what else, in the order of SHOWN
 
 
 class Rows(NamedTuple):
     """How the desks of a hall stand."""
     across: int  # desks in a row
     running: str  # one of RUNNING
-
-
-class Move(NamedTuple):
-    """Somebody who is not as on paper."""
-    number: str
-    name: str
-    printed: Line | None  # None where they are on no paper
-    now: Line | None  # None where they have no desk
-    is_member: bool  # whether they sit something in the session
-
-    def others(self) -> list[tuple[str, str, str]]:
-        """What is another than the desk, each with its value on paper and now; a title and an end go with their code."""
-        if not (self.printed and self.now):
-            return []
-        found = [each for each in zip(SHOWN, self.printed.shown, self.now.shown) if each[1] != each[2]]
-        codes = [what for what, *_ in found] + ["hall"] * (self.printed.desk.hall != self.now.desk.hall)
-        return [each for each in found if TITLES.get(each[0]) not in codes]
-
-
-class Paper(NamedTuple):
-    """What was printed for a session."""
-    lines: dict[str, Line]  # by number
-    who: str  # noted it, and when
-    when: str
-
-
-class Compared(NamedTuple):
-    paper: Paper
-    moves: list[Move]  # by number
-    halls: list[str]  # whose papers are out of date, by code
-    empty: list[str]  # of these, where nobody sits now
 
 
 class Absences(NamedTuple):
@@ -149,62 +103,6 @@ def keep_rows(office: Office, hall: str, rows: Rows) -> None:
 
 def can_stand(rows: Rows) -> bool:
     return 1 <= rows.across <= MOST_ACROSS and rows.running in RUNNING
-
-
-def on_paper(office: Office, session: str) -> Paper:
-    """What was printed for a session; no line where nobody said that it was."""
-    found = read(office, f"printed.{session}", dict[str, list[Any]](), is_line)
-    who, _, when, *_ = found.pop(NOTED, ["", 0, ""])
-    return Paper({number: Line(Desk(hall, desk), shown) for number, (hall, desk, *shown) in found.items()}, who, when)
-
-
-def printed(office: Office, session: str) -> dict[str, Desk]:
-    return {number: line.desk for number, line in on_paper(office, session).lines.items()}
-
-
-def lines_of(reading: Reading, session: str, members: Iterable[Member]) -> dict[str, Line]:
-    """What papers of a session show of these members, of those who have a desk."""
-    noted, papers = notes(reading.office), facts.paper_titles(reading.rows)
-    halls = {each.hall: [each.title, words.clock(each.until)] for each in facts.openings(reading.rows, session)}
-    return {number: Line(Desk(sits.hall, sits.desk or 0), [
-        name, sits.paper, papers.get(sits.paper, ""), sits.date, sits.start, sits.finish, "+".join(sits.needs),
-        str(sits.extra), *halls.get(sits.hall, ["", ""]), noted.get(number, "")])
-        for number, name, sits in members if sits.hall}
-
-
-def note_printed(office: Office, reading: Reading, session: str) -> tuple[int, str]:
-    """Notes for the office's user, in the log too, that the papers of a session are printed as it is; how many desks
-    they have, and this in words, with how many lines are other ones than those that were noted before. Raises `Trouble`
-    where there is no such session."""
-    from exam_desk import lists
-    lines = lines_of(reading, session, reading.members(session))
-    before, when = on_paper(office, session).lines, datetime.datetime.now().isoformat(" ", "minutes")
-    with alone(office) as folder:
-        write(office, folder, f"printed.{session}", {NOTED: [office.user, len(lines), when]} | {
-            number: [*line.desk, *line.shown] for number, line in lines.items()})
-    others = len(moved(before, lines)) if before else 0
-    said = f"{lists.count(len(lines), 'desk')} noted" + (f", {others} other than before" if others else "")
-    logbook.write_done(office, ["printed", session], 0, said)
-    return len(lines), said
-
-
-def compared(reading: Reading, session: str) -> Compared | None:
-    """What was noted beside what is so now; None where nothing was. Raises `Trouble` where there is no such session."""
-    facts.session_row(reading.rows, session)
-    before = on_paper(reading.office, session)
-    if not before.lines:
-        return None
-    members, names = reading.members(session), facts.candidate_names(reading.rows)
-    now, present = lines_of(reading, session, members), {member.number for member in members}
-    moves = [Move(number, names.get(number, ""), before.lines.get(number), now.get(number), number in present)
-             for number in moved(before.lines, now)]
-    halls = {line.desk.hall for move in moves for line in (move.now, move.printed) if line}
-    return Compared(before, moves, sorted(halls), sorted(halls - {line.desk.hall for line in now.values()}))
-
-
-def moved(before: Mapping[str, Line], now: Mapping[str, Line]) -> list[str]:
-    """The numbers of those whose line is another than before, is gone, or is there for the first time; by number."""
-    return sorted(number for number in {*before, *now} if before.get(number) != now.get(number))
 
 
 def absent(office: Office, session: str) -> set[str] | None:
@@ -273,23 +171,19 @@ def note_absent(office: Office, reading: Reading, session: str, missing: Iterabl
 
 def attendance(reading: Reading, session: str) -> str:
     """A line for each member, by paper, as CSV. The paper is the one that the candidate was to sit, by the code which
-    the exam board knows. Raises `Trouble` before the day of the session."""
+    the exam board knows. Who has no desk cannot have been present. Raises `Trouble` before the day of the session."""
     from exam_desk.second_sitting import own_code  # here, since it makes changes, whose copies have this notebook
     refuse_to_come(reading, session)
     missing, members = absent(reading.office, session) or set(), reading.members(session)
     codes = {paper: own_code(reading.rows, paper) for paper in {member.sitting.paper for member in members}}
-    rows = sorted((codes[member.sitting.paper], member.number) for member in members)
-    return files.written([ATTENDANCE, *([number, paper, "absent" if number in missing else "present"]
-                                        for paper, number in rows)])
+    rows = sorted((codes[sits.paper], number, "absent" if number in missing else "present" if sits.hall else "no desk")
+                  for number, _, sits in members)
+    return files.written([ATTENDANCE, *([number, paper, attended] for paper, number, attended in rows)])
 
 
 def is_text(part: object) -> bool:
     """Whether it is a text without halves of letters, which no page can hold."""
     return isinstance(part, str) and part.encode("utf-8", "ignore").decode() == part
-
-
-def is_line(part: object) -> bool:
-    return isinstance(part, list) and [*map(type, part)] in ([str, int, str], [str, int, *[str] * len(SHOWN)])
 
 
 def is_rows(part: object) -> bool:

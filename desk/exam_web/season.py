@@ -8,7 +8,7 @@ from typing import Any, NamedTuple
 from flask import Blueprint, render_template, request, url_for
 from werkzeug.wrappers import Response
 
-from exam_desk import appeals, facts, logbook, new_office, notebook, turns
+from exam_desk import appeals, facts, logbook, new_office, on_paper, turns
 from exam_desk.telling import people_and_sittings
 from exam_desk.trouble import Trouble
 from exam_web import candidates
@@ -121,7 +121,7 @@ def clashes(coming: list[Sums]) -> Iterator[Attention]:
 def next_days(coming: list[Sums]) -> tuple[list[Sums], list[Sums]]:
     """The sessions of today and the next days of which papers are printed: as many as do not keep the page waiting, and
     the rest."""
-    near = [each for each in coming if days_until(each.day) <= URGENT and notebook.printed(desk().office, each.code)]
+    near = [each for each in coming if days_until(each.day) <= URGENT and on_paper.desks(desk().office, each.code)]
     everybody = view().count("SELECT count(*) FROM candidate")
     members = itertools.accumulate(each.members for each in near)
     few = sum(min(people, everybody) <= MOST_ASKED for people in members)
@@ -131,9 +131,9 @@ def next_days(coming: list[Sums]) -> tuple[list[Sums], list[Sums]]:
 def out_of_date(coming: list[Sums]) -> Iterator[Attention]:
     """Sessions whose printed papers are no longer right, as `office printed` says."""
     for each in coming:
-        if notebook.printed(desk().office, each.code):
+        if on_paper.desks(desk().office, each.code):
             view().ask(facts.entered(view().reading.rows, each.code))
-            if (found := notebook.compared(view().reading, each.code)) and found.moves:
+            if (found := on_paper.compared(view().reading, each.code)) and not found.holds():
                 yield of_session("printed", each, "print", count=len(found.moves), halls=found.halls)
 
 

@@ -9,7 +9,7 @@ from typing import Any, NamedTuple
 from flask import Blueprint, abort, g, render_template, request
 from werkzeug.wrappers import Response
 
-from exam_desk import facts, files, lists, notebook, reasons, remedies, second_sitting
+from exam_desk import facts, files, lists, notebook, on_paper, reasons, remedies, second_sitting
 from exam_desk.facts import Opening
 from exam_desk.notebook import Rows
 from exam_desk.overlaps import of_day
@@ -205,7 +205,7 @@ def sheet(code: str, sheet: str, hall: Sequence[str] = ()) -> str:
 def compare_printed(code: str) -> str:
     """Who is not as on paper: a piece of the session's page, or a page of its own where no script runs."""
     shown = Session(code)
-    return render_template("printed.html", s=shown.sums, found=notebook.compared(view().reading, code),
+    return render_template("printed.html", s=shown.sums, found=on_paper.compared(view().reading, code),
                            most=MOST_PEOPLE, taken=shown.taken())
 
 
@@ -216,9 +216,10 @@ def note_printed(code: str) -> Response:
     if request.form.get("state") != view().name:
         told = text("Nothing is noted: the office is another than the page showed. Print the sheets again.")
         return lead("session.page", told, "bad", code=code, _anchor="print")
-    desks, _ = notebook.note_printed(office(), view().reading, code)
-    told = many(desks, "{count} desk of {session} is noted as printed.",
-                "{count} desks of {session} are noted as printed.", session=code)
+    desks, _ = on_paper.note(office(), view().reading, code)
+    told = many(desks, "{count} desk of {session} is noted as printed, of state {state}; the foot of papers must say that.",
+                "{count} desks of {session} are noted as printed, of state {state}; the foot of papers must say that.",
+                session=code, state=view().reading.mark)
     return lead("session.page", told, code=code, _anchor="print")
 
 

@@ -62,7 +62,7 @@ class TestPrinting(DeskSchool):
         self.browser.post(self.PRINTED, "/sessions/MON-AM")
         self.assertRegex(self.browser.words("/sessions/MON-AM"), r"\d+ desks of MON-AM are noted as printed")
         self.assertEqual(self.office("printed", "MON-AM", "--look"), "the papers are up to date\n")
-        [(when, who)] = re.findall(r"^(\S+ \d\d:\d\d):\d\d\t(\S+ \(ab, desk\))\tprinted MON-AM\t0\t\d+ desks noted$",
+        [(when, who)] = re.findall(r"^(\S+ \d\d:\d\d):\d\d\t(\S+ \(ab, desk\))\tprinted MON-AM\t0\t\d+ desks noted and .*$",
                                    self.log(), re.M)
         self.assertIn(f"noted {when} by {who} still right", self.browser.words(self.PRINTED))
         self.office("withdraw", "0001051", "CS-1")
@@ -78,6 +78,22 @@ class TestPrinting(DeskSchool):
         self.office("notes", self.write("notes.csv", "number,text\n0001306,<b>scribe\n"))
         self.assertRegex(self.browser.words(self.PRINTED + "?piece"),
                          r"0001306 AULA desk 1 AULA desk \d+ Note: – → <b>scribe ")
+
+    def test_a_note_that_is_not_on_paper(self):
+        said = "The papers of MON-AM are out of date: AULA"
+        for note, is_said in (("a scribe", False), ("two", True), ("a scribe", False)):
+            self.browser.post("/candidates/1306/note", "/candidates/1306", note=note)
+            self.assertEqual(said in self.browser.words("/candidates/1306"), is_said, note)
+            if self.office("printed") == "nobody noted that papers are printed\n":
+                self.office("printed", "MON-AM")
+
+    def test_what_halls_share_is_one_line(self):
+        self.office("printed", "MON-AM")
+        self.office("open-hall", "MON-AM", "AULA", "16", "13:00")
+        found = self.browser.words(self.PRINTED + "?piece")
+        self.assertIn("AULA: Open until: 12:30 → 13:00", found)
+        self.assertNotIn("not as on paper", found)
+        self.assertIn("The papers of MON-AM are out of date: AULA", self.browser.words("/?piece"))
 
     def test_sessions_go_by_day_and_start(self):
         """In what a change did, in the form that lodges an appeal, and in what the season asks for."""
@@ -233,7 +249,7 @@ class TestPrinting(DeskSchool):
 
 class TestTheDay(DeskSchool):
     """Who did not come, on the day of the session."""
-    NOTHING_NOTED = "Nobody has noted who was absent: the list has all as present."
+    NOTHING_NOTED = "Nobody has noted who was absent: the list has all who have a desk as present."
 
     def start(self):
         self.environment["TODAY"] = "2027-06-07"

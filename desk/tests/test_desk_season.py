@@ -58,7 +58,7 @@ class Office:
         return self.everybody
 season.view = season.desk = Office
 season.days_until = int
-season.notebook.printed = lambda office, code: code != "UNPRINTED"
+season.on_paper.desks = lambda office, code: code != "UNPRINTED"
 found = [season.Sums(code, day, 0, members, 0, 0, 0, 0) for code, day, members in
          (("TODAY", "0", 900), ("UNPRINTED", "1", 4000), ("FULL", "2", 1100), ("MORE", "3", 1), ("LATER", "4", 1))]
 for Office.everybody in (2000, 2001):

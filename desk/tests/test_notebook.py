@@ -11,13 +11,15 @@ import stat
 import sys
 import tempfile
 import unittest
+from collections import Counter, defaultdict
 
 import sample
 
 sys.path.insert(0, str(pathlib.Path(__file__).resolve().parents[1]))
-from exam_desk import beside, copies, files, logbook, notebook  # noqa: E402
-from exam_desk.notebook import Desk, Rows  # noqa: E402
+from exam_desk import beside, copies, files, logbook, notebook, on_paper  # noqa: E402
+from exam_desk.notebook import Rows  # noqa: E402
 from exam_desk.office import Office  # noqa: E402
+from exam_desk.on_paper import Desk  # noqa: E402
 from exam_desk.trouble import Trouble  # noqa: E402
 
 HOSTILE = '=1+1 "quoted", <b>bold</b> \u202eleft \u009b2J é'
@@ -61,7 +63,7 @@ class Notebook(unittest.TestCase):
 
     def test_nothing_is_there_at_first(self):
         self.assertEqual((notebook.school_name(self.office), notebook.notes(self.office)), ("", {}))
-        self.assertEqual((notebook.printed(self.office, "S1"), notebook.absent(self.office, "S1")), ({}, None))
+        self.assertEqual((on_paper.desks(self.office, "S1"), notebook.absent(self.office, "S1")), ({}, None))
         self.assertFalse(self.place.exists())
 
     def test_notes(self):
@@ -101,10 +103,10 @@ class Notebook(unittest.TestCase):
         desks = {"0000001": Desk("A", 1), "0000002": Desk("A", 2), "0000003": Desk("B", 1)}
         with notebook.alone(self.office) as folder:
             notebook.write(self.office, folder, "printed.S1", {number: [*desk, "0"] for number, desk in desks.items()})
-        self.assertEqual((notebook.printed(self.office, "S1"), notebook.printed(self.office, "S2")), (desks, {}))
+        self.assertEqual((on_paper.desks(self.office, "S1"), on_paper.desks(self.office, "S2")), (desks, {}))
         now = {"0000002": Desk("A", 1), "0000003": Desk("B", 1), "0000004": Desk("C", 1)}
-        self.assertEqual(notebook.moved(desks, now), ["0000001", "0000002", "0000004"])
-        self.assertEqual(notebook.moved(desks, desks), [])
+        self.assertEqual(on_paper.moved(desks, now), ["0000001", "0000002", "0000004"])
+        self.assertEqual(on_paper.moved(desks, desks), [])
 
     def test_rows(self):
         notebook.keep_rows(self.office, "A", Rows(100, "down"))
@@ -155,9 +157,9 @@ class Notebook(unittest.TestCase):
                 ("school", b"1", notebook.school_name), ("school", b"[]", notebook.school_name),
                 ("rows", b'{"GYM": [0, "down"]}', notebook.rows_of_halls),
                 ("rows", b'{"GYM": [1]}', notebook.rows_of_halls),
-                ("printed.S", b'{"0000001": [1, "GYM"]}', lambda office: notebook.printed(office, "S")),
-                ("printed.S", b'{"0000001": ["GYM", 1]}', lambda office: notebook.printed(office, "S")),
-                ("printed.S", b'{"0000001": ["GYM", 1, 2]}', lambda office: notebook.printed(office, "S")),
+                ("printed.S", b'{"0000001": [1, "GYM"]}', lambda office: on_paper.desks(office, "S")),
+                ("printed.S", b'{"GYM: hall title": ["\\ud800", 0]}', lambda office: on_paper.desks(office, "S")),
+                ("printed.S", b'{"0000001": ["GYM", 1, 2]}', lambda office: on_paper.desks(office, "S")),
                 ("absent.S", b"[1]", lambda office: notebook.absent(office, "S")),
                 ("absent.S", b'{"0000001": "a"}', lambda office: notebook.absent(office, "S"))):
             (self.place / f"{name}.json").write_bytes(text)
@@ -222,16 +224,19 @@ class Commands(sample.SampleSchool):
         self.assertFalse(os.path.exists(os.path.join(self.desk, "notebook")))
 
     def test_who_noted_nothing(self):
-        note = ("office: NOTE nobody has noted who was absent in MON-AM: all 60 are listed as present; `office absent "
-                "MON-AM --nobody` notes")
+        note = ("office: NOTE nobody has noted who was absent in MON-AM: all who have a desk are listed as present; "
+                "`office absent MON-AM --nobody` notes")
         for self.environment["TODAY"] in ("2027-06-07", "2027-07-01"):
-            self.assertEqual({line[2] for line in self.board(note)[1:]}, {"present"})
+            self.assertEqual({line[2] for line in self.board(note)[1:]}, {"present", "no desk"})
         self.assertIn("no number is given", self.refused("absent", "MON-AM", "-", stdin="\n"))
         self.office("absent", "MON-AM", "1051")
         self.assertEqual(self.office("absent", "MON-AM", "--there", "1051"), "0 candidates absent of 60\n")
         self.board(note)
         self.assertEqual(self.office("absent", "MON-AM", "--nobody"), "0 candidates absent of 60\n")
-        self.assertEqual({line[2] for line in self.board()[1:]}, {"present"})
+        self.assertEqual([line[0] for line in self.board()[1:] if line[2] != "present"], ["0001187", "0001935"])
+        self.office("absent", "MON-AM", "0001187")
+        self.assertEqual([line[2] for line in self.board() if line[0] in ("0001187", "0001935")], ["absent", "no desk"])
+        self.office("absent", "MON-AM", "--there", "0001187")
         self.office("absent", "MON-AM", "0001051")
         self.assertIn("these are absent: 0001051\n", self.refused("absent", "MON-AM", "--nobody"))
         self.assertEqual([line[0] for line in self.board() if line[2] == "absent"], ["0001051"])
@@ -240,7 +245,7 @@ class Commands(sample.SampleSchool):
         self.environment["TODAY"] = "2027-06-07"
         lines = self.board("office: NOTE")
         self.assertEqual(lines[0], ["number", "paper", "attendance"])
-        self.assertEqual({line[2] for line in lines[1:]}, {"present"})
+        self.assertEqual(Counter(line[2] for line in lines[1:]), {"present": 58, "no desk": 2})
         members = [line for line in self.office("export", "MON-AM").splitlines()[1:]]
         self.assertEqual(sorted((line.split(",")[1], line.split(",")[2]) for line in members),
                          sorted((line[0], line[1]) for line in lines[1:]))
@@ -259,7 +264,9 @@ class Commands(sample.SampleSchool):
 
     def test_printed(self):
         self.assertIn("nobody noted", self.refused("printed", "MON-AM", "--look"))
-        self.assertRegex(self.office("printed", "MON-AM"), r"^\d+ desks noted\n$")
+        foot = re.search("state [0-9a-f]{8}", self.office("board", "MON-AM"))[0]
+        self.assertEqual(self.office("printed", "MON-AM"), "58 desks noted and 2 candidates without one, of "
+                         f"{foot}: the foot of each paper must say that\n")
         self.assertEqual(self.office("printed", "MON-AM", "--look"), "the papers are up to date\n")
         seats = [line.split(",") for line in self.office("export", "MON-AM").splitlines()[1:]]
         number, paper, hall = next((seat[1], seat[2], seat[3]) for seat in seats if seat[4] == "1")
@@ -268,7 +275,8 @@ class Commands(sample.SampleSchool):
         self.assertTrue(any(re.fullmatch(rf"{number} \S.*: {hall} 1 -> .*", line) for line in lines), lines)
         self.assertFalse([line for line in lines if " :" in line], "whoever left has a name, too")
         self.assertIn(hall, re.findall("[A-Z0-9]+", lines[-1]))
-        self.assertRegex(self.office("printed", "MON-AM"), r"^\d+ desks noted, [1-9]\d* other than before\n$")
+        self.assertRegex(self.office("printed", "MON-AM"),
+                         r"^\d+ desks noted.*, [1-9]\d* other than before, of state [0-9a-f]{8}: .*\n$")
         self.assertEqual(self.office("printed", "MON-AM", "--look"), "the papers are up to date\n")
         self.office("close-hall", "MON-AM", "GYM")
         self.office("withdraw", "0001119", "CS-1")  # so that somebody in another hall has another desk
@@ -287,10 +295,35 @@ class Commands(sample.SampleSchool):
         lines = [line for line in logbook.last_lines(self.value) if line[2] == "printed MON-AM"]
         self.assertEqual([line[3:] for line in lines], [["0", answer[:-1]] for answer in answers])
         self.assertIsNone(logbook.unfinished(self.value))
-        paper = notebook.on_paper(self.value, "MON-AM")
+        paper = on_paper.noted(self.value, "MON-AM")
         self.assertEqual(paper.who, lines[1][1])
         self.assertTrue(before <= paper.when <= lines[1][0], (before, paper.when, lines))
-        self.assertEqual(len(paper.lines), int(answers[1].split()[0]))
+        self.assertEqual(len(paper.lines), 59)  # of 60, one of whom has left
+
+    def test_who_has_no_desk(self):
+        """They stand on the board and the copies, in no hall; a session may have nobody else."""
+        self.office("printed", "TUE-AM")
+        done = self.run_office("withdraw", "0001221", "BI-1")  # who had no desk
+        self.assertIn("(board, counts, slips too): TUE-AM for no hall\n", done.stderr)
+        self.assertEqual(self.office("printed", "TUE-AM", "--look"),
+                         "0001221 Nora Haddad: no desk -> not in the session\n"
+                         "to print again: board, counts, slips\n")
+        self.office("printed", "TUE-AM")
+        self.office("reinstate", "0001221", "BI-1")
+        self.assertIn("0001221 Nora Haddad: not on paper -> no desk\n", self.office("printed", "TUE-AM", "--look"))
+        self.office("printed", "TUE-AM")
+        self.office("name", "0001221", "Nora Hall")
+        self.assertIn("0001221 Nora Hall: no desk, name Nora Haddad -> Nora Hall\n",
+                      self.office("printed", "TUE-AM", "--look"))
+        for kind, rows in (("sessions", "session,date,start\nTUE-PM,2027-06-08,14:00\n"),
+                           ("papers", "paper,title,session,minutes,requires\nART,Art,TUE-PM,60,-\n"),
+                           ("entries", "number,paper\n0001051,ART\n")):
+            self.office("import", kind, self.write("new.csv", rows))
+        self.assertIn("0 desks noted and 1 candidate without one, ", self.office("printed", "TUE-PM"))
+        self.assertEqual(self.office("printed", "TUE-PM", "--look"), "the papers are up to date\n")
+        self.office("open-hall", "TUE-PM", "GYM", "90", "18:00")
+        self.assertIn("0001051 Di Berg: no desk -> GYM 1\n", self.office("printed", "TUE-PM", "--look"))
+        self.assertIn("<td class=n>1 <small>new</small></td>", self.office("board", "TUE-PM"))
 
     def test_what_else_is_on_paper(self):
         """A line is another one where the desk is the same: each part of it that papers show, with old and new."""
@@ -300,10 +333,6 @@ class Commands(sample.SampleSchool):
                 (("notes", self.write("other.csv", "number,text\n0001306,two\n")), "note a scribe -> two"),
                 (("import", "arrangements", self.write("a.csv", "number,needs,extra\n0001306,-,10\n")),
                  "finish 10:30 -> 10:39, extra 0 -> 10"),  # 90 minutes from 09:00, and 9 more
-                (("import", "halls", self.write("h.csv", "hall,title,features\nAULA,Great hall,-\n")),
-                 "hall title Aula, main building -> Great hall"),
-                (("import", "papers", self.write("p.csv", "paper,title,session,minutes,requires\nLAT,Latin 1,MON-AM,90,-\n")),
-                 "paper title Latin -> Latin 1"),
                 (("import", "sessions", self.write("s.csv", "session,date,start\nMON-AM,2027-06-08,08:30\n")),
                  "date 2027-06-07 -> 2027-06-08, start 09:00 -> 08:30, finish 10:39 -> 10:09")):
             self.office("printed", "MON-AM")
@@ -313,6 +342,42 @@ class Commands(sample.SampleSchool):
             [line] = [line for line in lines if line.startswith("0001306")]
             self.assertRegex(line, rf"^0001306 (Sami Nagy|Another Name): AULA 1, {said}$")
             self.assertIn("AULA", lines[-1], words)
+
+    def test_what_lines_share(self):
+        """A line for a hall, a paper or the school, and none for each candidate; in the halls that show it."""
+        self.office("rows", "AULA", "6")
+        halls_of = defaultdict(set)
+        for _, _, paper, hall, _ in (line.split(",") for line in self.office("export", "MON-AM").splitlines()[1:]):
+            halls_of[paper].update({hall} - {"-"})
+        titles = self.write("h.csv", "hall,title,features\nAULA,Great hall,-\n")
+        paper = self.write("p.csv", "paper,title,session,minutes,requires\nLAT,Latin 1,MON-AM,90,-\n")
+        for words, said, halls in (
+                (("open-hall", "MON-AM", "AULA", "16", "13:00"), "AULA: open until 12:30 -> 13:00", ["AULA"]),
+                (("open-hall", "MON-AM", "AULA", "17", "13:00"), "AULA: desks 16 -> 17", ["AULA"]),
+                (("rows", "AULA", "4", "down"), "AULA: rows 6 across -> 4 down", ["AULA"]),
+                (("import", "halls", titles), "AULA: hall title Aula, main building -> Great hall", ["AULA"]),
+                (("import", "papers", paper), "LAT: paper title Latin -> Latin 1", halls_of["LAT"]),
+                (("school", "Hill"), "school: name - -> Hill", set().union(*halls_of.values()))):
+            self.office("printed", "MON-AM")
+            self.office("rows", "PC1", "6")  # there was no chart of it before
+            self.assertEqual(self.office("printed", "MON-AM", "--look"), "the papers are up to date\n")
+            told = self.run_office(*words)
+            self.assertEqual(self.office("printed", "MON-AM", "--look"),
+                             f"{said}\nto print again: {', '.join(sorted(halls))}; board, counts, slips\n")
+            self.assertEqual("MON-AM for AULA" in told.stderr, words[0] in ("open-hall", "import"), words)
+            self.assertEqual(self.office("printed"),
+                             "MON-AM: the papers are out of date; `office printed MON-AM --look`\n")
+
+    def test_a_note_that_is_not_on_paper(self):
+        first = self.write("notes.csv", "number,text\n0001306,a scribe\n")
+        self.office("notes", first)
+        self.office("printed", "MON-AM")
+        self.assertEqual(self.run_office("notes", first).stderr, "")
+        other = self.write("other.csv", "number,text\n0001306,two\n")
+        self.assertEqual(self.run_office("notes", other).stderr,
+                         "1 session has printed papers that are out of date (board, counts, slips too): MON-AM for AULA\n"
+                         "`office printed MON-AM --look` lists them\n")
+        self.assertEqual(self.run_office("notes", first).stderr, "")  # as on paper again
 
     def test_who_comes_moves_and_goes(self):
         """Of another hall neither the title nor the end is said, since they go with it; of another paper no title."""

@@ -95,7 +95,7 @@ def quoted(value: str) -> Markup:
 
 def document(reading: Reading, title: str, body: Markup, *names: str) -> str:
     """Pages of A4 with the styles of these names. The foot of each has the title, the time, and the state."""
-    printed = f"{title}, printed {reading.office.now():%Y-%m-%d %H:%M:%S}, state {reading.name[:8]}"
+    printed = f"{title}, printed {reading.office.now():%Y-%m-%d %H:%M:%S}, state {reading.mark}"
     return str(html(DOCUMENT, title, quoted(printed), style("page", *names), body))
 
 

@@ -10,9 +10,10 @@ from collections.abc import Collection, Iterable, Iterator, Mapping, Sequence
 
 from markupsafe import Markup
 
-from exam_desk import facts, lists, notebook, telling
+from exam_desk import facts, lists, notebook, on_paper, telling
 from exam_desk.names import fold
-from exam_desk.notebook import SHOWN, Desk, Line, Rows
+from exam_desk.notebook import Rows
+from exam_desk.on_paper import SHOWN, Desk, Line
 from exam_desk.reading import Member, Reading, Sitting
 from exam_desk.sheets.pages import (CODE, HEADED, document, hall_names, html, joined, paper_names, safe, school, table,
                                     text)
@@ -84,7 +85,9 @@ def desk(member: Member, before: Mapping[str, Line]) -> Markup:
     old = line and line.desk
     if not before or old == now:
         return safe(now.desk)
-    words = "new" if old is None else f"was {old.desk}" if old.hall == now.hall else f"was {old.hall} {old.desk}"
+    words = "new"
+    if old and old.hall:
+        words = f"was {old.desk}" if old.hall == now.hall else f"was {old.hall} {old.desk}"
     return html("{} <small>{}</small>", now.desk, words)
 
 
@@ -106,7 +109,7 @@ def board(reading: Reading, session: str) -> str:
     """A notice board, by name."""
     members = lists.by_name(reading.members(session))
     names = named(members)
-    titles, printed = facts.hall_titles(reading.rows), notebook.on_paper(reading.office, session).lines
+    titles, printed = facts.hall_titles(reading.rows), on_paper.noted(reading.office, session).lines
     used = sorted({member.sitting.hall for member in members if member.sitting.hall})
     legend = joined((html("<b>{}</b> {}", code, text(titles[code])) for code in used), "<br>")
     moment = when(reading, session)
@@ -199,7 +202,7 @@ def counts(reading: Reading, session: str) -> str:
 def doors(reading: Reading, session: str, asked: Collection[str] = ()) -> str:
     """Invigilators' sheets: each hall from a page of its own on, by desk."""
     heading, titles = school(reading.office, "<br>") + when(reading, session), paper_names(reading.rows, HEADED)
-    notes, printed = notebook.notes(reading.office), notebook.on_paper(reading.office, session).lines
+    notes, printed = notebook.notes(reading.office), on_paper.noted(reading.office, session).lines
     papers = paper_names(reading.rows, CODE)
     return of_desks(reading, session, "Invigilators' sheets", (
         page for opening, there in lists.halls(reading, session, asked)
