@@ -107,24 +107,27 @@ class List(Change):
         try:
             carried = listed.carry_out(command.office(), self.title, self.rows,
                                        lambda line, answered: statuses.append(said_of_row(line, answered)))
-        except SystemExit:  # a signal
-            command.warn(self.stopped(len(statuses)))
+        except listed.Stopped as stop:
+            command.warn(self.stopped(stop.carried))
+            command.tell_consequences(stop.carried.copy)
             raise
-        done = sum(answered.ran.status == 0 for answered in carried.answers)
-        way = "`office back 1`" if copies.listed(command.office())[:1] == [carried.copy] else COPY_OF_A_LIST
-        back = f"; {way} takes all of it back" if done else ""
-        verb = "is" if 1 in (done, len(self.rows)) else "are"
-        put(f"{done} of {lists.count(len(self.rows), 'row')} {verb} done{back}\n")
+        put(f"{self.tally(carried)}{way_back(carried.copy)}\n")
         command.tell_consequences(carried.copy)
         return int(any(statuses) or len(carried.answers) < len(self.rows))
 
-    def stopped(self, done: int) -> str:
-        """What is said where a signal stops it behind so many rows."""
+    def tally(self, carried: changing.Carried) -> str:
+        done = sum(answered.ran.status == 0 for answered in carried.answers)
+        return f"{done} of {lists.count(len(self.rows), 'row')} {'is' if 1 in (done, len(self.rows)) else 'are'} done"
+
+    def stopped(self, carried: changing.Carried) -> str:
+        """What is said where a signal stops it."""
+        over = len(carried.answers)
+        refused = sum(answered.ran.status != 0 for answered in carried.answers)
         titles = [f"line {line}, {step.title()}" for line, step in self.rows.items()]
-        last = f"; the last was {titles[done - 1]}" if done else ""
-        following = f"; look whether the next is done, {titles[done]}" if done < len(titles) else ""
-        return (f"stopped after {done} of {lists.count(len(titles), 'row')}{last}{following}; {COPY_OF_A_LIST} takes "
-                "all of it back")
+        last = f"; the last was {titles[over - 1]}" if over else ""
+        following = (f"; look whether the next is done, {titles[over]}; give the same list again to go on"
+                     if over < len(titles) else "")
+        return f"stopped: {self.tally(carried)}, and {refused} refused{last}{following}{way_back(carried.copy)}"
 
 
 @dataclass
@@ -264,6 +267,12 @@ def of_list(name: str, path: str) -> List:
     about = changing.named("entries", (tuple(map(str.encode, step.words[1:])) for step in rows.values()))
     title = " ".join([name, "--list", os.path.basename(path), *about])
     return List([*rows.values()], title, rows=rows)
+
+
+def way_back(copy: str | None) -> str:
+    """How a list is taken back; nothing where it has changed nothing."""
+    way = "`office back 1`" if copies.listed(command.office())[:1] == [copy] else COPY_OF_A_LIST
+    return f"; {way} takes all of it back" if copy else ""
 
 
 def said(answered: Answered) -> int:

@@ -326,7 +326,8 @@ def way_on(office: Office, found: logbook.Unfinished) -> str:
     if not found.copy:
         return f"{what} has no end in the log: it is there whole or not at all; look"
     copy = beside.folder(office.path, copies.PLACE, found.copy)
-    behind = f" behind `{found.done}`" if found.done else " in its first step"
+    count = found.count and f", after {found.count} at least"
+    behind = f" behind `{found.done}`{count}" if found.done else " in its first step"
     if copy not in copies.listed(office):
         return f"{what} was broken off{behind}; its copy is gone"
     with contextlib.suppress(Trouble):

@@ -39,6 +39,7 @@ class Unfinished:
     copy: str  # the name of the copy from before a list of steps; "" of a single command
     done: str = ""  # the last step that has an end
     begun: str = ""  # the last one that has begun
+    count: str = ""  # of the rows of a list that were over when it let others have the office, such as 57 of 250 rows
     lets_go: bool = False  # whether others have the office, until the list goes on
 
 
@@ -88,7 +89,7 @@ def unfinished(office: Office) -> Unfinished | None:
             last = found.setdefault(command, Unfinished(when, command, answer))
             last.lets_go = False
         elif command in found and status == STEP:
-            found[command].lets_go = True
+            found[command].lets_go, found[command].count = True, answer
         elif command in found:
             del found[command]
         elif last and status == STEP:
