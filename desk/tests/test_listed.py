@@ -82,18 +82,21 @@ class Listed(test_changing.Changing):
         self.assertEqual(done.returncode, 1)
         self.assertIn("1 leaves a session: MON-AM 0001017 Bo Ito\n", done.stderr)
         self.assertEqual(re.sub("(?m)^[0-9`].*\n", "", done.stderr),
-                         "line 2: withdraw 0001000 MA-1: refused 9\n  the entry is withdrawn already\n"
-                                      "line 4: withdraw 0001017 CS-1: refused 8\n  the candidate is not entered for "
-                                      "this paper; import the entry or reinstate it, or decide `refused`\n"
-                                      "line 6: withdraw 0001017 MA-1: refused 9\n  the entry is withdrawn already\n")
+                         "line 4: withdraw 0001017 CS-1: refused 8\n  the candidate is not entered for "
+                         "this paper; import the entry or reinstate it, or decide `refused`\n")
+        self.assertIn("\n2 rows refused (line 2, 6): the entry is withdrawn already\n", done.stderr)
         self.assertEqual(done.stdout, "line 5: withdraw 0001017 MA-1: withdrawn\n"
                                       "1 of 4 rows is done; `office back 1` takes all of it back\n")
         self.assertEqual(len(self.kept()), 2)
 
     def test_where_nothing_is_done_no_copy_stays(self):
         done = self.run_list(GOOD, "reinstate")
-        self.assertEqual((done.returncode, done.stdout), (1, "0 of 2 rows are done\n"))
+        self.assertEqual((done.returncode, done.stdout, done.stderr), (
+            1, "0 of 2 rows are done\n", "2 rows refused (line 2, 3): the entry is not withdrawn\n"))
         self.assertEqual((self.state(), self.kept()), (self.before, []))
+        done = self.run_office("what-if", "reinstate", "--list", self.write(NAME, GOOD + "0001034,FR\n0001000,EN-1\n"))
+        self.assertEqual((done.stdout, done.stderr), ("0 of 4 rows would be done\n", "4 rows refused (line 2, 3, 4 and 1 more): "
+                                                      "the entry is not withdrawn\n"))
 
     def test_all_rows_are_looked_through_first(self):
         for text, *said in (
