@@ -304,8 +304,8 @@ class Back(sample.SampleSchool):
             self.assertEqual(stat.S_IMODE(os.stat(path).st_mode), mode, path)
         with open(os.path.join(self.desk, "log"), encoding="utf-8") as log:
             lines = [line.rstrip("\n").split("\t")[2:] for line in log]
-        self.assertEqual(lines, [["withdraw 0001000 MA-1", *end] for end in
-                                 (["begins", ""], ["0", "withdrawn"], ["begins", ""], ["1", "refused 9"])])
+        self.assertEqual(lines[0], ["withdraw 0001000 MA-1", "begins", copy])
+        self.assertEqual(lines[1::2], [["withdraw 0001000 MA-1", *end] for end in (["0", "withdrawn"], ["1", "refused 9"])])
 
     def test_a_bad_copy_is_refused(self):
         self.office("withdraw", "0001000", "MA-1")
@@ -368,8 +368,8 @@ class Back(sample.SampleSchool):
         process.communicate()
         done = self.run_office("withdraw", "0001000", "MA-1")
         self.assertEqual((done.stdout, done.returncode), ("withdrawn\n", 0))
-        self.assertRegex(done.stderr, "^office: `import entries /dev/stdin` of .* has no end in the log: "
-                                      "it is there whole or not at all; look\n1 leaves a session: ")
+        self.assertRegex(done.stderr, "^office: `import entries /dev/stdin` of .* was broken off; nothing of it "
+                                      "is left\n1 leaves a session: ")
         self.assertEqual(self.office("reinstate", "0001000", "MA-1"), "reinstated\n")
 
 
