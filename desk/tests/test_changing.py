@@ -440,6 +440,11 @@ class Killed(Changing):
         for words in (("look", "1000"), ("withdraw", "0001000", "MA-1")):
             self.assertRegex(self.run_office(*words).stderr, said)
 
+    def test_a_program_that_is_killed(self):
+        done = self.run_office("withdraw", "0001000", "MA-1", EXAMOFFICE=self.program('[ "$5" = withdraw ] && kill -9 $$'))
+        self.assertEqual((done.returncode, done.stderr), (
+            137, "  signal 9 ended the program; a command is there whole or not at all: look, or give it again\n"))
+
     def test_a_refusal_that_is_killed_behind_its_end(self):
         """No state's name has it, so nobody knows; nor where a candidate lodged meanwhile."""
         self.change(APPEAL, "HA1", 1)
