@@ -276,10 +276,15 @@ class Back(sample.SampleSchool):
         self.assertEqual(self.facts(), after)
         self.assertIn("the office is as it was on", self.office("back", "1", stdin="y\n"))
         self.assertEqual(self.facts(), before)
-        self.assertRegex(self.office("back"), r"^  1  .*  before back to before close-hall MON-AM GYM\n"
+        self.assertRegex(self.office("back"), r"^  1  .*  before undoing close-hall MON-AM GYM\n"
                                                r"  2  .*  before close-hall MON-AM GYM\n$")
         self.office("back", "1", "--yes")
         self.assertEqual(self.facts(), after)
+        for says in ("redoing close-hall MON-AM GYM", "undoing close-hall MON-AM GYM"):
+            self.assertRegex(self.office("back"), rf"^  1  .*  before {says}\n")
+            self.office("back", "1", "--yes")
+        self.office("back", "5", "--yes")
+        self.assertRegex(self.office("back"), r"^  1  .*  before undoing close-hall MON-AM GYM and what followed\n")
         self.assertEqual(self.office("check"), "good\n")
 
     def test_an_import_is_listed_with_its_file(self):
