@@ -46,7 +46,7 @@ class Step:
         if not (values := refusals.imported(self.words)):
             return " ".join(logbook.shown(self.words))
         kind, name = values[0], os.path.basename(values[1])
-        return " ".join(["import", kind, *([name] if name != f"{kind}.csv" else []), *self.about])
+        return " ".join(["import", kind, *([name] if name not in (kind, f"{kind}.csv") else []), *self.about])
 
     @functools.cached_property
     def about(self) -> list[str]:

@@ -113,7 +113,8 @@ def mistakes_of(office: Office, words: Sequence[str], data: bytes | None, is_don
         if data is not None or os.path.isfile(path):
             text = files.read(path) if data is None else data
             wrong, notes = mistakes.looked_through(kind, text, checking.office_knows(office), MOST_LINES)
-            lines = [*checking.lines_on(os.path.basename(path), *((notes, "NOTE: ") if is_done else (wrong, "")))]
+            name = "" if path == kind and data is not None else os.path.basename(path)
+            lines = [*checking.lines_on(name, *((notes, "NOTE: ") if is_done else (wrong, "")))]
             return [*lines, NO_CODE] if mistakes.NO_CODE in wrong.counts else lines
     return []
 

@@ -78,8 +78,8 @@ class Words(sample.SampleSchool):
         self.office("withdraw", "1000", "MA-1")
         path = self.write("late.csv", "number,paper\n0001017,MA-1\n0001000,MA-1\n")
         for words in (["import", "entries", path], ["what-if", "import", "entries", path]):
-            self.assertEqual(self.run_office(*words).stderr, "  late.csv line 3: NOTE: row: is withdrawn in the office and "
-                             "stays so until it is reinstated\n")
+            self.assertEqual(self.run_office(*words).stderr, "  late.csv line 3: NOTE: number '0001000': this entry is "
+                             "withdrawn in the office and stays so until it is reinstated\n")
 
     def test_a_repeated_key_is_shown(self):
         path = self.write("halls.csv", "hall,title,features\nGYM,Gym,-\nGYM,Gym,quiet\n")
@@ -201,6 +201,9 @@ class Words(sample.SampleSchool):
         self.assertIn("\n2 get desks\n", self.office(*tried[0].partition("#")[0].split()[1:]))
         self.assertEqual(tried[-1:], [""])
         self.assertNotIn("what could help", self.office("why", "TUE-AM", "0001272"))
+        for words, said in ((["MON-AM", "XX"], "hall 'XX': is not among the halls"),
+                            (["MOX", "GYM"], "session 'MOX': is not among the sessions")):
+            self.assertEqual(self.refused("open-hall", *words, "12", "12:30").splitlines()[2:], [f"  {said}"])
         done = self.run_office("open-hall", "TUE-AM", "lib", "0", "24:01")
         self.assertEqual(done.returncode, 2)
         self.assertRegex(done.stderr, "error: hall 'lib': write LIB .*; desks '0': a whole number .*; until '24:01': a time")
