@@ -126,7 +126,7 @@ def lasting_cause(office: Office) -> str | None:
     try:
         found = os.stat(path)
     except OSError as fault:
-        return f"{path}: {fault.strerror}"
+        return os.path.isdir(place) and no_writing(place) or f"{path}: {fault.strerror}"
     if stat.S_ISDIR(found.st_mode):
         return f"{path} is a folder"
     if not stat.S_ISREG(found.st_mode):
@@ -138,9 +138,12 @@ def lasting_cause(office: Office) -> str | None:
     for name in (path, path + "-wal"):
         if os.path.exists(name) and not os.access(name, os.R_OK | os.W_OK):
             return f"no permission to change {name}; it belongs to user {os.stat(name).st_uid}"
-    if not os.access(place, os.R_OK | os.W_OK | os.X_OK):
-        return f"no permission to write in the folder {place}"
-    return no_room(place) or damage(path)
+    return no_writing(place) or no_room(place) or damage(path)
+
+
+def no_writing(place: str) -> str | None:
+    is_allowed = os.access(place, os.R_OK | os.W_OK | os.X_OK)
+    return None if is_allowed else f"no permission to write in the folder {place}"
 
 
 def no_room(place: str) -> str | None:

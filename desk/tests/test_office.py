@@ -8,11 +8,12 @@ import subprocess
 import sys
 import unittest
 from contextlib import closing, redirect_stderr, suppress
+from dataclasses import replace
 from unittest import mock
 
 import sample
 import command
-from exam_desk import copies
+from exam_desk import copies, refusals
 
 
 class Faults(unittest.TestCase):
@@ -225,6 +226,12 @@ class Causes(sample.SampleSchool):
     def test_a_second_hard_link(self):
         os.link(self.path, os.path.join(self.folder, "other.db"))
         self.assertIn("has a second name", self.cause())
+
+    def test_a_folder_in_which_one_may_not_write(self):
+        for path in (os.path.join(self.folder, "new.db"), self.path):
+            with mock.patch("os.access", lambda name, _: os.path.isfile(name)):
+                self.assertEqual(refusals.lasting_cause(replace(self.value, path=path)),
+                                 f"no permission to write in the folder {os.path.realpath(self.folder)}")
 
     def test_a_folder_and_a_pipe(self):
         pipe = os.path.join(self.folder, "pipe.db")
