@@ -29,12 +29,18 @@ they are: it names those that were others in the copy.
 def back(parser: ArgumentParser) -> Plan:
     from commands import programs
     from exam_desk import copies
-    parser.add_argument("copy", metavar="NUMBER", type=int, nargs="?", help="a number of the list")
+    parser.add_argument("copy", metavar="NUMBER", type=place_of_copy, nargs="?", help="a number of the list")
     given = command.given(parser, "--yes: do not ask")
     office = command.office()
     if given.copy is None:
         return partial(list_copies, office)
     return programs.Back(title=f"back {given.copy}", copy=copies.chosen(office, given.copy), is_agreed=given.yes)
+
+
+def place_of_copy(word: str) -> int:
+    if not word.isdecimal():
+        raise Trouble(f"'{word}' is no number of a copy; `office back` lists them")
+    return int(word)
 
 
 def list_copies(office: Office) -> None:

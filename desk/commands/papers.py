@@ -91,8 +91,8 @@ Prints the door lists, the attendance sheets and the clash list of a session as 
 
 Each sheet is as the program prints it, from one state of the office, and begins a new page. They are made from what the
 program answers for each candidate; a dozen are compared with its own, and where one differs, nothing is printed and the
-status is 1. The heading stands on each page again, and a line that is too long goes on in the next. A hall in which
-nobody sits has no sheet, nor has a paper that nobody sits.
+status is 1. The heading stands on each page again, and a line that is too long goes on in the next, indented. A hall
+in which nobody sits has no sheet, nor has a paper that nobody sits.
 """)
 def print_session(parser: ArgumentParser) -> None:
     from exam_desk.sheets import printing

@@ -8,7 +8,7 @@ import os
 import subprocess
 import sys
 from collections.abc import Callable, Iterator, Sequence
-from dataclasses import dataclass, replace
+from dataclasses import dataclass, field, replace
 
 import command
 from exam_desk import (beside, changing, consequences, copies, listed, lists, lodging, losses, notebook, private,
@@ -18,7 +18,7 @@ from exam_desk.office import Office
 from exam_desk.reading import Reading
 from exam_desk.running import Ran
 from exam_desk.trouble import Stale, Trouble
-from exam_desk.words import Said, plain
+from exam_desk.words import Said, few, plain
 
 CHANGES, MIGRATE = changing.CHANGES, "migrate"
 LISTED = {"withdraw": ["--list FILE.csv", "<number> --all"], "reinstate": ["--list FILE.csv"]}  # how a list is typed
@@ -96,9 +96,11 @@ class List(Change):
     """Steps of the program, each by itself: one that is refused leaves the others."""
     rows: listed.Rows
     is_over: Callable[[list[Answered]], object] = listed.is_hopeless
+    before: list[str] = field(default_factory=list)  # the lines of rows that were done before
 
     def said(self, rehearsal: Rehearsal) -> int:
-        statuses = [*map(said_of_row, self.rows, rehearsal.answers)]
+        statuses = [*map(self.said_of_row, self.rows, rehearsal.answers)]
+        self.say_before()
         print(f"{statuses.count(0)} of {lists.count(len(self.rows), 'row')} would be done")
         return int(statuses.count(0) < len(self.rows))
 
@@ -106,25 +108,48 @@ class List(Change):
         statuses: list[int] = []
         try:
             carried = listed.carry_out(command.office(), self.title, self.rows,
-                                       lambda line, answered: statuses.append(said_of_row(line, answered)))
-        except SystemExit:  # a signal
-            command.warn(self.stopped(len(statuses)))
+                                       lambda line, answered: statuses.append(self.said_of_row(line, answered)))
+        except listed.Stopped as stop:
+            self.say_before()
+            command.warn(self.stopped(stop.carried))
+            command.tell_consequences(stop.carried.copy)
             raise
-        done = sum(answered.ran.status == 0 for answered in carried.answers)
-        way = "`office back 1`" if copies.listed(command.office())[:1] == [carried.copy] else COPY_OF_A_LIST
-        back = f"; {way} takes all of it back" if done else ""
-        verb = "is" if 1 in (done, len(self.rows)) else "are"
-        put(f"{done} of {lists.count(len(self.rows), 'row')} {verb} done{back}\n")
+        self.say_before()
+        put(f"{self.tally(carried)}{way_back(carried.copy)}\n")
         command.tell_consequences(carried.copy)
         return int(any(statuses) or len(carried.answers) < len(self.rows))
 
-    def stopped(self, done: int) -> str:
-        """What is said where a signal stops it behind so many rows."""
+    def said_of_row(self, line: int, answered: Answered) -> int:
+        """Prints what became of a row, unless it was done before and there is no more to say of it; the status."""
+        words, status = plain(f"line {line}: {answered.step.title()}: {answered.first_line()}"), answered.ran.status
+        if not status:
+            return int(not put(f"{words}\n"))
+        why = explained(answered)
+        is_before = refusals.number_of(answered.first_line()) == refusals.DONE_ALREADY[answered.step.words[0]]
+        if is_before and len(why) == 1:
+            self.before.append(str(line))
+        else:
+            complain(words, why)
+        return status
+
+    def say_before(self) -> None:
+        if self.before:
+            why = refusals.SENTENCES[refusals.DONE_ALREADY[self.steps[0].words[0]]]
+            complain(f"{lists.count(len(self.before), 'row')} refused (line {few(self.before)}): {why}", [])
+
+    def tally(self, carried: changing.Carried) -> str:
+        done = sum(answered.ran.status == 0 for answered in carried.answers)
+        return f"{done} of {lists.count(len(self.rows), 'row')} {'is' if 1 in (done, len(self.rows)) else 'are'} done"
+
+    def stopped(self, carried: changing.Carried) -> str:
+        """What is said where a signal stops it."""
+        over = len(carried.answers)
+        refused = sum(answered.ran.status != 0 for answered in carried.answers)
         titles = [f"line {line}, {step.title()}" for line, step in self.rows.items()]
-        last = f"; the last was {titles[done - 1]}" if done else ""
-        following = f"; look whether the next is done, {titles[done]}" if done < len(titles) else ""
-        return (f"stopped after {done} of {lists.count(len(titles), 'row')}{last}{following}; {COPY_OF_A_LIST} takes "
-                "all of it back")
+        last = f"; the last was {titles[over - 1]}" if over else ""
+        following = (f"; look whether the next is done, {titles[over]}; give the same list again to go on"
+                     if over < len(titles) else "")
+        return f"stopped: {self.tally(carried)}, and {refused} refused{last}{following}{way_back(carried.copy)}"
 
 
 @dataclass
@@ -266,31 +291,31 @@ def of_list(name: str, path: str) -> List:
     return List([*rows.values()], title, rows=rows)
 
 
+def way_back(copy: str | None) -> str:
+    """How a list is taken back; nothing where it has changed nothing."""
+    way = "`office back 1`" if copies.listed(command.office())[:1] == [copy] else COPY_OF_A_LIST
+    return f"; {way} takes all of it back" if copy else ""
+
+
 def said(answered: Answered) -> int:
     """Prints what the program said of a step, and what it means; the status."""
     return outcome(answered.step.words, printed(answered.ran), answered.step.data)
 
 
-def said_of_row(line: int, answered: Answered) -> int:
-    """Prints what became of the row of a list; the status."""
-    words = plain(f"line {line}: {answered.step.title()}: {answered.first_line()}")
-    if answered.ran.status:
-        complain(words, answered)
-        return answered.ran.status
-    return int(not put(f"{words}\n"))
-
-
 def refuse(tried: Tried) -> None:
     """Raises `Trouble`, after what the program says of it, where a step is refused."""
     if refused := tried.refused:
-        complain(f"{refused.step.title()}: {refused.first_line()}", refused)
+        complain(f"{refused.step.title()}: {refused.first_line()}", explained(refused))
         raise Trouble("nothing is changed")
 
 
-def complain(line: str, refused: Answered) -> None:
-    """Prints a line on a step that is refused, and what the refusal means."""
-    lines = refusals.explained(command.office(), refused.step.words, refused.ran.complaint, refused.step.data)
-    sys.stderr.write("".join(f"{each}\n" for each in [line, *lines]))
+def explained(refused: Answered) -> list[str]:
+    return refusals.explained(command.office(), refused.step.words, refused.ran.complaint, refused.step.data)
+
+
+def complain(line: str, why: list[str]) -> None:
+    """Prints a line on what is refused, and what the refusal means."""
+    sys.stderr.write("".join(f"{each}\n" for each in [line, *why]))
 
 
 def printed(ran: Ran) -> Ran:
@@ -322,6 +347,8 @@ def outcome(words: Sequence[str], ran: Ran, data: bytes | None = None) -> int:
             wrong = ["--list takes one file"]
         lines = [f"  {line}" for line in
                  [*wrong, *usage] or [f"`office --help` lists the commands{meant(words[0])}"]]
+    elif ran.status > 128:
+        lines = [f"  signal {ran.status - 128} ended the program; {refusals.WHOLE_OR_NOT}"]
     sys.stderr.write(ran.complaint + "".join(f"{line}\n" for line in lines))
     return ran.status
 

@@ -47,7 +47,7 @@ class Step:
         if not (values := refusals.imported(self.words)):
             return " ".join(logbook.shown(self.words))
         kind, name = values[0], os.path.basename(values[1])
-        return " ".join(["import", kind, *([name] if name != f"{kind}.csv" else []), *self.about])
+        return " ".join(["import", kind, *([name] if name not in (kind, f"{kind}.csv") else []), *self.about])
 
     @functools.cached_property
     def about(self) -> list[str]:
@@ -119,11 +119,11 @@ class Turn(NamedTuple):
     lock: FileIO
     tell: Tell
 
-    def carried(self, step: Step, status: str) -> Answered:
-        """Carries out one step, which the program does whole or not at all; `status` begins its line in the log. Raises
-        OSError where nothing can be written there, and nothing is done."""
+    def carried(self, step: Step, status: str, copy: str = "") -> Answered:
+        """Carries out one step, which the program does whole or not at all; `status` begins its line in the log, which
+        can name a copy. Raises OSError where nothing can be written there, and nothing is done."""
         self.tell(step.title())
-        with logbook.logged(self.office, [*step.words, *step.about], status) as outcome:
+        with logbook.logged(self.office, [*step.words, *step.about], status, os.path.basename(copy)) as outcome:
             answered = Answered(step, run_patiently(self.office, step, self.lock))
             outcome.status, outcome.answer = answered.ran.status, answered.first_line()
         return answered
@@ -185,7 +185,7 @@ def carry_out(office: Office, steps: Sequence[Step], made_from: str | None = Non
     title = title or ", ".join(step.title() for step in steps)
     with unchanged(office), turn(office, title, made_from, tell) as taken, copied(office, title) as copy:
         if len(steps) == 1:
-            answers = [taken.carried(steps[0], logbook.BEGINS)]
+            answers = [taken.carried(steps[0], logbook.BEGINS, copy)]
             is_undone = has_done_nothing(office, answers[0], copy)
         else:
             answers = carried_all(taken, title, steps, copy)
@@ -327,10 +327,13 @@ def way_on(office: Office, found: logbook.Unfinished) -> str:
     if not found.copy:
         return f"{what} has no end in the log: it is there whole or not at all; look"
     copy = beside.folder(office.path, copies.PLACE, found.copy)
-    behind = f" behind `{found.done}`" if found.done else " in its first step"
+    count = found.count and f", after {found.count} at least"
+    behind = (f" behind `{found.done}`{count}" if found.done else " in its first step" if found.begun else
+              ", and is done")
     if copy not in copies.listed(office):
-        return f"{what} was broken off{behind}; its copy is gone"
+        return f"{what} was broken off{behind if found.begun else ''}; its copy is gone"
     with contextlib.suppress(Trouble):
         if state_of(office) == states.name_now(office, copies.file_in(office, copy)):
-            return f"{what} was broken off; nothing of it is left"
+            is_undone = found.begun or copies.is_as_now(office, copy)  # an appeal that is refused is in no state's name
+            return f"{what} was broken off; {'nothing of it is left' if is_undone else 'give it again'}"
     return f"{what} was broken off{behind}: {way_back(copy)}"

@@ -23,9 +23,10 @@ WORKBOOKS = (".xlsx", ".xlsm", ".ods")
 
 
 def lines_on(name: str, found: mistakes.Found, word: str) -> Iterator[str]:
-    """The lines on a file, of those on one column the first alone, and one on all empty codes."""
+    """The lines on a file, of those on one column the first alone, and one on all empty codes. Rows that are in no file
+    have no name."""
     for mistake in found:
-        yield f"{name} line {mistake.line}: {word}{mistake.what}: {mistake.text}"
+        yield f"{f'{name} line {mistake.line}: ' if name else ''}{word}{mistake.what}: {mistake.text}"
     for column, count in found.counts.items():
         if column == mistakes.NO_CODE:
             yield f"{name}: {mistakes.no_codes(count)}; without them an import refuses the file"

@@ -22,6 +22,7 @@ MOST_LETTERS, MOST_TITLE = 100, 400  # of a command in the name of a copy, and i
 PLACE, DAYS, TITLE = "copies", "days", "title"  # of copies, of those of days, of the command in a copy
 NAME = re.compile(r"(?:([0-9]+) )?([0-9]{4}-[0-9]{2}-[0-9]{2}) ([0-9.]{8,15}) (.*)")  # version 1.0.0 gave no numbers
 DAY = re.compile("[0-9]{4}-[0-9]{2}-[0-9]{2}")
+REDOING = {"undoing": "redoing", "redoing": "undoing"}
 EMPTY_LOG = 41  # bytes of a second file that holds no change
 
 
@@ -214,6 +215,12 @@ def move_in(office: Office, path: str) -> None:
     beside.sync(os.path.dirname(place))
 
 
+def undoing(what: str, is_last: bool) -> str:
+    """The command that puts the copy from before another, or from before an undoing, in the place of the office."""
+    verb, _, undone = what.partition(" ")
+    return f"{REDOING[verb]} {undone}" if verb in REDOING else f"undoing {what}{'' if is_last else ' and what followed'}"
+
+
 def put_back(office: Office, copy: str) -> str | None:
     """Puts a copy in the place of the office, with the office alone; both are on the disk at each moment. Gives the
     copy of what was there; None where nothing was: then a backup brings its notebook. Raises `Trouble` where the copy
@@ -223,7 +230,8 @@ def put_back(office: Office, copy: str) -> str | None:
         kept: str | None = None
         _, what = when_and_what(copy)
         if os.path.exists(os.path.realpath(office.path)):
-            kept = keep_copy(office, f"back to {what}" if is_brought(copy) else f"back to before {what}")
+            kept = keep_copy(office, f"back to {what}" if is_brought(copy) else
+                             undoing(what, listed(office)[:1] == [copy]))
         elif is_brought(copy):
             with contextlib.suppress(OSError):  # it has none, or one is here already
                 os.rename(os.path.join(copy, notebook.PLACE), beside.folder(office.path, notebook.PLACE))

@@ -24,6 +24,14 @@ Rows = dict[int, Step]  # by the line in which each begins, the command that it 
 Tell = Callable[[int, Answered], None]  # hears what became of the row that begins in a line
 
 
+class Stopped(SystemExit):
+    """A signal ended a list. The row that it met may be done too."""
+
+    def __init__(self, signal: SystemExit, carried: changing.Carried) -> None:
+        super().__init__(signal.code)
+        self.carried = carried
+
+
 def rows_of(office: Office, command: str, path: str) -> tuple[Rows, list[str]]:
     """The rows of a file with the header of entries, and a line for each mistake in it, an unknown number or paper
     among them. Zeros in front of a number may be missing, which is said. Raises `Trouble` where there is no office or
@@ -70,8 +78,8 @@ def of_candidate(office: Office, number: str) -> Rows:
 
 def carry_out(office: Office, title: str, rows: Rows, tell: Tell) -> changing.Carried:
     """Carries out each row by itself, so that one that is refused leaves the others. It stops where the office itself
-    cannot be used. The copy from before stays where something may be done. Raises `Trouble` where a turn, the disk or
-    the program is not to be had; the rows before are done then."""
+    cannot be used. The copy from before stays where something may be done. Raises `Stopped` at a signal, and `Trouble`
+    where a turn, the disk or the program is not to be had; the rows before are done then."""
     answers: list[Answered] = []
     copy = ""
     try:
@@ -84,6 +92,8 @@ def carry_out(office: Office, title: str, rows: Rows, tell: Tell) -> changing.Ca
                         outcome.status = 0 if is_over(rows, answers) else logbook.STEP
                         outcome.answer = f"{len(answers)} of {lists.count(len(rows), 'row')}"
                 time.sleep(BETWEEN)
+    except SystemExit as signal:
+        raise Stopped(signal, changing.Carried(answers, copies.kept_if_other(office, copy), None)) from signal
     except Trouble as fault:
         kept(office, answers, copy)
         if not answers:

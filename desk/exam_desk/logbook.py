@@ -2,7 +2,7 @@
 of the notebook, with the numbers of candidates and no text of a note.
 
 A line has the time, who worked, the command, its status and the first line of its answer, parted by tabs. A change that
-begins has the status `begins`, a step of a list `step`. Their answers are empty, but a list names its copy.
+begins has the status `begins`, a step of a list `step`. Their answers are empty, but the first line names the copy.
 """
 from __future__ import annotations
 
@@ -36,9 +36,10 @@ class Unfinished:
     """A change without an end in the log: the process was killed, or the machine stopped."""
     when: str
     command: str
-    copy: str  # the name of the copy from before a list of steps; "" of a single command
+    copy: str  # the name of the copy from before; "" where it has none, such as `back`
     done: str = ""  # the last step that has an end
     begun: str = ""  # the last one that has begun
+    count: str = ""  # of the rows of a list that were over when it let others have the office, such as 57 of 250 rows
     lets_go: bool = False  # whether others have the office, until the list goes on
 
 
@@ -88,7 +89,7 @@ def unfinished(office: Office) -> Unfinished | None:
             last = found.setdefault(command, Unfinished(when, command, answer))
             last.lets_go = False
         elif command in found and status == STEP:
-            found[command].lets_go = True
+            found[command].lets_go, found[command].count = True, answer
         elif command in found:
             del found[command]
         elif last and status == STEP:

@@ -320,9 +320,11 @@ class File:
                 who = partial(sharers, record.fields[0], sharing[code], twins[record.fields[1:]] > 1)
                 self.notes.add(record.line, "number", who, record.fields[0])
             elif record.fields in self.known.withdrawn:
-                self.notes.add(record.line, "row", "is withdrawn in the office and stays so until it is reinstated")
+                self.notes.add(record.line, "number", "this entry is withdrawn in the office and stays so until it is "
+                               "reinstated", record.fields[0])
             elif self.kind == "arrangements" and record.fields[0] in self.known.standing:
-                self.notes.add(record.line, "row", "a standing grant is in force for this candidate in its place")
+                self.notes.add(record.line, "number", "a standing grant is in force for this candidate in its place",
+                               record.fields[0])
 
 
 def sharers(number: bytes, sharing: Sequence[bytes], is_twin: bool) -> Cure:

@@ -57,6 +57,7 @@ NO_CODE = ("`office codes FILE` fills in the codes that the office has, and new 
            "`office name NUMBER NAME`")
 MOST_LINES = 5  # on one column of an import file
 WITHDRAWN = 9  # the refusal of a second withdrawal
+DONE_ALREADY = {"withdraw": WITHDRAWN, "reinstate": 10}  # refusals by command
 WHOLE_OR_NOT = "a command is there whole or not at all: look, or give it again"
 
 
@@ -112,7 +113,8 @@ def mistakes_of(office: Office, words: Sequence[str], data: bytes | None, is_don
         if data is not None or os.path.isfile(path):
             text = files.read(path) if data is None else data
             wrong, notes = mistakes.looked_through(kind, text, checking.office_knows(office), MOST_LINES)
-            lines = [*checking.lines_on(os.path.basename(path), *((notes, "NOTE: ") if is_done else (wrong, "")))]
+            name = "" if path == kind and data is not None else os.path.basename(path)
+            lines = [*checking.lines_on(name, *((notes, "NOTE: ") if is_done else (wrong, "")))]
             return [*lines, NO_CODE] if mistakes.NO_CODE in wrong.counts else lines
     return []
 
@@ -124,7 +126,7 @@ def lasting_cause(office: Office) -> str | None:
     try:
         found = os.stat(path)
     except OSError as fault:
-        return f"{path}: {fault.strerror}"
+        return os.path.isdir(place) and no_writing(place) or f"{path}: {fault.strerror}"
     if stat.S_ISDIR(found.st_mode):
         return f"{path} is a folder"
     if not stat.S_ISREG(found.st_mode):
@@ -136,9 +138,12 @@ def lasting_cause(office: Office) -> str | None:
     for name in (path, path + "-wal"):
         if os.path.exists(name) and not os.access(name, os.R_OK | os.W_OK):
             return f"no permission to change {name}; it belongs to user {os.stat(name).st_uid}"
-    if not os.access(place, os.R_OK | os.W_OK | os.X_OK):
-        return f"no permission to write in the folder {place}"
-    return no_room(place) or damage(path)
+    return no_writing(place) or no_room(place) or damage(path)
+
+
+def no_writing(place: str) -> str | None:
+    is_allowed = os.access(place, os.R_OK | os.W_OK | os.X_OK)
+    return None if is_allowed else f"no permission to write in the folder {place}"
 
 
 def no_room(place: str) -> str | None:

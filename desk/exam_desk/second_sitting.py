@@ -143,7 +143,8 @@ def own_code(rows: Rows, code: str) -> str:
 
 
 def imported(kind: str, *rows: Iterable[object]) -> Step:
-    return Step(("import", kind, f"{kind}.csv"), files.written([files.HEADERS[kind], *rows]).encode())
+    """The import of rows that nobody has in a file: it has the name of the kind."""
+    return Step(("import", kind, kind), files.written([files.HEADERS[kind], *rows]).encode())
 
 
 def is_live(rows: Rows, number: str, paper: str) -> bool | None:

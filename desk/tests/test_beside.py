@@ -256,10 +256,11 @@ class Log(Beside):
     def test_a_killed_change_has_a_line(self):
         words = ["withdraw", "0001000", "MA-1"]
         self.run_office(*words, EXAMOFFICE=self.program("kill -9 $PPID"))
-        self.assertEqual(self.log(), [[" ".join(words), "begins", ""]])
+        [copy] = os.listdir(os.path.join(self.desk, "copies"))
+        self.assertEqual(self.log(), [[" ".join(words), "begins", copy]])
         self.run_office(*words, EXAMOFFICE=self.program("kill -TERM $PPID; exec sleep 5"))
-        self.assertEqual(self.log()[1:], [[" ".join(words), "1", "broken off"], [" ".join(words), "begins", ""],
-                                          [" ".join(words), "1", "stopped: look whether it is done"]])
+        self.assertEqual([line for line in self.log()[1:] if line[1] != "begins"], [
+            [" ".join(words), "1", "broken off"], [" ".join(words), "1", "stopped: look whether it is done"]])
 
     def test_a_copy_says_what_it_is_from_before(self):
         """In the words of the log, cut between two words where they are many; the name of its folder has fewer letters."""

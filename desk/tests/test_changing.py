@@ -392,7 +392,7 @@ class Killed(Changing):
         with subprocess.Popen(line, env={**self.environment, "EXAMOFFICE": program}, stdout=subprocess.DEVNULL,
                               stderr=subprocess.DEVNULL) as process:
             sample.until(lambda: os.path.exists(going))
-            self.assertEqual(self.log()[-1], ["close-hall MON-AM GYM", "begins", ""])
+            self.assertEqual(self.log()[-1], ["close-hall MON-AM GYM", "begins", os.path.basename(self.kept()[0])])
             self.office("look", "Ada")
             self.write("may_end", "")
         self.assertEqual(process.returncode, 0)
@@ -430,7 +430,28 @@ class Killed(Changing):
         self.assertEqual(self.run_office("withdraw", "0001000", "MA-1", EXAMOFFICE=program).returncode, -signal.SIGKILL)
         done = self.run_office("reinstate", "0001000", "MA-1")
         self.assertEqual(done.stdout, "reinstated\n", done.stderr)
-        self.assertIn("has no end in the log: it is there whole or not at all; look", done.stderr)
+        self.assertRegex(done.stderr, "^office: `withdraw 0001000 MA-1` of .* was broken off, and is done: `office back` lists "
+                                      "the copy of .*, before withdraw 0001000 MA-1, and puts it back\n")
+
+    def test_a_single_change_that_is_killed_before_it_is_done(self):
+        path = self.write("late.csv", "number,paper\n0001000,FR\n")
+        self.broken_off("import", "entries", path, before="import entries")
+        said = f"^office: `import entries {path} for 0001000 FR` of .* was broken off; nothing of it is left\n"
+        for words in (("look", "1000"), ("withdraw", "0001000", "MA-1")):
+            self.assertRegex(self.run_office(*words).stderr, said)
+
+    def test_a_program_that_is_killed(self):
+        done = self.run_office("withdraw", "0001000", "MA-1", EXAMOFFICE=self.program('[ "$5" = withdraw ] && kill -9 $$'))
+        self.assertEqual((done.returncode, done.stderr), (
+            137, "  signal 9 ended the program; a command is there whole or not at all: look, or give it again\n"))
+
+    def test_a_refusal_that_is_killed_behind_its_end(self):
+        """No state's name has it, so nobody knows; nor where a candidate lodged meanwhile."""
+        self.change(APPEAL, "HA1", 1)
+        program = self.program(f'[ "$2 $5" = "{self.path} decide" ] && {sample.built_program()} "$@" && kill -9 $PPID && exit 9')
+        self.run_office("decide", "0001051", "HA1", "refused", "no", EXAMOFFICE=program)
+        self.assertRegex(self.run_office("look", "1000").stderr, "^office: `decide 0001051 HA1 refused` of .* was broken off; "
+                                                                "give it again\n")
 
     def test_at_any_time(self):
         self.assertEqual(kill_often(self, ["take", self.facts(), "--yes"], KILLS, SEED).total(), KILLS)

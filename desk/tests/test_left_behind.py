@@ -53,6 +53,8 @@ class LeftBehind(test_second_sitting.SecondSitting):
         self.assertEqual(self.refused("withdraw", "3", "MA-1"), (
             "refused 9\n  the entry is withdrawn already\n"
             "  0000003 sits it in MON-AM-2, as MA-1-2: `office withdraw 0000003 MA-1-2` withdraws that\n"))
+        path = self.write("leave.csv", "number,paper\n0000003,MA-1\n")
+        self.assertIn("line 2: withdraw 0000003 MA-1: refused 9\n", self.run_office("withdraw", "--list", path).stderr)
         self.office("withdraw", "0000003", "MA-1-2")
         self.assertEqual(self.refused("withdraw", "0000003", "MA-1"), "refused 9\n  the entry is withdrawn already\n")
 

@@ -82,18 +82,21 @@ class Listed(test_changing.Changing):
         self.assertEqual(done.returncode, 1)
         self.assertIn("1 leaves a session: MON-AM 0001017 Bo Ito\n", done.stderr)
         self.assertEqual(re.sub("(?m)^[0-9`].*\n", "", done.stderr),
-                         "line 2: withdraw 0001000 MA-1: refused 9\n  the entry is withdrawn already\n"
-                                      "line 4: withdraw 0001017 CS-1: refused 8\n  the candidate is not entered for "
-                                      "this paper; import the entry or reinstate it, or decide `refused`\n"
-                                      "line 6: withdraw 0001017 MA-1: refused 9\n  the entry is withdrawn already\n")
+                         "line 4: withdraw 0001017 CS-1: refused 8\n  the candidate is not entered for "
+                         "this paper; import the entry or reinstate it, or decide `refused`\n")
+        self.assertIn("\n2 rows refused (line 2, 6): the entry is withdrawn already\n", done.stderr)
         self.assertEqual(done.stdout, "line 5: withdraw 0001017 MA-1: withdrawn\n"
                                       "1 of 4 rows is done; `office back 1` takes all of it back\n")
         self.assertEqual(len(self.kept()), 2)
 
     def test_where_nothing_is_done_no_copy_stays(self):
         done = self.run_list(GOOD, "reinstate")
-        self.assertEqual((done.returncode, done.stdout), (1, "0 of 2 rows are done\n"))
+        self.assertEqual((done.returncode, done.stdout, done.stderr), (
+            1, "0 of 2 rows are done\n", "2 rows refused (line 2, 3): the entry is not withdrawn\n"))
         self.assertEqual((self.state(), self.kept()), (self.before, []))
+        done = self.run_office("what-if", "reinstate", "--list", self.write(NAME, GOOD + "0001034,FR\n0001000,EN-1\n"))
+        self.assertEqual((done.stdout, done.stderr), ("0 of 4 rows would be done\n", "4 rows refused (line 2, 3, 4 and 1 more): "
+                                                      "the entry is not withdrawn\n"))
 
     def test_all_rows_are_looked_through_first(self):
         for text, *said in (
@@ -206,15 +209,25 @@ class Listed(test_changing.Changing):
         done = self.run_list(GOOD, EXAMOFFICE=program)
         self.assertEqual(done.returncode, 128 + signal.SIGINT)
         self.assertEqual(done.stdout, "line 2: withdraw 0001000 MA-1: withdrawn\n")
-        self.assertEqual(done.stderr, "office: stopped after 1 of 2 rows; the last was line 2, withdraw 0001000 MA-1; look whether "
-                                      "the next is done, line 3, withdraw 0001017 MA-1; `office back` lists the copy that takes "
-                                      "all of it back\n")
+        self.assertRegex(done.stderr, "^office: stopped: 1 of 2 rows is done, and 0 refused; the last was line 2, withdraw 0001000 "
+                                      "MA-1; look whether the next is done, line 3, withdraw 0001017 MA-1; give the same list "
+                                      "again to go on; `office back 1` takes all of it back\n"
+                                      "1 leaves a session: MON-AM 0001000 Ada Lin\n")
         self.assertEqual([line[:2] for line in self.log()[1:4]], [
             ["withdraw 0001000 MA-1", "step"], ["withdraw 0001000 MA-1", "0"], ["withdraw 0001017 MA-1", "step"]])
         self.assertEqual([line[1:] for line in self.log()[4:]], [["1", "stopped: look whether it is done"]] * 2)
         self.assertNotEqual(self.state(), self.before)
         self.office("back", "1", "--yes")
         self.assertEqual(self.state(), self.before)
+
+    def test_ctrl_c_before_anything_is_done(self):
+        """A row that is refused is not done: nothing is to be taken back."""
+        program = self.program('[ "$5 $6" = "withdraw 0001017" ] && kill -INT $PPID && exec sleep 60')
+        done = self.run_list("number,paper\n0001000,CS-1\n0001017,MA-1\n0001034,FR\n", EXAMOFFICE=program)
+        self.assertTrue(done.stderr.endswith(
+            "office: stopped: 0 of 3 rows are done, and 1 refused; the last was line 2, withdraw 0001000 CS-1; look whether the "
+            "next is done, line 3, withdraw 0001017 MA-1; give the same list again to go on\n"), done.stderr)
+        self.assertEqual((self.kept(), self.state()), ([], self.before))
 
     def test_after_a_kill_it_is_said_how_far_it_came(self):
         program = self.program('[ "$5 $6" = "withdraw 0001017" ] && kill -KILL $PPID && exit 9')
@@ -247,8 +260,8 @@ class Listed(test_changing.Changing):
             process.kill()
         said = [self.run_office(*words).stderr for words in (("look", "1000"), ("reinstate", "0001017", "EN-2"))]
         for text in said:
-            self.assertRegex(text, f"^office: `{re.escape(LISTED)}` of .* was broken off behind `withdraw 0001000 MA-1`: `office back` "
-                                   "lists the copy of .*, before withdraw --list .*, and puts it back\n")
+            self.assertRegex(text, f"^office: `{re.escape(LISTED)}` of .* was broken off behind `withdraw 0001000 MA-1`, after 1 of "
+                                   "3 rows at least: `office back` lists the copy of .*, before withdraw --list .*, and puts it back\n")
         self.office("look", "1000")
         self.office("withdraw", "0001017", "EN-2")
         self.assertIn([LISTED, "1", "broken off"], self.log())
@@ -257,9 +270,10 @@ class Listed(test_changing.Changing):
         with self.pausing() as process:
             process.send_signal(signal.SIGINT)
             said = process.communicate(timeout=sample.PATIENCE)[1]
-        self.assertEqual(said, "office: stopped after 1 of 3 rows; the last was line 2, withdraw 0001000 MA-1; look whether the "
-                               "next is done, line 3, withdraw 0001017 MA-1; `office back` lists the copy that takes all of "
-                               "it back\n")
+        self.assertTrue(said.startswith(
+            "office: stopped: 1 of 3 rows is done, and 0 refused; the last was line 2, withdraw 0001000 MA-1; look whether the "
+            "next is done, line 3, withdraw 0001017 MA-1; give the same list again to go on; `office back 1` takes all of it "
+            "back\n1 leaves a session: "), said)
 
     def test_a_program_that_does_not_start_in_the_middle(self):
         program = self.program("")

@@ -299,6 +299,7 @@ class Lists(sample.SampleSchool):
         pages = self.office("print-session", "MON-AM", "--lines", "20").split("\f")
         self.assertEqual(max(page.count("\n") for page in pages), 20)
         self.assertEqual(max(len(line) for page in pages for line in page.split("\n")), 76)
+        self.assertRegex("".join(pages), r"(?m)^0001493 .* W+\n {8}W+\?$")
         heads = [page.split("\n")[0] for page in pages]
         self.assertIn("DOOR LIST session MON-AM hall GYM  page 2 of 2", heads)
         self.assertEqual([head for head in heads if "LIB" in head], [])

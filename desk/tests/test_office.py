@@ -8,11 +8,12 @@ import subprocess
 import sys
 import unittest
 from contextlib import closing, redirect_stderr, suppress
+from dataclasses import replace
 from unittest import mock
 
 import sample
 import command
-from exam_desk import copies
+from exam_desk import copies, refusals
 
 
 class Faults(unittest.TestCase):
@@ -78,8 +79,8 @@ class Words(sample.SampleSchool):
         self.office("withdraw", "1000", "MA-1")
         path = self.write("late.csv", "number,paper\n0001017,MA-1\n0001000,MA-1\n")
         for words in (["import", "entries", path], ["what-if", "import", "entries", path]):
-            self.assertEqual(self.run_office(*words).stderr, "  late.csv line 3: NOTE: row: is withdrawn in the office and "
-                             "stays so until it is reinstated\n")
+            self.assertEqual(self.run_office(*words).stderr, "  late.csv line 3: NOTE: number '0001000': this entry is "
+                             "withdrawn in the office and stays so until it is reinstated\n")
 
     def test_a_repeated_key_is_shown(self):
         path = self.write("halls.csv", "hall,title,features\nGYM,Gym,-\nGYM,Gym,quiet\n")
@@ -201,6 +202,9 @@ class Words(sample.SampleSchool):
         self.assertIn("\n2 get desks\n", self.office(*tried[0].partition("#")[0].split()[1:]))
         self.assertEqual(tried[-1:], [""])
         self.assertNotIn("what could help", self.office("why", "TUE-AM", "0001272"))
+        for words, said in ((["MON-AM", "XX"], "hall 'XX': is not among the halls"),
+                            (["MOX", "GYM"], "session 'MOX': is not among the sessions")):
+            self.assertEqual(self.refused("open-hall", *words, "12", "12:30").splitlines()[2:], [f"  {said}"])
         done = self.run_office("open-hall", "TUE-AM", "lib", "0", "24:01")
         self.assertEqual(done.returncode, 2)
         self.assertRegex(done.stderr, "error: hall 'lib': write LIB .*; desks '0': a whole number .*; until '24:01': a time")
@@ -222,6 +226,12 @@ class Causes(sample.SampleSchool):
     def test_a_second_hard_link(self):
         os.link(self.path, os.path.join(self.folder, "other.db"))
         self.assertIn("has a second name", self.cause())
+
+    def test_a_folder_in_which_one_may_not_write(self):
+        for path in (os.path.join(self.folder, "new.db"), self.path):
+            with mock.patch("os.access", lambda name, _: os.path.isfile(name)):
+                self.assertEqual(refusals.lasting_cause(replace(self.value, path=path)),
+                                 f"no permission to write in the folder {os.path.realpath(self.folder)}")
 
     def test_a_folder_and_a_pipe(self):
         pipe = os.path.join(self.folder, "pipe.db")
@@ -276,11 +286,17 @@ class Back(sample.SampleSchool):
         self.assertEqual(self.facts(), after)
         self.assertIn("the office is as it was on", self.office("back", "1", stdin="y\n"))
         self.assertEqual(self.facts(), before)
-        self.assertRegex(self.office("back"), r"^  1  .*  before back to before close-hall MON-AM GYM\n"
+        self.assertRegex(self.office("back"), r"^  1  .*  before undoing close-hall MON-AM GYM\n"
                                                r"  2  .*  before close-hall MON-AM GYM\n$")
         self.office("back", "1", "--yes")
         self.assertEqual(self.facts(), after)
+        for says in ("redoing close-hall MON-AM GYM", "undoing close-hall MON-AM GYM"):
+            self.assertRegex(self.office("back"), rf"^  1  .*  before {says}\n")
+            self.office("back", "1", "--yes")
+        self.office("back", "5", "--yes")
+        self.assertRegex(self.office("back"), r"^  1  .*  before undoing close-hall MON-AM GYM and what followed\n")
         self.assertEqual(self.office("check"), "good\n")
+        self.assertEqual(self.refused("back", "one"), "office: 'one' is no number of a copy; `office back` lists them\n")
 
     def test_an_import_is_listed_with_its_file(self):
         os.mkdir(os.path.join(self.folder, "files"))
@@ -304,8 +320,8 @@ class Back(sample.SampleSchool):
             self.assertEqual(stat.S_IMODE(os.stat(path).st_mode), mode, path)
         with open(os.path.join(self.desk, "log"), encoding="utf-8") as log:
             lines = [line.rstrip("\n").split("\t")[2:] for line in log]
-        self.assertEqual(lines, [["withdraw 0001000 MA-1", *end] for end in
-                                 (["begins", ""], ["0", "withdrawn"], ["begins", ""], ["1", "refused 9"])])
+        self.assertEqual(lines[0], ["withdraw 0001000 MA-1", "begins", copy])
+        self.assertEqual(lines[1::2], [["withdraw 0001000 MA-1", *end] for end in (["0", "withdrawn"], ["1", "refused 9"])])
 
     def test_a_bad_copy_is_refused(self):
         self.office("withdraw", "0001000", "MA-1")
@@ -368,8 +384,8 @@ class Back(sample.SampleSchool):
         process.communicate()
         done = self.run_office("withdraw", "0001000", "MA-1")
         self.assertEqual((done.stdout, done.returncode), ("withdrawn\n", 0))
-        self.assertRegex(done.stderr, "^office: `import entries /dev/stdin` of .* has no end in the log: "
-                                      "it is there whole or not at all; look\n1 leaves a session: ")
+        self.assertRegex(done.stderr, "^office: `import entries /dev/stdin` of .* was broken off; nothing of it "
+                                      "is left\n1 leaves a session: ")
         self.assertEqual(self.office("reinstate", "0001000", "MA-1"), "reinstated\n")
 
 

@@ -60,7 +60,7 @@ class Papers(sample.SampleSchool):
         path = self.write("forms.csv", 'number,group\n1051,10B\n0001000,"<i>=10A"\n0001017,10B\n9999999,10A\n'
                                        "0001034,\n")
         done = self.run_office("slips", "--order", path)
-        self.assertEqual(done.stderr, "office: the file has 1 number that no candidate of the office has\n"
+        self.assertEqual(done.stderr, "office: the file has 1 number that no candidate of the office has: 9999999\n"
                                       "office: in no group, and so last: 57 candidates\n")
         groups = done.stdout.split("<div class=sheet><h2><bdi>")[1:]
         self.assertEqual([text.partition("</bdi>")[0] for text in groups], ["10B", "&lt;i&gt;=10A", "in no group"])

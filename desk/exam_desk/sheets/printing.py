@@ -17,6 +17,7 @@ from exam_desk.trouble import Trouble
 from exam_desk.words import clock, plain
 
 HEADING = 2  # lines of each sheet
+INDENT = " " * 8
 COMPARED = 12  # sheets at most that the program prints too
 
 Sheets = dict[tuple[str, ...], list[str]]  # the lines of each sheet, by the words of its command
@@ -60,10 +61,16 @@ def written(reading: Reading, row: sqlite3.Row) -> Sheets:
     return found
 
 
+def cut(line: str, width: int) -> list[str]:
+    """A line as several that have room; what goes on is indented, so that it does not look like another row."""
+    room = width - len(INDENT)
+    return [line[:width], *(f"{INDENT}{line[at:at + room]}" for at in range(width, len(line), room))]
+
+
 def pages(lines: list[str], most: int, width: int) -> Iterator[str]:
     """The pages of a sheet; several say which each is."""
     heading = lines[:HEADING]
-    body = [line[at:at + width] for line in lines[HEADING:] for at in range(0, len(line), width)]
+    body = [part for line in lines[HEADING:] for part in cut(line, width)]
     room = most - HEADING
     parts = [body[at:at + room] for at in range(0, len(body), room)] or [[]]
     for place, part in enumerate(parts, 1):
