@@ -2,7 +2,7 @@
 
 A plan is a list of steps for `changing.carry_out`. What the candidate sits, where and until when, the program says:
 before the steps and after a rehearsal of them. The codes of the second session and paper are those of the first with
-`-2`, `-3` and so on; by them and by the title the second paper is found again.
+`-2`, `-3` and so on; by them and by who is entered the second paper is found again.
 """
 from __future__ import annotations
 
@@ -26,6 +26,10 @@ SESSIONS_THEN = ("SELECT session.code FROM session JOIN opening ON session = cod
                  "WHERE day = ? AND start = ? AND hall = ? ORDER BY code")
 OPENED = ("SELECT desks, until, reserved, (SELECT count(*) FROM seat WHERE (session, hall) = (opening.session, "
           "opening.hall)) FROM opening WHERE session = ? AND hall = ?")
+UNLIKE = ("SELECT max(one.live IS NULL), max(one.live <> 1) FROM entry LEFT JOIN entry AS one "
+          "ON one.number = entry.number AND one.paper = ? WHERE entry.paper = ? AND entry.live = 1")
+BEGINNING = "WHERE paper.code BETWEEN ?1 AND ?1 || '~'"  # `~` is behind all letters of codes
+SAME_LETTERS = MOST_LETTERS - len("-99999")  # at least so many letters of a code stay before its number
 CLOSED = (0, 24 * 60, False, 0)  # as OPENED says it of a hall that is to be open until the end of the day
 
 
@@ -124,21 +128,32 @@ def free_code(rows: Rows, table: str, first: str) -> str:
 
 def second_papers(rows: Rows, first: sqlite3.Row) -> list[sqlite3.Row]:
     """The papers that were made of a paper for second sittings."""
-    found = rows.execute(f"{PAPERS} WHERE title = ? ORDER BY paper.code", [first["title"]])
-    return [row for row in found if is_made_of(row, first)]
+    found = rows.execute(f"{PAPERS} {BEGINNING} ORDER BY paper.code", [first["code"][:SAME_LETTERS]])
+    return [row for row in found if is_made_of(rows, row, first)]
 
 
-def is_made_of(second: sqlite3.Row, first: sqlite3.Row) -> bool:
-    return all(is_numbered(second[name], first[name]) for name in ("code", "session"))
+def first_papers(rows: Rows, second: sqlite3.Row) -> list[sqlite3.Row]:
+    """The papers of which a paper may have been made for second sittings."""
+    stem = second["code"].rpartition("-")[0]
+    found = rows.execute(f"{PAPERS} {BEGINNING}", [stem]) if stem else []
+    return [row for row in found if is_made_of(rows, second, row)]
+
+
+def is_made_of(rows: Rows, second: sqlite3.Row, first: sqlite3.Row) -> bool:
+    """Whether a paper was made of another: each of its candidates has an entry for that one, and one or more have it
+    withdrawn. Where nobody has, as when a second sitting is taken back, the title says it."""
+    if not all(is_numbered(second[name], first[name]) for name in ("code", "session")):
+        return False
+    has_strangers, has_withdrawn = rows.execute(UNLIKE, [first["code"], second["code"]]).fetchone()
+    return not has_strangers and bool(has_withdrawn or second["title"] == first["title"])
 
 
 def own_code(rows: Rows, code: str) -> str:
     """The code of the paper that a paper was made of for second sittings; its own where it was made of none, or may be
     made of several."""
     made = paper_row(rows, code)
-    earlier = rows.execute(f"{PAPERS} WHERE title = ? AND (day, start) < (?, ?)",
-                           [made["title"], made["day"], made["start"]]).fetchall()
-    of = [row["code"] for row in earlier if is_made_of(made, row)]
+    of = [row["code"] for row in first_papers(rows, made)
+          if (row["day"], row["start"]) < (made["day"], made["start"])]
     return own_code(rows, of[0]) if len(of) == 1 else code
 
 

@@ -69,7 +69,7 @@ class Many(unittest.TestCase):
         for code in "ABCDEFG":
             rows.execute("INSERT INTO paper VALUES (?1, ?2, 'S', ?3, 0), (?1 || '-2', ?4, 'S-2', 60, 0)",
                          [code, title, minutes, TITLE])
-            rows.execute("INSERT INTO entry VALUES (1, ?, 1)", [f"{code}-2"])
+            rows.execute("INSERT INTO entry VALUES (1, ?1, 0), (1, ?1 || '-2', 1)", [code])
         rows.execute("CREATE TABLE opening (session, hall)")
         return types.SimpleNamespace(rows=rows, person=lambda number: Person(f"{number:07}", "Ada", ""))
 
