@@ -139,6 +139,14 @@ def first_papers(rows: Rows, second: sqlite3.Row) -> list[sqlite3.Row]:
     return [row for row in found if is_made_of(rows, second, row)]
 
 
+def pairs(rows: Rows) -> list[tuple[sqlite3.Row, sqlite3.Row]]:
+    """Each paper that may be made of another for second sittings, behind that one."""
+    codes = [code for code, in rows.execute("SELECT code FROM session")]
+    later = {each for each in codes for code in codes if is_numbered(each, code)}
+    return [(first, second) for second in rows.execute(f"{PAPERS} ORDER BY day, start, paper.code").fetchall()
+            if second["session"] in later for first in first_papers(rows, second)]
+
+
 def is_made_of(rows: Rows, second: sqlite3.Row, first: sqlite3.Row) -> bool:
     """Whether a paper was made of another: each of its candidates has an entry for that one, and one or more have it
     withdrawn. Where nobody has, as when a second sitting is taken back, the title says it."""
@@ -178,14 +186,14 @@ def plan_back(reading: Reading, number: str, paper: str) -> Plan:
     first = paper_row(reading.rows, paper)
     if not typed.is_right("number", number) or not reading.knows(number):
         raise NoCandidate(number)
-    found = sat_later(reading.rows, number, paper)
-    if not found or is_live(reading.rows, number, paper) is not False:
+    found, live = sat_later(reading.rows, number, paper), is_live(reading.rows, number, paper)
+    if not found or live is None:
         raise Trouble(f"{number} has no second sitting of {paper}; nothing is changed")
     if len(found) > 1:
         raise Trouble(f"{number} has second sittings of {paper} as {', '.join(row['code'] for row in found)}: withdraw "
                       f"one, and reinstate {paper}; nothing is changed")
     second = found[0]["code"]
-    steps = [Step(("withdraw", number, second)), Step(("reinstate", number, paper))]
+    steps = [Step(("withdraw", number, second)), *([] if live else [Step(("reinstate", number, paper))])]
     return Plan(f"second-sitting {number} {paper} --undo", steps, number, first["session"], found[0]["session"], second)
 
 

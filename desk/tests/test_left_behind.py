@@ -56,6 +56,16 @@ class LeftBehind(test_second_sitting.SecondSitting):
         self.office("withdraw", "0000003", "MA-1-2")
         self.assertEqual(self.refused("withdraw", "0000003", "MA-1"), "refused 9\n  the entry is withdrawn already\n")
 
+    def test_the_first_entry_is_reinstated(self):
+        said = ("NOTE: 0000003 ?Bo, =1+1 sits MA-1 as MA-1-2: `office second-sitting 0000003 MA-1 --undo` withdraws "
+                "MA-1-2\n")
+        self.assertIn(said, self.office("what-if", "reinstate", "3", "MA-1"))
+        self.assertTrue(self.run_office("reinstate", "3", "MA-1").stderr.startswith(said))
+        self.assertNotIn("NOTE", self.run_office("withdraw", "3", "LAT").stderr)  # it was said before
+        self.assertIn("0000003 ?Bo, =1+1 sits MA-1 again", self.second("0000003", "MA-1", "--undo"))
+        self.assertEqual(self.rows("SELECT live = 1 FROM entry WHERE number = 3 AND paper LIKE 'MA-1%' ORDER BY paper"),
+                         [(1,), (0,)])
+
 
 class Many(unittest.TestCase):
     def reading(self, minutes=60, title=TITLE):
@@ -76,7 +86,7 @@ class Many(unittest.TestCase):
     def test_five_are_named(self):
         said = [*map(str, left_behind(self.reading(), self.reading(90)))]
         self.assertEqual([line.split(" ")[1] for line in said], ["A-2", "B-2", "C-2", "D-2", "E-2", ".."])
-        self.assertEqual(said[5], "NOTE: .. and 2 more second sittings that stay as they are")
+        self.assertEqual(said[5], "NOTE: .. and 2 more notes on second sittings")
         for before in (60, 90):  # a paper that is again as its second sitting has none left behind
             self.assertEqual(left_behind(self.reading(before), self.reading()), [])
         self.assertIn(" (the title ?Maths) for 0000001 Ada: ",
@@ -91,7 +101,7 @@ class Many(unittest.TestCase):
             shown = [re.sub("</?bdi>", "", wording.said(line)) for line in lines]
         self.assertEqual(shown[0], "HINWEIS: A-2 in S-2, eine zweite Sitzung von A, bleibt, wie sie ist (60 Minuten, der Titel "
                                    "?Maths), für 0000001 Ada: auch für S-2 oder A-2 eine Zeile einlesen")
-        self.assertEqual(shown[5], "HINWEIS: .. und 2 weitere zweite Sitzungen, die bleiben, wie sie sind")
+        self.assertEqual(shown[5], "HINWEIS: .. und 2 weitere Hinweise zu zweiten Sitzungen")
 
 
 if __name__ == "__main__":

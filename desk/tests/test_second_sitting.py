@@ -287,7 +287,7 @@ class Back(SecondSitting):
         self.refuses("0000003 has no second sitting of LAT", "0000003", "LAT", "--undo")
         self.refuses("the office has no candidate x", "x", "MA-1", "--undo")
         self.refuses("the office has no paper ", "0000003", "", "--undo")
-        self.office("reinstate", "0000003", "MA-1")
+        self.office("withdraw", "0000003", "MA-1-2")
         self.refuses("0000003 has no second sitting of MA-1", "0000003", "MA-1", "--undo")
 
 
