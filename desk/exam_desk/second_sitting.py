@@ -2,7 +2,7 @@
 
 A plan is a list of steps for `changing.carry_out`. What the candidate sits, where and until when, the program says:
 before the steps and after a rehearsal of them. The codes of the second session and paper are those of the first with
-`-2`, `-3` and so on; by them and by the title the second paper is found again.
+`-2`, `-3` and so on; by them and by who is entered the second paper is found again.
 """
 from __future__ import annotations
 
@@ -17,7 +17,7 @@ from exam_desk.reading import Member, Reading, Sitting
 from exam_desk.reasons import Reasons
 from exam_desk.snapshot import Rows
 from exam_desk.trouble import NoCandidate, Trouble
-from exam_desk.words import clock, feature_text, plain
+from exam_desk.words import Said, clock, feature_text, plain
 
 MOST_LETTERS = 12  # of the code of a session or a paper
 PAPERS = ("SELECT paper.code AS code, title, session, minutes, requires, day, start FROM paper "
@@ -26,6 +26,11 @@ SESSIONS_THEN = ("SELECT session.code FROM session JOIN opening ON session = cod
                  "WHERE day = ? AND start = ? AND hall = ? ORDER BY code")
 OPENED = ("SELECT desks, until, reserved, (SELECT count(*) FROM seat WHERE (session, hall) = (opening.session, "
           "opening.hall)) FROM opening WHERE session = ? AND hall = ?")
+UNLIKE = ("SELECT max(one.live IS NULL), max(one.live <> 1) FROM entry LEFT JOIN entry AS one "
+          "ON one.number = entry.number AND one.paper = ? WHERE entry.paper = ? AND entry.live = 1")
+BEGINNING = "WHERE paper.code BETWEEN ?1 AND ?1 || '~'"  # `~` is behind all letters of codes
+SAME_LETTERS = MOST_LETTERS - len("-99999")  # at least so many letters of a code stay before its number
+ARRANGED = "NOTE: the arrangement of {person} is {one} in {first}, and {other} in {session}"
 CLOSED = (0, 24 * 60, False, 0)  # as OPENED says it of a hall that is to be open until the end of the day
 
 
@@ -124,21 +129,40 @@ def free_code(rows: Rows, table: str, first: str) -> str:
 
 def second_papers(rows: Rows, first: sqlite3.Row) -> list[sqlite3.Row]:
     """The papers that were made of a paper for second sittings."""
-    found = rows.execute(f"{PAPERS} WHERE title = ? ORDER BY paper.code", [first["title"]])
-    return [row for row in found if is_made_of(row, first)]
+    found = rows.execute(f"{PAPERS} {BEGINNING} ORDER BY paper.code", [first["code"][:SAME_LETTERS]])
+    return [row for row in found if is_made_of(rows, row, first)]
 
 
-def is_made_of(second: sqlite3.Row, first: sqlite3.Row) -> bool:
-    return all(is_numbered(second[name], first[name]) for name in ("code", "session"))
+def first_papers(rows: Rows, second: sqlite3.Row) -> list[sqlite3.Row]:
+    """The papers of which a paper may have been made for second sittings."""
+    stem = second["code"].rpartition("-")[0]
+    found = rows.execute(f"{PAPERS} {BEGINNING}", [stem]) if stem else []
+    return [row for row in found if is_made_of(rows, second, row)]
+
+
+def pairs(rows: Rows) -> list[tuple[sqlite3.Row, sqlite3.Row]]:
+    """Each paper that may be made of another for second sittings, behind that one."""
+    codes = [code for code, in rows.execute("SELECT code FROM session")]
+    later = {each for each in codes for code in codes if is_numbered(each, code)}
+    return [(first, second) for second in rows.execute(f"{PAPERS} ORDER BY day, start, paper.code").fetchall()
+            if second["session"] in later for first in first_papers(rows, second)]
+
+
+def is_made_of(rows: Rows, second: sqlite3.Row, first: sqlite3.Row) -> bool:
+    """Whether a paper was made of another: each of its candidates has an entry for that one, and one or more have it
+    withdrawn. Where nobody has, as when a second sitting is taken back, the title says it."""
+    if not all(is_numbered(second[name], first[name]) for name in ("code", "session")):
+        return False
+    has_strangers, has_withdrawn = rows.execute(UNLIKE, [first["code"], second["code"]]).fetchone()
+    return not has_strangers and bool(has_withdrawn or second["title"] == first["title"])
 
 
 def own_code(rows: Rows, code: str) -> str:
     """The code of the paper that a paper was made of for second sittings; its own where it was made of none, or may be
     made of several."""
     made = paper_row(rows, code)
-    earlier = rows.execute(f"{PAPERS} WHERE title = ? AND (day, start) < (?, ?)",
-                           [made["title"], made["day"], made["start"]]).fetchall()
-    of = [row["code"] for row in earlier if is_made_of(made, row)]
+    of = [row["code"] for row in first_papers(rows, made)
+          if (row["day"], row["start"]) < (made["day"], made["start"])]
     return own_code(rows, of[0]) if len(of) == 1 else code
 
 
@@ -164,18 +188,18 @@ def plan_back(reading: Reading, number: str, paper: str) -> Plan:
     first = paper_row(reading.rows, paper)
     if not typed.is_right("number", number) or not reading.knows(number):
         raise NoCandidate(number)
-    found = sat_later(reading.rows, number, paper)
-    if not found or is_live(reading.rows, number, paper) is not False:
+    found, live = sat_later(reading.rows, number, paper), is_live(reading.rows, number, paper)
+    if not found or live is None:
         raise Trouble(f"{number} has no second sitting of {paper}; nothing is changed")
     if len(found) > 1:
         raise Trouble(f"{number} has second sittings of {paper} as {', '.join(row['code'] for row in found)}: withdraw "
                       f"one, and reinstate {paper}; nothing is changed")
     second = found[0]["code"]
-    steps = [Step(("withdraw", number, second)), Step(("reinstate", number, paper))]
+    steps = [Step(("withdraw", number, second)), *([] if live else [Step(("reinstate", number, paper))])]
     return Plan(f"second-sitting {number} {paper} --undo", steps, number, first["session"], found[0]["session"], second)
 
 
-def lines(planned: Plan, before: Reading, after: Reading) -> list[str]:
+def lines(planned: Plan, before: Reading, after: Reading) -> list[str | Said]:
     """What a rehearsed plan does for the candidate. Raises `Trouble` where they would not sit as was asked."""
     number, name, first = member(after, planned.first, planned.number)
     said, lacks = f"{number} {plain(name)} sits {first.paper}", "" if first.hall else " (has no desk)"
@@ -190,11 +214,18 @@ def lines(planned: Plan, before: Reading, after: Reading) -> list[str]:
     then = second.sitting
     found = [planned.made, f"{said} until {first.finish}{lacks}, and {then.paper} from {then.start} to {then.finish} "
                            f"in {then.hall}, desk {then.desk}"]
-    was, now = lists.allowance(member(before, planned.first, planned.number).sitting), lists.allowance(then)
-    if was != now:
-        found.append(f"NOTE: the arrangement is {was or 'none'} in {planned.first}, and {now or 'none'} in "
-                     f"{planned.session}")
-    return found
+    return [*found, *arranged(before, after, planned.number, planned.first, planned.session)]
+
+
+def arranged(before: Reading, after: Reading, number: str, first: str, session: str) -> list[Said]:
+    """What is said where a candidate sits in two sessions with unlike arrangements, and did not so before."""
+    was, now = ([lists.allowance(sits[code]) for code in (first, session) if code in sits]
+                for sits in (before.all_of(number), after.all_of(number)))
+    if now == was or len({*now}) < 2:
+        return []
+    one, other = (each or Said("none", {}) for each in now)
+    return [Said(ARRANGED, {"person": after.person(int(number)).shown(), "one": one, "first": first, "other": other,
+                            "session": session})]
 
 
 def member(reading: Reading, session: str, number: str) -> Member:

@@ -1,4 +1,5 @@
 """What is said of second sittings: of those that stay behind where their paper is changed, and of a second withdrawal."""
+import contextlib
 import re
 import sqlite3
 import types
@@ -58,6 +59,28 @@ class LeftBehind(test_second_sitting.SecondSitting):
         self.office("withdraw", "0000003", "MA-1-2")
         self.assertEqual(self.refused("withdraw", "0000003", "MA-1"), "refused 9\n  the entry is withdrawn already\n")
 
+    def test_the_first_entry_is_reinstated(self):
+        said = ("NOTE: 0000003 ?Bo, =1+1 sits MA-1 as MA-1-2: `office second-sitting 0000003 MA-1 --undo` withdraws "
+                "MA-1-2\n")
+        self.assertIn(said, self.office("what-if", "reinstate", "3", "MA-1"))
+        self.assertTrue(self.run_office("reinstate", "3", "MA-1").stderr.startswith(said))
+        self.assertNotIn("NOTE", self.run_office("withdraw", "3", "LAT").stderr)  # it was said before
+        self.assertIn("0000003 ?Bo, =1+1 sits MA-1 again", self.second("0000003", "MA-1", "--undo"))
+        self.assertEqual(self.rows("SELECT live = 1 FROM entry WHERE number = 3 AND paper LIKE 'MA-1%' ORDER BY paper"),
+                         [(1,), (0,)])
+
+    def test_a_grant_for_one_of_the_sessions(self):
+        said = "NOTE: the arrangement of 0000003 ?Bo, =1+1 is 25 % extra time in MON-AM, and none in MON-AM-2\n"
+        with contextlib.closing(sqlite3.connect(self.path)) as file:
+            file.execute("INSERT INTO appeal VALUES (3, 'A1', 'MON-AM', 3, '', 0, 25, '', 1, NULL, '2027-05-01')")
+            file.commit()
+        decision = ("decide", "0000003", "A1", "granted", "")
+        self.assertEqual(self.office("what-if", *decision).count(said), 1)
+        self.assertTrue(self.run_office(*decision).stderr.startswith(said))
+        self.assertNotIn("arrangement of", self.run_office("withdraw", "0001000", "MA-1").stderr)  # it was said before
+        self.assertNotIn("arrangement of", self.office("what-if", "import", "arrangements", self.write(
+            "arrangements.csv", "number,needs,extra\n0000003,-,25\n")))  # it holds in both
+
 
 class Many(unittest.TestCase):
     def reading(self, minutes=60, title=TITLE):
@@ -71,14 +94,15 @@ class Many(unittest.TestCase):
         for code in "ABCDEFG":
             rows.execute("INSERT INTO paper VALUES (?1, ?2, 'S', ?3, 0), (?1 || '-2', ?4, 'S-2', 60, 0)",
                          [code, title, minutes, TITLE])
-            rows.execute("INSERT INTO entry VALUES (1, ?, 1)", [f"{code}-2"])
+            rows.execute("INSERT INTO entry VALUES (1, ?1, 0), (1, ?1 || '-2', 1)", [code])
         rows.execute("CREATE TABLE opening (session, hall)")
-        return types.SimpleNamespace(rows=rows, person=lambda number: Person(f"{number:07}", "Ada", ""))
+        return types.SimpleNamespace(rows=rows, person=lambda number: Person(f"{number:07}", "Ada", ""),
+                                     all_of=lambda number: {})
 
     def test_five_are_named(self):
         said = [*map(str, left_behind(self.reading(), self.reading(90)))]
         self.assertEqual([line.split(" ")[1] for line in said], ["A-2", "B-2", "C-2", "D-2", "E-2", ".."])
-        self.assertEqual(said[5], "NOTE: .. and 2 more second sittings that stay as they are")
+        self.assertEqual(said[5], "NOTE: .. and 2 more notes on second sittings")
         for before in (60, 90):  # a paper that is again as its second sitting has none left behind
             self.assertEqual(left_behind(self.reading(before), self.reading()), [])
         self.assertIn(" (the title ?Maths) for 0000001 Ada: ",
@@ -93,7 +117,7 @@ class Many(unittest.TestCase):
             shown = [re.sub("</?bdi>", "", wording.said(line)) for line in lines]
         self.assertEqual(shown[0], "HINWEIS: A-2 in S-2, eine zweite Sitzung von A, bleibt, wie sie ist (60 Minuten, der Titel "
                                    "?Maths), für 0000001 Ada: auch für S-2 oder A-2 eine Zeile einlesen")
-        self.assertEqual(shown[5], "HINWEIS: .. und 2 weitere zweite Sitzungen, die bleiben, wie sie sind")
+        self.assertEqual(shown[5], "HINWEIS: .. und 2 weitere Hinweise zu zweiten Sitzungen")
 
 
 if __name__ == "__main__":

@@ -277,6 +277,9 @@ class Papers(sample.SampleSchool):
                       [row[:4] for row in self.rows("session-page", "MON-AM-2")])
         slip = self.rows("slips", "--only", "0001561")
         self.assertEqual([row[2] for row in slip[2:4]], ["Latin (LAT)", named])
+        letter = csv.DictReader(self.office("slips", "--csv", "--only", "0001561").removeprefix("\ufeff").split("\n"))
+        self.assertEqual([(row["paper"], row["paper title"]) for row in letter if row["date"] == "2027-06-07"][:2],
+                         [("LAT", "Latin"), ("MA-1-2", "Mathematics 1, second sitting of MA-1")])
         self.assertIn(f"Room 14 (R14), desk 1|{named}|Mon 7 June 2027, 11:00–13:00",
                       [row[4] for row in self.rows("changes", "1", "--paper") if len(row) == 6])
 

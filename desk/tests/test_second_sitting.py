@@ -74,12 +74,41 @@ class There(SecondSitting):
         self.assertIn("1 sits another paper\n", said)
 
     def test_the_exam_board_knows_the_paper(self):
-        """Who sits it is listed under the paper's own code, also once it has another title and so nobody knows it."""
+        """Who sits it is listed under the paper's own code, also once one of the two has another title."""
         self.second(*ONE)
         board = self.run_office("absent", "MON-AM-2", TODAY="2027-06-07").stdout
         self.assertEqual(board, '"number","paper","attendance"\n"0000003","MA-1","present"\n')
-        self.enter("papers", "paper,title,session,minutes,requires\nMA-1-2,Other,MON-AM-2,120,-\n")
-        self.assertIn('"MA-1-2"', self.run_office("absent", "MON-AM-2", TODAY="2027-06-07").stdout)
+        for row in ("MA-1,Sums,MON-AM,120,-", "MA-1-2,Other,MON-AM-2,120,-"):
+            self.enter("papers", f"paper,title,session,minutes,requires\n{row}\n")
+            self.assertEqual(self.run_office("absent", "MON-AM-2", TODAY="2027-06-07").stdout, board)
+        self.assertIn(", second sitting of MA-1:", re.sub("<[^>]+>", "", self.office("doors", "MON-AM-2")))
+        self.enter("entries", "number,paper\n0001000,MA-1-2\n")
+        with Reading(self.value) as reading:  # 1000 is entered for MA-1, too
+            self.assertEqual(second_sitting.own_code(reading.rows, "MA-1-2"), "MA-1")
+        self.assertIn("sits LAT again", self.second("0000003", "MA-1", "--undo"))
+
+    def test_an_ordinary_paper_with_a_number_is_no_second_sitting(self):
+        """ZO-2 of MON-2 has the title of ZO of MON. One sits both, and one was never entered for ZO."""
+        self.enter("sessions", "session,date,start\nMON,2027-06-21,09:00\nMON-2,2027-06-22,09:00\n")
+        self.enter("papers", "paper,title,session,minutes,requires\nZO,Zoos,MON,60,-\nZO-2,Zoos,MON-2,60,-\n")
+        self.enter("entries", "number,paper\n0000002,ZO\n0000002,ZO-2\n0000003,ZO-2\n")
+        with Reading(self.value) as reading:
+            self.assertEqual(second_sitting.own_code(reading.rows, "ZO-2"), "ZO-2")
+        self.assertIn('"0000003","ZO-2"', self.run_office("absent", "MON-2", TODAY="2027-06-22").stdout)
+        done = self.run_office("import", "papers", self.write("papers.csv", "paper,title,session,minutes,requires\n"
+                                                              "ZO,Zoos,MON,90,-\n"))
+        self.assertNotIn("second sitting", done.stdout + done.stderr)
+        self.office("withdraw", "0000002", "ZO")
+        with Reading(self.value) as reading:  # with one candidate too many
+            self.assertEqual(second_sitting.own_code(reading.rows, "ZO-2"), "ZO-2")
+
+    def test_two_papers_of_the_same_candidates_are_no_second_sitting(self):
+        """Nobody is withdrawn from ZO, and the titles say that they are two papers."""
+        self.enter("sessions", "session,date,start\nMON,2027-06-21,09:00\nMON-2,2027-06-22,09:00\n")
+        self.enter("papers", "paper,title,session,minutes,requires\nZO,Cats,MON,60,-\nZO-2,Dogs,MON-2,60,-\n")
+        self.enter("entries", "number,paper\n0000002,ZO\n0000002,ZO-2\n")
+        with Reading(self.value) as reading:
+            self.assertEqual(second_sitting.own_code(reading.rows, "ZO-2"), "ZO-2")
 
     def test_codes_that_seem_made_of_each_other(self):
         """Codes of 12 letters that end in -2 and -3: no paper was made of a later one, nor of itself."""
@@ -161,7 +190,8 @@ class There(SecondSitting):
             file.execute("INSERT INTO appeal VALUES (3, 'A1', 'MON-AM', 3, '', 0, 25, '', 2, '', '2027-05-01')")
             file.commit()
         said = self.second("0000003", "MA-1", "11:00", "R14")
-        self.assertIn("NOTE: the arrangement is 25 % extra time in MON-AM, and none in MON-AM-2\n", said)
+        self.assertIn("NOTE: the arrangement of 0000003 ?Bo, =1+1 is 25 % extra time in MON-AM, and none in "
+                      "MON-AM-2\n", said)
 
     def test_others_in_the_hall_are_noted(self):
         said = self.second("0000003", "MA-1", "12:30", "GYM")
@@ -258,7 +288,7 @@ class Back(SecondSitting):
         self.refuses("0000003 has no second sitting of LAT", "0000003", "LAT", "--undo")
         self.refuses("the office has no candidate x", "x", "MA-1", "--undo")
         self.refuses("the office has no paper ", "0000003", "", "--undo")
-        self.office("reinstate", "0000003", "MA-1")
+        self.office("withdraw", "0000003", "MA-1-2")
         self.refuses("0000003 has no second sitting of MA-1", "0000003", "MA-1", "--undo")
 
 

@@ -8,8 +8,10 @@ from markupsafe import Markup
 
 from exam_desk import facts, files, lists, notebook, overlaps
 from exam_desk.reading import Person, Reading, Sitting
+from exam_desk.second_sitting import own_code
 from exam_desk.sheets import pages
 from exam_desk.sheets.pages import html, joined, text
+from exam_desk.snapshot import Rows
 from exam_desk.trouble import Trouble
 from exam_desk.words import few, short_day
 
@@ -95,9 +97,18 @@ def row(choice: Choice, sat: Sat, papers: Mapping[str, Markup], halls: Mapping[s
 
 def csv_text(reading: Reading, choice: Choice) -> str:
     """A row for each candidate and session, in the order of the slips. No spreadsheet finds a formula in it."""
-    papers, halls = facts.paper_titles(reading.rows), facts.hall_titles(reading.rows)
+    papers, halls = titles(reading.rows), facts.hall_titles(reading.rows)
     rows = [csv_row(choice, each, sat, papers, halls) for each in slips_of(reading, choice) for sat in each.sat]
     return files.BOM.decode() + files.written([HEADER, *rows])
+
+
+def titles(rows: Rows) -> dict[str, str]:
+    """The title of each paper, and behind that of a second sitting the code that people know."""
+    found = {}
+    for code, title in facts.paper_titles(rows).items():
+        own = own_code(rows, code)
+        found[code] = title + (pages.SECOND.format(own) if own != code else "")
+    return found
 
 
 def csv_row(choice: Choice, each: Slip, sat: Sat, papers: Mapping[str, str], halls: Mapping[str, str]) -> list[str]:
