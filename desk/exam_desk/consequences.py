@@ -21,7 +21,8 @@ KINDS = {  # what may be a slip, who has no desk, what no rule of the office for
     OVER: ("session that is over is changed", "sessions that are over are changed"),
     OPENED: ("hall that was closed is open again", "halls that were closed are open again"),
     SHUT: ("hall is closed when its session begins", "halls are closed when their sessions begin"),
-    **{kind: telling.KINDS[kind] for kind in ("loses", "lacks")}, CLASHES: ("has a new clash", "have new clashes"),
+    **{kind: telling.KINDS[kind] for kind in ("loses", "needs", "lacks")},
+    CLASHES: ("has a new clash", "have new clashes"),
     TWICE: ("is in two sessions at one time", "are in two sessions at one time"),
     HALLS: ("hall has candidates of two sessions at one time", "halls have candidates of two sessions at one time"),
     PRINTED: ("session has printed papers that are out of date (board, counts, slips too)",
@@ -175,7 +176,8 @@ def grouped(found: Mapping[str, list[Change]], people: Groups) -> Groups:
     renamed = dict[str, Change]()
     for change in found.get("name", []):
         renamed.setdefault(change.number, change)
-    people |= {kind: [Met(each.session, each.person(), each.what()) for each in part]
+    people |= {kind: [Met(each.session, each.person(), each.lost_needs() if kind == "needs" else each.what())
+                      for each in part]
                for kind, part in {**found, "name": [*renamed.values()]}.items()}
     return {kind: people[kind] for kind in KINDS if people.get(kind)}
 
@@ -219,7 +221,8 @@ def headline(kind: str, met: list[Met]) -> str:
     if kind not in OF_PLACES and len({each.person for each in met}) == 1 < len(met):
         return f"{counted(KINDS[kind], ['one'])}: {met[0].person} in {len(met)} sessions"
     is_named = len(met) <= MOST_NAMED or kind in OF_PLACES
-    where = first([each.who for each in met], "; ") if is_named else most(Counter(each.session for each in met))
+    who = [f"{each.who}: {each.what}" if kind == "needs" else each.who for each in met]
+    where = first(who, "; ") if is_named else most(Counter(each.session for each in met))
     return f"{title(kind, met)}: {where}"
 
 

@@ -27,7 +27,7 @@ class Effects:
         """Of new clashes the first ones, or all."""
         self.touched = telling.touched(before, after)
         self.kinds = telling.by_kind(telling.of_touched(before, after, self.touched) if has_seats(before) else [])
-        self.changes = [each for part in self.kinds.values() for each in part]
+        self.changes = [*dict.fromkeys(each for part in self.kinds.values() for each in part)]
         self.clashes = [*itertools.islice(new_clashes(before, after, self.touched), most_clashes)]
         self.overlaps = with_people(after, overlaps.new(before, after, [*self.touched]))
         met = {(code, each.number) for each in self.changes if each.kind() != "name" for code in each.sessions()}

@@ -19,9 +19,9 @@ from exam_desk.words import few, plain
 
 COLUMNS = ["date", "start", "finish", "paper", "hall", "desk"]
 HEADER = ["tell", "session", "number", "name", *(f"old {name}" for name in COLUMNS), *COLUMNS, "paper title",
-          "hall title", "old name"]
+          "hall title", "old name", "also"]
 KINDS = {  # the gravest first; what one does and what several do
-    "loses": ("loses the desk", "lose their desks"),
+    "loses": ("loses the desk", "lose their desks"), "needs": ("loses a need", "lose needs"),
     "lacks": ("joins a session without a desk", "join a session without a desk"),
     "paper": ("sits another paper", "sit other papers"), "moves": ("moves to another hall", "move to other halls"),
     "time": ("sits at another time", "sit at other times"), "name": ("has another name", "have other names"),
@@ -88,7 +88,11 @@ class Change(NamedTuple):
             return "moves" if old.hall else "gets"
         if old.session != new.session or time(old) != time(new):
             return "time"
-        return "name" if self.name != self.old_name else "desk"
+        return "name" if self.name != self.old_name else "needs" if self.lost_needs() else "desk"
+
+    def lost_needs(self) -> str:
+        """What they had of the arrangement in force in the session, and have not now, though their seat may stay."""
+        return ", ".join(each for each in self.old.needs if each not in self.new.needs) if self.old and self.new else ""
 
     def person(self) -> str:
         return f"{self.number} {plain(self.name)}"
@@ -97,11 +101,15 @@ class Change(NamedTuple):
         """The session before and the one after: two where a paper got another."""
         return {sitting.session for sitting in (self.old, self.new) if sitting}
 
+    def also(self) -> list[str]:
+        """What is another beside the sitting and the name."""
+        return [f"loses {needs}" for needs in [self.lost_needs()] if needs]
+
     def what(self) -> str:
         if self.old and self.new:
             old, new = ([each.session, place(each), each.paper, time(each)] for each in (self.old, self.new))
             pairs = zip([*old, plain(self.old_name)], [*new, plain(self.name)])
-            return ", ".join(f"{was} -> {now}" for was, now in pairs if was != now)
+            return ", ".join([*(f"{was} -> {now}" for was, now in pairs if was != now), *self.also()])
         word, sitting = ("joined", self.new) if self.old is None else ("left", self.old)
         return f"{word}: {sitting.paper}, {time(sitting)}, {place(sitting)}" if sitting else ""
 
@@ -180,8 +188,9 @@ def of_touched(before: Reading, after: Reading, sessions: Touched) -> list[Chang
     found = []
     for session, number in {**old, **new}:
         (old_name, then), (name, now) = old.get((session, number), nobody), new.get((session, number), nobody)
-        if columns(then) != columns(now) or old_name != name:
-            found.append(Change(session, number, name or old_name, then, now, old_name or name))
+        change = Change(session, number, name or old_name, then, now, old_name or name)
+        if columns(then) != columns(now) or old_name != name or change.lost_needs():
+            found.append(change)
     places = {session: place for place, session in enumerate(sessions)}
     return sorted(with_moves(found),
                   key=lambda change: (places[change.session], name_order(change.name, change.number)))
@@ -215,10 +224,11 @@ def sat(reading: Reading, sessions: Touched) -> dict[tuple[str, str], tuple[str,
 
 
 def by_kind(changes: Iterable[Change]) -> dict[str, list[Change]]:
-    """The changes of each kind, the gravest kind first."""
+    """The changes of each kind, the gravest kind first; whoever loses a need is among those, too."""
     found: dict[str, list[Change]] = {kind: [] for kind in KINDS}
     for change in changes:
-        found[change.kind()].append(change)
+        for kind in {change.kind(), "needs" if change.lost_needs() else change.kind()}:
+            found[kind].append(change)
     return {kind: part for kind, part in found.items() if part}
 
 
@@ -259,7 +269,7 @@ def csv_row(change: Change, titles: dict[str, str]) -> list[str]:
     codes = [last.paper, last.hall or ""] if last else ["", ""]
     return ["yes" if change.is_to_tell() else "no", change.session, change.number, files.guarded(change.name),
             *columns(change.old), *columns(change.new), *(files.guarded(titles.get(code, "")) for code in codes),
-            files.guarded(change.old_name)]
+            files.guarded(change.old_name), "; ".join(change.also())]
 
 
 def titles_of(*readings: Reading) -> dict[str, str]:

@@ -190,14 +190,30 @@ class Told(sample.SampleSchool):
         listing = "`office printed MON-AM --look` lists them"
         needs = self.write("arrangements.csv", "number,needs,extra\n0001153,-,25\n")
         row = "1 value of rows changed: 0001153 needs screen -> -"
-        self.assertIn(f"\n{row}\n", self.office("what-if", "import", "arrangements", needs))
-        self.assertEqual(self.told("import", "arrangements", needs), [f"{said} LIB", row, listing])
+        would = self.office("what-if", "import", "arrangements", needs)
+        self.assertIn(f"\n{row}\n", would)
+        self.assertIn("\n1 loses a need (3 sessions)\n  MON-AM 0001153 Jana Roe: screen\n", would)
+        self.assertEqual(self.told("import", "arrangements", needs), [
+            "1 loses a need: 0001153 Jana Roe in 3 sessions", f"{said} LIB", row, "`office changes 1; office printed MON-AM --look` lists them"])
         title = self.write("halls.csv", "hall,title,features\nGYM,Sports hall,step-free\n")
         self.assertIn("\n1 value of rows changed: GYM title Gymnasium -> Sports hall\n",
                       self.office("what-if", "import", "halls", title))
         self.assertEqual(self.told("import", "halls", title), [f"{said} GYM", listing])
         self.assertEqual(self.told("open-hall", "MON-AM", "R12", "2", "14:00")[0],
                          "1 value of rows changed: MON-AM R12 reserved yes -> no")
+
+    def test_a_grant_takes_an_imported_need(self):
+        """0001085 has step-free by the import, and the hall GYM, which has it, before and after."""
+        self.office("lodge", "0001085", "MON-PM", "arrangement", "-", "25", "slow")
+        words = ["decide", "0001085", "D1", "granted", ""]
+        said = "1 loses a need: MON-PM 0001085 Flora Marsh: step-free"
+        self.assertIn("\n1 loses a need\n  MON-PM 0001085 Flora Marsh: step-free\n", self.office("what-if", *words))
+        self.assertEqual(self.told(*words)[0], said)
+        changes = self.office("changes", "1")
+        self.assertRegex(changes, r"\A1 loses a need:\n! MON-PM 0001085 Flora Marsh: .*loses step-free\n")
+        self.assertIn("<small>loses step-free</small>", self.office("changes", "1", "--paper"))
+        self.assertTrue(changes.endswith("1 to tell, 0 with another desk only\n"), changes)
+        self.assertNotIn("need", "\n".join(self.told("back", "1", "--yes")))
 
     def test_a_session_that_is_over(self):
         """From the day after it on; another name alone is no change of it."""
