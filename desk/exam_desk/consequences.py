@@ -78,8 +78,9 @@ def done(office: Office, copy: str, progress: Progress) -> list[str]:
                 raise Trouble("the office has changed again meanwhile")
             effects = Effects(before, after)
             met = groups(effects)
-            short = [f"{line}; `office summary` has all sessions" for line in short_at_first(before, after)]
-            shown = [*map(str, left_behind(before, after)), *short, *brief(met)]
+            first = [f"{line}; `office summary` has all sessions" for line in short_at_first(before, after)]
+            shown = [*map(str, left_behind(before, after)), *first, *brief(met)]
+            shown += [] if first else short_yet(before, after, met)
             shown += other(before, after, MOST_NAMED, UNSEEN)
             place = copies.listed(office).index(copy) + 1
             words = [f"`office {words}` lists them" for words in listing(met, place)]
@@ -150,10 +151,22 @@ def still_open(before: Reading, after: Reading) -> list[str]:
 
 def short_at_first(before: Reading, after: Reading) -> list[str]:
     """How many have no desk where nobody had one before, counted by the rows of the sessions that are other ones."""
-    short = Counter({code: people - seats for code, (people, seats) in other_figures(before, after).items()})
-    if has_seats(before) or not short.total():
-        return []
-    return [f"{short.total():,} without a desk: {most(short)}"]
+    return [] if has_seats(before) else without_a_desk(short(other_figures(before, after)))
+
+
+def short_yet(before: Reading, after: Reading, met: Groups) -> list[str]:
+    """How many have no desk in sessions where they are as many neither as before nor as those of whom it is said."""
+    was, told = short(figures(before)), Counter(each.session for kind in ("loses", "lacks") for each in met.get(kind, []))
+    return without_a_desk(Counter({code: count for code, count in short(other_figures(before, after)).items()
+                                   if count not in (was[code], told[code])}))
+
+
+def short(sessions: Mapping[str, tuple[int, int]]) -> Counter[str]:
+    return Counter({code: people - seats for code, (people, seats) in sessions.items()})
+
+
+def without_a_desk(counts: Counter[str]) -> list[str]:
+    return [f"{counts.total():,} without a desk: {most(counts)}"] if counts.total() else []
 
 
 def other(before: Reading, after: Reading, at_most: int | None, kinds: Iterable[str] = telling.CHANGED) -> list[str]:

@@ -109,6 +109,15 @@ class Told(sample.SampleSchool):
         back = self.told("back", "1", "--yes")
         self.assertIn(f"{len(lost)} get desks", "\n".join(back))
 
+    def test_a_cure_that_leaves_some_without_a_desk(self):
+        """Two of 60 have none before; GYM has 24 desks. The same opening for less time helps nobody."""
+        self.assertIn("26 without a desk: 26 in MON-AM", self.told("close-hall", "MON-AM", "GYM"))
+        lines = self.told("open-hall", "MON-AM", "R14", "2", "18:00")
+        self.assertEqual(lines[-2:], ["24 without a desk: 24 in MON-AM", LAST])
+        self.assertNotIn("without a desk", "".join(self.told("open-hall", "MON-AM", "R14", "2", "17:00")))
+        self.assertIn("2 without a desk: 2 in MON-AM", self.told("open-hall", "MON-AM", "GYM", "24", "18:00"))
+        self.assertNotIn("without a desk", "".join(self.told("withdraw", "0001051", "PH-1")))  # one of those with a desk
+
     def test_a_late_entry_makes_a_candidate_miss_a_paper(self):
         """0001000 sits MA-1; LAT comes first by its code."""
         lines = self.told("import", "entries", self.write("e.csv", "number,paper\n0001000,LAT\n"))
@@ -341,7 +350,7 @@ class Told(sample.SampleSchool):
     def test_what_if_says_the_same_before(self):
         words = ["close-hall", "MON-AM", "GYM"]
         would = [line for line in self.office("what-if", *words).split("\n") if re.match("[0-9]", line)]
-        self.assertEqual([line.partition(":")[0] for line in self.told(*words)[:-2]], would)
+        self.assertEqual([line.partition(":")[0] for line in self.told(*words)[:-3]], would)
 
     def test_another_change_meanwhile(self):
         carried = changing.carry_out(self.value, [changing.Step(("withdraw", "0001000", "MA-1"))])
