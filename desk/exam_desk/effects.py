@@ -96,8 +96,7 @@ def new_clashes(before: Reading, after: Reading, sessions: Touched) -> Iterator[
     """Who misses papers of a session that they did not miss before, of those whom a change can meet there, with the
     session and these papers; by session and name."""
     for session, people in sessions.items():
-        several = ((reading, telling.entered(reading, session, people, 2)) for reading in (before, after))
-        old, new = (reading.clashes(session, [*map("{:07}".format, numbers)]) for reading, numbers in several)
+        old, new = (telling.missing(reading, session, people) for reading in (before, after))
         missed = {number: sorted(set(papers) - set(old.get(number, []))) for number, papers in new.items()}
         for person in by_name(after, (number for number, papers in missed.items() if papers)):
             yield session, person, missed[person.number]

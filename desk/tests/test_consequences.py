@@ -130,6 +130,11 @@ class Told(sample.SampleSchool):
         """MA-2 comes behind MA-1."""
         lines = self.told("import", "entries", self.write("e.csv", "number,paper\n0001000,MA-2\n"))
         self.assertEqual(lines, ["1 has a new clash: MON-AM 0001000 Ada Lin", "`office clashes MON-AM` lists them"])
+        self.assertEqual(self.office("changes", "1", "--tell"), "1 has other clashes:\n! MON-AM 0001000 Ada Lin: misses MA-2\n"
+                                                                "1 to tell, 0 with another desk only\n")
+        self.told("withdraw", "0001000", "MA-2")
+        self.assertIn("! MON-AM 0001000 Ada Lin: no longer misses MA-2\n", self.office("changes", "1"))
+        self.assertEqual(self.office("changes", "2"), "nothing changed\n")
 
     def test_who_is_not_touched_is_not_spoken_of(self):
         same = str(self.examples / "entries.csv")
