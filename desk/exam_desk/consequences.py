@@ -16,9 +16,11 @@ from exam_desk.telling import Change, counted
 from exam_desk.trouble import Trouble
 from exam_desk.words import clock, few, plain
 
-OVER, OPENED, SHUT, CLASHES, TWICE, HALLS, PRINTED = "over", "opened", "shut", "clashes", "twice", "halls", "printed"
+OVER, PAST, OPENED, SHUT = "over", "past", "opened", "shut"
+CLASHES, TWICE, HALLS, PRINTED = "clashes", "twice", "halls", "printed"
 KINDS = {  # what may be a slip, who has no desk, what no rule of the office forbids, what is on paper; other changes
     OVER: ("session that is over is changed", "sessions that are over are changed"),
+    PAST: ("session lies in the past: last year's date?", "sessions lie in the past: last year's dates?"),
     OPENED: ("hall that was closed is open again", "halls that were closed are open again"),
     SHUT: ("hall is closed when its session begins", "halls are closed when their sessions begin"),
     **{kind: telling.KINDS[kind] for kind in ("loses", "needs", "lacks")},
@@ -30,15 +32,15 @@ KINDS = {  # what may be a slip, who has no desk, what no rule of the office for
     **telling.KINDS,
 }
 UNSEEN = ["arrangements", "openings"]  # kinds of rows of which a value can go and nobody sits otherwise
-SLIPS = {OVER, OPENED, SHUT}
+SLIPS = {OVER, PAST, OPENED, SHUT}
 OF_PLACES = [*SLIPS, HALLS, PRINTED]  # kinds of which sessions and halls are counted, and not people
 CODES = ("has another access code", "have other access codes")
 ENTERED_AGAIN = "`office back 1` or `office reinstate ..`, then "  # before who has left can be noted as absent
-LISTED_BY = {OPENED: "", SHUT: "", CLASHES: "clashes {}", TWICE: "summary {}", HALLS: "summary {}",
+LISTED_BY = {PAST: "", OPENED: "", SHUT: "", CLASHES: "clashes {}", TWICE: "summary {}", HALLS: "summary {}",
              PRINTED: "printed {} --look"}
 GRAVEST = 4  # groups that have a line of their own in a short answer
 MOST_NAMED = 3  # candidates in such a line, or sessions
-COUNTED = ["gets", "leaves", "joins", "desk"]  # not named where the others are listed with what becomes of them
+COUNTED = [PAST, "gets", "leaves", "joins", "desk"]  # not named where the others are listed with what becomes of them
 
 
 class Met(NamedTuple):
@@ -97,6 +99,7 @@ def groups(effects: Effects) -> Groups:
     return grouped(effects.kinds, {
         OVER: [Met(code, f"of {day} for {lists.count(people, 'candidate')}", "is it the right session, or an old file?")
                for code, (day, people) in effects.over.items()],
+        PAST: [Met(code, "", "") for code in effects.past],
         OPENED: [Met(code, f"{hall} (closed on {when[:10]})", f"afterwards `office close-hall {code} {hall}` closes it")
                  for (code, hall), when in effects.opened.items()],
         SHUT: [Met(code, f"{hall} (open until {clock(until)})", f"the session begins at {clock(start)}")
@@ -228,8 +231,8 @@ def listing(met: Groups, copy: int) -> list[str]:
 
 def headline(kind: str, met: list[Met]) -> str:
     """How many they are; a few by their names, and many by the sessions in which they are most. Nobody is named who has
-    another desk alone."""
-    if kind == "desk":
+    another desk alone, and no session that is new."""
+    if kind in (PAST, "desk"):
         return title(kind, met)
     if kind not in OF_PLACES and len({each.person for each in met}) == 1 < len(met):
         return f"{counted(KINDS[kind], ['one'])}: {met[0].person} in {len(met)} sessions"

@@ -31,7 +31,10 @@ class Effects:
         self.clashes = [*itertools.islice(new_clashes(before, after, self.touched), most_clashes)]
         self.overlaps = with_people(after, overlaps.new(before, after, [*self.touched]))
         met = {(code, each.number) for each in self.changes if each.kind() != "name" for code in each.sessions()}
-        self.over = over(before, after, met | {(code, person.number) for code, person, _ in self.clashes})
+        past = over(before, after, met | {(code, person.number) for code, person, _ in self.clashes})
+        known = {code for code, *_ in facts.sessions(before.rows)}
+        self.over = {code: found for code, found in past.items() if code in known}
+        self.past = [code for code in past if code not in known]  # new sessions
         self.opened, self.shut = opened(before, after), shut(before, after)
         self.out_of_date = out_of_date(before, after, self.touched)
         self.codes = by_name(after, [key for key, column, *_ in telling.other_values(before, after, ["candidates"])

@@ -78,7 +78,7 @@ class Effects(effects.Effects):
         self.short = [(code, person) for code in sums(after) for person in effects.by_name(
             now, [str(number) for session, number in short if session == code])][:MOST_ROWS]
         who: dict[str, list[Any]] = {kind: [each.number for each in part] for kind, part in self.kinds.items()} | {
-            "over": list(self.over), "opened": list(self.opened), "shut": self.shut,
+            "over": list(self.over), "past": self.past, "opened": list(self.opened), "shut": self.shut,
             "short": [number for _, number in short],
             "clashes": [person.number for _, person, _ in self.clashes],
             "twice": [person.number for _, people in self.overlaps for person in people],

@@ -258,8 +258,8 @@ class Told(sample.SampleSchool):
         self.assertEqual(self.told("import", "sessions", path)[0],
                          "1 session that is over is changed: MON-AM of 2026-06-07 for 60 candidates")
         done = self.run_office("check-files", self.examples, TODAY="2027-07-01", OFFICE=f"{self.folder}/none.db")
-        self.assertIn("once imported: 3 sessions that are over are changed: MON-AM of 2027-06-07 for 60 candidates; MON-PM of "
-                      "2027-06-07 for 60 candidates; TUE-AM of 2027-06-08 for 48 candidates\n", done.stdout)
+        self.assertIn("NOTE: once imported: 3 sessions lie in the past: last year's dates?\n", done.stdout)
+        self.assertNotIn("that are over", done.stdout)
 
     def test_what_an_arrangement_does_to_the_past_is_not_told(self):
         """0001051 sits in all three sessions, in two of them on the 7th. `changes` compares them all."""
