@@ -45,13 +45,13 @@ COUNTED = [PAST, "gets", "leaves", "joins", "desk"]  # not named where the other
 
 class Met(NamedTuple):
     """Whom a change meets, and how, in words."""
-    session: str
+    session: str  # "" where all are meant
     person: str  # in words; or which halls of the session
     what: str
 
     @property
     def who(self) -> str:
-        return f"{self.session} {self.person}"
+        return f"{self.session} {self.person}".strip()
 
 
 Groups = dict[str, list[Met]]  # whom a change meets, by kind, the gravest first; of each by session and name
@@ -192,8 +192,8 @@ def grouped(found: Mapping[str, list[Change]], people: Groups) -> Groups:
     renamed = dict[str, Change]()
     for change in found.get("name", []):
         renamed.setdefault(change.number, change)
-    people |= {kind: [Met(each.session, each.person(), each.lost_needs() if kind == "needs" else each.what())
-                      for each in part]
+    people |= {kind: [Met("" if kind == "name" else each.session, each.person(),
+                          each.lost_needs() if kind == "needs" else each.what()) for each in part]
                for kind, part in {**found, "name": [*renamed.values()]}.items()}
     return {kind: people[kind] for kind in KINDS if people.get(kind)}
 
@@ -236,7 +236,7 @@ def headline(kind: str, met: list[Met]) -> str:
         return title(kind, met)
     if kind not in OF_PLACES and len({each.person for each in met}) == 1 < len(met):
         return f"{counted(KINDS[kind], ['one'])}: {met[0].person} in {len(met)} sessions"
-    is_named = len(met) <= MOST_NAMED or kind in OF_PLACES
+    is_named = len(met) <= MOST_NAMED or kind in [*OF_PLACES, "name"]
     who = [f"{each.who}: {each.what}" if kind == "needs" else each.who for each in met]
     where = first(who, "; ") if is_named else most(Counter(each.session for each in met))
     return f"{title(kind, met)}: {where}"

@@ -60,7 +60,9 @@ class Kinds(unittest.TestCase):
 
     def test_another_name_is_one_candidate(self):
         changes = [change(old_name="Eda", session=session) for session in ("S1", "S2", "S3")]
-        self.assertEqual(brief(changes), ["1 has another name: S1 0000001 Ada"])
+        self.assertEqual(brief(changes), ["1 has another name: 0000001 Ada"])
+        changes = [change(old_name="Eda", number=f"000000{number}") for number in range(5)]
+        self.assertEqual(brief(changes), ["5 have other names: 0000000 Ada; 0000001 Ada; 0000002 Ada; .."])
         later = [change(new=SITTING._replace(finish="10:15"), session=session) for session in ("S1", "S2", "S3", "S4")]
         self.assertEqual(brief(later), ["1 sits at another time: 0000001 Ada in 4 sessions"])
 
@@ -250,7 +252,7 @@ class Told(sample.SampleSchool):
         self.assertEqual(self.told(*words)[-1], LAST)
         self.environment["TODAY"] = "2027-07-01"
         self.assertEqual(self.told("name", "0001051", "Another Name"),
-                         ["1 has another name: MON-AM 0001051 Another Name", LAST])
+                         ["1 has another name: 0001051 Another Name", LAST])
 
     def test_a_day_that_is_over_by_a_slip(self):
         """A year that was mistyped; and a whole office of last year, before it is imported."""
@@ -286,7 +288,7 @@ class Told(sample.SampleSchool):
         self.assertEqual(set(re.findall(r"^  (\S+) 0", over, re.M)), {"MON-PM"})
         self.write("candidates.csv", "number,name,code\n0001000,Ada Lind,WK3DEGZDPC\n")
         over = self.office("what-if", "take", ".", TODAY="2027-06-09")
-        self.assertIn("\n1 has another name\n  MON-AM 0001000 Ada Lind: ", over)
+        self.assertIn("\n1 has another name\n  0001000 Ada Lind: ", over)
         self.assertIn("1 session that is over is changed\n  MON-PM of 2027-06-07 for ", over)
 
     def test_a_hall_is_closed_when_its_session_begins(self):
