@@ -57,7 +57,7 @@ class Met(NamedTuple):
 Groups = dict[str, list[Met]]  # whom a change meets, by kind, the gravest first; of each by session and name
 
 
-def between(before: Reading, after: Reading, at_most: int | None) -> list[str]:
+def between(before: Reading, after: Reading, at_most: int | None, is_back: bool = False) -> list[str]:
     """What the steps of a rehearsal would do, of those who are named at most so many in each way; then a line for each
     session whose candidates or seats are other ones: how many they are, counted by their rows."""
     effects, was = Effects(before, after), figures(before)
@@ -67,7 +67,7 @@ def between(before: Reading, after: Reading, at_most: int | None) -> list[str]:
                for code, (people, seats) in other_figures(before, after).items() if code in effects.touched]
     others = [*other(before, after, at_most), *other_codes(effects)]
     return [*map(str, left_behind(before, after)), *(lines(met, at_most) if met or has_seats(before) else []), *others,
-            *numbers, *notes(before, after, met)]
+            *numbers, *notes(before, after, met, is_back)]
 
 
 def done(office: Office, copy: str, progress: Progress) -> list[str]:
@@ -88,7 +88,8 @@ def done(office: Office, copy: str, progress: Progress) -> list[str]:
             words = [f"`office {words}` lists them" for words in listing(met, place)]
             words += [f"`office back {place}` takes it back"] if SLIPS & met.keys() else []
             shown += ["; ".join(words)] if words else []
-            return shown + other_codes(effects) + notes(before, after, met, ENTERED_AGAIN)
+            is_back = copies.when_and_what(copy)[1].startswith(copies.BACK)
+            return shown + other_codes(effects) + notes(before, after, met, is_back, ENTERED_AGAIN)
     except (Trouble, OSError, sqlite3.Error, MemoryError) as fault:
         reason = plain(str(fault)) or "there is no memory"
         return [f"the change is done, but nobody can say what it did to candidates: {reason}; try `office changes 1`"]
@@ -114,10 +115,10 @@ def groups(effects: Effects) -> Groups:
                   for code, halls in effects.out_of_date.items()]})
 
 
-def notes(before: Reading, after: Reading, met: Groups, first: str = "") -> list[str]:
+def notes(before: Reading, after: Reading, met: Groups, is_back: bool, first: str = "") -> list[str]:
     """Of who leaves a session on its day or later: how it is noted that somebody did not come, and what comes first;
     and who was noted so, and is gone from the list for the exam board. Then where absences are of another day, and
-    where a hall that is closed is open yet."""
+    where a hall that is closed is open yet, unless a copy that is put back has it so."""
     days = {code: day for code, day, _ in facts.sessions(after.rows)}
     left = [each for each in met.get("leaves", [])
             if not notebook.is_to_come(after.office, days.get(each.session, "9"))]
@@ -127,7 +128,7 @@ def notes(before: Reading, after: Reading, met: Groups, first: str = "") -> list
              "notes it" for each in left[:1]]
     if gone:
         found.append(f"NOTE: noted as absent, and not in the list for the exam board any more: {few(gone)}")
-    return [*found, *absences_of_another_day(before, after), *still_open(before, after)]
+    return [*found, *absences_of_another_day(before, after), *([] if is_back else still_open(before, after))]
 
 
 def absences_of_another_day(before: Reading, after: Reading) -> Iterator[str]:

@@ -120,6 +120,14 @@ class Told(sample.SampleSchool):
         self.assertIn("2 without a desk: 2 in MON-AM", self.told("open-hall", "MON-AM", "GYM", "24", "18:00"))
         self.assertNotIn("without a desk", "".join(self.told("withdraw", "0001051", "PH-1")))  # one of those with a desk
 
+    def test_a_hall_that_a_copy_does_not_have_open(self):
+        """TUE-AM has R14 open. Whoever takes the opening in MON-AM back knows that it is; whoever closes it may not."""
+        self.office("open-hall", "MON-AM", "R14", "2", "18:00")
+        self.assertNotIn("still open", self.office("what-if", "back", "1"))
+        self.assertNotIn("still open", "".join(self.told("back", "1", "--yes")))
+        self.office("back", "1", "--yes")
+        self.assertEqual(self.told("close-hall", "MON-AM", "R14")[-1], "NOTE: still open: R14 in TUE-AM")
+
     def test_a_late_entry_makes_a_candidate_miss_a_paper(self):
         """0001000 sits MA-1; LAT comes first by its code."""
         lines = self.told("import", "entries", self.write("e.csv", "number,paper\n0001000,LAT\n"))
