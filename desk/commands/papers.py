@@ -179,10 +179,10 @@ def appeals_open(parser: ArgumentParser) -> None:
     office changes 1 --tell --paper >told.html   a page for a browser, with a box to tick for each
 
 BACKUP is a folder with the two files, the file itself, or the number of a copy. Who lost the desk comes first, then who
-sits another paper, in another hall, or at another time, who has another name, and last whose desk alone is another. A
-line of these last ones begins with no !: they need not be told. In the CSV each value is in quotes, and a text that
-begins like a formula, or goes on like one behind a semicolon, has an apostrophe there, so that no spreadsheet
-calculates it.
+lost a need, who sits another paper, in another hall, or at another time, who has another name, who misses other papers,
+and last whose desk alone is another. A line of these last ones begins with no !: they need not be told. In the CSV each
+value is in quotes, and a text that begins like a formula, or goes on like one behind a semicolon, has an apostrophe
+there, so that no spreadsheet calculates it.
 """)
 def changes(parser: ArgumentParser) -> None:
     from exam_desk import telling

@@ -16,12 +16,15 @@ from exam_desk.telling import Change, counted
 from exam_desk.trouble import Trouble
 from exam_desk.words import clock, few, plain
 
-OVER, OPENED, SHUT, CLASHES, TWICE, HALLS, PRINTED = "over", "opened", "shut", "clashes", "twice", "halls", "printed"
+OVER, PAST, OPENED, SHUT = "over", "past", "opened", "shut"
+CLASHES, TWICE, HALLS, PRINTED = "clashes", "twice", "halls", "printed"
 KINDS = {  # what may be a slip, who has no desk, what no rule of the office forbids, what is on paper; other changes
     OVER: ("session that is over is changed", "sessions that are over are changed"),
+    PAST: ("session lies in the past: last year's date?", "sessions lie in the past: last year's dates?"),
     OPENED: ("hall that was closed is open again", "halls that were closed are open again"),
     SHUT: ("hall is closed when its session begins", "halls are closed when their sessions begin"),
-    **{kind: telling.KINDS[kind] for kind in ("loses", "lacks")}, CLASHES: ("has a new clash", "have new clashes"),
+    **{kind: telling.KINDS[kind] for kind in ("loses", "needs", "lacks")},
+    CLASHES: ("has a new clash", "have new clashes"),
     TWICE: ("is in two sessions at one time", "are in two sessions at one time"),
     HALLS: ("hall has candidates of two sessions at one time", "halls have candidates of two sessions at one time"),
     PRINTED: ("session has printed papers that are out of date (board, counts, slips too)",
@@ -29,32 +32,32 @@ KINDS = {  # what may be a slip, who has no desk, what no rule of the office for
     **telling.KINDS,
 }
 UNSEEN = ["arrangements", "openings"]  # kinds of rows of which a value can go and nobody sits otherwise
-SLIPS = {OVER, OPENED, SHUT}
+SLIPS = {OVER, PAST, OPENED, SHUT}
 OF_PLACES = [*SLIPS, HALLS, PRINTED]  # kinds of which sessions and halls are counted, and not people
 CODES = ("has another access code", "have other access codes")
 ENTERED_AGAIN = "`office back 1` or `office reinstate ..`, then "  # before who has left can be noted as absent
-LISTED_BY = {OPENED: "", SHUT: "", CLASHES: "clashes {}", TWICE: "summary {}", HALLS: "summary {}",
+LISTED_BY = {PAST: "", OPENED: "", SHUT: "", CLASHES: "clashes {}", TWICE: "summary {}", HALLS: "summary {}",
              PRINTED: "printed {} --look"}
 GRAVEST = 4  # groups that have a line of their own in a short answer
 MOST_NAMED = 3  # candidates in such a line, or sessions
-COUNTED = ["gets", "leaves", "joins", "desk"]  # not named where the others are listed with what becomes of them
+COUNTED = [PAST, "gets", "leaves", "joins", "desk"]  # not named where the others are listed with what becomes of them
 
 
 class Met(NamedTuple):
     """Whom a change meets, and how, in words."""
-    session: str
+    session: str  # "" where all are meant
     person: str  # in words; or which halls of the session
     what: str
 
     @property
     def who(self) -> str:
-        return f"{self.session} {self.person}"
+        return f"{self.session} {self.person}".strip()
 
 
 Groups = dict[str, list[Met]]  # whom a change meets, by kind, the gravest first; of each by session and name
 
 
-def between(before: Reading, after: Reading, at_most: int | None) -> list[str]:
+def between(before: Reading, after: Reading, at_most: int | None, is_back: bool = False) -> list[str]:
     """What the steps of a rehearsal would do, of those who are named at most so many in each way; then a line for each
     session whose candidates or seats are other ones: how many they are, counted by their rows."""
     effects, was = Effects(before, after), figures(before)
@@ -64,7 +67,7 @@ def between(before: Reading, after: Reading, at_most: int | None) -> list[str]:
                for code, (people, seats) in other_figures(before, after).items() if code in effects.touched]
     others = [*other(before, after, at_most), *other_codes(effects)]
     return [*map(str, left_behind(before, after)), *(lines(met, at_most) if met or has_seats(before) else []), *others,
-            *numbers, *notes(before, after, met)]
+            *numbers, *notes(before, after, met, is_back)]
 
 
 def done(office: Office, copy: str, progress: Progress) -> list[str]:
@@ -77,14 +80,16 @@ def done(office: Office, copy: str, progress: Progress) -> list[str]:
                 raise Trouble("the office has changed again meanwhile")
             effects = Effects(before, after)
             met = groups(effects)
-            short = [f"{line}; `office summary` has all sessions" for line in short_at_first(before, after)]
-            shown = [*map(str, left_behind(before, after)), *short, *brief(met)]
+            first = [f"{line}; `office summary` has all sessions" for line in short_at_first(before, after)]
+            shown = [*map(str, left_behind(before, after)), *first, *brief(met)]
+            shown += [] if first else short_yet(before, after, met)
             shown += other(before, after, MOST_NAMED, UNSEEN)
             place = copies.listed(office).index(copy) + 1
             words = [f"`office {words}` lists them" for words in listing(met, place)]
             words += [f"`office back {place}` takes it back"] if SLIPS & met.keys() else []
             shown += ["; ".join(words)] if words else []
-            return shown + other_codes(effects) + notes(before, after, met, ENTERED_AGAIN)
+            is_back = copies.when_and_what(copy)[1].startswith(copies.BACK)
+            return shown + other_codes(effects) + notes(before, after, met, is_back, ENTERED_AGAIN)
     except (Trouble, OSError, sqlite3.Error, MemoryError) as fault:
         reason = plain(str(fault)) or "there is no memory"
         return [f"the change is done, but nobody can say what it did to candidates: {reason}; try `office changes 1`"]
@@ -95,6 +100,7 @@ def groups(effects: Effects) -> Groups:
     return grouped(effects.kinds, {
         OVER: [Met(code, f"of {day} for {lists.count(people, 'candidate')}", "is it the right session, or an old file?")
                for code, (day, people) in effects.over.items()],
+        PAST: [Met(code, "", "") for code in effects.past],
         OPENED: [Met(code, f"{hall} (closed on {when[:10]})", f"afterwards `office close-hall {code} {hall}` closes it")
                  for (code, hall), when in effects.opened.items()],
         SHUT: [Met(code, f"{hall} (open until {clock(until)})", f"the session begins at {clock(start)}")
@@ -119,10 +125,10 @@ def noted(halls: Mapping[str, list[str]]) -> list[str]:
     return [*brief(met), *(f"`office {words}` lists them" for words in listing(met, 1))]
 
 
-def notes(before: Reading, after: Reading, met: Groups, first: str = "") -> list[str]:
+def notes(before: Reading, after: Reading, met: Groups, is_back: bool, first: str = "") -> list[str]:
     """Of who leaves a session on its day or later: how it is noted that somebody did not come, and what comes first;
     and who was noted so, and is gone from the list for the exam board. Then where absences are of another day, and
-    where a hall that is closed is open yet."""
+    where a hall that is closed is open yet, unless a copy that is put back has it so."""
     days = {code: day for code, day, _ in facts.sessions(after.rows)}
     left = [each for each in met.get("leaves", [])
             if not notebook.is_to_come(after.office, days.get(each.session, "9"))]
@@ -132,7 +138,7 @@ def notes(before: Reading, after: Reading, met: Groups, first: str = "") -> list
              "notes it" for each in left[:1]]
     if gone:
         found.append(f"NOTE: noted as absent, and not in the list for the exam board any more: {few(gone)}")
-    return [*found, *absences_of_another_day(before, after), *still_open(before, after)]
+    return [*found, *absences_of_another_day(before, after), *([] if is_back else still_open(before, after))]
 
 
 def absences_of_another_day(before: Reading, after: Reading) -> Iterator[str]:
@@ -159,10 +165,22 @@ def still_open(before: Reading, after: Reading) -> list[str]:
 
 def short_at_first(before: Reading, after: Reading) -> list[str]:
     """How many have no desk where nobody had one before, counted by the rows of the sessions that are other ones."""
-    short = Counter({code: people - seats for code, (people, seats) in other_figures(before, after).items()})
-    if has_seats(before) or not short.total():
-        return []
-    return [f"{short.total():,} without a desk: {most(short)}"]
+    return [] if has_seats(before) else without_a_desk(short(other_figures(before, after)))
+
+
+def short_yet(before: Reading, after: Reading, met: Groups) -> list[str]:
+    """How many have no desk in sessions where they are as many neither as before nor as those of whom it is said."""
+    was, told = short(figures(before)), Counter(each.session for kind in ("loses", "lacks") for each in met.get(kind, []))
+    return without_a_desk(Counter({code: count for code, count in short(other_figures(before, after)).items()
+                                   if count not in (was[code], told[code])}))
+
+
+def short(sessions: Mapping[str, tuple[int, int]]) -> Counter[str]:
+    return Counter({code: people - seats for code, (people, seats) in sessions.items()})
+
+
+def without_a_desk(counts: Counter[str]) -> list[str]:
+    return [f"{counts.total():,} without a desk: {most(counts)}"] if counts.total() else []
 
 
 def other(before: Reading, after: Reading, at_most: int | None, kinds: Iterable[str] = telling.CHANGED) -> list[str]:
@@ -185,7 +203,8 @@ def grouped(found: Mapping[str, list[Change]], people: Groups) -> Groups:
     renamed = dict[str, Change]()
     for change in found.get("name", []):
         renamed.setdefault(change.number, change)
-    people |= {kind: [Met(each.session, each.person(), each.what()) for each in part]
+    people |= {kind: [Met("" if kind == "name" else each.session, each.person(),
+                          each.lost_needs() if kind == "needs" else each.what()) for each in part]
                for kind, part in {**found, "name": [*renamed.values()]}.items()}
     return {kind: people[kind] for kind in KINDS if people.get(kind)}
 
@@ -223,13 +242,14 @@ def listing(met: Groups, copy: int) -> list[str]:
 
 def headline(kind: str, met: list[Met]) -> str:
     """How many they are; a few by their names, and many by the sessions in which they are most. Nobody is named who has
-    another desk alone."""
-    if kind == "desk":
+    another desk alone, and no session that is new."""
+    if kind in (PAST, "desk"):
         return title(kind, met)
     if kind not in OF_PLACES and len({each.person for each in met}) == 1 < len(met):
         return f"{counted(KINDS[kind], ['one'])}: {met[0].person} in {len(met)} sessions"
-    is_named = len(met) <= MOST_NAMED or kind in OF_PLACES
-    where = first([each.who for each in met], "; ") if is_named else most(Counter(each.session for each in met))
+    is_named = len(met) <= MOST_NAMED or kind in [*OF_PLACES, "name"]
+    who = [f"{each.who}: {each.what}" if kind == "needs" else each.who for each in met]
+    where = first(who, "; ") if is_named else most(Counter(each.session for each in met))
     return f"{title(kind, met)}: {where}"
 
 

@@ -20,6 +20,7 @@ MOST_COPIES = 50
 MOST_BYTES = 1 << 30
 MOST_LETTERS, MOST_TITLE = 100, 400  # of a command in the name of a copy, and in its title
 PLACE, DAYS, TITLE = "copies", "days", "title"  # of copies, of those of days, of the command in a copy
+BACK = ("back to ", "undoing ", "redoing ")  # with one begins the title of a copy from before another was put back
 NAME = re.compile(r"(?:([0-9]+) )?([0-9]{4}-[0-9]{2}-[0-9]{2}) ([0-9.]{8,15}) (.*)")  # version 1.0.0 gave no numbers
 DAY = re.compile("[0-9]{4}-[0-9]{2}-[0-9]{2}")
 REDOING = {"undoing": "redoing", "redoing": "undoing"}
@@ -230,7 +231,7 @@ def put_back(office: Office, copy: str) -> str | None:
         kept: str | None = None
         _, what = when_and_what(copy)
         if os.path.exists(os.path.realpath(office.path)):
-            kept = keep_copy(office, f"back to {what}" if is_brought(copy) else
+            kept = keep_copy(office, f"{BACK[0]}{what}" if is_brought(copy) else
                              undoing(what, listed(office)[:1] == [copy]))
         elif is_brought(copy):
             with contextlib.suppress(OSError):  # it has none, or one is here already

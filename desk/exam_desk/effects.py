@@ -27,11 +27,14 @@ class Effects:
         """Of new clashes the first ones, or all."""
         self.touched = telling.touched(before, after)
         self.kinds = telling.by_kind(telling.of_touched(before, after, self.touched) if has_seats(before) else [])
-        self.changes = [each for part in self.kinds.values() for each in part]
+        self.changes = [*dict.fromkeys(each for part in self.kinds.values() for each in part)]
         self.clashes = [*itertools.islice(new_clashes(before, after, self.touched), most_clashes)]
         self.overlaps = with_people(after, overlaps.new(before, after, [*self.touched]))
         met = {(code, each.number) for each in self.changes if each.kind() != "name" for code in each.sessions()}
-        self.over = over(before, after, met | {(code, person.number) for code, person, _ in self.clashes})
+        past = over(before, after, met | {(code, person.number) for code, person, _ in self.clashes})
+        known = {code for code, *_ in facts.sessions(before.rows)}
+        self.over = {code: found for code, found in past.items() if code in known}
+        self.past = [code for code in past if code not in known]  # new sessions
         self.opened, self.shut = opened(before, after), shut(before, after)
         self.out_of_date = out_of_date(before, after, self.touched)
         self.codes = by_name(after, [key for key, column, *_ in telling.other_values(before, after, ["candidates"])
@@ -96,8 +99,7 @@ def new_clashes(before: Reading, after: Reading, sessions: Touched) -> Iterator[
     """Who misses papers of a session that they did not miss before, of those whom a change can meet there, with the
     session and these papers; by session and name."""
     for session, people in sessions.items():
-        several = ((reading, telling.entered(reading, session, people, 2)) for reading in (before, after))
-        old, new = (reading.clashes(session, [*map("{:07}".format, numbers)]) for reading, numbers in several)
+        old, new = (telling.missing(reading, session, people) for reading in (before, after))
         missed = {number: sorted(set(papers) - set(old.get(number, []))) for number, papers in new.items()}
         for person in by_name(after, (number for number, papers in missed.items() if papers)):
             yield session, person, missed[person.number]

@@ -3,6 +3,7 @@ guess, since only the program says what an opening comes to: `what-if`, or a but
 from __future__ import annotations
 
 import operator
+import sqlite3
 from collections import Counter
 from collections.abc import Iterator
 from statistics import mode
@@ -10,7 +11,7 @@ from typing import NamedTuple
 
 from exam_desk.facts import Opening
 from exam_desk.lists import count
-from exam_desk.overlaps import of_day
+from exam_desk.overlaps import SESSIONS, of_day
 from exam_desk.reasons import Reasons, Shortage
 from exam_desk.snapshot import Rows
 from exam_desk.words import clock, features
@@ -18,6 +19,11 @@ from exam_desk.words import clock, features
 MOST = 6
 MOST_PAIRS = 30_000  # of a hall of the office and a candidate on the sheet: these take half a second
 MIDNIGHT = 24 * 60
+HELD = (  # the halls of other sessions that are open yet when a session begins, or later; from when, in its own minutes
+    f"WITH times AS ({SESSIONS}) SELECT hall, other.code, other.begins - own.begins + this.start AS begins "
+    "FROM times AS own JOIN session AS this ON this.code = own.code JOIN times AS other ON other.code <> own.code "
+    "JOIN session ON session.code = other.code JOIN opening ON opening.session = other.code "
+    "WHERE own.code = ? AND other.begins + until - session.start > own.begins ORDER BY begins, other.code")
 
 
 class Remedy(NamedTuple):
@@ -25,6 +31,7 @@ class Remedy(NamedTuple):
     seats: int
     opening: Opening
     now: Opening | None
+    held: str = ""  # a session that has the hall then, where it is not open
 
     def asks(self) -> int:
         """For how much: more desks, or another hall, count twice."""
@@ -40,15 +47,25 @@ class Alike(NamedTuple):
 
 
 def best(rows: Rows, why: Reasons, sheet: Shortage) -> list[Remedy]:
-    """The first of them, of each hall one for as many seats: those for most, and of these what asks for least. None
-    where the halls and the candidates on the sheet are too many."""
+    """The first of them, of each hall one for as many seats: halls that are free then before those of other sessions;
+    of these those for most, and what asks for least. None where the halls and the candidates on the sheet are too
+    many."""
     found: dict[tuple[int, str], Remedy] = {}
     [halls] = rows.execute("SELECT count(*) FROM hall").fetchone()
     if halls * len(sheet.candidates) > MOST_PAIRS:
         return []
-    for each in sorted(remedies(rows, why, sheet), key=lambda each: (-each.seats, each.asks())):
+    others = rows.execute(HELD, [why.session]).fetchall()
+    options = [each._replace(held=holder(others, each)) for each in remedies(rows, why, sheet)]
+    for each in sorted(options, key=lambda each: (each.held != "", -each.seats, each.asks())):
         found.setdefault((each.seats, each.opening.hall), each)
     return [*found.values()][:MOST]
+
+
+def holder(others: list[sqlite3.Row], remedy: Remedy) -> str:
+    """The first session that has the hall of a remedy at that time; "" where the hall is free, or open already."""
+    wanted = remedy.opening
+    return next((code for hall, code, begins in others
+                 if hall == wanted.hall and begins < wanted.until and not remedy.now), "")
 
 
 def remedies(rows: Rows, why: Reasons, sheet: Shortage) -> Iterator[Remedy]:
@@ -112,7 +129,8 @@ def lines(rows: Rows, why: Reasons, sheet: Shortage) -> list[str]:
     """What no hall has, and the remedies as commands to try; nothing where everybody has a desk."""
     found = [f"  office what-if open-hall {why.session} {then.hall} {then.desks} {clock(then.until)}"
              f"{' --reserved' * then.reserved}  # could seat {seats} of {sheet.unseated}; now {shown(now)}"
-             for seats, then, now in (best(rows, why, sheet) if sheet.unseated else [])]
+             f"{f'; {held} has it then' * (held != '')}"
+             for seats, then, now, held in (best(rows, why, sheet) if sheet.unseated else [])]
     return [*(f"no hall of the office has all of {', '.join(needs)}: needed by {count(people, 'candidate')}"
               for needs, people in lacking(rows, why).items()),
             *(["what could help; only the program knows what it comes to, so try it:"] if found else []), *found]

@@ -8,7 +8,7 @@ from __future__ import annotations
 import contextlib
 import sqlite3
 from collections import defaultdict
-from collections.abc import Collection, Iterable, Iterator
+from collections.abc import Collection, Iterable, Iterator, Sequence
 from typing import NamedTuple
 
 from exam_desk import facts, files
@@ -19,14 +19,14 @@ from exam_desk.words import few, plain
 
 COLUMNS = ["date", "start", "finish", "paper", "hall", "desk"]
 HEADER = ["tell", "session", "number", "name", *(f"old {name}" for name in COLUMNS), *COLUMNS, "paper title",
-          "hall title", "old name"]
+          "hall title", "old name", "also"]
 KINDS = {  # the gravest first; what one does and what several do
-    "loses": ("loses the desk", "lose their desks"),
+    "loses": ("loses the desk", "lose their desks"), "needs": ("loses a need", "lose needs"),
     "lacks": ("joins a session without a desk", "join a session without a desk"),
     "paper": ("sits another paper", "sit other papers"), "moves": ("moves to another hall", "move to other halls"),
     "time": ("sits at another time", "sit at other times"), "name": ("has another name", "have other names"),
     "gets": ("gets a desk", "get desks"), "leaves": ("leaves a session", "leave a session"),
-    "joins": ("joins a session", "join a session"),
+    "joins": ("joins a session", "join a session"), "misses": ("has other clashes", "have other clashes"),
     "desk": ("has another desk in the same hall", "have other desks in the same hall"),
 }
 TO_TELL, DESK_ALONE = ("to tell",) * 2, ("with another desk only",) * 2
@@ -68,6 +68,8 @@ class Change(NamedTuple):
     old: Sitting | None
     new: Sitting | None
     old_name: str
+    old_missed: Sequence[str] = ()  # papers of the session that they are entered for and do not sit
+    missed: Sequence[str] = ()
 
     def is_to_tell(self) -> bool:
         """Whether more is another than the desk."""
@@ -88,7 +90,13 @@ class Change(NamedTuple):
             return "moves" if old.hall else "gets"
         if old.session != new.session or time(old) != time(new):
             return "time"
-        return "name" if self.name != self.old_name else "desk"
+        if self.name != self.old_name:
+            return "name"
+        return "needs" if self.lost_needs() else "misses" if self.missed != self.old_missed else "desk"
+
+    def lost_needs(self) -> str:
+        """What they had of the arrangement in force in the session, and have not now, though their seat may stay."""
+        return ", ".join(each for each in self.old.needs if each not in self.new.needs) if self.old and self.new else ""
 
     def person(self) -> str:
         return f"{self.number} {plain(self.name)}"
@@ -97,13 +105,19 @@ class Change(NamedTuple):
         """The session before and the one after: two where a paper got another."""
         return {sitting.session for sitting in (self.old, self.new) if sitting}
 
+    def also(self) -> list[str]:
+        """What is another beside the sitting and the name."""
+        return [*(f"loses {needs}" for needs in [self.lost_needs()] if needs),
+                *(f"misses {paper}" for paper in self.missed if paper not in self.old_missed),
+                *(f"no longer misses {paper}" for paper in self.old_missed if paper not in self.missed)]
+
     def what(self) -> str:
         if self.old and self.new:
             old, new = ([each.session, place(each), each.paper, time(each)] for each in (self.old, self.new))
             pairs = zip([*old, plain(self.old_name)], [*new, plain(self.name)])
-            return ", ".join(f"{was} -> {now}" for was, now in pairs if was != now)
+            return ", ".join([*(f"{was} -> {now}" for was, now in pairs if was != now), *self.also()])
         word, sitting = ("joined", self.new) if self.old is None else ("left", self.old)
-        return f"{word}: {sitting.paper}, {time(sitting)}, {place(sitting)}" if sitting else ""
+        return ", ".join([f"{word}: {sitting.paper}, {time(sitting)}, {place(sitting)}" if sitting else "", *self.also()])
 
 
 def time(sitting: Sitting) -> str:
@@ -167,21 +181,25 @@ def differences(before: Reading, after: Reading, asked: Collection[str] = ()) ->
         if code not in sessions:
             raise Trouble(f"there is no session {code}; the office has {few(sessions, 20)}")
     found = touched(before, after, with_past=True)
-    return of_touched(before, after, {code: found[code] for code in found if not asked or code in asked})
+    return of_touched(before, after, {code: found[code] for code in found if not asked or code in asked}, True)
 
 
-def of_touched(before: Reading, after: Reading, sessions: Touched) -> list[Change]:
-    """The changes of those who are touched."""
+def of_touched(before: Reading, after: Reading, sessions: Touched, with_clashes: bool = False) -> list[Change]:
+    """The changes of those who are touched; whoever only misses other papers is among those with clashes."""
     for reading in (before, after):  # both open their copies at once
         if sessions:
             reading.prepare()
     old, new = (sat(reading, sessions) for reading in (before, after))
+    was, missed = ({(session, number): papers for session, people in sessions.items() if with_clashes
+                    for number, papers in missing(reading, session, people).items()} for reading in (before, after))
     nobody: tuple[str, None] = ("", None)
     found = []
     for session, number in {**old, **new}:
         (old_name, then), (name, now) = old.get((session, number), nobody), new.get((session, number), nobody)
-        if columns(then) != columns(now) or old_name != name:
-            found.append(Change(session, number, name or old_name, then, now, old_name or name))
+        change = Change(session, number, name or old_name, then, now, old_name or name,
+                        was.get((session, number), ()), missed.get((session, number), ()))
+        if columns(then) != columns(now) or old_name != name or change.also():
+            found.append(change)
     places = {session: place for place, session in enumerate(sessions)}
     return sorted(with_moves(found),
                   key=lambda change: (places[change.session], name_order(change.name, change.number)))
@@ -195,7 +213,7 @@ def with_moves(changes: Iterable[Change]) -> list[Change]:
         key = each.number, paper, each.session if each.old and each.new else ""
         if other := found.get(key):
             left, joined = (each, other) if other.new else (other, each)
-            each = joined._replace(old=left.old, old_name=left.old_name)
+            each = joined._replace(old=left.old, old_name=left.old_name, old_missed=left.old_missed)
         found[key] = each
     return [*found.values()]
 
@@ -204,6 +222,11 @@ def entered(reading: Reading, session: str, people: Collection[int] | None, leas
     """The numbers of those of these people, or of all, who have so many entries in a session, or more."""
     return [number for number, count in facts.entered(reading.rows, session).items()
             if count >= least and (people is None or number in people)]
+
+
+def missing(reading: Reading, session: str, people: Collection[int] | None) -> dict[str, list[str]]:
+    """The papers of a session that those of these people, or of all, are entered for and do not sit, by number."""
+    return reading.clashes(session, [*map("{:07}".format, entered(reading, session, people, 2))])
 
 
 def sat(reading: Reading, sessions: Touched) -> dict[tuple[str, str], tuple[str, Sitting]]:
@@ -215,10 +238,11 @@ def sat(reading: Reading, sessions: Touched) -> dict[tuple[str, str], tuple[str,
 
 
 def by_kind(changes: Iterable[Change]) -> dict[str, list[Change]]:
-    """The changes of each kind, the gravest kind first."""
+    """The changes of each kind, the gravest kind first; whoever loses a need is among those, too."""
     found: dict[str, list[Change]] = {kind: [] for kind in KINDS}
     for change in changes:
-        found[change.kind()].append(change)
+        for kind in {change.kind(), "needs" if change.lost_needs() else change.kind()}:
+            found[kind].append(change)
     return {kind: part for kind, part in found.items() if part}
 
 
@@ -259,7 +283,7 @@ def csv_row(change: Change, titles: dict[str, str]) -> list[str]:
     codes = [last.paper, last.hall or ""] if last else ["", ""]
     return ["yes" if change.is_to_tell() else "no", change.session, change.number, files.guarded(change.name),
             *columns(change.old), *columns(change.new), *(files.guarded(titles.get(code, "")) for code in codes),
-            files.guarded(change.old_name)]
+            files.guarded(change.old_name), "; ".join(change.also())]
 
 
 def titles_of(*readings: Reading) -> dict[str, str]:

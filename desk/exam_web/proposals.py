@@ -42,7 +42,7 @@ MOST_PROPOSALS = 20  # of a visit
 MOST_ROWS = 250  # of a list on the page; all who must be told are in the CSV file
 MOST_LINES = 20  # of the log, where the office was another
 MOST_CLASHES = 100  # new ones that are named
-TICKED = {"loses": 10, "clashes": 1, "twice": 1}  # by kind: what meets so many candidates wants a tick
+TICKED = {"loses": 10, "needs": 1, "clashes": 1, "twice": 1}  # by kind: what meets so many candidates wants a tick
 COMPARING, LODGING = "Both states are compared", "The appeal is lodged"
 OTHER_OFFICE = ("the office has changed since the page that you came from, so nothing was done: go back to the form, "
                 "and ask once more")
@@ -78,7 +78,7 @@ class Effects(effects.Effects):
         self.short = [(code, person) for code in are for person in effects.by_name(
             now, [str(number) for session, number in short if session == code])][:MOST_ROWS]
         who: dict[str, list[Any]] = {kind: [each.number for each in part] for kind, part in self.kinds.items()} | {
-            "over": list(self.over), "opened": list(self.opened), "shut": self.shut,
+            "over": list(self.over), "past": self.past, "opened": list(self.opened), "shut": self.shut,
             "short": [number for _, number in short],
             "clashes": [person.number for _, person, _ in self.clashes],
             "twice": [person.number for _, people in self.overlaps for person in people],

@@ -391,7 +391,7 @@ class RandomOffice:
         old = {session: self.seats(before.copy, session) for session in self.sessions}
         found = telling.differences(before, reading)
         rows = list(csv.reader(io.StringIO(telling.csv_text(found, self.titles).removeprefix("\ufeff"))))[1:]
-        shown = {(row[1], row[2]): (row[6:10], row[12:16]) for row in rows}
+        shown = {(row[1], row[2]): (row[6:10], row[12:16]) for row in rows if row[4:10] != row[10:16]}
 
         def columns(seat):
             place = [seat.hall, seat.desk] if seat and seat.hall != "-" else ["", ""]
@@ -402,7 +402,7 @@ class RandomOffice:
         equal(shown, wanted, "changes", telling.text(found))
         self.compared["changes"] += len(wanted)
         for row in rows:
-            equal(row[0], "yes" if row[6:9] != row[12:15] or not row[7] or not row[13] else "no", "tell", row)
+            equal(row[0], "yes" if row[6:9] != row[12:15] or not row[7] or not row[13] or row[-1] else "no", "tell", row)
 
 
 def part_of(page, first, behind):

@@ -49,6 +49,18 @@ class TestRehearsal(DeskSchool):
             _, text = self.browser.post("/propose/name", "/candidates/1051", 422, number="0001051", name=wrong)
             self.assertIn('aria-invalid="true"', text)
 
+    def test_a_need_that_is_lost_wants_a_tick(self):
+        """The hall of 0001153 suits, with a screen or without one; so nothing else is another."""
+        page, _ = self.browser.post("/propose/arrangement", "/candidates/1153", number="0001153", extra="25")
+        words = self.browser.words(page)
+        self.assertIn("This is meant: 1 would lose a need ( 3 sessions)", words)
+        self.assertIn("loses screen", words.partition("Who would have to be told: 1 candidate")[2])
+        self.browser.post(page + "/do", page, 422, tick="")
+        self.browser.post(page + "/do", page)
+        self.assertIn("1 lost a need ( 3 sessions)", self.browser.words(page))
+        _, told = self.browser.ask("GET", page + "/told.csv")
+        self.assertEqual(told.count('"loses screen"\n'), 3)
+
     def test_of_one_candidate_it_speaks_of_one(self):
         page, _ = self.browser.post("/propose/withdraw", "/candidates/1051", number="0001051", paper="CS-1")
         self.assertIn("1 would have another paper", self.browser.words(page))  # LAT, which they missed

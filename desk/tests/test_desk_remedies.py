@@ -88,6 +88,18 @@ class TestWhatCouldHelp(SmallSchool):
             ("Have A with 4 desks, 3 more", "3 of the 3"), ("Open GYM, Gym, with 3 desks until 12:00", "3 of the 3"),
             ("Open K, Hall K, with 2 desks until 12:00", "2 of the 3")])
 
+    def test_a_hall_of_another_session_at_that_time(self):
+        """S1 is from 9:00 on, and S2 a day later. K is open in S2, GYM until 9:00 or 9:01 of the day of S1, in S3."""
+        self.begin("A,Hall A,-\nGYM,Gym,-\nK,Hall K,-\n", "S1,A,1,12:00,no\nS2,K,1,18:00,no\n",
+                   "0000001,SHORT\n0000002,SHORT\n0000003,SHORT\n")
+        self.office("import", "sessions", self.write("s.csv", "session,date,start\nS3,2027-06-07,08:00\n"))
+        gym, k = ("office what-if open-hall S1 GYM 2 12:00  # could seat 2 of 2; now not open",
+                  "office what-if open-hall S1 K 1 12:00  # could seat 1 of 2; now not open")
+        for until, last in (("09:00", k), ("09:01", f"{gym}; S3 has it then")):
+            self.office("open-hall", "S3", "GYM", "2", until)
+            lines = [line.strip() for line in self.office("why", "S1").splitlines() if " what-if " in line]
+            self.assertEqual(lines[-2:], [gym, k] if last == k else [k, last])
+
     def test_a_hall_opens_until_most_others_are_open(self):
         """Who sits the long paper ends at 10:30. Were C open until 10:00 alone, one of the others would move there."""
         self.begin("A,Hall A,-\nB,Hall B,-\nC,Hall C,-\nD,Hall D,-\n",

@@ -89,14 +89,14 @@ class Lists(sample.SampleSchool):
         rows = list(csv.reader(self.office("changes", before, "--csv").split("\n")[:-1]))
         self.assertEqual(rows[1:], [
             ["yes", "MON-AM", "0001748", "'=1+1", "2027-06-07", "09:00", "11:12", "MA-1", "R12", "2", "2027-06-07",
-             "09:00", "11:12", "MA-1", "", "", "Mathematics 1", "", "Tomas Costa"],
+             "09:00", "11:12", "MA-1", "", "", "Mathematics 1", "", "Tomas Costa", ""],
             ["yes", "MON-AM", "0001289", "Rosa Tanaka", "2027-06-07", "09:00", "11:30", "MA-1", "R12", "1",
-             "2027-06-07", "09:00", "11:30", "MA-1", "", "", "Mathematics 1", "", "Rosa Tanaka"],
-            *[["yes", session, "0001748", "'=1+1", *2 * sitting, *titles, "Tomas Costa"]
+             "2027-06-07", "09:00", "11:30", "MA-1", "", "", "Mathematics 1", "", "Rosa Tanaka", ""],
+            *[["yes", session, "0001748", "'=1+1", *2 * sitting, *titles, "Tomas Costa", ""]
               for session, sitting, titles in (
                 ("MON-PM", ["2027-06-07", "13:30", "15:26", "FR", "R12", "2"], ["French", "Room 12"]),
                 ("TUE-AM", ["2027-06-08", "09:00", "11:12", "CH-1", "R12", "2"], ["Chemistry", "Room 12"]))]])
-        self.assertEqual({len(row) for row in rows}, {19})
+        self.assertEqual({len(row) for row in rows}, {20})
 
     def test_no_spreadsheet_finds_a_formula(self):
         before = self.copy()

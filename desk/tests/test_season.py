@@ -20,7 +20,7 @@ EVENTS = [  # a command, and what it says first; `{}` stands for a number
     ("back 1 --yes", "{} get desks: {} in MON-PM"),
     ("import candidates people.csv", "1 has another access code: 0001051 Di Berg; a slip with the old code opens nothing"),
     ("import entries people.csv", "refused 2"),
-    ("name 0001051 Berg", "1 has another name: MON-AM 0001051 Berg"),
+    ("name 0001051 Berg", "1 has another name: 0001051 Berg"),
     ("import arrangements need.csv", "1 sits at another time: 0001000 Ada Lin in 2 sessions"),
     ("lodge 0001051 MON-PM arrangement - 10 plaster", ""),
     ("decide 0001051 D1 standing once", "1 sits at another time: 0001051 Berg in 3 sessions"),

@@ -280,7 +280,8 @@ def changes(before: Reading, after: Reading, found: Iterable[Change], since: str
 
 def told(change: Change, papers: Mapping[str, Markup], halls: Mapping[str, Markup]) -> list[object]:
     before = html("<br><small>before: {}</small>", text(change.old_name)) if change.old_name != change.name else ""
-    return [change.session, change.number, text(change.name) + before,
+    also = html("<br><small>{}</small>", ", ".join(change.also())) if change.also() else ""
+    return [change.session, change.number, text(change.name) + before + also,
             *(sat(sits, papers, halls) for sits in (change.old, change.new)), ""]
 
 
