@@ -27,6 +27,12 @@ def openings(rows: Rows, session: str) -> list[Opening]:
     return [Opening._make([*row[:5], bool(row["reserved"])]) for row in found]
 
 
+def desks(rows: Rows) -> dict[str, int]:
+    """The desks of each session, without those of halls that close before it begins, where nobody can sit."""
+    return dict(rows.execute("SELECT session, sum(desks) FROM opening JOIN session ON code = session "
+                             "WHERE until > start GROUP BY session").fetchall())
+
+
 def sessions(rows: Rows, asked: Collection[str] = ()) -> list[sqlite3.Row]:
     """The code, the day and the start of the sessions asked for, otherwise of all, in the order of time. Raises
     `Trouble` where the office has no such session."""

@@ -111,7 +111,7 @@ class Sums(NamedTuple):
 def sums(view: View) -> dict[str, Sums]:
     """All sessions by code, in the order of their days."""
     people, clashing = effects.figures(view.reading), two_papers(view)
-    desks = dict(view.rows("SELECT session, sum(desks) FROM opening GROUP BY session"))
+    desks = facts.desks(view.reading.rows)
     waiting = dict(view.rows("SELECT session, count(*) FROM appeal WHERE state = 1 GROUP BY session"))
     return {code: Sums(code, day, start, *people[code], desks.get(code, 0), len(clashing.get(code, ())),
                        waiting.get(code, 0)) for code, day, start in facts.sessions(view.reading.rows)}

@@ -168,6 +168,10 @@ class Lists(sample.SampleSchool):
         self.assertEqual(rows, [["MON-AM", "2027-06-07", "09:00", "60", "58", "2", "58", "0", "4", "0", "1"],
                                 ["MON-PM", "2027-06-07", "13:30", "60", "58", "2", "58", "0", "0", "0", "0"],
                                 ["TUE-AM", "2027-06-08", "09:00", "48", "46", "2", "56", "10", "0", "0", "0"]])
+        for until, desks in (("09:00", ["58", "0"]), ("09:01", ["103", "45"])):  # nobody can sit there; for a minute
+            self.office("open-hall", "MON-AM", "R14", "45", until)
+            self.assertEqual(self.office("summary", "MON-AM").split("\n")[1].split()[6:8], desks)
+            self.assertIn(f"with {desks[0]} desks, {desks[1]} free", self.office("session-page", "MON-AM"))
 
     def test_open_appeals(self):
         self.assertEqual(self.office("appeals-open"), "no appeal is open\n")

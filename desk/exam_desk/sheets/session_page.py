@@ -5,7 +5,7 @@ from collections.abc import Sequence
 
 from markupsafe import Markup
 
-from exam_desk import appeals, lists, reasons
+from exam_desk import appeals, facts, lists, reasons
 from exam_desk.facts import Opening, session_row
 from exam_desk.lists import count
 from exam_desk.reading import Member, Reading
@@ -47,7 +47,7 @@ class Page:
 
     def document(self) -> str:
         code, day, start = self.head["code"], self.head["day"], clock(self.head["start"])
-        desks, people, lacking = sum(each.desks for each in self.openings), len(self.members), len(self.unseated)
+        desks, people, lacking = facts.desks(self.reading.rows).get(code, 0), len(self.members), len(self.unseated)
         links = joined((html("<a href='#{}'>{}</a>", *each) for each in SECTIONS.items()), " ")
         school = pages.school(self.reading.office, "<br>")
         header = html(HEADER, code, school, long_day(day), start, count(people, "candidate"), people - lacking, lacking,
@@ -66,11 +66,11 @@ class Page:
             mark = Markup(" <span class=tag>in the shortage</span>") if each.hall in dict(self.shortage.halls) else ""
             details = [", ".join(features(each.features)) or "no features", f"until {clock(each.until)}",
                        *["only with needs or extra time"] * each.reserved]
-            label = f"{count(taken, 'desk')} taken, {each.desks - taken} free"
+            free = each.desks - taken if each.until > self.head["start"] else 0
+            label = f"{count(taken, 'desk')} taken, {free} free"
             rows.append([html("<a href='#hall-{0}'>{0}</a> {1}{2}<br><small>{3}</small>", each.hall, text(each.title),
                               mark, "; ".join(details)),
-                         bar([("taken", taken), ("free", each.desks - taken)], widest, label), taken,
-                         each.desks - taken])
+                         bar([("taken", taken), ("free", free)], widest, label), taken, free])
         return table(["Hall", "Desks (dark: taken)", "n:Taken", "n:Free"], rows, name="halls")
 
     def hall_part(self, opening: Opening) -> Markup:

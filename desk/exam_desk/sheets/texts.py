@@ -124,9 +124,10 @@ def summary(reading: Reading, asked: Collection[str] = ()) -> str:
     found = overlaps.found(reading, asked)
     twice = Counter(code for each in found for code in (each.early, each.late))
     lines = [SUMMARY.format(*HEADS)]
+    all_desks = facts.desks(reading.rows)
     for code, day, start in heads:
-        members, openings = reading.members(code), facts.openings(reading.rows, code)
-        seated, desks = sum(bool(member.sitting.hall) for member in members), sum(each.desks for each in openings)
+        members, desks = reading.members(code), all_desks.get(code, 0)
+        seated = sum(bool(member.sitting.hall) for member in members)
         [[waiting]] = reading.rows.execute("SELECT count(*) FROM appeal WHERE session = ? AND state = 1", [code])
         lines.append(SUMMARY.format(code, day, clock(start), len(members), seated, len(members) - seated, desks,
                                     desks - seated, len(reading.clashes(code)), twice[code], waiting))
