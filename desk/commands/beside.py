@@ -73,10 +73,11 @@ def numbers(words: list[str]) -> list[str]:
 A note stands on what invigilators and candidates get, and on nothing else. It is no fact of the office: no seat depends
 on it. A later row for a number replaces the note, an empty text takes it away; notes that are not in the file stay. A
 text has at most 200 bytes. Where one row is wrong no row is taken. Notes lie beside the office, for its user alone, and
-in its copies; `office back` leaves them as they are. The log has whose note is another, and no text of it.
+in its copies; `office back` leaves them as they are. A line says which printed papers have another note. The log has
+whose note is another, and no text of it.
 """)
 def notes(parser: ArgumentParser) -> None:
-    from exam_desk import facts, files, notebook
+    from exam_desk import consequences, facts, files, notebook, on_paper
     from exam_desk.sheets import texts
     given = command.given(parser, "file?")
     office = command.office()
@@ -84,10 +85,12 @@ def notes(parser: ArgumentParser) -> None:
         if not given.file:
             command.say(texts.notes(office, rows))
             return
-        known = set(facts.candidate_names(rows))
+        known, sessions = set(facts.candidate_names(rows)), [code for code, *_ in facts.sessions(rows)]
     texts_given = files.texts_by_number(files.read(given.file), given.file, "text", notebook.MOST_NOTE_BYTES, known)
     noted = notebook.take_notes(office, texts_given)
     command.say(" ".join(f"{word} {noted[word]}" for word in ("added", "changed", "removed", "same")) + "\n")
+    for line in consequences.noted(on_paper.with_other_notes(office, sessions, texts_given)):
+        print(line, file=sys.stderr)
 
 
 @command.named("""Notes what is on paper, and says what is otherwise now: printed [SESSION [--look]]

@@ -105,8 +105,18 @@ def groups(effects: Effects) -> Groups:
                 for each, people in effects.overlaps for person in people],
         HALLS: [Met(each.early, f"and {each.late} in {hall}", "both number their desks from 1")
                 for each, _ in effects.overlaps for hall in each.halls],
-        PRINTED: [Met(code, f"for {', '.join(halls) or 'no hall'}", f"afterwards `office {LISTED_BY[PRINTED].format(code)}`")
-                  for code, halls in effects.out_of_date.items()]})
+        PRINTED: out_of_date(effects.out_of_date)})
+
+
+def out_of_date(halls: Mapping[str, list[str]]) -> list[Met]:
+    return [Met(code, f"for {', '.join(found) or 'no hall'}", f"afterwards `office {LISTED_BY[PRINTED].format(code)}`")
+            for code, found in halls.items()]
+
+
+def noted(halls: Mapping[str, list[str]]) -> list[str]:
+    """As `done`, of the printed papers that notes make out of date."""
+    met = grouped({}, {PRINTED: out_of_date(halls)})
+    return [*brief(met), *(f"`office {words}` lists them" for words in listing(met, 1))]
 
 
 def notes(before: Reading, after: Reading, met: Groups, first: str = "") -> list[str]:

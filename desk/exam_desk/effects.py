@@ -82,13 +82,14 @@ def halls_out_of_date(before: Reading, after: Reading, session: str, people: Col
     paper = on_paper.noted(after.office, session)
     if not paper.lines:
         return set()
-    then, now = (on_paper.lines_of(reading, session, reading.members(session, telling.entered(reading, session, people)))
-                 for reading in (before, after))
+    asked = [(reading, telling.entered(reading, session, people)) for reading in (before, after)]
+    then, now = (on_paper.lines_of(reading, session, reading.members(session, numbers)) for reading, numbers in asked)
     lines = (line for number in on_paper.moved(then, now) if paper.lines.get(number) != now.get(number)
              for line in (paper.lines.get(number), now.get(number)))
     was, shared = (on_paper.shared(reading, session) for reading in (before, after))
     others = (what for what, *_ in on_paper.others(paper.shared, shared) if was.get(what) != shared[what])
-    return {line.desk.hall for line in lines if line}.union(*(on_paper.halls_with(what, paper.lines) for what in others))
+    halls = (on_paper.halls_with(what, paper.lines) for what in others)
+    return {line.desk.hall for line in lines if line}.union(*halls)
 
 
 def new_clashes(before: Reading, after: Reading, sessions: Touched) -> Iterator[tuple[str, Person, list[str]]]:

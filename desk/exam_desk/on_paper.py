@@ -106,6 +106,17 @@ def others(before: Mapping[str, str], now: Mapping[str, str]) -> list[tuple[str,
     return [(what, old, now[what]) for what, old in sorted(before.items()) if now.get(what, old) != old]
 
 
+def with_other_notes(office: Office, sessions: Iterable[str], notes: Mapping[str, str]) -> dict[str, list[str]]:
+    """By session the halls of those of whom other notes are on paper than these by number."""
+    found = {}
+    for code in sessions:
+        lines = noted(office, code).lines
+        other = [line for number, line in lines.items() if line.shown[-1] != notes.get(number, line.shown[-1])]
+        if other:
+            found[code] = sorted({line.desk.hall for line in other} - {""})
+    return found
+
+
 def note(office: Office, reading: Reading, session: str) -> tuple[int, str]:
     """Notes for the office's user, in the log too, that the papers of a session are printed as it is; how many desks
     they have, and this in words, with how many lines are other ones than those that were noted before. Raises `Trouble`

@@ -10,7 +10,7 @@ from markupsafe import Markup
 from werkzeug.datastructures import MultiDict
 from werkzeug.wrappers import Response
 
-from exam_desk import coding, effects, facts, lists, lodging, notebook, overlaps, second_sitting
+from exam_desk import coding, effects, facts, lists, lodging, notebook, on_paper, overlaps, second_sitting
 from exam_desk.changing import Step
 from exam_desk.reading import Person
 from exam_desk.sheets import slips as slip_pages
@@ -86,8 +86,11 @@ def note(number: int) -> Response:
         wrong = text("somebody has changed it meanwhile; it says: {note}", note=known or "–")
         raise Wrong(page_of, "note", note=wrong)
     notebook.take_notes(office(), {f"{number:07}": given})
-    said = text("The note is kept.") if given else text("There is no note on this candidate.")
-    return lead("candidates.page", said, number=number, _anchor="note")
+    told = text("The note is kept.") if given else text("There is no note on this candidate.")
+    for session, halls in on_paper.with_other_notes(office(), sums(view()), {f"{number:07}": given}).items():
+        g.visit.said.append(("bad", text("The papers of {session} are out of date: {halls}", session=session,
+                                         halls=", ".join(halls) or text("no hall"))))
+    return lead("candidates.page", told, number=number, _anchor="note")
 
 
 @pages.get("/candidates/notes")

@@ -21,7 +21,7 @@ from exam_desk.office import Office  # noqa: E402
 KINDS = ["sessions", "papers", "halls", "openings", "candidates", "arrangements", "entries"]
 TODAY = "2027-05-01"
 NUMBER, CODE = "0001051", "VMGNZGEDP9"
-CHANGES = {"import", "withdraw", "reinstate", "close-hall", "open-hall", "decide", "name", "back"}
+CHANGES = {"import", "notes", "withdraw", "reinstate", "close-hall", "open-hall", "decide", "name", "back"}
 TOLD = (r"(  \S+ line .*: NOTE: .*\n)*(NOTE: .*\n){0,5}([0-9].*\n){0,7}"  # said of a change, on standard error
         r"(`office .*` (lists them|takes it back)\n)?"
         r"([0-9].*; a slip with the old code opens nothing\n)?(NOTE: .*\n){0,3}")

@@ -79,6 +79,22 @@ class TestPrinting(DeskSchool):
         self.assertRegex(self.browser.words(self.PRINTED + "?piece"),
                          r"0001306 AULA desk 1 AULA desk \d+ Note: – → <b>scribe ")
 
+    def test_a_note_that_is_not_on_paper(self):
+        said = "The papers of MON-AM are out of date: AULA"
+        for note, is_said in (("a scribe", False), ("two", True), ("a scribe", False)):
+            self.browser.post("/candidates/1306/note", "/candidates/1306", note=note)
+            self.assertEqual(said in self.browser.words("/candidates/1306"), is_said, note)
+            if self.office("printed") == "nobody noted that papers are printed\n":
+                self.office("printed", "MON-AM")
+
+    def test_what_halls_share_is_one_line(self):
+        self.office("printed", "MON-AM")
+        self.office("open-hall", "MON-AM", "AULA", "16", "13:00")
+        found = self.browser.words(self.PRINTED + "?piece")
+        self.assertIn("AULA: Open until: 12:30 → 13:00", found)
+        self.assertNotIn("not as on paper", found)
+        self.assertIn("The papers of MON-AM are out of date: AULA", self.browser.words("/?piece"))
+
     def test_sessions_go_by_day_and_start(self):
         """In what a change did, in the form that lodges an appeal, and in what the season asks for."""
         for kind, rows in (("sessions", "session,date,start\nZ-1,2027-06-07,07:30\nA-9,2027-06-09,09:00\n"),

@@ -11,7 +11,7 @@ import stat
 import sys
 import tempfile
 import unittest
-from collections import Counter
+from collections import Counter, defaultdict
 
 import sample
 
@@ -271,7 +271,8 @@ class Commands(sample.SampleSchool):
         self.assertTrue(any(re.fullmatch(rf"{number} \S.*: {hall} 1 -> .*", line) for line in lines), lines)
         self.assertFalse([line for line in lines if " :" in line], "whoever left has a name, too")
         self.assertIn(hall, re.findall("[A-Z0-9]+", lines[-1]))
-        self.assertRegex(self.office("printed", "MON-AM"), r"^\d+ desks noted.*, [1-9]\d* other than before\n$")
+        self.assertRegex(self.office("printed", "MON-AM"),
+                         r"^\d+ desks noted.*, [1-9]\d* other than before\n$")
         self.assertEqual(self.office("printed", "MON-AM", "--look"), "the papers are up to date\n")
         self.office("close-hall", "MON-AM", "GYM")
         self.office("withdraw", "0001119", "CS-1")  # so that somebody in another hall has another desk
@@ -300,7 +301,8 @@ class Commands(sample.SampleSchool):
         self.office("printed", "TUE-AM")
         done = self.run_office("withdraw", "0001221", "BI-1")  # who had no desk
         self.assertIn("(board, counts, slips too): TUE-AM for no hall\n", done.stderr)
-        self.assertEqual(self.office("printed", "TUE-AM", "--look"), "0001221 Nora Haddad: no desk -> not in the session\n"
+        self.assertEqual(self.office("printed", "TUE-AM", "--look"),
+                         "0001221 Nora Haddad: no desk -> not in the session\n"
                          "to print again: board, counts, slips\n")
         self.office("printed", "TUE-AM")
         self.office("reinstate", "0001221", "BI-1")
@@ -350,6 +352,9 @@ class Commands(sample.SampleSchool):
     def test_what_lines_share(self):
         """A line for a hall, a paper or the school, and none for each candidate; in the halls that show it."""
         self.office("rows", "AULA", "6")
+        halls_of = defaultdict(set)
+        for _, _, paper, hall, _ in (line.split(",") for line in self.office("export", "MON-AM").splitlines()[1:]):
+            halls_of[paper].update({hall} - {"-"})
         titles = self.write("h.csv", "hall,title,features\nAULA,Great hall,-\n")
         paper = self.write("p.csv", "paper,title,session,minutes,requires\nLAT,Latin 1,MON-AM,90,-\n")
         for words, said, halls in (
@@ -357,16 +362,28 @@ class Commands(sample.SampleSchool):
                 (("open-hall", "MON-AM", "AULA", "17", "13:00"), "AULA: desks 16 -> 17", ["AULA"]),
                 (("rows", "AULA", "4", "down"), "AULA: rows 6 across -> 4 down", ["AULA"]),
                 (("import", "halls", titles), "AULA: hall title Aula, main building -> Great hall", ["AULA"]),
-                (("import", "papers", paper), "LAT: paper title Latin -> Latin 1", ["AULA"]),
-                (("school", "Hill"), "school: name - -> Hill", ["AULA", "GYM", "LIB", "PC1"])):
+                (("import", "papers", paper), "LAT: paper title Latin -> Latin 1", halls_of["LAT"]),
+                (("school", "Hill"), "school: name - -> Hill", set().union(*halls_of.values()))):
             self.office("printed", "MON-AM")
             self.office("rows", "PC1", "6")  # there was no chart of it before
             self.assertEqual(self.office("printed", "MON-AM", "--look"), "the papers are up to date\n")
             told = self.run_office(*words)
             self.assertEqual(self.office("printed", "MON-AM", "--look"),
-                             f"{said}\nto print again: {', '.join(halls)}; board, counts, slips\n")
+                             f"{said}\nto print again: {', '.join(sorted(halls))}; board, counts, slips\n")
             self.assertEqual("MON-AM for AULA" in told.stderr, words[0] in ("open-hall", "import"), words)
-            self.assertEqual(self.office("printed"), "MON-AM: the papers are out of date; `office printed MON-AM --look`\n")
+            self.assertEqual(self.office("printed"),
+                             "MON-AM: the papers are out of date; `office printed MON-AM --look`\n")
+
+    def test_a_note_that_is_not_on_paper(self):
+        first = self.write("notes.csv", "number,text\n0001306,a scribe\n")
+        self.office("notes", first)
+        self.office("printed", "MON-AM")
+        self.assertEqual(self.run_office("notes", first).stderr, "")
+        other = self.write("other.csv", "number,text\n0001306,two\n")
+        self.assertEqual(self.run_office("notes", other).stderr,
+                         "1 session has printed papers that are out of date (board, counts, slips too): MON-AM for AULA\n"
+                         "`office printed MON-AM --look` lists them\n")
+        self.assertEqual(self.run_office("notes", first).stderr, "")  # as on paper again
 
     def test_who_comes_moves_and_goes(self):
         """Of another hall neither the title nor the end is said, since they go with it; of another paper no title."""
