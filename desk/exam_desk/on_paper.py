@@ -131,6 +131,7 @@ def note(office: Office, reading: Reading, session: str) -> tuple[int, str]:
     other, seated = len(moved(before, lines)) if before else 0, sum(line.desk.hall != "" for line in lines.values())
     without = f" and {lists.count(len(lines) - seated, 'candidate')} without one" * (seated < len(lines))
     said = f"{lists.count(seated, 'desk')} noted{without}" + (f", {other} other than before" if other else "")
+    said += f", of state {reading.mark}: the foot of each paper must say that"
     logbook.write_done(office, ["printed", session], 0, said)
     return seated, said
 

@@ -262,7 +262,9 @@ class Commands(sample.SampleSchool):
 
     def test_printed(self):
         self.assertIn("nobody noted", self.refused("printed", "MON-AM", "--look"))
-        self.assertEqual(self.office("printed", "MON-AM"), "58 desks noted and 2 candidates without one\n")
+        foot = re.search("state [0-9a-f]{8}", self.office("board", "MON-AM"))[0]
+        self.assertEqual(self.office("printed", "MON-AM"), "58 desks noted and 2 candidates without one, of "
+                         f"{foot}: the foot of each paper must say that\n")
         self.assertEqual(self.office("printed", "MON-AM", "--look"), "the papers are up to date\n")
         seats = [line.split(",") for line in self.office("export", "MON-AM").splitlines()[1:]]
         number, paper, hall = next((seat[1], seat[2], seat[3]) for seat in seats if seat[4] == "1")
@@ -272,7 +274,7 @@ class Commands(sample.SampleSchool):
         self.assertFalse([line for line in lines if " :" in line], "whoever left has a name, too")
         self.assertIn(hall, re.findall("[A-Z0-9]+", lines[-1]))
         self.assertRegex(self.office("printed", "MON-AM"),
-                         r"^\d+ desks noted.*, [1-9]\d* other than before\n$")
+                         r"^\d+ desks noted.*, [1-9]\d* other than before, of state [0-9a-f]{8}: .*\n$")
         self.assertEqual(self.office("printed", "MON-AM", "--look"), "the papers are up to date\n")
         self.office("close-hall", "MON-AM", "GYM")
         self.office("withdraw", "0001119", "CS-1")  # so that somebody in another hall has another desk
@@ -315,7 +317,7 @@ class Commands(sample.SampleSchool):
                            ("papers", "paper,title,session,minutes,requires\nART,Art,TUE-PM,60,-\n"),
                            ("entries", "number,paper\n0001051,ART\n")):
             self.office("import", kind, self.write("new.csv", rows))
-        self.assertEqual(self.office("printed", "TUE-PM"), "0 desks noted and 1 candidate without one\n")
+        self.assertIn("0 desks noted and 1 candidate without one, ", self.office("printed", "TUE-PM"))
         self.assertEqual(self.office("printed", "TUE-PM", "--look"), "the papers are up to date\n")
         self.office("open-hall", "TUE-PM", "GYM", "90", "18:00")
         self.assertIn("0001051 Di Berg: no desk -> GYM 1\n", self.office("printed", "TUE-PM", "--look"))

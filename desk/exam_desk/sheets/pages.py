@@ -90,7 +90,7 @@ def style(*names: str) -> Markup:
 
 def document(reading: Reading, title: str, body: Markup, *names: str) -> str:
     """Pages of A4 with the styles of these names. The foot of each says when it was made, and of which state."""
-    printed = f"printed {reading.office.now():%Y-%m-%d %H:%M}, state {reading.name[:8]}"
+    printed = f"printed {reading.office.now():%Y-%m-%d %H:%M}, state {reading.mark}"
     return str(html(DOCUMENT, title, printed, style("page", *names), body))
 
 
