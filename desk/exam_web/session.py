@@ -217,7 +217,8 @@ def note_printed(code: str) -> Response:
         told = text("Nothing is noted: the office is another than the page showed. Print the sheets again.")
         return lead("session.page", told, "bad", code=code, _anchor="print")
     desks, _ = on_paper.note(office(), view().reading, code)
-    told = many(desks, "{count} desk of {session} is noted as printed, of state {state}; the foot of papers must say that.",
+    told = many(desks,
+                "{count} desk of {session} is noted as printed, of state {state}; the foot of papers must say that.",
                 "{count} desks of {session} are noted as printed, of state {state}; the foot of papers must say that.",
                 session=code, state=view().reading.mark)
     return lead("session.page", told, code=code, _anchor="print")
