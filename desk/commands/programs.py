@@ -43,7 +43,7 @@ class Change:
     copy: str | None = None  # which is in the place of the office before the steps
     most: int | None = MOST_NAMED  # of those whom it meets in one way, who are named behind a rehearsal
     is_over: Callable[[list[Answered]], object] = changing.refused_of  # whether a rehearsal ends behind these answers
-    own: Callable[[Reading, Reading], list[str]] | None = None  # what it says itself of the office before and after it
+    own: Callable[[Reading, Reading], Sequence[object]] | None = None  # what it says itself of both offices
 
     def said(self, rehearsal: Rehearsal) -> int:
         """Prints what came of the steps in a rehearsal; the status."""
@@ -193,7 +193,7 @@ def rehearsed(change: Change) -> Iterator[tuple[int, Rehearsal]]:
         done = {each.step.words[0] for each in rehearsal.answers if each.ran.status == 0}
         if change.copy or done - {MIGRATE}:
             with command.reading(rehearsal.before) as before, command.reading(rehearsal.after) as after:
-                command.say_lines([*(change.own(before, after) if change.own else []),
+                command.say_lines([*map(str, change.own(before, after) if change.own else []),
                                    *consequences.between(before, after, change.most)])
         yield status, rehearsal
 

@@ -6,7 +6,7 @@ import sqlite3
 from collections.abc import Iterator
 
 from exam_desk.reading import Reading
-from exam_desk.second_sitting import PAPERS, pairs, second_papers
+from exam_desk.second_sitting import ARRANGED, PAPERS, arranged, pairs, second_papers
 from exam_desk.words import Said, clock, feature_text, plain
 
 ENTERED = "SELECT number FROM entry WHERE paper = ? AND live = 1 ORDER BY number"
@@ -18,24 +18,25 @@ MOST_LINES, MOST_NAMED = 5, 3
 STAYS = ("NOTE: {paper} in {session}, a second sitting of {first}, stays as it is ({kept}) for {people}: import a row for "
          "{session} or {paper} too")
 STAYS_OPEN = "NOTE: {hall} stays open in {session}, for the second sitting of {people}"
-SAT_AS = ("NOTE: {person} sits {first} as {paper}: `office second-sitting {number} {first} --undo` withdraws {paper}")
+SAT_AS = "NOTE: {person} sits {first} as {paper}: `office second-sitting {number} {first} --undo` withdraws {paper}"
 MORE_STAY, MORE = "NOTE: .. and {count} more notes on second sittings", "{names} and {count} more"
 KEPT = {  # what a second sitting can keep: the words, and the columns
     "on {day} at {start}": ["day", "start"], "{minutes} minutes": ["minutes"], "requires {requires}": ["requires"],
     "the title {title}": ["title"],
 }
-TEXTS = [STAYS, STAYS_OPEN, SAT_AS, MORE_STAY, MORE, *KEPT]
+TEXTS = [STAYS, STAYS_OPEN, SAT_AS, ARRANGED, MORE_STAY, MORE, *KEPT]
 Papers = dict[str, sqlite3.Row]  # by code, in the order of time, with the day and the start of the session
 
 
 def left_behind(before: Reading, after: Reading) -> list[Said]:
     """What is said of each second sitting which stays as it is while its paper does not, or in a hall that is closed
-    before, with those who sit it, or beside the first entry; at most MOST_LINES, and once more of the rest."""
+    before, with those who sit it, beside the first entry, or with another arrangement than in the first session; at
+    most MOST_LINES, and once more of the rest."""
     was, now = papers(before), papers(after)
     found = [said for code, first in was.items() if code in now and now[code] != first
              for second in second_papers(before.rows, first) if second["code"] in now
              for said in stays(after, (first, now[code]), (second, now[second["code"]]))]
-    found += [*in_closed_halls(before, after), *reinstated(before, after)]
+    found += [*in_closed_halls(before, after), *reinstated(before, after), *arranged_otherwise(before, after)]
     rest = len(found) - MOST_LINES
     return found[:MOST_LINES] + [Said(MORE_STAY, {"count": f"{rest:,}"})] * (rest > 0)
 
@@ -61,6 +62,13 @@ def reinstated(before: Reading, after: Reading) -> list[Said]:
                           "paper": second["code"]})
             for first, second in pairs(after.rows)
             for number in later(after, first, second, True) if number in later(before, first, second, False)]
+
+
+def arranged_otherwise(before: Reading, after: Reading) -> list[Said]:
+    """What is said of the arrangements of those who had a second sitting before, as after a grant for one session."""
+    return [said for first, second in pairs(after.rows)
+            for number in later(after, first, second, False) if number in later(before, first, second, False)
+            for said in arranged(before, after, f"{number:07}", first["session"], second["session"])]
 
 
 def later(reading: Reading, first: sqlite3.Row, second: sqlite3.Row, is_first_live: bool) -> list[int]:

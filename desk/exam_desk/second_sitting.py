@@ -17,7 +17,7 @@ from exam_desk.reading import Member, Reading, Sitting
 from exam_desk.reasons import Reasons
 from exam_desk.snapshot import Rows
 from exam_desk.trouble import NoCandidate, Trouble
-from exam_desk.words import clock, feature_text, plain
+from exam_desk.words import Said, clock, feature_text, plain
 
 MOST_LETTERS = 12  # of the code of a session or a paper
 PAPERS = ("SELECT paper.code AS code, title, session, minutes, requires, day, start FROM paper "
@@ -30,6 +30,7 @@ UNLIKE = ("SELECT max(one.live IS NULL), max(one.live <> 1) FROM entry LEFT JOIN
           "ON one.number = entry.number AND one.paper = ? WHERE entry.paper = ? AND entry.live = 1")
 BEGINNING = "WHERE paper.code BETWEEN ?1 AND ?1 || '~'"  # `~` is behind all letters of codes
 SAME_LETTERS = MOST_LETTERS - len("-99999")  # at least so many letters of a code stay before its number
+ARRANGED = "NOTE: the arrangement of {person} is {one} in {first}, and {other} in {session}"
 CLOSED = (0, 24 * 60, False, 0)  # as OPENED says it of a hall that is to be open until the end of the day
 
 
@@ -197,7 +198,7 @@ def plan_back(reading: Reading, number: str, paper: str) -> Plan:
     return Plan(f"second-sitting {number} {paper} --undo", steps, number, first["session"], found[0]["session"], second)
 
 
-def lines(planned: Plan, before: Reading, after: Reading) -> list[str]:
+def lines(planned: Plan, before: Reading, after: Reading) -> list[str | Said]:
     """What a rehearsed plan does for the candidate. Raises `Trouble` where they would not sit as was asked."""
     number, name, first = member(after, planned.first, planned.number)
     said, lacks = f"{number} {plain(name)} sits {first.paper}", "" if first.hall else " (has no desk)"
@@ -212,11 +213,18 @@ def lines(planned: Plan, before: Reading, after: Reading) -> list[str]:
     then = second.sitting
     found = [planned.made, f"{said} until {first.finish}{lacks}, and {then.paper} from {then.start} to {then.finish} "
                            f"in {then.hall}, desk {then.desk}"]
-    was, now = lists.allowance(member(before, planned.first, planned.number).sitting), lists.allowance(then)
-    if was != now:
-        found.append(f"NOTE: the arrangement is {was or 'none'} in {planned.first}, and {now or 'none'} in "
-                     f"{planned.session}")
-    return found
+    return [*found, *arranged(before, after, planned.number, planned.first, planned.session)]
+
+
+def arranged(before: Reading, after: Reading, number: str, first: str, session: str) -> list[Said]:
+    """What is said where a candidate sits in two sessions with unlike arrangements, and did not so before."""
+    was, now = ([lists.allowance(sits[code]) for code in (first, session) if code in sits]
+                for sits in (before.all_of(number), after.all_of(number)))
+    if now == was or len({*now}) < 2:
+        return []
+    one, other = (each or Said("none", {}) for each in now)
+    return [Said(ARRANGED, {"person": after.person(int(number)).shown(), "one": one, "first": first, "other": other,
+                            "session": session})]
 
 
 def member(reading: Reading, session: str, number: str) -> Member:

@@ -1,4 +1,5 @@
 """What is said of second sittings: of those that stay behind where their paper is changed, and of a second withdrawal."""
+import contextlib
 import re
 import sqlite3
 import types
@@ -66,6 +67,18 @@ class LeftBehind(test_second_sitting.SecondSitting):
         self.assertEqual(self.rows("SELECT live = 1 FROM entry WHERE number = 3 AND paper LIKE 'MA-1%' ORDER BY paper"),
                          [(1,), (0,)])
 
+    def test_a_grant_for_one_of_the_sessions(self):
+        said = "NOTE: the arrangement of 0000003 ?Bo, =1+1 is 25 % extra time in MON-AM, and none in MON-AM-2\n"
+        with contextlib.closing(sqlite3.connect(self.path)) as file:
+            file.execute("INSERT INTO appeal VALUES (3, 'A1', 'MON-AM', 3, '', 0, 25, '', 1, NULL, '2027-05-01')")
+            file.commit()
+        decision = ("decide", "0000003", "A1", "granted", "")
+        self.assertEqual(self.office("what-if", *decision).count(said), 1)
+        self.assertTrue(self.run_office(*decision).stderr.startswith(said))
+        self.assertNotIn("arrangement of", self.run_office("withdraw", "0001000", "MA-1").stderr)  # it was said before
+        self.assertNotIn("arrangement of", self.office("what-if", "import", "arrangements", self.write(
+            "arrangements.csv", "number,needs,extra\n0000003,-,25\n")))  # it holds in both
+
 
 class Many(unittest.TestCase):
     def reading(self, minutes=60, title=TITLE):
@@ -81,7 +94,8 @@ class Many(unittest.TestCase):
                          [code, title, minutes, TITLE])
             rows.execute("INSERT INTO entry VALUES (1, ?1, 0), (1, ?1 || '-2', 1)", [code])
         rows.execute("CREATE TABLE opening (session, hall)")
-        return types.SimpleNamespace(rows=rows, person=lambda number: Person(f"{number:07}", "Ada", ""))
+        return types.SimpleNamespace(rows=rows, person=lambda number: Person(f"{number:07}", "Ada", ""),
+                                     all_of=lambda number: {})
 
     def test_five_are_named(self):
         said = [*map(str, left_behind(self.reading(), self.reading(90)))]

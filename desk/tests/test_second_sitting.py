@@ -190,7 +190,8 @@ class There(SecondSitting):
             file.execute("INSERT INTO appeal VALUES (3, 'A1', 'MON-AM', 3, '', 0, 25, '', 2, '', '2027-05-01')")
             file.commit()
         said = self.second("0000003", "MA-1", "11:00", "R14")
-        self.assertIn("NOTE: the arrangement is 25 % extra time in MON-AM, and none in MON-AM-2\n", said)
+        self.assertIn("NOTE: the arrangement of 0000003 ?Bo, =1+1 is 25 % extra time in MON-AM, and none in "
+                      "MON-AM-2\n", said)
 
     def test_others_in_the_hall_are_noted(self):
         said = self.second("0000003", "MA-1", "12:30", "GYM")
