@@ -18,7 +18,7 @@ MOST_LINES, MOST_NAMED = 5, 3
 STAYS = ("NOTE: {paper} in {session}, a second sitting of {first}, stays as it is ({kept}) for {people}: import a row for "
          "{session} or {paper} too")
 STAYS_OPEN = "NOTE: {hall} stays open in {session}, for the second sitting of {people}"
-SAT_AS = ("NOTE: {person} sits {first} as {paper}: `office second-sitting {number} {first} --undo` withdraws {paper}")
+SAT_AS = "NOTE: {person} sits {first} as {paper}: `office second-sitting {number} {first} --undo` withdraws {paper}"
 MORE_STAY, MORE = "NOTE: .. and {count} more notes on second sittings", "{names} and {count} more"
 KEPT = {  # what a second sitting can keep: the words, and the columns
     "on {day} at {start}": ["day", "start"], "{minutes} minutes": ["minutes"], "requires {requires}": ["requires"],
