@@ -219,7 +219,9 @@ def move_in(office: Office, path: str) -> None:
 def undoing(what: str, is_last: bool) -> str:
     """The command that puts the copy from before another, or from before an undoing, in the place of the office."""
     verb, _, undone = what.partition(" ")
-    return f"{REDOING[verb]} {undone}" if verb in REDOING else f"undoing {what}{'' if is_last else ' and what followed'}"
+    if verb in REDOING:
+        return f"{REDOING[verb]} {undone}"
+    return f"undoing {what}" if is_last else f"undoing {what} and what followed"
 
 
 def put_back(office: Office, copy: str) -> str | None:

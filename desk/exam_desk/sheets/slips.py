@@ -53,7 +53,8 @@ def beside_groups(reading: Reading, groups: Mapping[str, str]) -> Iterator[str]:
     """A line on numbers with a group that are no candidates, and one on candidates in none, where there are groups."""
     known = facts.candidate_names(reading.rows).keys()
     if strangers := sorted(groups.keys() - known):
-        yield f"the file has {lists.count(len(strangers), 'number')} that no candidate of the office has: {few(strangers)}"
+        count = lists.count(len(strangers), "number")
+        yield f"the file has {count} that no candidate of the office has: {few(strangers)}"
     if groups and (alone := len(known - {each for each, group in groups.items() if group})):
         yield f"in no group, and so last: {lists.count(alone, 'candidate')}"
 
