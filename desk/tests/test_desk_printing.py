@@ -88,10 +88,13 @@ class TestPrinting(DeskSchool):
                 self.office("printed", "MON-AM")
 
     def test_what_halls_share_is_one_line(self):
+        self.office("rows", "AULA", "6")
         self.office("printed", "MON-AM")
+        self.office("rows", "AULA", "4", "down-and-up")
         self.office("open-hall", "MON-AM", "AULA", "16", "13:00")
         found = self.browser.words(self.PRINTED + "?piece")
         self.assertIn("AULA: Open until: 12:30 → 13:00", found)
+        self.assertIn("AULA: Desks in a row: 6, along the rows → 4, down and up", found)
         self.assertNotIn("not as on paper", found)
         self.assertIn("The papers of MON-AM are out of date: AULA", self.browser.words("/?piece"))
 
