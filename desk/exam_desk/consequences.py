@@ -170,7 +170,8 @@ def short_at_first(before: Reading, after: Reading) -> list[str]:
 
 def short_yet(before: Reading, after: Reading, met: Groups) -> list[str]:
     """How many have no desk in sessions where they are as many neither as before nor as those of whom it is said."""
-    was, told = short(figures(before)), Counter(each.session for kind in ("loses", "lacks") for each in met.get(kind, []))
+    was = short(figures(before))
+    told = Counter(each.session for kind in ("loses", "lacks") for each in met.get(kind, []))
     return without_a_desk(Counter({code: count for code, count in short(other_figures(before, after)).items()
                                    if count not in (was[code], told[code])}))
 

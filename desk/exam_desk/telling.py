@@ -117,7 +117,8 @@ class Change(NamedTuple):
             pairs = zip([*old, plain(self.old_name)], [*new, plain(self.name)])
             return ", ".join([*(f"{was} -> {now}" for was, now in pairs if was != now), *self.also()])
         word, sitting = ("joined", self.new) if self.old is None else ("left", self.old)
-        return ", ".join([f"{word}: {sitting.paper}, {time(sitting)}, {place(sitting)}" if sitting else "", *self.also()])
+        said = f"{word}: {sitting.paper}, {time(sitting)}, {place(sitting)}" if sitting else ""
+        return ", ".join([said, *self.also()])
 
 
 def time(sitting: Sitting) -> str:

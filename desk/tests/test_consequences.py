@@ -118,7 +118,8 @@ class Told(sample.SampleSchool):
         self.assertEqual(lines[-2:], ["24 without a desk: 24 in MON-AM", LAST])
         self.assertNotIn("without a desk", "".join(self.told("open-hall", "MON-AM", "R14", "2", "17:00")))
         self.assertIn("2 without a desk: 2 in MON-AM", self.told("open-hall", "MON-AM", "GYM", "24", "18:00"))
-        self.assertNotIn("without a desk", "".join(self.told("withdraw", "0001051", "PH-1")))  # one of those with a desk
+        has_desk = self.told("withdraw", "0001051", "PH-1")
+        self.assertNotIn("without a desk", "".join(has_desk))
 
     def test_a_hall_that_a_copy_does_not_have_open(self):
         """TUE-AM has R14 open. Whoever takes the opening in MON-AM back knows that it is; whoever closes it may not."""
@@ -140,8 +141,9 @@ class Told(sample.SampleSchool):
         """MA-2 comes behind MA-1."""
         lines = self.told("import", "entries", self.write("e.csv", "number,paper\n0001000,MA-2\n"))
         self.assertEqual(lines, ["1 has a new clash: MON-AM 0001000 Ada Lin", "`office clashes MON-AM` lists them"])
-        self.assertEqual(self.office("changes", "1", "--tell"), "1 has other clashes:\n! MON-AM 0001000 Ada Lin: misses MA-2\n"
-                                                                "1 to tell, 0 with another desk only\n")
+        self.assertEqual(self.office("changes", "1", "--tell"),
+                         "1 has other clashes:\n! MON-AM 0001000 Ada Lin: misses MA-2\n"
+                         "1 to tell, 0 with another desk only\n")
         self.told("withdraw", "0001000", "MA-2")
         self.assertIn("! MON-AM 0001000 Ada Lin: no longer misses MA-2\n", self.office("changes", "1"))
         self.assertEqual(self.office("changes", "2"), "nothing changed\n")
@@ -218,7 +220,8 @@ class Told(sample.SampleSchool):
         self.assertIn(f"\n{row}\n", would)
         self.assertIn("\n1 loses a need (3 sessions)\n  MON-AM 0001153 Jana Roe: screen\n", would)
         self.assertEqual(self.told("import", "arrangements", needs), [
-            "1 loses a need: 0001153 Jana Roe in 3 sessions", f"{said} LIB", row, "`office changes 1; office printed MON-AM --look` lists them"])
+            "1 loses a need: 0001153 Jana Roe in 3 sessions", f"{said} LIB", row,
+            "`office changes 1; office printed MON-AM --look` lists them"])
         title = self.write("halls.csv", "hall,title,features\nGYM,Sports hall,step-free\n")
         self.assertIn("\n1 value of rows changed: GYM title Gymnasium -> Sports hall\n",
                       self.office("what-if", "import", "halls", title))
