@@ -38,8 +38,9 @@ def back(parser: ArgumentParser) -> Plan:
 
 
 def place_of_copy(word: str) -> int:
+    from argparse import ArgumentTypeError
     if not word.isdecimal():
-        raise Trouble(f"'{word}' is no number of a copy; `office back` lists them")
+        raise ArgumentTypeError(f"'{word}' is no number of a copy; `office back` lists them")
     return int(word)
 
 

@@ -363,8 +363,9 @@ class RandomOffice:
             seats = self.now[session]
             there = sum(seat.hall != "-" for seat in seats.values())
             appeals = [line[37:47].strip() for line in self.sheet(self.path, "appeals", session)[2:]]
-            [all_desks] = reading.rows.execute("SELECT coalesce(sum(desks), 0) FROM opening WHERE session = ?",
-                                               [session]).fetchone()
+            [all_desks] = reading.rows.execute(
+                "SELECT coalesce(sum(desks), 0) FROM opening JOIN session ON code = session "
+                "WHERE session = ? AND until > start", [session]).fetchone()
             wanted = [len(seats), there, len(seats) - there, all_desks, all_desks - there,
                       len({number for number, *_ in self.clashes(session)}), sum(session in pair for pair in both),
                       appeals.count("open")]

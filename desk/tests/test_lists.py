@@ -69,7 +69,7 @@ class Lists(sample.SampleSchool):
         lines = self.office("changes", before).split("\n")
         self.assertEqual(lines[-2:], ["1 to tell, 13 with another desk only", ""])
         self.assertIn("! MON-AM 0001306 Sami Nagy: AULA desk 1 -> AULA desk 14, LAT -> MA-2, "
-                      "2027-06-07 09:00 to 10:30 -> 2027-06-07 09:00 to 11:30", lines)
+                      "2027-06-07 09:00 to 10:30 -> 2027-06-07 09:00 to 11:30, no longer misses MA-2", lines)
         self.assertIn("  MON-AM 0001068 Ed Costa: AULA desk 6 -> AULA desk 5", lines)
         self.assertEqual(self.office("changes", "1"), "\n".join(lines))
         self.assertEqual([line for line in lines if line.endswith(":")],

@@ -37,7 +37,7 @@ class WhatIf(test_changing.Changing):
         self.assertNotIn("a draught", text)
         self.assertEqual((self.state(), len(self.kept()), self.log()), (now, 1, log))
         told = re.findall("(?m)^([0-9].*?)(?:$|:)", self.run_office("back", "1", "--yes").stderr)
-        self.assertEqual(told, [line for line in text.split("\n") if re.match("[0-9]", line)])
+        self.assertEqual(told, [*(line for line in text.split("\n") if re.match("[0-9]", line)), "2 without a desk"])
 
     def test_back_of_a_bad_copy_and_of_none(self):
         self.office("withdraw", "0001000", "MA-1")
@@ -45,7 +45,7 @@ class WhatIf(test_changing.Changing):
         self.assertIn("`office back` does not change the office; ", self.refused("what-if", "back"))
         done = self.run_office("what-if", "back", "x")
         self.assertEqual((done.returncode, done.stdout), (2, ""))
-        self.assertIn("argument NUMBER: invalid int value: 'x'", done.stderr)
+        self.assertIn("argument NUMBER: 'x' is no number of a copy; `office back` lists them", done.stderr)
         self.assertEqual(self.office("what-if", "back", "1", "--yes"), self.office("what-if", "back", "1"))
         [copy] = self.kept()
         with contextlib.closing(sqlite3.connect(os.path.join(copy, "office.db"))) as file:
@@ -97,7 +97,7 @@ class WhatIf(test_changing.Changing):
         path = self.write("leave.csv", "number,paper\n0001017,MA-1\n")
         done = self.run_office("what-if", "reinstate", "--list", path)
         self.assertEqual((done.returncode, done.stdout), (1, "0 of 1 row would be done\n"))
-        self.assertIn("line 2: reinstate 0001017 MA-1: refused 10\n", done.stderr)
+        self.assertEqual(done.stderr, "1 row refused (line 2): the entry is not withdrawn\n")
 
     def test_steps_that_were_made_for_another_state(self):
         """Another command came between the look at the office and the rehearsal."""
