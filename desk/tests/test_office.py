@@ -296,7 +296,9 @@ class Back(sample.SampleSchool):
         self.office("back", "5", "--yes")
         self.assertRegex(self.office("back"), r"^  1  .*  before undoing close-hall MON-AM GYM and what followed\n")
         self.assertEqual(self.office("check"), "good\n")
-        self.assertEqual(self.refused("back", "one"), "office: 'one' is no number of a copy; `office back` lists them\n")
+        done = self.run_office("back", "one")
+        self.assertEqual((done.returncode, done.stdout), (2, ""))
+        self.assertIn("'one' is no number of a copy; `office back` lists them\n", done.stderr)
 
     def test_an_import_is_listed_with_its_file(self):
         os.mkdir(os.path.join(self.folder, "files"))
