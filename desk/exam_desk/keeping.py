@@ -65,7 +65,7 @@ def say(text: object) -> None:
 
 
 class Keep:
-    """Serves through a `Hold` until it is told to end."""
+    """Serves through a `Hold` until a signal or `office keep stop` ends it."""
 
     def __init__(self, office: Office, place: str, days: int, lock: FileIO) -> None:
         self.office, self.place, self.days, self.lock = office, place, days, lock

@@ -136,7 +136,7 @@ def columns(sitting: Sitting | None) -> list[str]:
 
 def touched(before: Reading, after: Reading, with_past: bool = False) -> Touched:
     """The sessions in order, each with those whom the change can meet there. Of sessions that are over, and that only
-    arrangements change, nobody is told but another name, unless the past is asked for, too."""
+    arrangements change, these are those with another name, unless the past is asked for, too."""
     people: dict[str, set[int]] = defaultdict(set)
     with contextlib.closing(sqlite3.connect(":memory:")) as both:
         both.execute("PRAGMA temp_store = MEMORY")  # reasons of appeals are in no file of others

@@ -87,11 +87,16 @@ class There(SecondSitting):
             self.assertEqual(second_sitting.own_code(reading.rows, "MA-1-2"), "MA-1")
         self.assertIn("sits LAT again", self.second("0000003", "MA-1", "--undo"))
 
+    def enter_numbered(self, title, second_title, entries):
+        """A paper ZO of MON and a paper ZO-2 of MON-2, with these titles and entries."""
+        self.enter("sessions", "session,date,start\nMON,2027-06-21,09:00\nMON-2,2027-06-22,09:00\n")
+        self.enter("papers", "paper,title,session,minutes,requires\n"
+                             f"ZO,{title},MON,60,-\nZO-2,{second_title},MON-2,60,-\n")
+        self.enter("entries", f"number,paper\n{entries}")
+
     def test_an_ordinary_paper_with_a_number_is_no_second_sitting(self):
         """ZO-2 of MON-2 has the title of ZO of MON. One sits both, and one was never entered for ZO."""
-        self.enter("sessions", "session,date,start\nMON,2027-06-21,09:00\nMON-2,2027-06-22,09:00\n")
-        self.enter("papers", "paper,title,session,minutes,requires\nZO,Zoos,MON,60,-\nZO-2,Zoos,MON-2,60,-\n")
-        self.enter("entries", "number,paper\n0000002,ZO\n0000002,ZO-2\n0000003,ZO-2\n")
+        self.enter_numbered("Zoos", "Zoos", "0000002,ZO\n0000002,ZO-2\n0000003,ZO-2\n")
         with Reading(self.value) as reading:
             self.assertEqual(second_sitting.own_code(reading.rows, "ZO-2"), "ZO-2")
         self.assertIn('"0000003","ZO-2"', self.run_office("absent", "MON-2", TODAY="2027-06-22").stdout)
@@ -104,9 +109,7 @@ class There(SecondSitting):
 
     def test_two_papers_of_the_same_candidates_are_no_second_sitting(self):
         """Nobody is withdrawn from ZO, and the titles say that they are two papers."""
-        self.enter("sessions", "session,date,start\nMON,2027-06-21,09:00\nMON-2,2027-06-22,09:00\n")
-        self.enter("papers", "paper,title,session,minutes,requires\nZO,Cats,MON,60,-\nZO-2,Dogs,MON-2,60,-\n")
-        self.enter("entries", "number,paper\n0000002,ZO\n0000002,ZO-2\n")
+        self.enter_numbered("Cats", "Dogs", "0000002,ZO\n0000002,ZO-2\n")
         with Reading(self.value) as reading:
             self.assertEqual(second_sitting.own_code(reading.rows, "ZO-2"), "ZO-2")
 

@@ -16,7 +16,7 @@ from exam_desk.words import FEATURES
 TOTALS = {"total", "totals", "sum", "summe", "gesamt", "count", "anzahl", "grand total", "subtotal"}
 EXAMPLE = "e.g. "  # before the first value of the template's example
 ANY_HEADER = set[str]().union(*HEADER_WORDS.values())
-EACH = 10_000  # rows after which the progress is told
+EACH = 10_000  # rows after which a line says how far it is
 MOST_ABOVE = 1000  # rows in which a value above an empty cell is looked for
 Row = Mapping[int, Cell | None]  # by column, what is read of a row
 Field = tuple[str, bool]  # its text, and whether that is wrong
