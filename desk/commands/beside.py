@@ -10,6 +10,7 @@ from exam_desk.words import few, plain
 
 if TYPE_CHECKING:
     from argparse import ArgumentParser
+    from collections.abc import Mapping
 
     from exam_desk.on_paper import Line, Move
     from exam_desk.reading import Reading
@@ -77,7 +78,7 @@ in its copies; `office back` leaves them as they are. A line says which printed 
 whose note is another, and no text of it.
 """)
 def notes(parser: ArgumentParser) -> None:
-    from exam_desk import consequences, facts, files, notebook, on_paper
+    from exam_desk import facts, files, notebook, on_paper
     from exam_desk.sheets import texts
     given = command.given(parser, "file?")
     office = command.office()
@@ -85,11 +86,17 @@ def notes(parser: ArgumentParser) -> None:
         if not given.file:
             command.say(texts.notes(office, rows))
             return
-        known, sessions = set(facts.candidate_names(rows)), [code for code, *_ in facts.sessions(rows)]
+        known = set(facts.candidate_names(rows))
     texts_given = files.texts_by_number(files.read(given.file), given.file, "text", notebook.MOST_NOTE_BYTES, known)
     noted = notebook.take_notes(office, texts_given)
     command.say(" ".join(f"{word} {noted[word]}" for word in ("added", "changed", "removed", "same")) + "\n")
-    for line in consequences.noted(on_paper.with_other_notes(office, sessions, texts_given)):
+    tell_papers(on_paper.with_other_notes(office, texts_given))
+
+
+def tell_papers(halls: Mapping[str, list[str]]) -> None:
+    """Says on standard error which printed papers are out of date, by session."""
+    from exam_desk import consequences
+    for line in consequences.noted(halls):
         print(line, file=sys.stderr)
 
 
@@ -157,10 +164,11 @@ def place(line: Line | None, nowhere: str) -> str:
     office rows GYM 8 down-and-up         numbered down the first column and up the next
     office rows                           prints what is kept
 
-RUNNING is across, across-and-back, down or down-and-up, seen from the front of the hall. No seat depends on it.
+RUNNING is across, across-and-back, down or down-and-up, seen from the front of the hall. No seat depends on it. A line
+says which printed papers show it otherwise.
 """)
 def rows(parser: ArgumentParser) -> None:
-    from exam_desk import facts, notebook
+    from exam_desk import facts, notebook, on_paper
     parser.add_argument("hall", metavar="HALL", nargs="?")
     parser.add_argument("across", metavar="DESKS-IN-A-ROW", nargs="?", type=int)
     parser.add_argument("running", metavar="RUNNING", nargs="?", choices=notebook.RUNNING, default=notebook.RUNNING[0])
@@ -171,7 +179,8 @@ def rows(parser: ArgumentParser) -> None:
     if given.hall is not None:
         if given.hall not in titles:
             raise Trouble(f"the office has no hall {given.hall}; it has {few(sorted(titles), 20)}")
-        notebook.keep_rows(office, given.hall, notebook.Rows(given.across or 0, given.running))
+        notebook.keep_rows(office, given.hall, asked := notebook.Rows(given.across or 0, given.running))
+        tell_papers(on_paper.with_another(office, on_paper.OF_ROWS.format(given.hall), asked))
     kept = sorted(notebook.rows_of_halls(office).items())
     lines = [f"{hall}: rows of {rows.across}, {rows.running}\n" for hall, rows in kept]
     command.say("".join(lines) or "nothing is kept\n")
@@ -182,11 +191,14 @@ def rows(parser: ArgumentParser) -> None:
     office school "Hill School"    takes the name
     office school                  prints it
     office school ''               takes it away
+
+A line says which printed papers have another one.
 """)
 def school(parser: ArgumentParser) -> None:
-    from exam_desk import notebook
+    from exam_desk import notebook, on_paper
     given = command.given(parser, "name?")
     office = command.office()
     if given.name is not None:
         notebook.set_school_name(office, given.name)
+        tell_papers(on_paper.with_another(office, on_paper.OF_SCHOOL, given.name))
     command.say(f"{plain(notebook.school_name(office)) or 'no name'}\n")

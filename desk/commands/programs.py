@@ -348,7 +348,7 @@ def outcome(words: Sequence[str], ran: Ran, data: bytes | None = None) -> int:
         lines = [f"  {line}" for line in
                  [*wrong, *usage] or [f"`office --help` lists the commands{meant(words[0])}"]]
     elif ran.status > 128:
-        lines = [f"  signal {ran.status - 128} ended the program; {refusals.WHOLE_OR_NOT}"]
+        lines = [f"  {ran.ending()}; {refusals.WHOLE_OR_NOT}"]
     sys.stderr.write(ran.complaint + "".join(f"{line}\n" for line in lines))
     return ran.status
 

@@ -68,7 +68,8 @@ class Answered(NamedTuple):
     ran: running.Ran
 
     def first_line(self) -> str:
-        return (self.ran.answer + self.ran.complaint).split("\n")[0]
+        said = (self.ran.answer + self.ran.complaint).split("\n")[0]
+        return said or self.ran.ending()
 
 
 @dataclass

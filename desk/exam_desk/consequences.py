@@ -120,7 +120,7 @@ def out_of_date(halls: Mapping[str, list[str]]) -> list[Met]:
 
 
 def noted(halls: Mapping[str, list[str]]) -> list[str]:
-    """As `done`, of the printed papers that notes make out of date."""
+    """As `done`, of the printed papers that something beside the office makes out of date."""
     met = grouped({}, {PRINTED: out_of_date(halls)})
     return [*brief(met), *(f"`office {words}` lists them" for words in listing(met, 1))]
 

@@ -4,7 +4,7 @@ from __future__ import annotations
 import itertools
 import sqlite3
 from collections import Counter
-from collections.abc import Collection, Iterable, Iterator
+from collections.abc import Collection, Iterable, Iterator, Mapping
 
 from exam_desk import facts, lists, logbook, on_paper, overlaps, telling
 from exam_desk.overlaps import Overlap
@@ -97,12 +97,19 @@ def halls_out_of_date(before: Reading, after: Reading, session: str, people: Col
 
 def new_clashes(before: Reading, after: Reading, sessions: Touched) -> Iterator[tuple[str, Person, list[str]]]:
     """Who misses papers of a session that they did not miss before, of those whom a change can meet there, with the
-    session and these papers; by session and name."""
+    session and these papers; by session and name. Who sits the other one of the same papers has no new clash."""
     for session, people in sessions.items():
         old, new = (telling.missing(reading, session, people) for reading in (before, after))
         missed = {number: sorted(set(papers) - set(old.get(number, []))) for number, papers in new.items()}
-        for person in by_name(after, (number for number, papers in missed.items() if papers)):
+        others = (number for number, papers in missed.items() if papers and not (
+            number in old and at_once(before, session, number, old) == at_once(after, session, number, new)))
+        for person in by_name(after, others):
             yield session, person, missed[person.number]
+
+
+def at_once(reading: Reading, session: str, number: str, missed: Mapping[str, list[str]]) -> set[str]:
+    """All papers of a session that somebody is entered for who misses some of them."""
+    return {reading.all_of(number)[session].paper, *missed[number]}
 
 
 def with_people(reading: Reading, found: Iterable[Overlap]) -> list[tuple[Overlap, list[Person]]]:

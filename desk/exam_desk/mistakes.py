@@ -16,8 +16,8 @@ MOST_TO_MEND = 200  # bytes of a value for which a better one is sought
 LIMITS = {"sessions": 400, "papers": 2000, "halls": 500, "candidates": 20000}
 MOST_MEMBERS, MOST_OPENINGS = 4096, 256  # of a session
 WITHDRAWN = "SELECT printf('%07d', number), paper FROM entry WHERE live = 0"
-STANDING = ("SELECT printf('%07d', number) FROM standing JOIN appeal USING (number, ref) "
-            f"WHERE state = {states.GRANTED}")
+GRANTS = ("SELECT printf('%07d', number), iif((number, ref) IN (SELECT number, ref FROM standing), '', session) "
+          f"FROM appeal WHERE kind = 3 AND state = {states.GRANTED} ORDER BY 1, 2")
 NAMES, CODES = {"name", "title"}, {"session", "paper", "hall", "code"}  # columns
 CODE = "1 to 12 of A-Z, 0-9 and -"
 TIME_CURE = "a time as 09:00; format the column as text"
@@ -98,13 +98,14 @@ class Known:
         self.openings: set[tuple[bytes, ...]] = set()
         self.entries: set[tuple[bytes, ...]] = set()
         self.withdrawn: set[tuple[bytes, ...]] = set()
-        self.standing: set[bytes] = set()
+        self.granted = defaultdict[bytes, list[str]](list)  # the sessions of grants by number; "" of a standing one
         self.codes: dict[bytes, bytes] = {}  # the access code of each number
         if connection:
             for kind in files.HEADERS:
                 self.take(kind, [tuple(map(str.encode, row)) for row in files.rows_of(connection, kind)])
             self.withdrawn.update((key.encode(), str(paper).encode()) for key, paper in connection.execute(WITHDRAWN))
-            self.standing.update(key.encode() for key, in connection.execute(STANDING))
+            for key, session in connection.execute(GRANTS):
+                self.granted[key.encode()].append(session)
 
     def take(self, kind: str, rows: Sequence[tuple[bytes, ...]]) -> None:
         """Adds the rows of a file."""
@@ -322,8 +323,9 @@ class File:
             elif record.fields in self.known.withdrawn:
                 self.notes.add(record.line, "number", "this entry is withdrawn in the office and stays so until it is "
                                "reinstated", record.fields[0])
-            elif self.kind == "arrangements" and record.fields[0] in self.known.standing:
-                self.notes.add(record.line, "number", "a standing grant is in force for this candidate in its place",
+            elif self.kind == "arrangements" and (of := self.known.granted.get(record.fields[0])):
+                which = "a standing grant" if "" in of else f"a grant for {words.few(of)}"
+                self.notes.add(record.line, "number", f"{which} is in force for this candidate in its place",
                                record.fields[0])
 
 

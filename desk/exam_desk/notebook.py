@@ -43,6 +43,9 @@ class Rows(NamedTuple):
     across: int  # desks in a row
     running: str  # one of RUNNING
 
+    def __str__(self) -> str:
+        return f"{self.across} {self.running}"
+
 
 class Absences(NamedTuple):
     """Who is noted as absent in a session."""
@@ -270,6 +273,12 @@ def others_than_in(office: Office, copy: str) -> list[str]:
     inside = os.path.relpath(copy, beside.folder(office.path)).split(os.sep)
     now, then = contents(office, PLACE), contents(office, *inside, PLACE)
     return [words_of(name) for name in sorted({*now, *then}) if now.get(name) != then.get(name)]
+
+
+def sessions_with(office: Office, word: str) -> list[str]:
+    """The sessions of which the notebook has a file whose name begins with one of WORDS."""
+    found = map(NAME.fullmatch, sorted(contents(office, PLACE)))
+    return [each[2] for each in found if each and each[1] == word and each[2]]
 
 
 def words_of(name: str) -> str:

@@ -14,6 +14,7 @@ if TYPE_CHECKING:
 NOTED = "noted"  # beside the lines of what is printed: by whom, how many, and when
 SHOWN = ["name", "paper", "date", "start", "finish", "needs", "extra", "note"]
 SCHOOL, OF = "school", ": "  # where others have a code; between a code and what is shown of it
+OF_SCHOOL, OF_ROWS = f"{SCHOOL}{OF}name", f"{{}}{OF}rows"  # what lines share of the school, and of a hall
 
 
 class Desk(NamedTuple):
@@ -88,11 +89,11 @@ def shared(reading: Reading, session: str) -> dict[str, str]:
     """What papers of a session show of halls, papers and the school: the values by code and what it is."""
     found = {f"{paper}{OF}paper title": title for paper, title in facts.paper_titles(reading.rows).items()}
     for hall, rows in notebook.rows_of_halls(reading.office).items():
-        found[f"{hall}{OF}rows"] = f"{rows.across} {rows.running}"
+        found[OF_ROWS.format(hall)] = str(rows)
     for each in facts.openings(reading.rows, session):
         found |= {f"{each.hall}{OF}hall title": each.title, f"{each.hall}{OF}desks": str(each.desks),
                   f"{each.hall}{OF}open until": words.clock(each.until)}
-    return {**found, f"{SCHOOL}{OF}name": notebook.school_name(reading.office)}
+    return {**found, OF_SCHOOL: notebook.school_name(reading.office)}
 
 
 def halls_with(what: str, lines: Mapping[str, Line]) -> set[str]:
@@ -106,15 +107,25 @@ def others(before: Mapping[str, str], now: Mapping[str, str]) -> list[tuple[str,
     return [(what, old, now[what]) for what, old in sorted(before.items()) if now.get(what, old) != old]
 
 
-def with_other_notes(office: Office, sessions: Iterable[str], notes: Mapping[str, str]) -> dict[str, list[str]]:
+def all_noted(office: Office) -> dict[str, Paper]:
+    """What was printed, by session."""
+    return {code: noted(office, code) for code in notebook.sessions_with(office, "printed")}
+
+
+def with_other_notes(office: Office, notes: Mapping[str, str]) -> dict[str, list[str]]:
     """By session the halls of those of whom other notes are on paper than these by number."""
     found = {}
-    for code in sessions:
-        lines = noted(office, code).lines
-        other = [line for number, line in lines.items() if line.shown[-1] != notes.get(number, line.shown[-1])]
+    for code, paper in all_noted(office).items():
+        other = [line for number, line in paper.lines.items() if line.shown[-1] != notes.get(number, line.shown[-1])]
         if other:
             found[code] = sorted({line.desk.hall for line in other} - {""})
     return found
+
+
+def with_another(office: Office, what: str, value: object) -> dict[str, list[str]]:
+    """By session the halls whose papers show another value of what their lines share."""
+    return {code: sorted(halls_with(what, paper.lines) - {""}) for code, paper in all_noted(office).items()
+            if paper.shared.get(what, str(value)) != str(value)}
 
 
 def note(office: Office, reading: Reading, session: str) -> tuple[int, str]:

@@ -33,6 +33,10 @@ class Ran(NamedTuple):
     answer: str  # of a run whose output is not ours
     complaint: str
 
+    def ending(self) -> str:
+        """Which signal ended it; nothing where none did."""
+        return f"signal {self.status - 128} ended the program" if self.status > 128 else ""
+
 
 class NotStarted(Trouble):
     """The program cannot be started, so it has changed nothing."""

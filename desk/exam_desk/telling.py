@@ -54,10 +54,10 @@ NEIGHBOURS = (  # whoever sits in a hall with one of the numbers, before or afte
     "UNION SELECT session, number FROM after.seat JOIN halls USING (session, hall)")
 RENAMED = ("SELECT number FROM before.candidate AS was JOIN after.candidate AS later USING (number) "
            "WHERE was.name <> later.name")
-TITLES = "SELECT code, title FROM paper UNION ALL SELECT code, title FROM hall"
 MOMENTS = ("before", "after")
 CHANGED = ["sessions", "papers", "halls", "openings", "arrangements"]  # kinds of rows of which other values are said
 Touched = dict[str, set[int] | None]  # by session the numbers; None for all of its members
+Titles = tuple[dict[str, str], dict[str, str]]  # of papers and of halls, by code
 
 
 class Change(NamedTuple):
@@ -274,22 +274,25 @@ def people_and_sittings(who: Collection[object]) -> tuple[int, int]:
     return len(set(who)), len(who)
 
 
-def csv_text(changes: Iterable[Change], titles: dict[str, str]) -> str:
+def csv_text(changes: Iterable[Change], titles: Titles) -> str:
     """For a spreadsheet: each value in quotes, and no formula. A mark at the beginning says that it is UTF-8."""
     return files.BOM.decode() + files.written([HEADER, *(csv_row(change, titles) for change in changes)])
 
 
-def csv_row(change: Change, titles: dict[str, str]) -> list[str]:
+def csv_row(change: Change, titles: Titles) -> list[str]:
     last = change.new or change.old
     codes = [last.paper, last.hall or ""] if last else ["", ""]
+    shown = (of.get(code, "") for of, code in zip(titles, codes))
     return ["yes" if change.is_to_tell() else "no", change.session, change.number, files.guarded(change.name),
-            *columns(change.old), *columns(change.new), *(files.guarded(titles.get(code, "")) for code in codes),
-            files.guarded(change.old_name), "; ".join(change.also())]
+            *columns(change.old), *columns(change.new), *map(files.guarded, [*shown, change.old_name]),
+            "; ".join(change.also())]
 
 
-def titles_of(*readings: Reading) -> dict[str, str]:
-    """The titles of papers and halls by code; a later reading counts."""
-    return {code: title for reading in readings for code, title in reading.rows.execute(TITLES)}
+def titles_of(*readings: Reading) -> Titles:
+    """The titles of papers and those of halls; a later reading counts."""
+    papers, halls = ({code: title for reading in readings for code, title in of(reading.rows).items()}
+                     for of in (facts.paper_titles, facts.hall_titles))
+    return papers, halls
 
 
 class OtherValue(NamedTuple):

@@ -17,7 +17,7 @@ from exam_desk.sheets import slips as slip_pages
 from exam_desk.sheets import texts
 from exam_web import proposals
 from exam_web.desk import View, candidate_row, desk, office, once, sums, view
-from exam_web.forms import Form, Page, Wrong, at_field, checked, lead, short, styled
+from exam_web.forms import Form, Page, Wrong, at_field, checked, lead, short, styled, tell_papers
 from exam_web.proposals import APPEALS, BY_DAY, PLANS, TROUBLE, Plan, command, features, import_step
 from exam_web.session import Session
 from exam_web.wording import said, shown, text
@@ -61,7 +61,7 @@ def page(number: int, code: str = "") -> str:
     who = candidate_row(number)
     reading, entries = view().reading, view().rows(texts.ENTRIES, [number])
     later = {row["paper"] for row in entries
-             if not row["live"] and second_sitting.sat_later(reading.rows, f"{number:07}", row["paper"])}
+             if second_sitting.sat_later(reading.rows, f"{number:07}", row["paper"])}
     return render_template("candidate.html", who=who, entries=entries, sittings=reading.all_of(f"{number:07}"),
                            lodged=view().rows(texts.LODGED, [number]), others=papers_without(number), code=code,
                            second=later, hall_titles=facts.hall_titles(reading.rows),
@@ -87,9 +87,7 @@ def note(number: int) -> Response:
         raise Wrong(page_of, "note", note=wrong)
     notebook.take_notes(office(), {f"{number:07}": given})
     told = text("The note is kept.") if given else text("There is no note on this candidate.")
-    for session, halls in on_paper.with_other_notes(office(), sums(view()), {f"{number:07}": given}).items():
-        g.visit.said.append(("bad", text("The papers of {session} are out of date: {halls}", session=session,
-                                         halls=", ".join(halls) or text("no hall"))))
+    tell_papers(on_paper.with_other_notes(office(), {f"{number:07}": given}))
     return lead("candidates.page", told, number=number, _anchor="note")
 
 

@@ -68,6 +68,12 @@ def lead(endpoint: str, said: Markup | None = None, kind: str = "good", **values
     return redirect(url_for(endpoint, **values), 303)
 
 
+def tell_papers(halls: Mapping[str, list[str]]) -> None:
+    """Has the next page say which printed papers are out of date now, by session."""
+    g.visit.said += [("bad", text("The papers of {session} are out of date: {halls}", session=session,
+                                  halls=", ".join(found) or text("no hall"))) for session, found in halls.items()]
+
+
 def checked(page: Page, form: Form, **columns: str) -> dict[str, str]:
     """The values of fields, by the forms of the columns that are named; what is wrong is said beside its field. The
     number of a candidate may be typed without its zeros."""

@@ -12,10 +12,10 @@ from flask import Blueprint, abort, g, render_template, request
 from markupsafe import Markup, escape
 from werkzeug.wrappers import Response
 
-from exam_desk import backups, beside, changing, copies, keeping, logbook, losses, notebook, private, turns
+from exam_desk import backups, beside, changing, copies, keeping, logbook, losses, notebook, on_paper, private, turns
 from exam_desk.trouble import Stale, Trouble
 from exam_web.desk import View, desk, office, once, sums, view
-from exam_web.forms import Wrong, archive, at_field, lead, whole
+from exam_web.forms import Wrong, archive, at_field, lead, tell_papers, whole
 from exam_web.proposals import MOST_ROWS, Effects, copy_key
 from exam_web.wording import said, text
 
@@ -132,6 +132,7 @@ def school() -> Response:
     name = request.form.get("name", "").strip()
     with at_field(("office.page", {}), "school", "name"):
         notebook.set_school_name(office(), name)
+    tell_papers(on_paper.with_another(office(), on_paper.OF_SCHOOL, name))
     told = text("The papers of the school have its name now.") if name else text("The school has no name now.")
     return lead("office.page", told, _anchor="school")
 

@@ -17,7 +17,7 @@ from exam_desk.reading import Member
 from exam_desk.sheets import papers, slips
 from exam_desk.words import clock
 from exam_web.desk import View, desk, office, once, sums, two_papers, view
-from exam_web.forms import Form, Page, Wrong, at_field, attached, checked, lead, styled, whole
+from exam_web.forms import Form, Page, Wrong, at_field, attached, checked, lead, styled, tell_papers, whole
 from exam_web.proposals import APPEALS, PLANS, Plan, command, features, import_step
 from exam_web.wording import many, text
 
@@ -92,9 +92,10 @@ def page(code: str) -> str:
     before, _, after = [None, *codes, None][codes.index(code):][:3]
     lodged = view().rows(f"{APPEALS} WHERE appeal.session = ? ORDER BY state, appeal.number, ref LIMIT ?",
                          [code, MOST_PEOPLE + 1])
+    pairs = second_sitting.pairs(view().reading.rows)
     return render_template("session.html", shown=shown, s=shown.sums, lodged=lodged, previous=before, next=after,
                            absences=notebook.absences(view().reading, code),
-                           seconds=[each for each in codes if second_sitting.is_numbered(each, code)],
+                           seconds=sorted({second["session"] for first, second in pairs if first["session"] == code}),
                            shortage=shortage(view(), code) if shown.sums.short else None, most=MOST_PEOPLE)
 
 
@@ -159,6 +160,7 @@ def draw(code: str) -> Response:
         raise Wrong(charts if is_chart else shown.hall_page(halls[0]), "draw", **wrong)
     for hall, rows in drawn.items():
         notebook.keep_rows(office(), hall, rows)
+        tell_papers(on_paper.with_another(office(), on_paper.OF_ROWS.format(hall), rows))
     return lead(charts[0], **charts[1]) if is_chart else lead("session.page", code=code, _anchor=f"hall-{halls[0]}")
 
 

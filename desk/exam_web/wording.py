@@ -85,7 +85,7 @@ def number(value: int) -> str:
 def day(iso: str) -> Markup:
     """2027-06-07 as Mon 7 Jun, in the reader's language."""
     date = datetime.date.fromisoformat(iso)
-    return Markup("{} {} {}").format(text(f"{date:%a}"), date.day, text(f"{date:%b}"))
+    return text("{weekday} {day} {month}", weekday=text(f"{date:%a}"), day=date.day, month=text(f"{date:%b}"))
 
 
 def days_until(iso: str) -> int:

@@ -203,7 +203,8 @@ class RandomOffice:
                     self.arrangements[number, seat["session"]] = ", ".join(extra + needs)
         self.now = {session: self.seats(self.path, session) for session in self.sessions}
         with Reading(self.office) as reading, Reading(self.office, os.path.join(self.before, "office.db")) as before:
-            self.titles = telling.titles_of(reading)
+            papers, halls = telling.titles_of(reading)
+            self.titles = papers | halls  # no hall has the code of a paper here
             for session in self.sessions:
                 for look in (self.doors, self.by_name, self.counts, self.session_page, self.printed, self.reasons):
                     look(reading, session)
@@ -391,7 +392,8 @@ class RandomOffice:
     def changes(self, before, reading):
         old = {session: self.seats(before.copy, session) for session in self.sessions}
         found = telling.differences(before, reading)
-        rows = list(csv.reader(io.StringIO(telling.csv_text(found, self.titles).removeprefix("\ufeff"))))[1:]
+        text = telling.csv_text(found, telling.titles_of(reading))
+        rows = list(csv.reader(io.StringIO(text.removeprefix("\ufeff"))))[1:]
         shown = {(row[1], row[2]): (row[6:10], row[12:16]) for row in rows if row[4:10] != row[10:16]}
 
         def columns(seat):

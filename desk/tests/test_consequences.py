@@ -148,6 +148,14 @@ class Told(sample.SampleSchool):
         self.assertIn("! MON-AM 0001000 Ada Lin: no longer misses MA-2\n", self.office("changes", "1"))
         self.assertEqual(self.office("changes", "2"), "nothing changed\n")
 
+    def test_a_clash_of_other_papers(self):
+        """0001306 sits LAT and misses MA-2; then sits CS-1 and misses LAT. As many are missed, and the papers are others."""
+        lines = self.told("import", "entries", self.write("e.csv", "number,paper\n0001306,CS-1\n"))
+        self.assertIn("1 has a new clash: MON-AM 0001306 Sami Nagy", lines)
+        self.told("withdraw", "0001306", "MA-2")
+        self.assertIn("1 has a new clash\n  MON-AM 0001306 Sami Nagy: does not sit MA-2\n",
+                      self.office("what-if", "back", "2"))
+
     def test_who_is_not_touched_is_not_spoken_of(self):
         same = str(self.examples / "entries.csv")
         hall = self.write("h.csv", "hall,title,features\nXX,Cellar,-\n")

@@ -206,12 +206,12 @@ class TestAppeals(DeskSchool):
         """0001306 is entered for LAT and MA-2 at once, and asks for MA-2."""
         self.office("lodge", "0001306", "MON-AM", "clash", "MA-2", "")
         said = self.office("what-if", "decide", "0001306", "D1", "granted", "")
-        self.assertIn("1 has a new clash\n  MON-AM 0001306 Sami Nagy: does not sit LAT\n", said)
+        self.assertIn("1 sits another paper\n  MON-AM 0001306 Sami Nagy: AULA desk 1 -> AULA desk 14, LAT -> MA-2, ", said)
+        self.assertNotIn("clash", said)
         page, _ = self.browser.post("/propose/decide", "/appeals/1306/D1", number="0001306", ref="D1",
                                     outcome="granted", reason="")
         text = self.browser.get(page)
-        self.assertEqual(effects(text)["clashes"], (1, 1))
-        self.assertRegex(text.partition('id="new-clashes"')[2].partition("</table>")[0], "0001306.*MA-2.*LAT")
+        self.assertEqual({kind: counts for kind, counts in effects(text).items() if kind != "desk"}, {"paper": (1, 1)})
 
     def test_lodged_and_decided(self):
         self.lodged()

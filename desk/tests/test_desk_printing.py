@@ -87,6 +87,16 @@ class TestPrinting(DeskSchool):
             if self.office("printed") == "nobody noted that papers are printed\n":
                 self.office("printed", "MON-AM")
 
+    def test_rows_and_the_school_say_so_at_once(self):
+        self.office("rows", "AULA", "6")
+        self.office("printed", "MON-AM")
+        said = "The papers of MON-AM are out of date: AULA"
+        self.browser.post("/sessions/MON-AM/draw", "/sessions/MON-AM/halls/AULA", hall="AULA",
+                          **{"across-AULA": "4", "running-AULA": "down"})
+        self.assertRegex(self.browser.words("/sessions/MON-AM"), f"{said} ")
+        self.browser.post("/office/school", "/office", name="Hill")
+        self.assertIn(f"{said}, GYM, ", self.browser.words("/office"))
+
     def test_what_halls_share_is_one_line(self):
         self.office("rows", "AULA", "6")
         self.office("printed", "MON-AM")

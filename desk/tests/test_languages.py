@@ -33,7 +33,7 @@ class TestGerman(DeskSchool):
     def test_every_page(self):
         for path, words in (("/", "Zu tun"), ("/sessions/MON-AM", "Räume"), ("/candidates/1051", "Prüfungsplan"),
                             ("/files", "Dateien"), ("/sessions/MON-AM", "Sitzpläne"), ("/clashes", "Zweite Sitzung"),
-                            ("/sessions/MON-AM/halls/PC1", "hin und zurück"),
+                            ("/clashes", "Mo 7. Juni"), ("/sessions/MON-AM/halls/PC1", "hin und zurück"),
                             ("/nothing", "Nicht hier"), ("/office", "Protokoll")):
             answer, text = self.browser.ask("GET", path, headers={"Accept-Language": "de-AT,de;q=0.9,en;q=0.5"})
             self.assertIn(words, html.unescape(text))

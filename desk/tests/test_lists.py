@@ -98,6 +98,13 @@ class Lists(sample.SampleSchool):
                 ("TUE-AM", ["2027-06-08", "09:00", "11:12", "CH-1", "R12", "2"], ["Chemistry", "Room 12"]))]])
         self.assertEqual({len(row) for row in rows}, {20})
 
+    def test_a_hall_with_the_code_of_a_paper(self):
+        self.change("INSERT INTO hall SELECT 'LAT', 'Hall of Latin', features FROM hall WHERE code = 'AULA'")
+        before = self.copy()
+        self.office("withdraw", "0001306", "MA-2")
+        rows = [row for row in csv.reader(self.office("changes", before, "--csv").split("\n")) if "0001306" in row]
+        self.assertEqual([row[13:18] for row in rows], [["LAT", "AULA", "1", "Latin", "Aula"]])
+
     def test_no_spreadsheet_finds_a_formula(self):
         before = self.copy()
         self.change("UPDATE candidate SET name = ? WHERE number = 1748", ["Bo\";=cmd|'/c calc'!A1;x"])

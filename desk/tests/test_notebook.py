@@ -359,12 +359,12 @@ class Commands(sample.SampleSchool):
                 (("import", "papers", paper), "LAT: paper title Latin -> Latin 1", halls_of["LAT"]),
                 (("school", "Hill"), "school: name - -> Hill", set().union(*halls_of.values()))):
             self.office("printed", "MON-AM")
-            self.office("rows", "PC1", "6")  # there was no chart of it before
+            self.assertEqual(self.run_office("rows", "PC1", "6").stderr, "")  # there was no chart of it before
             self.assertEqual(self.office("printed", "MON-AM", "--look"), "the papers are up to date\n")
             told = self.run_office(*words)
             self.assertEqual(self.office("printed", "MON-AM", "--look"),
                              f"{said}\nto print again: {', '.join(sorted(halls))}; board, counts, slips\n")
-            self.assertEqual("MON-AM for AULA" in told.stderr, words[0] in ("open-hall", "import"), words)
+            self.assertIn(f": MON-AM for {', '.join(sorted(halls))}\n", told.stderr, words)
             self.assertEqual(self.office("printed"),
                              "MON-AM: the papers are out of date; `office printed MON-AM --look`\n")
 

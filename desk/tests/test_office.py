@@ -82,6 +82,14 @@ class Words(sample.SampleSchool):
             self.assertEqual(self.run_office(*words).stderr, "  late.csv line 3: NOTE: number '0001000': this entry is "
                              "withdrawn in the office and stays so until it is reinstated\n")
 
+    def test_arrangements_in_whose_place_a_grant_is_in_force(self):
+        path = self.write("needs.csv", "number,needs,extra\n0001051,-,50\n")
+        for session, outcome, grant in (("MON-AM", "granted", "a grant for MON-AM"), ("TUE-AM", "standing", "a standing grant")):
+            self.office("lodge", "1051", session, "arrangement", "screen", "25", "")
+            self.office("decide", "1051", "D1" if session == "MON-AM" else "D2", outcome, "")
+            self.assertIn(f"  needs.csv line 2: NOTE: number '0001051': {grant} is in force for this candidate in its "
+                          "place\n", self.run_office("what-if", "import", "arrangements", path).stderr)
+
     def test_a_repeated_key_is_shown(self):
         path = self.write("halls.csv", "hall,title,features\nGYM,Gym,-\nGYM,Gym,quiet\n")
         self.assertIn("  halls.csv line 3: row: line 2 has the same key and other contents: keep one\n",
