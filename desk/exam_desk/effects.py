@@ -79,7 +79,7 @@ def out_of_date(before: Reading, after: Reading, sessions: Touched) -> dict[str,
     return {code: sorted(halls - {""}) for code, halls in found.items() if halls}
 
 
-def halls_out_of_date(before: Reading, after: Reading, session: str, people: Collection[int] | None) -> set[str]:
+def halls_out_of_date(before: Reading, after: Reading, session: str, people: Collection[str] | None) -> set[str]:
     """The halls of those of these people, or of all, who are otherwise than before and not as on paper, now and there,
     and those with what lines share and is another; "" for who has no desk."""
     paper = on_paper.noted(after.office, session)
@@ -118,7 +118,7 @@ def with_people(reading: Reading, found: Iterable[Overlap]) -> list[tuple[Overla
 
 
 def by_name(reading: Reading, numbers: Iterable[str]) -> list[Person]:
-    return lists.by_name(reading.person(int(number)) for number in numbers)
+    return lists.by_name(map(reading.person, numbers))
 
 
 def figures(reading: Reading) -> dict[str, tuple[int, int]]:

@@ -56,16 +56,16 @@ def hall_titles(rows: Rows) -> dict[str, str]:
 
 
 def candidate_names(rows: Rows) -> dict[str, str]:
-    return {f"{number:07}": name for number, name in rows.execute("SELECT number, name FROM candidate")}
+    return dict(rows.execute("SELECT printf('%07d', number), name FROM candidate").fetchall())
 
 
-def access_codes(rows: Rows) -> dict[int, str]:
-    return {number: code for number, code in rows.execute("SELECT number, code FROM candidate")}
+def access_codes(rows: Rows) -> dict[str, str]:
+    return dict(rows.execute("SELECT printf('%07d', number), code FROM candidate").fetchall())
 
 
-def entered(rows: Rows, session: str) -> dict[int, int]:
+def entered(rows: Rows, session: str) -> dict[str, int]:
     """The numbers of all who have an entry in a session, a withdrawn one too, each with the count of these."""
     rows.index_entries()
-    found = rows.execute("SELECT entry.number, count(*) FROM paper JOIN entry ON entry.paper = paper.code "
-                         "WHERE paper.session = ? GROUP BY entry.number ORDER BY entry.number", [session])
-    return {number: count for number, count in found}
+    found = rows.execute("SELECT printf('%07d', number), count(*) FROM paper JOIN entry ON entry.paper = paper.code "
+                         "WHERE paper.session = ? GROUP BY number ORDER BY number", [session])
+    return dict(found.fetchall())

@@ -9,11 +9,11 @@ from exam_desk.reading import Reading
 from exam_desk.second_sitting import ARRANGED, PAPERS, arranged, pairs, second_papers
 from exam_desk.words import Said, clock, feature_text, plain
 
-ENTERED = "SELECT number FROM entry WHERE paper = ? AND live = 1 ORDER BY number"
+ENTERED = "SELECT printf('%07d', number) FROM entry WHERE paper = ? AND live = 1 ORDER BY number"
 OPENED = "SELECT session, hall FROM opening"
-SEATED = "SELECT number FROM seat WHERE (session, hall) = (?, ?) ORDER BY number"
-LATER = ("SELECT entry.number FROM entry JOIN entry AS one USING (number) WHERE one.paper = ? AND entry.paper = ? "
-         "AND entry.live = 1 AND (one.live = 1) = ? ORDER BY number")
+SEATED = "SELECT printf('%07d', number) FROM seat WHERE (session, hall) = (?, ?) ORDER BY number"
+LATER = ("SELECT printf('%07d', number) FROM entry JOIN entry AS one USING (number) WHERE one.paper = ? "
+         "AND entry.paper = ? AND entry.live = 1 AND (one.live = 1) = ? ORDER BY number")
 MOST_LINES, MOST_NAMED = 5, 3
 STAYS = ("NOTE: {paper} in {session}, a second sitting of {first}, stays as it is ({kept}) for {people}: import a row for "
          "{session} or {paper} too")
@@ -58,7 +58,7 @@ def in_closed_halls(before: Reading, after: Reading) -> Iterator[Said]:
 
 def reinstated(before: Reading, after: Reading) -> list[Said]:
     """What is said of each candidate whose first entry counts again beside that of the second sitting."""
-    return [Said(SAT_AS, {"person": after.person(number).shown(), "number": f"{number:07}", "first": first["code"],
+    return [Said(SAT_AS, {"person": after.person(number).shown(), "number": number, "first": first["code"],
                           "paper": second["code"]})
             for first, second in pairs(after.rows)
             for number in later(after, first, second, True) if number in later(before, first, second, False)]
@@ -68,10 +68,10 @@ def arranged_otherwise(before: Reading, after: Reading) -> list[Said]:
     """What is said of the arrangements of those who had a second sitting before, as after a grant for one session."""
     return [said for first, second in pairs(after.rows)
             for number in later(after, first, second, False) if number in later(before, first, second, False)
-            for said in arranged(before, after, f"{number:07}", first["session"], second["session"])]
+            for said in arranged(before, after, number, first["session"], second["session"])]
 
 
-def later(reading: Reading, first: sqlite3.Row, second: sqlite3.Row, is_first_live: bool) -> list[int]:
+def later(reading: Reading, first: sqlite3.Row, second: sqlite3.Row, is_first_live: bool) -> list[str]:
     """Who is entered for a second sitting, and for its paper too, or withdrawn from that."""
     return [number for number, in reading.rows.execute(LATER, [first["code"], second["code"], is_first_live])]
 

@@ -121,7 +121,7 @@ def absences(reading: Reading, session: str) -> Absences | None:
     if noted is None:
         return None
     known = facts.candidate_names(reading.rows).keys()  # a copy from before somebody came may have been put back
-    members = reading.members(session, sorted(map(int, noted & known)))
+    members = reading.members(session, sorted(noted & known))
     return Absences(members, sorted(noted.difference(member.number for member in members)))
 
 
@@ -166,7 +166,7 @@ def note_absent(office: Office, reading: Reading, session: str, missing: Iterabl
         raise Trouble("nothing is noted: no number is given")
     if both := sorted({*missing} & {*there}):
         raise Trouble(f"nothing is noted: {words.few(both, MOST_NAMED)}: absent, or there?")
-    members = reading.members(session, [int(number) for number in asked if reading.knows(number)])
+    members = reading.members(session, filter(reading.knows, asked))
     if wrong := sorted({*asked}.difference(member.number for member in members), key=asked.index):
         raise Trouble(f"nothing is noted: {words.few(wrong, MOST_NAMED)}: no candidate of {session}")
     return keep_absent(office, session, missing, there, nobody)

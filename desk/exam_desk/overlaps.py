@@ -74,8 +74,8 @@ def in_doubt(reading: Reading, asked: Collection[str] = ()) -> list[Doubtful]:
             reading.rows.execute(f"{IN_BOTH} UNION ALL {IN_HALLS}", {**pair._asdict(), "longest": LONGEST})]
 
 
-def numbers_of(doubtful: Collection[Doubtful]) -> list[int]:
-    return sorted({int(each.number) for each in doubtful})
+def numbers_of(doubtful: Collection[Doubtful]) -> list[str]:
+    return sorted({each.number for each in doubtful})
 
 
 def certain(reading: Reading, doubtful: Collection[Doubtful]) -> list[Overlap]:
@@ -134,7 +134,7 @@ def of_day(clock: str) -> int:
 
 
 def line(reading: Reading, each: Overlap) -> str:
-    people = [reading.person(int(number)).shown() for number in each.candidates]
+    people = [reading.person(number).shown() for number in each.candidates]
     both = f"{count(len(people), 'candidate')} in both: {few(people)}" if people else ""
     halls = f"candidates of both in {few(each.halls)}" if each.halls else ""
     return f"{each.early} and {each.late} overlap: {'; '.join(filter(None, (both, halls)))}"

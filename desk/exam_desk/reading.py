@@ -116,7 +116,7 @@ class Reading(contextlib.AbstractContextManager["Reading"]):
             return settled and self.state == state_of(self.path)
         return False
 
-    def members(self, session: str, only: Iterable[int] | None = None) -> list[Member]:
+    def members(self, session: str, only: Iterable[str] | None = None) -> list[Member]:
         """Who sits what in a session, by number, or who of some candidates does. Raises `Trouble` where all are asked
         for and there is no such session."""
         if only is None:
@@ -129,18 +129,17 @@ class Reading(contextlib.AbstractContextManager["Reading"]):
 
     def member(self, session: str, number: str) -> Member | None:
         """What one candidate sits in a session; None where they sit nothing."""
-        return next(iter(self.members(session, [int(number)])), None)
+        return next(iter(self.members(session, [number])), None)
 
     def all_of(self, number: str) -> dict[str, Sitting]:
-        person = self.person(int(number))
-        self.ask([person])
-        return self.sittings[person.number]
+        self.ask([self.person(number)])
+        return self.sittings[number]
 
     def clashes(self, session: str, only: Collection[str] | None = None) -> dict[str, list[str]]:
         """The papers that each candidate with such papers is entered for and does not sit, by number; of all members,
         or of some candidates."""
         asked = (number for number, count in facts.entered(self.rows, session).items() if count > 1)
-        several = [self.person(number) for number in (asked if only is None else map(int, only))]
+        several = [self.person(number) for number in (asked if only is None else only)]
         self.learn(several, "clashes", self.missed, clashes)
         return {person.number: papers for person in several if (papers := self.missed[person.number].get(session))}
 
@@ -149,12 +148,12 @@ class Reading(contextlib.AbstractContextManager["Reading"]):
         query = "SELECT 1 FROM candidate WHERE printf('%07d', number) = ?"
         return self.rows.execute(query, [number]).fetchone() is not None
 
-    def person(self, number: int) -> Person:
+    def person(self, number: str) -> Person:
         """Raises `Trouble` where the office has no such candidate."""
-        row = self.rows.execute("SELECT name, code FROM candidate WHERE number = ?", [number]).fetchone()
+        row = self.rows.execute("SELECT name, code FROM candidate WHERE number = ?", [int(number)]).fetchone()
         if row is None:
-            raise Trouble(f"there is no candidate {number:07}")
-        return Person(f"{number:07}", row["name"], row["code"])
+            raise Trouble(f"there is no candidate {number}")
+        return Person(number, row["name"], row["code"])
 
     def ask(self, people: Iterable[Person]) -> None:
         """Asks the program what those sit of whom it was not asked yet."""

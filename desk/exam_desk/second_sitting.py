@@ -224,7 +224,7 @@ def arranged(before: Reading, after: Reading, number: str, first: str, session: 
     if now == was or len({*now}) < 2:
         return []
     one, other = (each or Said("none", {}) for each in now)
-    return [Said(ARRANGED, {"person": after.person(int(number)).shown(), "one": one, "first": first, "other": other,
+    return [Said(ARRANGED, {"person": after.person(number).shown(), "one": one, "first": first, "other": other,
                             "session": session})]
 
 

@@ -50,13 +50,13 @@ OF_ONE = ["seat", "entry", "candidate", "arrangement", "appeal", "standing"]  # 
 NEIGHBOURS = (  # whoever sits in a hall with one of the numbers, before or after
     "WITH halls AS (SELECT session, hall FROM before.seat WHERE number IN numbers "
     "UNION SELECT session, hall FROM after.seat WHERE number IN numbers) "
-    "SELECT session, number FROM before.seat JOIN halls USING (session, hall) "
-    "UNION SELECT session, number FROM after.seat JOIN halls USING (session, hall)")
-RENAMED = ("SELECT number FROM before.candidate AS was JOIN after.candidate AS later USING (number) "
+    "SELECT session, printf('%07d', number) FROM before.seat JOIN halls USING (session, hall) "
+    "UNION SELECT session, printf('%07d', number) FROM after.seat JOIN halls USING (session, hall)")
+RENAMED = ("SELECT printf('%07d', number) FROM before.candidate AS was JOIN after.candidate AS later USING (number) "
            "WHERE was.name <> later.name")
 MOMENTS = ("before", "after")
 CHANGED = ["sessions", "papers", "halls", "openings", "arrangements"]  # kinds of rows of which other values are said
-Touched = dict[str, set[int] | None]  # by session the numbers; None for all of its members
+Touched = dict[str, set[str] | None]  # by session the numbers; None for all of its members
 Titles = tuple[dict[str, str], dict[str, str]]  # of papers and of halls, by code
 
 
@@ -137,14 +137,14 @@ def columns(sitting: Sitting | None) -> list[str]:
 def touched(before: Reading, after: Reading, with_past: bool = False) -> Touched:
     """The sessions in order, each with those whom the change can meet there. Of sessions that are over, and that only
     arrangements change, these are those with another name, unless the past is asked for, too."""
-    people: dict[str, set[int]] = defaultdict(set)
+    people: dict[str, set[str]] = defaultdict(set)
     with contextlib.closing(sqlite3.connect(":memory:")) as both:
         both.execute("PRAGMA temp_store = MEMORY")  # reasons of appeals are in no file of others
         for moment, reading in zip(MOMENTS, (before, after)):
             both.execute(f"ATTACH ? AS {moment}", [reading.copy])
         both.execute("CREATE TEMP TABLE numbers (number PRIMARY KEY)")
         found = {table: sessions_of(both, table) for table in SESSIONS}
-        numbers = {number for number, in both.execute("SELECT number FROM numbers")}
+        numbers = {number for number, in both.execute("SELECT printf('%07d', number) FROM numbers")}
         renamed = {number for number, in both.execute(RENAMED)}
         for session, number in both.execute(NEIGHBOURS):
             people[session].add(number)
@@ -219,15 +219,15 @@ def with_moves(changes: Iterable[Change]) -> list[Change]:
     return [*found.values()]
 
 
-def entered(reading: Reading, session: str, people: Collection[int] | None, least: int = 1) -> list[int]:
+def entered(reading: Reading, session: str, people: Collection[str] | None, least: int = 1) -> list[str]:
     """The numbers of those of these people, or of all, who have so many entries in a session, or more."""
     return [number for number, count in facts.entered(reading.rows, session).items()
             if count >= least and (people is None or number in people)]
 
 
-def missing(reading: Reading, session: str, people: Collection[int] | None) -> dict[str, list[str]]:
+def missing(reading: Reading, session: str, people: Collection[str] | None) -> dict[str, list[str]]:
     """The papers of a session that those of these people, or of all, are entered for and do not sit, by number."""
-    return reading.clashes(session, [*map("{:07}".format, entered(reading, session, people, 2))])
+    return reading.clashes(session, entered(reading, session, people, 2))
 
 
 def sat(reading: Reading, sessions: Touched) -> dict[tuple[str, str], tuple[str, Sitting]]:

@@ -58,15 +58,14 @@ def papers_without(number: int = -1) -> list[sqlite3.Row]:
 
 @pages.get("/candidates/<int:number>")
 def page(number: int, code: str = "") -> str:
-    who = candidate_row(number)
+    who, seven = candidate_row(number), f"{number:07}"
     reading, entries = view().reading, view().rows(texts.ENTRIES, [number])
-    later = {row["paper"] for row in entries
-             if second_sitting.sat_later(reading.rows, f"{number:07}", row["paper"])}
-    return render_template("candidate.html", who=who, entries=entries, sittings=reading.all_of(f"{number:07}"),
+    later = {row["paper"] for row in entries if second_sitting.sat_later(reading.rows, seven, row["paper"])}
+    return render_template("candidate.html", who=who, entries=entries, sittings=reading.all_of(seven),
                            lodged=view().rows(texts.LODGED, [number]), others=papers_without(number), code=code,
                            second=later, hall_titles=facts.hall_titles(reading.rows),
-                           note=notebook.notes(desk().office).get(f"{number:07}", ""),
-                           granted=proposals.granted(reading, number),
+                           note=notebook.notes(desk().office).get(seven, ""),
+                           granted=proposals.granted(reading, seven),
                            arrangement=view().row("SELECT needs, extra FROM arrangement WHERE number = ?", [number]))
 
 

@@ -22,11 +22,11 @@ from exam_desk.trouble import Trouble
 PATIENCE, LONG = 4, 3600  # seconds that a page, and a form, waits for the office to be read
 MANY, TURN = 200, 0.005  # candidates who are asked of at once, and the seconds that others have their turn then
 COPYING, COUNTING = "Its files are copied and read", "Candidates and desks are counted"
-AT_ONCE = ("SELECT session, number, group_concat(code) FROM (SELECT session, number, paper.code AS code "
+AT_ONCE = ("SELECT session, printf('%07d', number), group_concat(code) FROM (SELECT session, number, paper.code AS code "
            "FROM entry JOIN paper ON paper.code = entry.paper WHERE live = 1 ORDER BY session, number, paper.code) "
            "GROUP BY session, number HAVING count(*) > 1 ORDER BY 1, 2")
-UNSEATED = ("SELECT session, number FROM entry JOIN paper ON code = paper WHERE live = 1 "
-            "EXCEPT SELECT session, number FROM seat")
+UNSEATED = ("SELECT session, printf('%07d', number) FROM (SELECT session, number FROM entry "
+            "JOIN paper ON code = paper WHERE live = 1 EXCEPT SELECT session, number FROM seat)")
 Found = TypeVar("Found")
 Asked = ParamSpec("Asked")
 
@@ -56,9 +56,9 @@ class View:
     def count(self, query: str, values: Sequence[object] = ()) -> int:
         return int(self.rows(query, values)[0][0])
 
-    def ask(self, numbers: Iterable[int]) -> None:
+    def ask(self, numbers: Iterable[str]) -> None:
         """Asks the program of many; after some of them other pages have their turn."""
-        people = [self.reading.person(number) for number in numbers]
+        people = [*map(self.reading.person, numbers)]
         for place in range(0, len(people), MANY):
             self.reading.ask(people[place:place + MANY])
             time.sleep(TURN)
@@ -118,16 +118,16 @@ def sums(view: View) -> dict[str, Sums]:
 
 
 @once
-def unseated(view: View) -> set[tuple[str, int]]:
+def unseated(view: View) -> set[tuple[str, str]]:
     """Who has a live entry in a session and no seat there: the session and the number."""
     return {(code, number) for code, number in view.rows(UNSEATED)}
 
 
 @once
-def two_papers(view: View) -> dict[str, dict[int, str]]:
+def two_papers(view: View) -> dict[str, dict[str, str]]:
     """By session, in the order of their days, the numbers of those who have two live entries in it, each with these
     papers."""
-    found: dict[str, dict[int, str]] = {code: {} for code, *_ in facts.sessions(view.reading.rows)}
+    found: dict[str, dict[str, str]] = {code: {} for code, *_ in facts.sessions(view.reading.rows)}
     for code, number, papers in view.rows(AT_ONCE):
         found[code][number] = papers
     return found

@@ -50,7 +50,7 @@ WRONG_DESK = "the desk is wrong here; the office is as the log says"
 TROUBLE = 0  # among the numbers of refusals: what the desk refuses itself
 APPEALS = ("SELECT appeal.*, day, session.start AS start, name FROM appeal JOIN session ON session.code = session "
            "JOIN candidate ON candidate.number = appeal.number ")
-ARRANGED = "SELECT number, needs, extra FROM arrangement"
+ARRANGED = "SELECT printf('%07d', number), needs, extra FROM arrangement"
 OF_GRANTED = f"{ARRANGED} WHERE number IN (SELECT number FROM appeal WHERE kind = 3 AND state = {states.GRANTED})"
 BY_DAY = "ORDER BY day, session.start, lodged, appeal.number"
 KINDS = ["short", *consequences.KINDS, "codes"]  # the gravest first; their words are in templates/effects.html
@@ -76,7 +76,7 @@ class Effects(effects.Effects):
         self.clashing = [(code, now.member(code, person.number), missed) for code, person, missed in self.clashes]
         short = set() if self.changes else unseated(after) - unseated(before)
         self.short = [(code, person) for code in are for person in effects.by_name(
-            now, [str(number) for session, number in short if session == code])][:MOST_ROWS]
+            now, [number for session, number in short if session == code])][:MOST_ROWS]
         who: dict[str, list[Any]] = {kind: [each.number for each in part] for kind, part in self.kinds.items()} | {
             "over": list(self.over), "past": self.past, "opened": list(self.opened), "shut": self.shut,
             "short": [number for _, number in short],
@@ -91,10 +91,10 @@ class Effects(effects.Effects):
         return attached(telling.csv_text(self.changes, self.titles).encode("utf-8", "surrogateescape"), name)
 
 
-def granted(reading: Reading, number: int) -> list[str]:
+def granted(reading: Reading, number: str) -> list[str]:
     """The sessions in which the program says another arrangement than the imported one: a grant is in force there."""
-    _, needs, extra = reading.rows.execute(f"{ARRANGED} WHERE number = ?", [number]).fetchone() or (number, 0, 0)
-    return [session for session, sits in reading.all_of(f"{number:07}").items()
+    _, needs, extra = reading.rows.execute(f"{ARRANGED} WHERE number = ?", [int(number)]).fetchone() or (number, 0, 0)
+    return [session for session, sits in reading.all_of(number).items()
             if (sits.needs, sits.extra) != (tuple(words.features(needs)), extra)]
 
 

@@ -109,7 +109,8 @@ def open_appeals() -> list[Attention]:
 def clashes(coming: list[Sums]) -> Iterator[Attention]:
     """How many have two papers at once and no appeal on it that is open or decided: by the last day to lodge one or,
     where that is over, by the day of the session."""
-    heard = set(map(tuple, view().rows("SELECT session, number FROM appeal WHERE kind = 2 AND state IN (1, 2, 3)")))
+    heard = set(map(tuple, view().rows("SELECT session, printf('%07d', number) FROM appeal "
+                                       "WHERE kind = 2 AND state IN (1, 2, 3)")))
     for each in coming:
         last = appeals.to_lodge("clash", each.day)
         level, day = "now" if days_until(last) <= URGENT else "soon", last if days_until(last) >= 0 else each.day

@@ -81,7 +81,7 @@ class Session:
         """Who has two papers at once, and which ones they miss, both as the program says. Who is asked of has two live
         entries in the rows."""
         numbers = [*two_papers(view()).get(self.code, {})][:most]
-        missed = view().reading.clashes(self.code, [*map(str, numbers)])
+        missed = view().reading.clashes(self.code, numbers)
         return [(member, missed[member.number]) for member in view().reading.members(self.code, numbers)
                 if member.number in missed]
 
@@ -122,7 +122,7 @@ def hall_page(code: str, hall: str) -> str:
     """A hall as a picture: a piece of the session's page, or a page of its own where no script runs."""
     shown = Session(code)
     opening = shown.opening(hall)
-    seated = view().rows("SELECT number FROM seat WHERE session = ? AND hall = ?", [code, hall])
+    seated = view().rows("SELECT printf('%07d', number) FROM seat WHERE session = ? AND hall = ?", [code, hall])
     members = lists.by_desk(view().reading.members(code, [number for number, in seated]), hall)
     rows = standing(opening)
     desks = sorted((number, column * (WIDTH + GAP) + 2, row * (HEIGHT + GAP) + 2)

@@ -80,7 +80,7 @@ def without_codes(upload: Upload) -> int:
     codes = facts.access_codes(view().reading.rows)
     numbers = {mistakes.with_zeros(record.fields[0]) for record in below_header(upload.texts.get("candidates", b""))
                if len(record.fields) == 3 and not record.fields[2]}
-    return sum(not mistakes.RIGHT["number"](number) or int(number) not in codes for number in numbers)
+    return sum(number.decode("utf-8", "replace") not in codes for number in numbers)
 
 
 def may_be_list(upload: Upload, known: mistakes.Known) -> tuple[int, bool]:

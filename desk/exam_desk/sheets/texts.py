@@ -107,7 +107,7 @@ def at_once_in(reading: Reading, session: str) -> Iterator[str]:
     missed = reading.clashes(session)
     if missed:
         yield f"{session}: {lists.count(len(missed), 'candidate')} with two papers or more"
-    pairs = sorted((member.sitting.paper, paper, member) for member in reading.members(session, map(int, missed))
+    pairs = sorted((member.sitting.paper, paper, member) for member in reading.members(session, missed)
                    for paper in missed[member.number])
     shared = [(pair, [each for *_, each in found]) for pair, found in itertools.groupby(pairs, lambda each: each[:2])]
     for (sat, other), members in sorted(shared, key=lambda each: -len(each[1])):
