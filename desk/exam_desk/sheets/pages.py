@@ -48,11 +48,15 @@ def text(value: str) -> Markup:
 def paper_names(rows: Rows, forms: tuple[str, str] = TITLED) -> dict[str, Markup]:
     """What each paper is called, by its code."""
     form, second = forms
-    found = {}
-    for code, title in facts.paper_titles(rows).items():
-        own = own_code(rows, code)
-        found[code] = html(form, code, text(title)) + (html(second, own) if own != code else "")
-    return found
+    titles = facts.paper_titles(rows)
+    own = made_of(rows, titles)
+    return {code: html(form, code, text(title)) + (html(second, own[code]) if code in own else "")
+            for code, title in titles.items()}
+
+
+def made_of(rows: Rows, codes: Iterable[str]) -> dict[str, str]:
+    """Of each of these papers that was made for second sittings the code of its own paper, which people know."""
+    return {code: own for code in codes if (own := own_code(rows, code)) != code}
 
 
 def hall_names(rows: Rows) -> dict[str, Markup]:

@@ -8,7 +8,6 @@ from markupsafe import Markup
 
 from exam_desk import facts, files, lists, notebook, overlaps
 from exam_desk.reading import Person, Reading, Sitting
-from exam_desk.second_sitting import own_code
 from exam_desk.sheets import pages
 from exam_desk.sheets.pages import html, joined, text
 from exam_desk.snapshot import Rows
@@ -105,11 +104,8 @@ def csv_text(reading: Reading, choice: Choice) -> str:
 
 def titles(rows: Rows) -> dict[str, str]:
     """The title of each paper, and behind that of a second sitting the code that people know."""
-    found = {}
-    for code, title in facts.paper_titles(rows).items():
-        own = own_code(rows, code)
-        found[code] = title + (pages.SECOND.format(own) if own != code else "")
-    return found
+    found = facts.paper_titles(rows)
+    return found | {code: found[code] + pages.SECOND.format(own) for code, own in pages.made_of(rows, found).items()}
 
 
 def csv_row(choice: Choice, each: Slip, sat: Sat, papers: Mapping[str, str], halls: Mapping[str, str]) -> list[str]:
