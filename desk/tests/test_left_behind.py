@@ -78,8 +78,8 @@ class LeftBehind(test_second_sitting.SecondSitting):
         self.assertEqual(self.office("what-if", *decision).count(said), 1)
         self.assertTrue(self.run_office(*decision).stderr.startswith(said))
         self.assertNotIn("arrangement of", self.run_office("withdraw", "0001000", "MA-1").stderr)  # it was said before
-        self.assertNotIn("arrangement of", self.office("what-if", "import", "arrangements", self.write(
-            "arrangements.csv", "number,needs,extra\n0000003,-,25\n")))  # it holds in both
+        self.assertNotIn("arrangement of", self.run_office("what-if", "import", "arrangements", self.write(
+            "arrangements.csv", "number,needs,extra\n0000003,-,25\n")).stdout)  # it holds in both
 
 
 class Many(unittest.TestCase):

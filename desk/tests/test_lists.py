@@ -103,7 +103,7 @@ class Lists(sample.SampleSchool):
         before = self.copy()
         self.office("withdraw", "0001306", "MA-2")
         rows = [row for row in csv.reader(self.office("changes", before, "--csv").split("\n")) if "0001306" in row]
-        self.assertEqual([row[13:18] for row in rows], [["LAT", "AULA", "1", "Latin", "Aula"]])
+        self.assertEqual([row[13:18] for row in rows], [["LAT", "AULA", "1", "Latin", "Aula, main building"]])
 
     def test_no_spreadsheet_finds_a_formula(self):
         before = self.copy()
