@@ -100,7 +100,7 @@ class TestPrinting(DeskSchool):
     def test_what_halls_share_is_one_line(self):
         self.office("rows", "AULA", "6")
         self.office("printed", "MON-AM")
-        self.office("rows", "AULA", "4", "down-and-up")
+        self.run_office("rows", "AULA", "4", "down-and-up")
         self.office("open-hall", "MON-AM", "AULA", "16", "13:00")
         found = self.browser.words(self.PRINTED + "?piece")
         self.assertIn("AULA: Open until: 12:30 → 13:00", found)
