@@ -8,7 +8,7 @@ const LINE = 75; // octets of a line, without its end
  * @param {string} number the candidate's
  * @param {object[]} seats as the office answers them
  * @param {string} host the name of this site, so that the events of two schools differ
- * @param {string} asOf the day of the answer, as a candidate reads it
+ * @param {string} asOf when the office answered, as a candidate reads it
  * @param {{paper: (code: string) => string, hall: (code: string) => string}} named titles
  */
 export function calendarFile(number, seats, host, asOf, named) {
@@ -28,8 +28,8 @@ export function calendarFile(number, seats, host, asOf, named) {
 }
 
 function place(seat, asOf, named) {
-  if (seat.hall === null) return [`DESCRIPTION:${escaped(fill(TEXTS.eventNoHall, { day: asOf }))}`];
-  const note = fill(TEXTS.eventNote, { desk: seat.desk, day: asOf });
+  if (seat.hall === null) return [`DESCRIPTION:${escaped(fill(TEXTS.eventNoHall, { time: asOf }))}`];
+  const note = fill(TEXTS.eventNote, { desk: seat.desk, time: asOf });
   return [`LOCATION:${escaped(named.hall(seat.hall))}`, `DESCRIPTION:${escaped(note)}`];
 }
 

@@ -1,7 +1,7 @@
 // The form for an appeal.
 import { byId, element, fillChoices } from "./elements.js";
 import { TEXTS } from "./texts.js";
-import { dayText, fill } from "./wording.js";
+import { dayText, fill, isOver } from "./wording.js";
 
 // The last day to lodge is so many days before the session.
 const KINDS = {
@@ -16,6 +16,7 @@ const DAY = 24 * 60 * 60 * 1000;
 
 export class LodgingForm {
   #own;
+  #isFilledIn = false; // whether somebody has changed needs or extra time
 
   /** @param {import("./views.js").Own} own */
   constructor(own) {
@@ -89,7 +90,8 @@ export class LodgingForm {
   #changed(target) {
     if (target.name === "kind") this.show(this.#own);
     if (target.id === "session") this.#showSession();
-    if (target.name === "kind" || target.id === "session") this.#takeArrangement();
+    if (byId("for-arrangement").contains(target)) this.#isFilledIn = true;
+    else if (!this.#isFilledIn) this.#takeArrangement();
   }
 
   #showSession() {
@@ -100,7 +102,7 @@ export class LodgingForm {
     const papers = clashes.filter((clash) => clash.session === session);
     fillChoices(byId("paper"), papers.map(({ paper }) => ({ value: paper, text: titles.paper(paper) })));
     const last = date && daysBefore(date, KINDS[chosenKind()].days);
-    byId("until").textContent = last ? fill(TEXTS.until, { day: dayText(last) }) : "";
+    byId("until").textContent = last ? fill(isOver(last) ? TEXTS.late : TEXTS.until, { day: dayText(last) }) : "";
   }
 
   /** An arrangement appeal begins with what the candidate has in the session. */
@@ -108,6 +110,7 @@ export class LodgingForm {
     const { needs, extra } = this.#own.seat(byId("session").value) ?? { needs: "-", extra: 0 };
     for (const box of byId("needs").querySelectorAll("input")) box.checked = needs.split("+").includes(box.value);
     byId("extra").value = extra;
+    this.#isFilledIn = false;
   }
 
   #showRoom() {

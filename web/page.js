@@ -13,8 +13,15 @@ let own = new Own(titles);
 let busy = false;
 let retracting = null; // the appeal that the dialog asks about
 
+let entering = null; // who is being asked for, before they are logged in
+let touched = Date.now(); // when somebody used the page last
+
 const TITLES_WAIT = 5000; // milliseconds
-const titlesLoaded = loadTitles();
+const FRESH = 60 * 1000; // what is older is looked at again when the page comes back to front
+const IDLE = 20 * 60 * 1000; // after which a candidate is logged out, since others may use the device
+const WRONG_CODE = 6; // numbers that the office answers
+const TAKEN = 14;
+const STALE = [8, 11, 12, 15, 16, 18, 19]; // the office has it otherwise than the page shows
 const lodging = new LodgingForm(own);
 
 function say(text) {
@@ -44,10 +51,20 @@ async function step(work) {
   try {
     await work();
   } catch (fault) {
-    if (!asking?.left) tell(fault);
+    if (!(asking ?? entering)?.left) await told(fault);
   } finally {
     setBusy(false);
   }
+}
+
+/** Says a fault, behind a look again where the page is old by it, or a log out where the access code is another one. */
+async function told(fault) {
+  if (candidate && fault.number === WRONG_CODE) {
+    logOut("");
+    return warn(TEXTS.otherCode, byId("number"));
+  }
+  if (candidate && STALE.includes(fault.number)) await lookAgain().catch(console.info);
+  return tell(fault);
 }
 
 /** Marks the answers as about to change, but not the notices: a screen reader would keep them back. */
@@ -79,36 +96,38 @@ async function list(asked, name) {
 
 /** Asks one after the other: the office answers one connection at a time. */
 async function look(asked) {
+  const titlesLoaded = loadTitles();
   const seats = await list(asked, "seats");
   const clashes = await list(asked, "clashes");
-  return new Own(titles, seats, clashes, await list(asked, "appeals"));
+  const appeals = await list(asked, "appeals");
+  await titlesLoaded;
+  return new Own(titles, seats, clashes, appeals);
 }
 
-/** Lodging and taking back changes nothing but the appeals. */
+/** Lodging and taking back changes nothing but the appeals; the seats are as old as they were. */
 async function lookAtAppeals() {
-  own = new Own(titles, own.seats, own.clashes, await list(candidate, "appeals"));
+  own = new Own(titles, own.seats, own.clashes, await list(candidate, "appeals"), own.time);
 }
 
 function show() {
   byId("seats").replaceChildren(seatTable(own));
   byId("clashes").replaceChildren(clashTable(own));
   byId("appeals").replaceChildren(appealTable(own, askRetract));
-  const time = new Date().toLocaleString(LANGUAGE, { dateStyle: "medium", timeStyle: "short" });
+  const time = own.time.toLocaleString(LANGUAGE, { dateStyle: "medium", timeStyle: "short" });
   byId("as-of").textContent = fill(TEXTS.asOf, { time });
   lodging.show(own);
 }
 
 async function logIn() {
-  const number = byId("number").value.trim();
-  const code = byId("code").value.trim().toUpperCase();
+  const number = typed("number");
+  const code = typed("code").replace(/-/g, "").toUpperCase();
   if (!/^[0-9]{1,7}$/.test(number)) return warn(TEXTS.badNumber, byId("number"));
   if (!/^[A-Z0-9]{8,16}$/.test(code)) return warn(TEXTS.badCode, byId("code"));
-  const entering = new Candidate(number.padStart(7, "0"), code);
+  entering = new Candidate(number.padStart(7, "0"), code);
   try {
     own = await look(entering);
-    await titlesLoaded;
   } catch (fault) {
-    if (fault.number === 6) fault.field = byId("number");
+    if (fault.number === WRONG_CODE) fault.field = byId("number");
     throw fault;
   }
   candidate = entering;
@@ -123,13 +142,18 @@ async function logIn() {
   return byId("who").focus();
 }
 
+/** What was typed, without spaces, its digits those of the office. */
+function typed(id) {
+  return byId(id).value.replace(/\s/g, "").replace(/[٠-٩۰-۹]/g, (digit) => digit.charCodeAt(0) & 15);
+}
+
 async function lookAgain() {
   own = await look(candidate);
   show();
   say(fill(TEXTS.loaded, { exams: own.seats.length, appeals: own.appeals.length }));
 }
 
-function logOut() {
+function logOut(said = busy ? TEXTS.loggedOutBusy : TEXTS.loggedOut) {
   candidate?.leave();
   candidate = null;
   own = new Own(titles);
@@ -141,8 +165,19 @@ function logOut() {
   byId("who-number").textContent = "";
   byId("main").hidden = true;
   byId("login").hidden = false;
-  say(TEXTS.loggedOut);
+  say(said);
   byId("number").focus();
+}
+
+/** Logs out who has left the device. */
+function endIdle() {
+  if (candidate && Date.now() - touched > IDLE) logOut(TEXTS.loggedOutIdle);
+}
+
+/** Looks again at what is old, once the page is in front. */
+function comeBack() {
+  endIdle();
+  if (candidate && !document.hidden && Date.now() - own.time > FRESH) step(lookAgain);
 }
 
 async function lodge() {
@@ -163,7 +198,7 @@ async function lodged(body, tries) {
     return state;
   } catch (fault) {
     if (fault.open) fault.message += ` ${TEXTS.mayHaveArrived}`;
-    if (fault.number !== 14 || tries === 1) throw fault;
+    if (fault.number !== TAKEN || tries === 1) throw fault;
   }
   await lookAtAppeals();
   lodging.show(own);
@@ -190,8 +225,8 @@ async function retract() {
 function saveCalendar() {
   clearNotices();
   const named = { paper: (code) => titles.paper(code), hall: (code) => titles.hall(code) };
-  const today = new Date().toLocaleDateString(LANGUAGE, { dateStyle: "medium" });
-  const text = calendarFile(candidate.number, own.seats, location.hostname, today, named);
+  const asOf = own.time.toLocaleString(LANGUAGE, { dateStyle: "medium", timeStyle: "short" });
+  const text = calendarFile(candidate.number, own.seats, location.hostname, asOf, named);
   const href = URL.createObjectURL(new Blob([text], { type: "text/calendar" }));
   element("a", { href, download: "exams.ics" }).click();
   setTimeout(() => URL.revokeObjectURL(href), 60000);
@@ -229,11 +264,16 @@ function start() {
   byId("again").addEventListener("click", () => step(lookAgain));
   byId("calendar").addEventListener("click", saveCalendar);
   byId("print").addEventListener("click", () => print());
-  byId("logout").addEventListener("click", logOut);
+  byId("logout").addEventListener("click", () => logOut());
+  byId("login").addEventListener("input", () => entering?.leave()); // somebody else types: nobody waits for this answer
+  for (const kind of ["pointerdown", "keydown"]) addEventListener(kind, () => (touched = Date.now()));
+  document.addEventListener("visibilitychange", comeBack);
+  setInterval(endIdle, FRESH);
   byId("retract").addEventListener("close", () => byId("retract").returnValue === "yes" && step(retract));
   addEventListener("online", showConnection);
   addEventListener("offline", showConnection);
   addEventListener("pageshow", ({ persisted }) => persisted && logOut()); // what the browser kept of the page
+  addEventListener("pagehide", () => byId("login").reset()); // nor does it keep what was typed
   showConnection();
   byId("starting").remove();
   byId("login").hidden = false;

@@ -1,13 +1,17 @@
 // What the office answered, as tables.
 import { data, element, table } from "./elements.js";
 import { TEXTS } from "./texts.js";
-import { arrangementText, dayText, fill, sessionText, timeText } from "./wording.js";
+import { arrangementText, dayText, fill, isOver, sessionText, timeText } from "./wording.js";
 
-/** Seats, clashes and appeals of one candidate, as the office answered them last. */
+/** Seats, clashes and appeals of one candidate, as the office answered them last; exams that are over stand last. */
 export class Own {
-  /** @param {import("./wording.js").Titles} titles */
-  constructor(titles, seats = [], clashes = [], appeals = []) {
-    const order = ({ date, start, session }) => `${date} ${start} ${session}`;
+  /**
+   * @param {import("./wording.js").Titles} titles
+   * @param {Date} time when the office answered the seats
+   */
+  constructor(titles, seats = [], clashes = [], appeals = [], time = new Date()) {
+    const order = ({ date, start, session }) => `${isOver(date)} ${date} ${start} ${session}`;
+    this.time = time;
     this.titles = titles;
     this.seats = [...seats].sort((one, other) => (order(one) < order(other) ? -1 : 1));
     this.clashes = clashes;
@@ -18,10 +22,21 @@ export class Own {
     return this.seats.find((seat) => seat.session === session);
   }
 
+  /** The pairs of exams in two sessions that are at the same time. */
+  overlaps() {
+    return this.seats.flatMap((one, place) => this.seats.slice(place + 1)
+      .filter(({ date, start }) => date === one.date && start < one.finish).map((other) => [one, other]));
+  }
+
   /** Day, time and code of a session; the code alone where the day is not known. */
   sessionText(code) {
     const seat = this.seat(code);
     return seat ? sessionText(seat.date, seat.start, code) : this.titles.session(code);
+  }
+
+  /** The day of a session, if it is known. */
+  day(code) {
+    return this.seat(code)?.date ?? this.titles.day(code);
   }
 
   /** What an appeal asks, in words. */
@@ -38,7 +53,7 @@ const none = (text) => element("p", {}, text);
 export function seatTable({ seats, titles }) {
   if (seats.length === 0) return none(TEXTS.noSeats);
   return table([
-    [TEXTS.day, ({ date }) => dayText(date)],
+    [TEXTS.day, ({ date }) => (isOver(date) ? fill(TEXTS.over, { day: dayText(date) }) : dayText(date))],
     [TEXTS.time, ({ start, finish }) => fill(TEXTS.times, { start, finish: timeText(finish) })],
     [TEXTS.paper, ({ paper }) => data(titles.paper(paper))],
     [TEXTS.hall, ({ hall }) =>
@@ -50,12 +65,14 @@ export function seatTable({ seats, titles }) {
 }
 
 export function clashTable(own) {
-  if (own.clashes.length === 0) return none(TEXTS.noClashes);
-  return table([
+  const said = ([one, other]) => fill(TEXTS.overlap, { one: own.titles.paper(one.paper), other: own.titles.paper(other.paper) });
+  const overlaps = own.overlaps().map((pair) => element("p", { className: "lacking" }, said(pair)));
+  if (own.clashes.length === 0) return overlaps.length ? element("div", {}, ...overlaps) : none(TEXTS.noClashes);
+  return element("div", {}, ...overlaps, table([
     [TEXTS.session, ({ session }) => own.sessionText(session)],
     [TEXTS.sitting, ({ sitting }) => data(own.titles.paper(sitting))],
     [TEXTS.missing, ({ paper }) => data(own.titles.paper(paper))],
-  ], own.clashes);
+  ], own.clashes));
 }
 
 /** @param {(appeal: object) => void} retract is called where the candidate presses the button of an open appeal */
@@ -66,13 +83,15 @@ export function appealTable(own, retract) {
     [TEXTS.session, ({ session }) => own.sessionText(session)],
     [TEXTS.lodged, ({ lodged }) => dayText(lodged)],
     [TEXTS.reason, ({ reason }) => (reason ? data(reason) : null)],
-    [TEXTS.state, stateText],
+    [TEXTS.state, (appeal) => stateText(appeal, own.day(appeal.session))],
     [TEXTS.answer, ({ answer }) => (answer ? data(answer) : null)],
     [TEXTS.change, (appeal) => (appeal.state === "open" ? retractButton(own, appeal, retract) : null), "screen"],
   ], own.appeals);
 }
 
-function stateText({ state, standing }) {
+/** An appeal that was open on the day of its session is not decided any more. */
+function stateText({ state, standing }, day) {
+  if (state === "open" && day && isOver(day)) return TEXTS.undecided;
   return state === "granted" && standing ? TEXTS.standing : TEXTS[state];
 }
 

@@ -17,6 +17,11 @@ export function dayText(day) {
   return new Date(`${day}T00:00:00Z`).toLocaleDateString(LANGUAGE, parts);
 }
 
+/** Whether a day is over, by the clock of the device: words alone depend on it. */
+export function isOver(day) {
+  return day < new Date().toLocaleDateString("sv"); // Swedes write days as the office does
+}
+
 /** `24:30` is half past midnight on the next day. */
 export function timeText(time) {
   const [hours, minutes] = time.split(":");
@@ -53,6 +58,10 @@ export class Titles {
 
   hall(code) {
     return this.#titled("halls", code);
+  }
+
+  day(code) {
+    return this.#of.sessions.get(code)?.date;
   }
 
   /** The day and time of a session with its code, or the code alone. */
