@@ -55,8 +55,9 @@ desk of each candidate in three columns. Only namesakes of the session, in which
 the name, so each knows which door is theirs. It shows no paper and no arrangement.
 """),
     "summary": ("session*", """\
-Prints a line for each session: members, seated, short, desks, free, clashes, open appeals: summary [SESSION ..]
+Prints a line for each session, with all its counts: summary [SESSION ..]
 
+They are members, seated, short, desks, free, clashes, overlaps, open appeals. A NOTE names each two sessions at one time.
 Clashes are the candidates who miss a paper there, since another one is at the same time: `office clashes SESSION`.
 Free desks beside candidates who are short are in halls that do not suit them: `office why SESSION` says why.
 """),

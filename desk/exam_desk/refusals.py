@@ -28,7 +28,7 @@ SENTENCES = {
     10: "the entry is not withdrawn",
     11: "the candidate does not sit in this hall",
     12: "the candidate sits nothing in this session; an appeal for it can only be decided `refused`",
-    13: "the last day to lodge this has passed; the handbook has the ways round (At the counter)",
+    13: "the last day to lodge this has passed; the handbook has the ways round (A candidate asks)",
     14: "the candidate has another appeal with this reference; take a new one",
     15: "the candidate has no such appeal; `office appeals SESSION` lists numbers and references",
     16: "the appeal is not open: it was decided, taken back or replaced by a later grant",
@@ -76,6 +76,8 @@ def explained(office: Office, words: Sequence[str], complaint: str, data: bytes 
     lines = [sentence] if sentence else []
     if number == 23:
         lines = [f"{sentence}: {cause(office)}", WHOLE_OR_NOT]
+    elif number == 22:
+        lines.append(WHOLE_OR_NOT)
     elif number == WITHDRAWN and words[0] == "withdraw":
         lines += sat_later(office, *words[-2:])
     elif number == 24 and not os.path.exists(office.path):

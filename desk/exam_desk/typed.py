@@ -12,8 +12,8 @@ APPEALS = {"hall": ["hall"], "clash": ["paper"], "arrangement": ["needs", "extra
 CHOICES = {"kind": [*files.HEADERS], "outcome": ["granted", "refused", "standing"], KIND: [*APPEALS]}
 FORMS: dict[str, files.Form] = {  # of the words that a command takes, by their names; any text is right for others
     **files.RIGHT, **{name: [word.encode() for word in offered].__contains__ for name, offered in CHOICES.items()},
-    "ref": files.is_code, REASON: lambda text: files.is_short(text, MOST_REASON)}
-NEEDED = {"ref": "1 to 12 of A-Z, 0-9 and -", REASON: f"at most {MOST_REASON} bytes of UTF-8 and no control characters",
+    "ref": files.form(rb"[A-Z0-9]{1,16}"), REASON: lambda text: files.is_short(text, MOST_REASON)}
+NEEDED = {"ref": "1 to 16 of A-Z and 0-9", REASON: f"at most {MOST_REASON} bytes of UTF-8 and no control characters",
           **{name: f"one of {', '.join(offered)}" for name, offered in CHOICES.items()}}
 OF_A_SHEET = "; format the column as text"  # what is said of a value in a file
 
