@@ -64,7 +64,7 @@ class Papers(sample.SampleSchool):
                                       "office: in no group, and so last: 57 candidates\n")
         groups = done.stdout.split("<div class=sheet><h2><bdi>")[1:]
         self.assertEqual([text.partition("</bdi>")[0] for text in groups], ["10B", "&lt;i&gt;=10A", "in no group"])
-        slips = [re.findall(r"<span>(\d{7})</span>", text) for text in groups]
+        slips = [re.findall(r"<span>number (\d{7})</span>", text) for text in groups]
         self.assertEqual((slips[:2], len(slips[2])), ([["0001051", "0001017"], ["0001000"]], 57))
         text = self.office("slips", "--csv", "--only", "0001051", "--order", path)
         rows = list(csv.DictReader(io.StringIO(text.removeprefix("\ufeff"))))

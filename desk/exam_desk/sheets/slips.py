@@ -78,7 +78,7 @@ def heading(choice: Choice, each: Slip) -> Markup:
     code = html("<span>access code {}</span>", each.person.code) if choice.codes else ""
     group = html("<span>{}</span>", text(each.group)) if each.group else ""
     note = html("<br><small>{}</small>", text(each.note)) if each.note else ""
-    return html("{}{}<span>{}</span><b>{}</b>{}", code, group, each.person.number, text(each.person.name), note)
+    return html("{}{}<span>number {}</span><b>{}</b>{}", code, group, each.person.number, text(each.person.name), note)
 
 
 def row(choice: Choice, sat: Sat, papers: Mapping[str, Markup], halls: Mapping[str, Markup]) -> list[object]:
