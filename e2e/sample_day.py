@@ -120,7 +120,9 @@ def tables(folder):
 
 def places(count, most):
     """The numbers from 0 below the count, or as many of them as are wanted, evenly apart."""
-    return range(count) if most is None or count <= most else sorted({n * (count - 1) // (most - 1) for n in range(most)})
+    if most is None or count <= most:
+        return range(count)
+    return sorted({n * (count - 1) // max(most - 1, 1) for n in range(most)})
 
 
 class Office:

@@ -272,18 +272,22 @@ Writes the titles of papers and halls and the days of sessions, for the candidat
 
     office titles /var/www/examoffice/titles.json     puts them where the web server finds them, as one step
 
-Give it again after an import of sessions, papers or halls. Until then the page shows the codes of what is new. Whoever
-finds the page can read the file: it has nothing of any candidate.
+Each later change of sessions, papers or halls writes the file again; remove it to end that. Whoever finds the page can
+read it: it has nothing of any candidate.
 """)
 def titles(parser: ArgumentParser) -> None:
-    from exam_desk.sheets import texts
+    from exam_desk import beside, titles
     given = command.given(parser, "file?: a file to write; without it the titles are printed")
     with command.rows() as rows:
-        text = texts.titles(rows)
+        text = titles.text(rows)
     if given.file is None:
         command.say(text)
-    else:
-        texts.put_titles(given.file, text)
+        return
+    titles.put(given.file, text)
+    try:
+        titles.keep(command.office(), given.file)
+    except (OSError, beside.Strange) as fault:
+        command.warn(f"NOTE no change writes it again: {fault}")
 
 
 @command.named("""Says why candidates have no desk, hall by hall, and what could help: why SESSION [NUMBER].

@@ -6,7 +6,7 @@ of a change, and of the copy from before it:
 
     done                    the copy stays, if the files of the office have other bytes than before
     refused                 nothing is changed, a list of steps puts the copy back; the copy goes
-    refused 23              a single step may be done all the same: the bytes tell
+    refused 22 or 23        a single step may be done all the same: the bytes tell
     a fault, or a signal    a list puts the copy back; the copy of a single step goes, if the bytes are as before
     killed                  the next change says from the log what was broken off, and how to put the copy back
 """
@@ -24,7 +24,7 @@ from dataclasses import dataclass
 from io import FileIO
 from typing import NamedTuple
 
-from exam_desk import beside, copies, files, logbook, losses, private, refusals, running, states, turns
+from exam_desk import beside, copies, files, logbook, losses, private, refusals, running, states, titles, turns
 from exam_desk.office import Office
 from exam_desk.trouble import Stale, Trouble
 from exam_desk.words import Said
@@ -125,7 +125,7 @@ class Turn(NamedTuple):
         can name a copy. Raises OSError where nothing can be written there, and nothing is done."""
         self.tell(step.title())
         with logbook.logged(self.office, [*step.words, *step.about], status, os.path.basename(copy)) as outcome:
-            answered = Answered(step, run_patiently(self.office, step, self.lock))
+            answered = Answered(step, run_patiently(self.office, step, self.lock, copy))
             outcome.status, outcome.answer = answered.ran.status, answered.first_line()
         return answered
 
@@ -193,6 +193,8 @@ def carry_out(office: Office, steps: Sequence[Step], made_from: str | None = Non
             is_undone = refused_of(answers) is not None
         if is_undone:
             copies.drop(copy)
+        elif any((refusals.imported(step.words) or "-")[0] in titles.KINDS for step in steps):
+            titles.renew(office)
         as_promised = None if promised is None or is_undone else state_of(office) == promised
         return Carried(answers, copies.kept_if_other(office, copy), as_promised)
 
@@ -214,10 +216,10 @@ def copied(office: Office, title: str) -> Iterator[str]:
 
 
 def has_done_nothing(office: Office, answered: Answered, copy: str) -> bool:
-    """Whether the program says that it did nothing; after refusal 23 the step may be there all the same."""
+    """Whether the program says that it did nothing; after 22 and 23 the step may be there all the same."""
     if answered.ran.status != 2 and not answered.ran.complaint.startswith(("refused", "file fault")):
         return False
-    return refusals.number_of(answered.ran.complaint) != 23 or copies.is_as_now(office, copy)
+    return refusals.number_of(answered.ran.complaint) not in refusals.MAYBE_DONE or copies.is_as_now(office, copy)
 
 
 @contextlib.contextmanager
@@ -248,13 +250,16 @@ def unchanged(office: Office) -> Iterator[None]:
                       ) from fault
 
 
-def run_patiently(office: Office, step: Step, lock: FileIO | None = None) -> running.Ran:
-    """Runs the program over the office, and tries again for some time while another command has the file."""
+def run_patiently(office: Office, step: Step, lock: FileIO | None = None, copy: str = "") -> running.Ran:
+    """Runs the program over the office, and tries again for some time while another command has the file; not where the
+    step is there all the same, by the copy from before it."""
     until = time.monotonic() + turns.PATIENCE
     while True:
         ran = running.run_over(office, office.path, *step.words, data=step.data, lock=lock)
         with contextlib.suppress(OSError):  # what it looks at goes away just then
             if refusals.number_of(ran.complaint) != 23 or time.monotonic() > until or not refusals.may_pass(office):
+                return ran
+            if copy and not copies.is_as_now(office, copy):
                 return ran
         time.sleep(PAUSE)
 
@@ -295,6 +300,7 @@ def go_back(office: Office, words: Sequence[str], copy: str, may_go: Callable[[l
                 return Back(False, lines, None)
             outcome = stack.enter_context(logbook.logged(office, words))
         kept = copies.put_back(office, copy)
+        titles.renew(office)
         outcome.status, outcome.answer = 0, "; ".join([copies.state_of(copy), *map(str, lines)])
     return Back(True, lines, kept)
 

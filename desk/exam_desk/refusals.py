@@ -57,6 +57,7 @@ NO_CODE = ("`office codes FILE` fills in the codes that the office has, and new 
            "`office name NUMBER NAME`")
 MOST_LINES = 5  # on one column of an import file
 WITHDRAWN = 9  # the refusal of a second withdrawal
+MAYBE_DONE = (22, 23)  # after these a command is there whole or not at all
 DONE_ALREADY = {"withdraw": WITHDRAWN, "reinstate": 10}  # refusals by command
 WHOLE_OR_NOT = "a command is there whole or not at all: look, or give it again"
 

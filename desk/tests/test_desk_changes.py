@@ -199,6 +199,7 @@ class TestAppeals(DeskSchool):
                                     kind="hall",
                                     wanted_hall="PC1", reason=REASON)
         self.assertEqual(self.rows("SELECT * FROM appeal"), [])
+        self.assertNotIn("a copy is kept", self.browser.words(page))  # a lodging moves nobody
         self.browser.post(page + "/do", page)
         self.assertIn("Lodged as D1", self.browser.words(page))
 

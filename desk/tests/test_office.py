@@ -119,6 +119,8 @@ class Words(sample.SampleSchool):
                              (["door-list", "MON-AM"], "hall is missing"),
                              (["decide", "0001051", "d1", "granted", "x" * 201],
                               "ref 'd1': ", "reason: at most 200 bytes of UTF-8"),
+                             (["decide", "0001051", "HA-1", "granted", "x"], "ref 'HA-1': 1 to 16 of A-Z and 0-9"),
+                             (["decide", "0001051", "ABCDEFGHIJKLMNOP", "grant", "x"], "outcome 'grant': one of "),
                              (["decide", "0001051", "D1", "granted", "xxx", "yyy"], "the reason has several words: put it")):
             done = self.run_office(*words)
             self.assertEqual((done.returncode, done.stdout), (2, ""), words)

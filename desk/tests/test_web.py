@@ -174,6 +174,33 @@ class Titles(SampleSchool):
             self.assertEqual(file.read(), self.titles().stdout)
         self.assertEqual(self.titles(os.path.join(self.folder.name, "no/titles.json")).returncode, 1)
 
+    def test_a_change_writes_it_again(self):
+        path = os.path.join(self.folder.name, "titles.json")
+
+        def hall():
+            return json.loads(pathlib.Path(path).read_text("ascii"))["halls"]["GYM"]
+
+        def change(*words):
+            return subprocess.run([OFFICE, *words], env=self.environment, capture_output=True, text=True, check=False)
+        halls = os.path.join(self.folder.name, "halls.csv")
+        pathlib.Path(halls).write_text("hall,title,features\nGYM,Annex,step-free\n", "utf-8")
+        change("import", "halls", halls)
+        self.assertFalse(os.path.exists(path))
+        self.titles(path)
+        self.assertEqual(hall(), "Annex")
+        change("back", "1", "--yes")
+        self.assertEqual(hall(), "Gymnasium")
+        before = os.stat(path).st_ino
+        change("withdraw", "0001000", "MA-1")
+        self.assertEqual(os.stat(path).st_ino, before)  # no title has changed
+        self.assertNotIn("NOTE", change("import", "halls", halls).stderr)
+        self.assertEqual(hall(), "Annex")
+        pathlib.Path(path).write_text("<p>", "ascii")
+        self.assertIn("still has the titles from before", change("import", "halls", halls).stderr)
+        os.remove(path)
+        self.assertNotIn("NOTE", change("import", "halls", halls).stderr)
+        self.assertFalse(os.path.exists(path))
+
     def test_only_a_file_of_titles_is_written_over(self):
         """A slip would cost the office, its log, or somebody else's file."""
         before = self.kept()

@@ -1,17 +1,13 @@
-"""What lists say as text: of a candidate, of two papers at once, of each session, of notes; and the file of titles."""
+"""What lists say as text: of a candidate, of two papers at once, of each session, of notes."""
 from __future__ import annotations
 
-import contextlib
 import itertools
-import json
-import os
 import re
 import sqlite3
-import tempfile
 from collections import Counter
 from collections.abc import Collection, Iterator
 
-from exam_desk import appeals, facts, files, lists, overlaps
+from exam_desk import appeals, facts, lists, overlaps
 from exam_desk.names import has_words, letters
 from exam_desk.office import Office
 from exam_desk.reading import Person, Reading, Sitting
@@ -28,8 +24,6 @@ LODGED = f"SELECT *, {appeals.IS_STANDING} AS standing FROM appeal WHERE number 
 SUMMARY = "{:12} {:10} {:5} {:>7} {:>6} {:>5} {:>6} {:>6} {:>7} {:>8} {:>12}\n"
 HEADS = ["session", "date", "start", "members", "seated", "short", "desks", "free", "clashes", "overlaps",
          "open appeals"]
-TITLED = ["sessions", "papers", "halls"]  # in the file of titles
-READABLE = 0o644  # the file of titles: the web server is another user
 
 
 def find(rows: Rows, asked: str) -> list[Person]:
@@ -140,36 +134,3 @@ def notes(office: Office, rows: Rows) -> str:
     names = facts.candidate_names(rows)
     lines = (f"{number} {names.get(number, '')}: {note}" for number, note in notebook.notes(office).items())
     return "".join(f"{plain(line)}\n" for line in lines)
-
-
-def titles(rows: Rows) -> str:
-    """The titles of papers and halls and the days of sessions, for the candidates' page, and nothing of any candidate:
-    in ASCII, by code, a line for each row."""
-    sessions, papers, halls = TITLED
-    found = {
-        sessions: {head["code"]: {"date": head["day"], "start": clock(head["start"])}
-                     for head in sorted(facts.sessions(rows), key=lambda head: str(head["code"]))},
-        papers: dict(sorted(facts.paper_titles(rows).items())),
-        halls: dict(sorted(facts.hall_titles(rows).items())),
-    }
-    return json.dumps(found, indent=0) + "\n"
-
-
-def has_titles(path: str) -> bool:
-    """Whether a file has titles, or nothing."""
-    with contextlib.suppress(ValueError, TypeError, RecursionError), open(path, encoding="ascii") as file:
-        found = file.read()
-        return not found or list(json.loads(found)) == TITLED
-    return False
-
-
-def put_titles(path: str, content: str) -> None:
-    """Writes the file whole, or leaves the one that is there. Raises `Trouble` where that is none of titles, since a slip
-    would cost an office."""
-    if os.path.lexists(path) and not has_titles(path):
-        raise Trouble("is there and is no file of titles: name another one, or remove it first", path)
-    with tempfile.TemporaryDirectory(prefix=".titles-", dir=os.path.dirname(os.path.abspath(path))) as folder:
-        making = os.path.join(folder, "titles.json")
-        files.put(making, content.encode("ascii"))
-        os.chmod(making, READABLE)
-        os.replace(making, path)

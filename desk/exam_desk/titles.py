@@ -1,0 +1,71 @@
+"""The file of titles for the candidates' page: those of papers and halls, and the days of sessions. Once it is written,
+each change of these writes it again; whoever removes it ends that."""
+from __future__ import annotations
+
+import contextlib
+import json
+import os
+import tempfile
+
+from exam_desk import beside, facts, files, snapshot
+from exam_desk.office import Office
+from exam_desk.snapshot import Rows
+from exam_desk.trouble import Trouble
+from exam_desk.words import clock
+
+SESSIONS, PAPERS, HALLS = KINDS = ("sessions", "papers", "halls")  # in the file; of its rows
+PLACE = "titles"  # beside the office: the path of the file
+READABLE = 0o644  # the web server is another user
+
+
+def text(rows: Rows) -> str:
+    """Nothing of any candidate: in ASCII, by code, a line for each row."""
+    found = {
+        SESSIONS: {head["code"]: {"date": head["day"], "start": clock(head["start"])}
+                   for head in sorted(facts.sessions(rows), key=lambda head: str(head["code"]))},
+        PAPERS: dict(sorted(facts.paper_titles(rows).items())),
+        HALLS: dict(sorted(facts.hall_titles(rows).items())),
+    }
+    return json.dumps(found, indent=0) + "\n"
+
+
+def is_one(path: str) -> bool:
+    """Whether a file has titles, or nothing."""
+    with contextlib.suppress(ValueError, TypeError, RecursionError), open(path, encoding="ascii") as file:
+        found = file.read()
+        return not found or tuple(json.loads(found)) == KINDS
+    return False
+
+
+def put(path: str, content: str) -> None:
+    """Writes the file whole, or leaves the one that is there. Raises `Trouble` where that is none of titles, since a slip
+    would cost an office."""
+    if os.path.lexists(path) and not is_one(path):
+        raise Trouble("is there and is no file of titles: name another one, or remove it first", path)
+    with tempfile.TemporaryDirectory(prefix=".titles-", dir=os.path.dirname(os.path.abspath(path))) as folder:
+        making = os.path.join(folder, "titles.json")
+        files.put(making, content.encode("ascii"))
+        os.chmod(making, READABLE)
+        os.replace(making, path)
+
+
+def keep(office: Office, path: str) -> None:
+    """From now on the file at this path is written again after each change."""
+    flags = os.O_WRONLY | os.O_CREAT | os.O_TRUNC
+    with open(beside.open_file(office.path, PLACE, flags=flags), "w", encoding="utf-8", errors="surrogateescape") as file:
+        file.write(os.path.abspath(path))
+
+
+def renew(office: Office) -> None:
+    """Writes the file again, if one is kept and is there. In place of one that cannot be written a warning has to do."""
+    try:
+        with open(beside.open_file(office.path, PLACE, flags=os.O_RDONLY), encoding="utf-8",
+                  errors="surrogateescape") as file:
+            path = file.read()
+        if os.path.exists(path):
+            with contextlib.closing(snapshot.rows(office)) as rows:
+                put(path, text(rows))
+    except FileNotFoundError:
+        return
+    except (OSError, Trouble) as fault:
+        office.warn(f"NOTE the candidates' page still has the titles from before: {fault}")
