@@ -16,7 +16,7 @@ if TYPE_CHECKING:
     from exam_desk.reading import Reading
 
 MOST_BYTES = 1 << 16  # of numbers on standard input
-WHOLE = "board, counts, slips"
+OF_HALLS, WHOLE = "sheet, poster, cards, chart of {}", "board, counts, slips"
 
 
 @command.named("""Notes who was missing in a session, and lists it for the exam board: absent SESSION [NUMBER .. | -]
@@ -34,7 +34,7 @@ desk are listed as present, and a note says so; so does one of who was noted, an
 was noted, by number.
 """)
 def absent(parser: ArgumentParser) -> None:
-    from exam_desk import lists, notebook
+    from exam_desk import lists, notebook, second_sitting
     parser.add_argument("--there", metavar="NUMBER", nargs="+", default=[], help="who is not absent after all")
     given = command.given(parser, "session", "number*", "--nobody: nobody was absent")
     session, missing, there = given.session, numbers(given.number), numbers(given.there)
@@ -44,6 +44,8 @@ def absent(parser: ArgumentParser) -> None:
             notebook.note_absent(command.office(), reading, session, missing, there, given.nobody)
         text, noted = notebook.attendance(reading, session), notebook.absences(reading, session)
         members = len(reading.members(session))
+        later = [(first["code"], second["session"], len(reading.members(second["session"])))
+                 for first, second in second_sitting.pairs(reading.rows) if first["session"] == session]
     if notes:
         text = f"{lists.count(len(noted.members) if noted else 0, 'candidate')} absent of {members:,}\n"
     elif noted is None:
@@ -52,6 +54,8 @@ def absent(parser: ArgumentParser) -> None:
     if noted and noted.gone:
         command.warn(f"NOTE the exam board's list lacks who is noted as absent and has left {session}: "
                      f"{few(noted.gone)}")
+    for paper, other, count in later if not notes else ():
+        command.warn(f"NOTE {paper} is sat in {other} too: `office absent {other}` has {lists.count(count, 'candidate')}")
     command.say(text)
 
 
@@ -139,10 +143,11 @@ def compared(reading: Reading, session: str) -> list[str]:
         raise Trouble(f"nobody noted which desks are printed for {session}; `office printed {session}` does")
     if found.holds():
         return ["the papers are up to date"]
-    again = "; ".join(filter(None, [", ".join(hall for hall in found.halls if hall not in found.empty), WHOLE]))
+    halls = ", ".join(hall for hall in found.halls if hall not in found.empty)
+    again = "; ".join([*([OF_HALLS.format(halls)] if halls else []), WHOLE])
     shared = (f"{what} {old or '-'} -> {new or '-'}" for what, old, new in found.others)
     return [*shared, *map(otherwise, found.moves), f"to print again: {again}",
-            *([f"to take away, as nobody sits there now: {', '.join(found.empty)}"] if found.empty else [])]
+            *([f"to take away, as nobody sits there now: {OF_HALLS.format(', '.join(found.empty))}"] if found.empty else [])]
 
 
 def otherwise(move: Move) -> str:

@@ -247,6 +247,8 @@ def dispatch(office: Office, words: list[str]) -> Ran:
         from exam_desk import new_office  # here, since it alone needs it
         return new_office.make(office)
     if words[0] == "check" and os.path.isfile(office.path):  # changes no facts, but needs the office for itself
+        if not os.path.exists(os.path.realpath(office.path) + "-wal"):
+            command.warn(f"NOTE {office.base_name()}-wal does not lie beside it: in a backup the last appeals may be lacking")
         with contextlib.suppress(OSError), turns.alone(office, words):
             return changing.run_patiently(office, changing.Step(tuple(words)))
     if words[0] not in running.SHEETS:

@@ -46,7 +46,10 @@ def refuse_stranger(office: str) -> None:
     with contextlib.suppress(FileNotFoundError):
         owner = os.stat(office).st_uid
         if owner != os.geteuid():
-            name = user_name(owner)
+            name, folder_owner = user_name(owner), os.stat(os.path.dirname(os.path.realpath(office))).st_uid
+            if owner == 0 != folder_owner:  # as a copy that root has brought
+                raise Strange(f"the office belongs to root: give it to its user, as root: `chown -R "
+                              f"{user_name(folder_owner)}: office.db* desk-office.db`")
             raise Strange(f"the office belongs to {name}: work as that user, as with `sudo -u {name} office ..`")
 
 
@@ -99,7 +102,8 @@ def opened(path: str, flags: int, outer: int | None = None) -> int:
 def strange(found: os.stat_result, flags: int) -> str:
     """Why what was opened is not to be trusted; nothing where it is."""
     if found.st_uid != os.geteuid():
-        return f"belongs to {user_name(found.st_uid)}: look who made it, and move it away"
+        return (f"belongs to {user_name(found.st_uid)}: if it is the office's, `chown -R {user_name(os.geteuid())}:` it; "
+                "otherwise move it away")
     if found.st_mode & OTHERS:
         return "can be written by others: look what they left, then `chmod go-w` it, or move it away"
     if not flags & os.O_DIRECTORY and not stat.S_ISREG(found.st_mode):

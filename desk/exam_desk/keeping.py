@@ -16,6 +16,7 @@ import contextlib
 import datetime
 import fcntl
 import json
+import math
 import os
 import pathlib
 import signal
@@ -43,6 +44,7 @@ MOST_FAULT = 60  # letters of a fault that others are shown
 LONGEST_PAUSE = 5  # seconds from a `serve` that failed to the next
 TURN_SECONDS = 3  # that commands wait at most until candidates who waited have their answers
 DAY_PAUSE = 0.5  # seconds from one look at the date to the next
+COPY_PAUSE = 300  # seconds from a copy of the day that could not be kept to the next try
 START_SECONDS, STOP_SECONDS, QUESTION_SECONDS = 60, 20, 5  # that who begins `keep`, ends it or asks it waits at most
 QUESTION = b"GET / HTTP/1.0\r\n\r\n"  # `serve` answers it by 404
 RUNS = "`keep` serves this office already; `office keep status` says where"
@@ -71,6 +73,7 @@ class Keep:
         self.office, self.place, self.days, self.lock = office, place, days, lock
         self.hold = hold.Hold()
         self.ending = False
+        self.copy_again = math.inf  # when the copy of the day is to be tried again
 
     def show(self, state: str = "aside", **more: object) -> None:
         """Writes into the lock file what `keep` does."""
@@ -138,6 +141,8 @@ class Keep:
             try:
                 want.close()
                 while not self.hold.over.is_set() and self.office.today() == day:
+                    if time.monotonic() > self.copy_again:
+                        await asyncio.to_thread(self.keep_day, day)
                     with contextlib.suppress(TimeoutError):
                         await asyncio.wait_for(self.hold.over.wait(), DAY_PAUSE)
                     if opening.done():
@@ -167,12 +172,14 @@ class Keep:
         turn.close()
 
     def keep_day(self, day: datetime.date) -> None:
-        """Keeps a copy of the office at each new day, and the last of them."""
+        """Keeps a copy of the office at each new day, and the last of them; where that fails, it is tried again."""
+        self.copy_again = math.inf
         try:
             if path := copies.keep_day(self.office, day, self.days):
                 say(f"copy of the day in {path}")
         except (OSError, Trouble) as fault:
             say(f"no copy of the day: {fault.strerror if isinstance(fault, OSError) and fault.strerror else fault}")
+            self.copy_again = time.monotonic() + COPY_PAUSE
 
 
 def last_complaint(process: subprocess.Popen[bytes]) -> str:

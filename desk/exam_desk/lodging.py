@@ -46,8 +46,11 @@ def candidate(office: Office, number: str) -> tuple[str, str]:
 @contextlib.contextmanager
 def served(office: Office) -> Iterator[asking.Server]:
     """Where the office answers: `keep`, or a `serve` for the moment."""
-    state = turns.keep_state(office)
+    state, today = turns.keep_state(office), office.today().isoformat()
     if state and "place" in state:
+        if state.get("day", today) != today:
+            raise Trouble(f"`keep` serves with the day {state['day']}, and this is to be lodged on {today}: `office keep "
+                          "stop`, or leave TODAY out")
         yield asking.Server(state["pid"], state["place"])
         return
     serve = Serve(office, office.path, functools.partial(refuse, office))

@@ -12,7 +12,7 @@ if TYPE_CHECKING:
     from exam_desk.reading import Member, Reading
 
 NOTED = "noted"  # beside the lines of what is printed: by whom, how many, and when
-SHOWN = ["name", "paper", "date", "start", "finish", "needs", "extra", "note"]
+SHOWN = ["name", "paper", "date", "start", "finish", "needs", "extra", "misses", "note"]
 SCHOOL, OF = "school", ": "  # where others have a code; between a code and what is shown of it
 OF_SCHOOL, OF_ROWS = f"{SCHOOL}{OF}name", f"{{}}{OF}rows"  # what lines share of the school, and of a hall
 
@@ -79,10 +79,12 @@ def desks(office: Office, session: str) -> dict[str, Desk]:
 
 def lines_of(reading: Reading, session: str, members: Iterable[Member]) -> dict[str, Line]:
     """What papers of a session show of these members."""
-    notes = notebook.notes(reading.office)
+    notes, members = notebook.notes(reading.office), [*members]
+    several = {number for number, count in facts.entered(reading.rows, session).items() if count > 1}
+    missed = reading.clashes(session, sorted(several.intersection(member.number for member in members)))
     return {number: Line(Desk(sits.hall or "", sits.desk or 0), [
         name, sits.paper, sits.date, sits.start, sits.finish, "+".join(sits.needs), str(sits.extra),
-        notes.get(number, "")]) for number, name, sits in members}
+        "+".join(missed.get(number, ())), notes.get(number, "")]) for number, name, sits in members}
 
 
 def shared(reading: Reading, session: str) -> dict[str, str]:

@@ -30,7 +30,7 @@ PROBLEMS = {
 }
 NO_ROOM = {errno.ENOSPC, errno.EDQUOT}
 FIRST = {*guard.OPEN, "entering.leave", "season.page", "season.init", "files.template", "office.page", "office.bring",
-         "office.copy", "office.back"}  # what can be asked where there is no office
+         "office.copy", "office.back", "office.handbook"}  # what can be asked where there is no office
 
 
 class Number(IntegerConverter):
@@ -74,7 +74,9 @@ def let_go(_: BaseException | None) -> None:
 def everywhere() -> dict[str, Any]:
     """What every page has besides its own."""
     here, visit = desk(), g.get("visit") or guard.Visit("", mark="")  # a stranger's, where there is none
-    said, visit.said = visit.said, []
+    said: list[tuple[str, Any]] = []
+    if "piece" not in request.args:  # a piece of a page shows none
+        said, visit.said = visit.said, []
     if (left := visit.proposals.get(request.args.get("again", ""))) and not left.is_done:
         said.append(("", text("Nothing was done. The form is as you left it.")))
     asked = g.get("asked") or (left.asked if left else forms.Asked())

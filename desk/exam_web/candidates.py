@@ -50,10 +50,13 @@ def search(asked: str) -> list[Person]:
 
 
 def papers_without(number: int = -1) -> list[sqlite3.Row]:
-    """The papers for which a candidate is not entered: those of sessions that are over stand last."""
-    return view().rows("SELECT paper.code AS code, title, session, day FROM paper JOIN session "
-                       "ON session.code = session WHERE paper.code NOT IN (SELECT paper FROM entry WHERE number = ?) "
-                       "ORDER BY day < ?, day, start, paper.code", [number, desk().office.today().isoformat()])
+    """The papers for which a candidate is not entered, without those of second sittings, which have a form of their own:
+    those of sessions that are over stand last."""
+    made = {second["code"] for _, second in second_sitting.pairs(view().reading.rows)}
+    found = view().rows("SELECT paper.code AS code, title, session, day FROM paper JOIN session "
+                        "ON session.code = session WHERE paper.code NOT IN (SELECT paper FROM entry WHERE number = ?) "
+                        "ORDER BY day < ?, day, start, paper.code", [number, desk().office.today().isoformat()])
+    return [row for row in found if row["code"] not in made]
 
 
 @pages.get("/candidates/<int:number>")

@@ -65,6 +65,7 @@ def lead(endpoint: str, said: Markup | None = None, kind: str = "good", **values
     """Leads to a page, which says what was done, or what is bad."""
     if said is not None:
         g.visit.said.append((kind, said))
+        values.pop("_anchor", None)  # it stands at the top of the page
     return redirect(url_for(endpoint, **values), 303)
 
 

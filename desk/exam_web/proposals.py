@@ -42,7 +42,7 @@ MOST_PROPOSALS = 20  # of a visit
 MOST_ROWS = 250  # of a list on the page; all who must be told are in the CSV file
 MOST_LINES = 20  # of the log, where the office was another
 MOST_CLASHES = 100  # new ones that are named
-TICKED = {"loses": 10, "needs": 1, "clashes": 1, "twice": 1}  # by kind: what meets so many candidates wants a tick
+TICKED = {"loses": 10, "needs": 1, "clashes": 1, "twice": 1, "name": 10}  # by kind: what meets so many candidates wants a tick
 COMPARING, LODGING = "Both states are compared", "The appeal is lodged"
 OTHER_OFFICE = ("the office has changed since the page that you came from, so nothing was done: go back to the form, "
                 "and ask once more")
@@ -161,7 +161,8 @@ class Plan:
 
     def imported(self) -> list[tuple[str, int, int, int]]:
         """For each file of an import the rows that are added, changed and the same."""
-        parts = [(each.step, each.first_line().split()) for each in self.answers if len(self.steps) > 1]
+        is_file = self.asked.form == "files"
+        parts = [(each.step, each.first_line().split()) for each in self.answers if is_file or len(self.steps) > 1]
         return [(step.words[1], int(said[1]), int(said[3]), int(said[5])) for step, said in parts
                 if said[::2] == ["added", "changed", "same"]]
 

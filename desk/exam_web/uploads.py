@@ -8,6 +8,7 @@ from werkzeug.wrappers import Response
 
 from exam_desk import coding, dumping, facts, files, mistakes
 from exam_desk.changing import Step
+from exam_desk.left_behind import left_behind
 from exam_desk.mistakes import Mistake
 from exam_desk.workbook.reading import workbook_of
 from exam_desk.workbook.values import Way
@@ -216,7 +217,12 @@ def import_files(form: Form) -> Plan:
         raise Wrong(page, choice=text("say what is to become of these entries"))
     texts = upload.texts | with_codes(upload, page, form)
     steps = [Step(("import", kind, f"{kind}.csv"), texts[kind]) for kind in upload.kinds]
-    return Plan({"kinds": ", ".join(upload.kinds)}, steps, page, done=partial(setattr, upload, "is_imported", True))
+    withdrawn = mistakes.Known(view().reading.rows).withdrawn
+    stay = sum(row.fields in withdrawn for row in below_header(texts.get("entries", b"")))
+    said = [many(stay, "{count} of these entries is withdrawn in the office, and stays so until it is reinstated.",
+                 "{count} of these entries are withdrawn in the office, and stay so until they are reinstated.")] * (stay > 0)
+    return Plan({"kinds": ", ".join(upload.kinds)}, steps, page, done=partial(setattr, upload, "is_imported", True),
+                look=lambda before, after: [*said, *left_behind(before, after)])
 
 
 def with_codes(upload: Upload, page: Page, form: Form) -> dict[str, bytes]:

@@ -82,10 +82,11 @@ def number(value: int) -> str:
     return f"{value:,}".replace(",", text(",")) if value is not None else "–"
 
 
-def day(iso: str) -> Markup:
-    """2027-06-07 as Mon 7 Jun, in the reader's language."""
-    date = datetime.date.fromisoformat(iso)
-    return text("{weekday} {day} {month}", weekday=text(f"{date:%a}"), day=date.day, month=text(f"{date:%b}"))
+def day(iso: str, has_year: bool = False) -> Markup:
+    """2027-06-07 as Mon 7 Jun, in the reader's language; with its year if that is asked for, or is not this one."""
+    date, today = datetime.date.fromisoformat(iso), current_app.extensions["desk"].office.today()
+    found = text("{weekday} {day} {month}", weekday=text(f"{date:%a}"), day=date.day, month=text(f"{date:%b}"))
+    return Markup("{} {}").format(found, date.year) if has_year or date.year != today.year else found
 
 
 def days_until(iso: str) -> int:

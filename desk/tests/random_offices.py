@@ -231,8 +231,11 @@ class RandomOffice:
         for hall, parts in tables.items():
             lines = self.sheet(self.path, "door-list", session, hall)
             rows = [[*line[:25].split(), line[26:]] for line in lines[2:]]
+            missed = collections.defaultdict(list)
+            for number, _, clash in self.clashes(session):
+                missed[number].append(f"does not sit {clash}")
             wanted = [[desk, number, plain(name), paper, self.now[session][number].finish,
-                       self.arrangements[number, session], ""]
+                       "|".join(filter(None, [self.arrangements[number, session], *missed[number]])), ""]
                       for desk, number, paper, name in rows]
             equal([row for table in parts for row in table[2:]][:-1], wanted, "doors", page)
             last = max(self.now[session][number].finish for _, number, *_ in rows)
@@ -322,7 +325,7 @@ class RandomOffice:
     def slips(self, reading):
         found = {}
         for table in Cells(page := slips.page(reading, slips.Choice(codes=True, desks=True))).tables:
-            found[table[0][0][len("access code ") + 11:][:7]] = table
+            found[re.search(r"number (\d{7})", table[0][0])[1]] = table
         clashes = collections.defaultdict(list)
         for session in self.sessions:
             for number, _, clash in self.clashes(session):

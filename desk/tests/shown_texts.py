@@ -32,7 +32,7 @@ SAID = [*refusals.SENTENCES.values(), *refusals.OTHER.values(), *OTHERWISE]
 CURES = [cure.removesuffix(forms.SHEET_HINT) for cure in mistakes.CURES.values()]
 OPENED = [cells.PASSWORD, opening.NO_UTF_8, opening.NO_WORKBOOK, opening.OLD_FORM,  # why a file is not read
           backups.NO_OFFICE, backups.SEVERAL, backups.BROKEN, backups.TOO_LARGE]
-OWN = [proposals.OTHER_OFFICE, proposals.WRONG_DESK]
+OWN = [proposals.OTHER_OFFICE, proposals.WRONG_DESK, proposals.COMPARING, proposals.LODGING]
 TABLES = {  # by what stands in the call
     "word": session.RUNNING.values(),
     "sheet.title": [sheet.title for sheet in session.SHEETS.values()],

@@ -91,7 +91,7 @@ class Strangers(Beside):
         os.mkdir(self.desk, 0o700)
         os.chown(self.desk, NOBODY, NOBODY)
         for words in (["withdraw", "0001000", "MA-1"], ["back"]):
-            self.assertIn("belongs to nobody: look who made it", self.refused(*words))
+            self.assertIn("belongs to nobody: if it is the office's, `chown -R ", self.refused(*words))
         self.assertIn("MON-AM", self.office("summary"))
         self.assertEqual(os.listdir(self.desk), [])
 

@@ -205,7 +205,7 @@ class Told(sample.SampleSchool):
         lines = self.told(*words)
         self.assertEqual(lines[0], f"{said}: MON-AM for AULA")
         self.assertEqual(lines[-1], "`office changes 1; office printed MON-AM --look` lists them")
-        self.assertIn("to print again: AULA; board, counts, slips\n", self.office("printed", "MON-AM", "--look"))
+        self.assertIn("to print again: sheet, poster, cards, chart of AULA; board, counts, slips\n", self.office("printed", "MON-AM", "--look"))
         self.assertIn("MON-AM for AULA", "\n".join(self.told("name", "0001306", "Another Name")))
         self.assertNotIn("printed", "\n".join(self.told("back", "2", "--yes")))  # all is as on paper again
         lines = self.told("close-hall", "MON-AM", "GYM")

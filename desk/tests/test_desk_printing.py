@@ -68,7 +68,7 @@ class TestPrinting(DeskSchool):
         self.office("withdraw", "0001051", "CS-1")
         *moves, halls = self.office("printed", "MON-AM", "--look").splitlines()
         found = self.browser.words(self.PRINTED + "?piece")
-        self.assertIn("out of date: " + halls.removeprefix("to print again: ").partition(";")[0] + " ", found)
+        self.assertIn("out of date: " + halls.removeprefix("to print again: sheet, poster, cards, chart of ").partition(";")[0] + " ", found)
         self.assertIn("PC1", halls)
         self.assertIn("And of the whole session: Slips for candidates, with desk numbers , Notice board by name ,", found)
         self.assertIn(f"{len(moves)} candidates are not as on paper", found)
@@ -137,7 +137,7 @@ class TestPrinting(DeskSchool):
         shown = self.browser.words(page)
         self.browser.post(page + "/do", page)
         *_, again = self.office("printed", "MON-AM", "--look").splitlines()
-        halls = again.removeprefix("to print again: ").partition(";")[0]
+        halls = again.removeprefix("to print again: sheet, poster, cards, chart of ").partition(";")[0]
         self.assertIn("PC1", halls.split(", "))
         self.assertIn(line.format("would be", halls), shown)
         self.assertIn(line.format("are", halls), self.browser.words(page))
@@ -285,6 +285,7 @@ class TestTheDay(DeskSchool):
             _, text = self.browser.post(page + "/absent", page, 422, numbers=wrong)
             self.assertRegex(text, 'name="numbers"[^>]*aria-invalid="true"')
         self.browser.post("/sessions/NONE/absent", page, 404, numbers="0001051")
+        self.assertIn('name="was" value="0001051"', self.browser.get(page))  # whose tick is taken away was there
         self.browser.post(page + "/absent", page, was=["0001051"])
         self.assertIn(self.NOTHING_NOTED, self.browser.words(page))
         self.browser.post(page + "/absent", page, nobody="1")

@@ -281,9 +281,9 @@ class Commands(sample.SampleSchool):
         self.office("close-hall", "MON-AM", "GYM")
         self.office("withdraw", "0001119", "CS-1")  # so that somebody in another hall has another desk
         *moves, again, last = self.office("printed", "MON-AM", "--look").splitlines()
-        self.assertEqual(last, "to take away, as nobody sits there now: GYM")
+        self.assertEqual(last, "to take away, as nobody sits there now: sheet, poster, cards, chart of GYM")
         halls = {place for line in moves for place in re.findall(r"(?:: |-> )([A-Z]\w+) \d+(?= ->|,|$)", line)}
-        self.assertEqual(again, f"to print again: {', '.join(sorted(halls - {'GYM'}))}; board, counts, slips")
+        self.assertEqual(again, f"to print again: sheet, poster, cards, chart of {', '.join(sorted(halls - {'GYM'}))}; board, counts, slips")
         self.assertIn("PC1", again)
 
     def test_the_log_and_the_notebook_say_who_noted_it(self):
@@ -363,7 +363,7 @@ class Commands(sample.SampleSchool):
             self.assertEqual(self.office("printed", "MON-AM", "--look"), "the papers are up to date\n")
             told = self.run_office(*words)
             self.assertEqual(self.office("printed", "MON-AM", "--look"),
-                             f"{said}\nto print again: {', '.join(sorted(halls))}; board, counts, slips\n")
+                             f"{said}\nto print again: sheet, poster, cards, chart of {', '.join(sorted(halls))}; board, counts, slips\n")
             self.assertIn(f": MON-AM for {', '.join(sorted(halls))}\n", told.stderr, words)
             self.assertEqual(self.office("printed"),
                              "MON-AM: the papers are out of date; `office printed MON-AM --look`\n")

@@ -4,13 +4,14 @@ Who asks for halls gets their sheets alone, as `lists.halls` has them. Besides, 
 """
 from __future__ import annotations
 
+import sqlite3
 import unicodedata
 from collections import Counter, defaultdict
 from collections.abc import Collection, Iterable, Iterator, Mapping, Sequence
 
 from markupsafe import Markup
 
-from exam_desk import facts, lists, notebook, on_paper, telling
+from exam_desk import facts, lists, notebook, on_paper, second_sitting, telling
 from exam_desk.names import fold
 from exam_desk.notebook import Rows
 from exam_desk.on_paper import SHOWN, Desk, Line
@@ -203,11 +204,27 @@ def doors(reading: Reading, session: str, asked: Collection[str] = ()) -> str:
     """Invigilators' sheets: each hall from a page of its own on, by desk."""
     heading, titles = school(reading.office, "<br>") + when(reading, session), paper_names(reading.rows, HEADED)
     notes, printed = notebook.notes(reading.office), on_paper.noted(reading.office, session).lines
-    papers = paper_names(reading.rows, CODE)
+    papers, missed = paper_names(reading.rows, CODE), reading.clashes(session)
+    made = {second["code"]: first for first, second in second_sitting.pairs(reading.rows)}
+    told = {number: [*filter(None, [notes.get(number)]), *(f"does not sit {paper}" for paper in missed.get(number, ())),
+                     *watched(made, sits, reading.all_of(number).values())]
+            for number, _, sits in reading.members(session)}
     return of_desks(reading, session, "Invigilators' sheets", (
         page for opening, there in lists.halls(reading, session, asked)
         for page in of_door(heading, titles, opening, there,
-                            [row_of(member, papers, notes, printed) for member in there])), "doors")
+                            [row_of(member, papers, told[member.number], printed) for member in there])), "doors")
+
+
+def watched(made: Mapping[str, sqlite3.Row], sits: Sitting, all_of: Iterable[Sitting]) -> Iterator[str]:
+    """What invigilators must know of who has a second sitting behind this one, or sits it here, among all that they sit:
+    in between somebody stays with them. Of each paper that was made for second sittings the one is given of which."""
+    mine = made.get(sits.paper)
+    for other in all_of:
+        first = made.get(other.paper)
+        if first and first["session"] == sits.session:
+            yield f"stay with them: {first['code']} at {other.start} in {other.hall or 'no hall yet'}"
+        elif mine and mine["session"] == other.session:
+            yield f"watched since {other.finish}, comes from {other.hall or 'no hall'}"
 
 
 def of_door(heading: Markup, titles: Mapping[str, Markup], opening: facts.Opening, members: list[Member],
@@ -226,9 +243,9 @@ def of_door(heading: Markup, titles: Mapping[str, Markup], opening: facts.Openin
         yield table(DOORS, rows[part], head, BELOW if place == len(parts) else Markup())
 
 
-def row_of(member: Member, papers: Mapping[str, Markup], notes: Mapping[str, str], printed: Mapping[str, Line]) -> Row:
+def row_of(member: Member, papers: Mapping[str, Markup], told: Iterable[str], printed: Mapping[str, Line]) -> Row:
     sits, paper = member.sitting, papers[member.sitting.paper]
-    arranged = [*filter(None, (lists.allowance(sits), notes.get(member.number)))]
+    arranged = [*filter(None, [lists.allowance(sits)]), *told]
     until = finish(member, printed)
     height = 1 + LINE * max(lines([member.name], NAME), lines(arranged, ARRANGEMENT), len(paper.striptags().split()),
                             1 + until.count("<br>"))

@@ -15,7 +15,7 @@ addEventListener("keydown", (event) => {
 // a form is sent once, and says that it works
 addEventListener("submit", (event) => {
   const form = event.target, button = event.submitter;
-  if (form.target === "_blank" || form.method !== "post") return;
+  if (form.target === "_blank" || form.method !== "post" || "file" in form.dataset) return;  // no page follows a file
   setTimeout(() => {
     for (const each of form.querySelectorAll("button")) each.disabled = true;
     if (button && form.dataset.busy) {
@@ -114,3 +114,12 @@ if (drop) {
     send((await Promise.all(entries.map(async (each) => each.isFile ? read(each) : tables(await read(each))))).flat());
   });
 }
+
+// each hall has a list of its own to tick who is absent: one is sent with all
+addEventListener("formdata", (event) => {
+  if (!event.target.action.endsWith("/absent")) return;
+  for (const box of document.querySelectorAll("input[name=absent]")) {
+    const isOther = box.form !== event.target && box.checked !== box.defaultChecked;
+    if (isOther) event.formData.append(box.checked ? "absent" : "was", box.value);
+  }
+});
