@@ -50,6 +50,18 @@ class TestLostDesks(SmallSchool):
         self.browser.post(page + "/do", page, tick="1")
         self.assertEqual(self.seats(), [])
 
+    def test_many_other_names_want_a_tick(self):
+        """As a list of last year, or one whose names were sorted alone."""
+        numbers = range(1, 11)
+        self.begin("A,Hall A,-\n", "S1,A,12,12:00,no\n", "".join(f"{n:07},SHORT\n" for n in numbers))
+        rows = self.rows("SELECT number, name, code FROM candidate ORDER BY number")
+        for count in (9, 10):
+            text = "".join(f"{number:07},{'x' * (number <= count)}{name},{code}\n" for number, name, code in rows)
+            where, _ = self.browser.send("/files", "/files", "files", ("candidates.csv", f"number,name,code\n{text}".encode()))
+            page, _ = self.browser.post("/propose/files", where, upload=where.rpartition("/")[2])
+            self.assertEqual('name="tick"' in self.browser.get(page), count == 10)
+            self.assertRegex(self.browser.words(page), rf"candidates.* {count} ")  # the rows of one file are counted, too
+
     def test_two_papers_at_once_and_two_sessions_at_one_time_want_a_tick(self):
         """Candidate 1 sits SHORT in S1 at 09:00 until 10:00, and OTHER in S2 on the next day."""
         self.begin("A,Hall A,-\n", "S1,A,2,12:00,no\nS2,A,2,12:00,no\n",

@@ -150,6 +150,16 @@ class Kept(sample.KeptSchool):
 
 
 class NewDay(sample.SampleSchool):
+    def test_a_copy_that_cannot_be_kept_is_tried_again(self):
+        with turns.lock_file(self.value, "keep.lock") as lock:
+            keep = keeping.Keep(self.value, "8080", 2, lock)
+            with mock.patch.object(keeping.copies, "keep_day", side_effect=OSError(28, "No space left on device")):
+                keep.keep_day(self.value.today())
+            self.assertLess(keep.copy_again, float("inf"))
+            keep.keep_day(self.value.today())
+            self.assertEqual(keep.copy_again, float("inf"))
+        self.assertEqual(os.listdir(os.path.join(f"{self.folder}/desk-office.db", "days")), [sample.TODAY])
+
     def test_a_new_day_is_served_with_its_date_and_a_copy(self):
         today = mock.Mock(return_value=datetime.date(2027, 5, 1))
         with mock.patch("exam_desk.keeping.say"):

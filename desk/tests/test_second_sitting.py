@@ -54,6 +54,21 @@ class SecondSitting(test_changing.Changing):
 
 
 class There(SecondSitting):
+    def test_papers_say_with_whom_somebody_stays(self):
+        """Until the second sitting is over nobody must meet those who wrote the paper; and the exam board finds them."""
+        self.office("open-hall", "MON-AM", "R14", "9", "18:00")
+        self.assertIn("does not sit MA-1", self.office("doors", "MON-AM", "R14"))
+        self.office("printed", "MON-AM")
+        told = self.run_office("second-sitting", *ONE, "--yes")
+        self.assertIn("misses MA-1 -> -", self.office("printed", "MON-AM", "--look"))
+        self.assertIn("  MON-AM for R14: ", told.stdout)
+        first, second = self.office("doors", "MON-AM", "R14"), self.office("doors", "MON-AM-2")
+        self.assertEqual(first.count("stay with them: MA-1 at 10:30 in R14"), 1)
+        self.assertIn("watched since 10:30, comes from R14", second)
+        self.assertNotIn("stay with", second)
+        listed = self.run_office("absent", "MON-AM", TODAY="2027-06-07")
+        self.assertIn("NOTE MA-1 is sat in MON-AM-2 too: `office absent MON-AM-2` has 1 candidate\n", listed.stderr)
+
     def test_the_first_makes_a_session_and_a_paper(self):
         said = self.second(*ONE)
         self.assertEqual(said.split("\n")[:4], [
