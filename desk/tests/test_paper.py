@@ -37,7 +37,7 @@ class Papers(sample.SampleSchool):
     def test_slips(self):
         rows = self.rows("slips", "--only", "0001051", "--codes")
         self.assertEqual(rows, [
-            ["access code VMGNZGEDP90001051Di Berg"], ["Day", "Time", "Paper", "Hall"],
+            ["access code VMGNZGEDP9number 0001051Di Berg"], ["Day", "Time", "Paper", "Hall"],
             ["Mon 7 June 2027", "09:00–11:00",
              "Computer science (CS-1)|not Latin (LAT), at the same time: ask the exams office", "Computer room (PC1)"],
             ["Mon 7 June 2027", "13:30–15:00", "English language (EN-1)", "Aula, main building (AULA)"],
