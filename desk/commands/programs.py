@@ -11,8 +11,8 @@ from collections.abc import Callable, Iterator, Sequence
 from dataclasses import dataclass, field, replace
 
 import command
-from exam_desk import (beside, changing, consequences, copies, listed, lists, lodging, losses, notebook, private,
-                       refusals, running, turns, typed)
+from exam_desk import (beside, changing, consequences, copies, listed, lists, lodging, logbook, losses, notebook,
+                       private, refusals, running, turns, typed)
 from exam_desk.changing import Answered, Rehearsal, Step, Tried
 from exam_desk.office import Office
 from exam_desk.reading import Reading
@@ -247,10 +247,14 @@ def dispatch(office: Office, words: list[str]) -> Ran:
         from exam_desk import new_office  # here, since it alone needs it
         return new_office.make(office)
     if words[0] == "check" and os.path.isfile(office.path):  # changes no facts, but needs the office for itself
-        if not os.path.exists(os.path.realpath(office.path) + "-wal"):
-            command.warn(f"NOTE {office.base_name()}-wal does not lie beside it: in a backup the last appeals may be lacking")
+        # With a log it is an office that is used, and `back` leaves one file.
+        is_lacking = not any(map(os.path.exists, (os.path.realpath(office.path) + "-wal",
+                                                  beside.folder(office.path, logbook.NAME))))
         with contextlib.suppress(OSError), turns.alone(office, words):
-            return changing.run_patiently(office, changing.Step(tuple(words)))
+            ran = changing.run_patiently(office, changing.Step(tuple(words)))
+            if is_lacking and ran.status == 0:
+                command.warn(f"NOTE {office.base_name()}-wal does not lie beside it: in a backup the last appeals may be lacking")
+            return ran
     if words[0] not in running.SHEETS:
         return running.run_over(office, office.path, *words, output=None)
     with contextlib.ExitStack() as stack:

@@ -343,7 +343,7 @@ class RandomOffice:
                       for session in order if number in self.now[session]]
             equal(table[2:], wanted, "slip", page)
             name = next(seats[number].name for seats in self.now.values() if number in seats)
-            equal(table[0], [f"access code {self.codes[number]}{number}{plain(name)}"], "slip", page)
+            equal(table[0], [f"access code {self.codes[number]}number {number}{plain(name)}"], "slip", page)
 
     def slip_row(self, number, session, head, clashes, beside):
         seat, day = self.now[session][number], datetime.date.fromisoformat(head[0])

@@ -104,8 +104,10 @@ class TestSessions(Rows):
             self.assertEqual(self.seats(), seats)
 
     def test_second_sittings_stay(self):
-        self.assertNotIn("second sittings stay", self.browser.words(SESSION))
-        self.office("import", "sessions", self.write("sessions.csv", "session,date,start\nS1-2,2027-06-07,13:00\n"))
+        self.office("import", "sessions", self.write("sessions.csv", "session,date,start\nS1-3,2027-06-07,15:00\n"))
+        self.assertNotIn("second sittings stay", self.browser.words(SESSION))  # its code alone makes it none
+        self.office("import", "entries", self.write("entries.csv", "number,paper\n0000002,CODING\n"))
+        self.office("second-sitting", "0000002", "SHORT", "13:00", "A", "--yes")
         self.assertIn("Its second sittings stay where they are: S1-2", self.browser.words(SESSION))
         self.assertNotIn("second sittings stay", self.browser.words("/sessions/S1-2"))
 
