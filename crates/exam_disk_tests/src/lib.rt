@@ -1,5 +1,5 @@
-//! Commands of the program, and requests to its server, over files that fail and machines that stop. They stand beside
-//! the crates that they run, so that the gate proves these once.
+//! Commands of the program, and requests to its server, over files that fail and machines that stop, over files on the
+//! disk and over sockets. They stand beside the crates that they run, so that the gate proves these once.
 #![tactic(auto)]
 
 #[cfg(test)]

@@ -7,9 +7,9 @@ ghost use Rattle.exam_files.specs.Writing.{Writes};
 
 use crate::sending::send;
 use crate::sheet_fault::SheetFault;
-use crate::sheet_text::{hall_bytes, push_bytes, push_decimal, push_desk, push_left};
+use crate::sheet_text::{hall_bytes, push_decimal, push_desk, push_left};
 use exam_rules::Session;
-use exam_types::{PaperCode, Refusal, SessionCode};
+use exam_types::{PaperCode, Refusal, SessionCode, append};
 use exam_views::{Seat, SessionView};
 use std::alloc::Global;
 use std::io::Write;
@@ -76,17 +76,17 @@ fn push_heading(
         ≡ text.old.items ++ spec.attendance_heading code session paper.now count) }
     ensures memory { OnlyMemory result }
 {
-    push_bytes(text, b"ATTENDANCE session ")?;
+    append(text, b"ATTENDANCE session ")?;
     code.write_to(text)?;
-    push_bytes(text, b" paper ")?;
+    append(text, b" paper ")?;
     paper.write_to(text)?;
-    push_bytes(text, b"\ndate ")?;
+    append(text, b"\ndate ")?;
     session.day.write_to(text)?;
-    push_bytes(text, b" start ")?;
+    append(text, b" start ")?;
     session.start.write_to(text)?;
-    push_bytes(text, b" candidates ")?;
+    append(text, b" candidates ")?;
     push_decimal(text, count)?;
-    push_bytes(text, b"\n")?;
+    append(text, b"\n")?;
     Ok(())
 }
 
@@ -109,14 +109,14 @@ fn push_line(text: &mut Vec<u8>, seat: &Seat) -> Result<(), Refusal>
     ensures memory { OnlyMemory result }
 {
     seat.number.write_to(text)?;
-    push_bytes(text, b" ")?;
+    append(text, b" ")?;
     push_left(text, 8, hall_bytes(&seat.hall))?;
-    push_bytes(text, b" ")?;
+    append(text, b" ")?;
     push_desk(text, 4, seat.desk)?;
-    push_bytes(text, b" ")?;
+    append(text, b" ")?;
     seat.finish.write_to(text)?;
-    push_bytes(text, b" ")?;
+    append(text, b" ")?;
     seat.name.write_to(text)?;
-    push_bytes(text, b"\n")?;
+    append(text, b"\n")?;
     Ok(())
 }

@@ -7,9 +7,9 @@ ghost use Rattle.exam_files.specs.Writing.{Writes};
 
 use crate::sending::send;
 use crate::sheet_fault::SheetFault;
-use crate::sheet_text::{push_bytes, push_decimal, push_left};
+use crate::sheet_text::{push_decimal, push_left};
 use exam_rules::Session;
-use exam_types::{Refusal, SessionCode};
+use exam_types::{Refusal, SessionCode, append};
 use exam_views::{Clash, SessionView};
 use std::alloc::Global;
 use std::io::Write;
@@ -52,13 +52,13 @@ fn push_heading(
     ensures ok { OnOk result (text.new.items ≡ text.old.items ++ spec.clash_heading code session count) }
     ensures memory { OnlyMemory result }
 {
-    push_bytes(text, b"CLASHES session ")?;
+    append(text, b"CLASHES session ")?;
     code.write_to(text)?;
-    push_bytes(text, b"\ndate ")?;
+    append(text, b"\ndate ")?;
     session.day.write_to(text)?;
-    push_bytes(text, b" clashes ")?;
+    append(text, b" clashes ")?;
     push_decimal(text, count)?;
-    push_bytes(text, b"\n")?;
+    append(text, b"\n")?;
     Ok(())
 }
 
@@ -77,10 +77,10 @@ fn push_line(text: &mut Vec<u8>, clash: &Clash) -> Result<(), Refusal>
     ensures memory { OnlyMemory result }
 {
     clash.number.write_to(text)?;
-    push_bytes(text, b" sits ")?;
+    append(text, b" sits ")?;
     push_left(text, 12, clash.sitting.as_bytes())?;
-    push_bytes(text, b" clash ")?;
+    append(text, b" clash ")?;
     clash.paper.write_to(text)?;
-    push_bytes(text, b"\n")?;
+    append(text, b"\n")?;
     Ok(())
 }

@@ -7,9 +7,9 @@ ghost use Rattle.exam_files.specs.Writing.{Writes};
 
 use crate::sending::send;
 use crate::sheet_fault::SheetFault;
-use crate::sheet_text::{push_bytes, push_decimal, push_left, push_right};
+use crate::sheet_text::{push_decimal, push_left, push_right};
 use exam_rules::{Opening, Session};
-use exam_types::{HallCode, Refusal, SessionCode};
+use exam_types::{HallCode, Refusal, SessionCode, append};
 use exam_views::{Seat, SessionView};
 use std::alloc::Global;
 use std::io::Write;
@@ -72,19 +72,19 @@ fn push_heading(
         ≡ text.old.items ++ spec.door_heading code session hall.now opening.now seats.now) }
     ensures memory { OnlyMemory result }
 {
-    push_bytes(text, b"DOOR LIST session ")?;
+    append(text, b"DOOR LIST session ")?;
     code.write_to(text)?;
-    push_bytes(text, b" hall ")?;
+    append(text, b" hall ")?;
     hall.write_to(text)?;
-    push_bytes(text, b"\ndate ")?;
+    append(text, b"\ndate ")?;
     session.day.write_to(text)?;
-    push_bytes(text, b" start ")?;
+    append(text, b" start ")?;
     session.start.write_to(text)?;
-    push_bytes(text, b" desks ")?;
+    append(text, b" desks ")?;
     opening.desks.write_to(text)?;
-    push_bytes(text, b" seated ")?;
+    append(text, b" seated ")?;
     push_decimal(text, seated(seats, hall))?;
-    push_bytes(text, b"\n")?;
+    append(text, b"\n")?;
     Ok(())
 }
 
@@ -114,13 +114,13 @@ fn push_line(text: &mut Vec<u8>, seat: &Seat, desk: u32) -> Result<(), Refusal>
     ensures memory { OnlyMemory result }
 {
     push_right(text, 4, desk)?;
-    push_bytes(text, b" ")?;
+    append(text, b" ")?;
     seat.number.write_to(text)?;
-    push_bytes(text, b" ")?;
+    append(text, b" ")?;
     push_left(text, 12, seat.paper.as_bytes())?;
-    push_bytes(text, b" ")?;
+    append(text, b" ")?;
     seat.name.write_to(text)?;
-    push_bytes(text, b"\n")?;
+    append(text, b"\n")?;
     Ok(())
 }
 

@@ -7,9 +7,9 @@ ghost use Rattle.exam_files.specs.Writing.{Writes};
 
 use crate::sending::send;
 use crate::sheet_fault::SheetFault;
-use crate::sheet_text::{push_bytes, push_decimal, push_left};
+use crate::sheet_text::{push_decimal, push_left};
 use exam_commands::{state_word, write_subject};
-use exam_types::{Refusal, SessionCode};
+use exam_types::{Refusal, SessionCode, append};
 use exam_views::{AppealRow, SessionView};
 use std::alloc::Global;
 use std::io::Write;
@@ -49,11 +49,11 @@ pub(crate) fn push_heading(
     ensures ok { OnOk result (text.new.items ≡ text.old.items ++ spec.register_heading code count) }
     ensures memory { OnlyMemory result }
 {
-    push_bytes(text, b"APPEALS session ")?;
+    append(text, b"APPEALS session ")?;
     code.write_to(text)?;
-    push_bytes(text, b"\nappeals ")?;
+    append(text, b"\nappeals ")?;
     push_decimal(text, count)?;
-    push_bytes(text, b"\n")?;
+    append(text, b"\n")?;
     Ok(())
 }
 
@@ -72,16 +72,16 @@ pub(crate) fn push_line(text: &mut Vec<u8>, appeal: &AppealRow) -> Result<(), Re
     ensures memory { OnlyMemory result }
 {
     appeal.number.write_to(text)?;
-    push_bytes(text, b" ")?;
+    append(text, b" ")?;
     push_left(text, 16, appeal.reference.as_bytes())?;
-    push_bytes(text, b" ")?;
+    append(text, b" ")?;
     push_left(text, 11, appeal.kind())?;
-    push_bytes(text, b" ")?;
+    append(text, b" ")?;
     push_left(text, 10, state_word(appeal.state))?;
-    push_bytes(text, b" ")?;
+    append(text, b" ")?;
     appeal.lodged.write_to(text)?;
-    push_bytes(text, b" ")?;
+    append(text, b" ")?;
     write_subject(&appeal.subject, text)?;
-    push_bytes(text, b"\n")?;
+    append(text, b"\n")?;
     Ok(())
 }

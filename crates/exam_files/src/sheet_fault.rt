@@ -7,7 +7,7 @@ use exam_types::Refusal;
 /// Why a sheet was not written.
 #[derive(Clone, Copy, Debug, PartialEq, Eq)]
 pub enum SheetFault {
-    /// The sheet is refused, and nothing was written.
+    /// The sheet is refused. Nothing was written, except that `register_stream` may have written a beginning.
     Refused(Refusal),
     /// The writer failed or took no byte. A beginning of the sheet was written.
     Write,

@@ -7,16 +7,8 @@ ghost use Rattle.exam_files.specs.Places.{hall_word, desk_word};
 ghost use Rattle.exam_types.specs.Codes.{is_dashed};
 ghost use Rattle.exam_types.specs.Refusals.{OnlyMemory};
 
-use exam_types::{HallCode, Refusal};
+use exam_types::{HallCode, Refusal, append};
 use itoa::{Buffer, Integer};
-
-/// Appends the bytes.
-pub fn push_bytes(text: &mut Vec<u8>, bytes: &[u8]) -> Result<(), Refusal>
-    ensures ok { OnOk result (text.new.items ≡ text.old.items ++ bytes.now) }
-    ensures memory { OnlyMemory result }
-{
-    Ok(text.extend_from_slice(bytes)?)
-}
 
 /// Appends a number in decimal.
 pub fn push_decimal<I: Integer>(text: &mut Vec<u8>, number: I) -> Result<(), Refusal>
@@ -24,7 +16,7 @@ pub fn push_decimal<I: Integer>(text: &mut Vec<u8>, number: I) -> Result<(), Ref
     ensures memory { OnlyMemory result }
 {
     let mut buffer = Buffer::new();
-    push_bytes(text, buffer.format(number).as_bytes())
+    append(text, buffer.format(number).as_bytes())
 }
 
 /// Appends a number in decimal, with spaces on the left up to the width.
@@ -42,7 +34,7 @@ fn push_word_right(text: &mut Vec<u8>, width: usize, word: &[u8]) -> Result<(), 
     ensures memory { OnlyMemory result }
 {
     push_spaces(text, width.saturating_sub(word.len()))?;
-    push_bytes(text, word)?;
+    append(text, word)?;
     Ok(())
 }
 
@@ -82,7 +74,7 @@ pub fn push_left(text: &mut Vec<u8>, width: usize, bytes: &[u8]) -> Result<(), R
     ensures ok { OnOk result (text.new.items ≡ text.old.items ++ left_in width bytes.now) }
     ensures memory { OnlyMemory result }
 {
-    push_bytes(text, bytes)?;
+    append(text, bytes)?;
     push_spaces(text, width.saturating_sub(bytes.len()))?;
     Ok(())
 }

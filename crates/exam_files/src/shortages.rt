@@ -8,8 +8,8 @@ ghost use Rattle.exam_files.specs.Writing.{Writes};
 
 use crate::sending::send;
 use crate::sheet_fault::SheetFault;
-use crate::sheet_text::{push_bytes, push_decimal};
-use exam_types::{HallCode, Number, Refusal, SessionCode};
+use crate::sheet_text::push_decimal;
+use exam_types::{HallCode, Number, Refusal, SessionCode, append};
 use exam_views::{SessionShortage, SessionView};
 use std::alloc::Global;
 use std::io::Write;
@@ -42,9 +42,9 @@ fn shortage_text(
     let mut text = Vec::new(alloc);
     push_heading(&mut text, session, shortage)?;
     push_halls(&mut text, shortage.halls.as_slice())?;
-    push_bytes(&mut text, b"candidates ")?;
+    append(&mut text, b"candidates ")?;
     push_decimal(&mut text, shortage.candidates.len())?;
-    push_bytes(&mut text, b"\n")?;
+    append(&mut text, b"\n")?;
     push_candidates(&mut text, shortage.candidates.as_slice())?;
     Ok(text)
 }
@@ -58,15 +58,15 @@ fn push_heading(
         ≡ text.old.items ++ spec.shortage_heading session (report_of shortage.now)) }
     ensures memory { OnlyMemory result }
 {
-    push_bytes(text, b"SHORTAGE session ")?;
+    append(text, b"SHORTAGE session ")?;
     session.write_to(text)?;
-    push_bytes(text, b"\nunseated ")?;
+    append(text, b"\nunseated ")?;
     push_decimal(text, shortage.unseated)?;
-    push_bytes(text, b"\nhalls ")?;
+    append(text, b"\nhalls ")?;
     push_decimal(text, shortage.halls.len())?;
-    push_bytes(text, b" desks ")?;
+    append(text, b" desks ")?;
     push_decimal(text, desk_count(shortage.halls.as_slice()))?;
-    push_bytes(text, b"\n")?;
+    append(text, b"\n")?;
     Ok(())
 }
 
@@ -95,11 +95,11 @@ fn push_hall(text: &mut Vec<u8>, hall: &(HallCode, u32)) -> Result<(), Refusal>
     ensures ok { OnOk result (text.new.items ≡ text.old.items ++ spec.hall_line hall.now) }
     ensures memory { OnlyMemory result }
 {
-    push_bytes(text, b"hall ")?;
+    append(text, b"hall ")?;
     hall.0.write_to(text)?;
-    push_bytes(text, b" desks ")?;
+    append(text, b" desks ")?;
     push_decimal(text, hall.1)?;
-    push_bytes(text, b"\n")?;
+    append(text, b"\n")?;
     Ok(())
 }
 
@@ -118,6 +118,6 @@ fn push_candidate(text: &mut Vec<u8>, number: Number) -> Result<(), Refusal>
     ensures memory { OnlyMemory result }
 {
     number.write_to(text)?;
-    push_bytes(text, b"\n")?;
+    append(text, b"\n")?;
     Ok(())
 }

@@ -22,8 +22,8 @@ use exam_types::{Day, Number, Refusal};
 use sqlite::Alter;
 use std::alloc::Global;
 
-/// Answers, on a day, what was asked. If memory runs out, it does so before any command, and the answer is 22. Whatever
-/// the answer is, every session is seated as promised.
+/// Answers, on a day, what was asked. Beside what the command itself answers, memory runs out only before a command,
+/// and the answer is 22. Whatever the answer is, every session is seated as promised.
 pub fn answer<S: Alter>(
     alloc: Global,
     store: &mut Store<S>,

@@ -39,8 +39,8 @@ pub fn run_job<S: Alter, R: Read, O: Write, E: Write>(
     }
 }
 
-/// Carries out the line's job over the store. After `Write` a command is carried out, although its reply was not
-/// written whole. Whatever it answers, every session is seated as promised.
+/// Carries out the line's job over the store. After `Write` a command is carried out, although a write or the flush of
+/// its reply failed. Whatever it answers, every session is seated as promised.
 pub fn carry_out<S: Alter, R: Read, O: Write>(
     alloc: Global,
     line: &Line<'_>,

@@ -12,6 +12,4 @@ mod sheets;
 pub use job::{carry_out, run_job};
 pub use lines::{connection_fault_line, serving_line};
 pub use migrating::migrate_office;
-pub use report::{
-    DONE, FAILED, JobFault, print, print_error, print_fault, print_line_fault, print_ready,
-};
+pub use report::{DONE, FAILED, JobFault, print, print_fault, print_line_fault, print_ready};

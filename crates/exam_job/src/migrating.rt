@@ -10,7 +10,7 @@ use std::alloc::Global;
 use std::io::Write;
 
 /// Brings the office in the database to the newest version, and prints its version before and after. After `Write` the
-/// office has the newest version, although the line was not written whole.
+/// office has the newest version, although a write or the flush of the line failed.
 pub fn migrate_office<S: Alter, O: Write>(
     alloc: Global,
     conn: &mut Connection<S>,

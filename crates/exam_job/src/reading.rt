@@ -1,5 +1,5 @@
 //! An import file, read and split into its rows.
-ghost use Rattle.std.specs.Prelude.{◌≡◌, ◌<◌, ◌≤◌, length, take, IfOk, IfErr, OnOk, OnErr};
+ghost use Rattle.std.specs.Prelude.{◌≡◌, ◌<◌, ◌≤◌, length, take, IfOk, IfErr, OnErr};
 ghost use Rattle.std.specs.Io.KnownBytes.{Consumes, IsAtEnd, Keeps};
 ghost use Rattle.exam_job.specs.declared.report.JobFault.TheVariants.{File};
 ghost use Rattle.exam_job.specs.Reading as spec;

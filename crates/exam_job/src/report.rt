@@ -1,15 +1,13 @@
 //! What the program prints on its outputs, and its exit statuses.
-ghost use Rattle.std.specs.Prelude.{◌≡◌, Err, OnOk, OnErr};
-ghost use Rattle.std.specs.Io.KnownBytes.{Appends};
+ghost use Rattle.std.specs.Prelude.{◌≡◌, Err};
 ghost use Rattle.exam_files.specs.declared.sheet_fault.SheetFault.{SheetFault};
-ghost use Rattle.exam_send.specs.Sending.{AppendsPart};
 ghost use Rattle.exam_job.specs.Printed as spec;
 ghost use Rattle.exam_job.specs.declared.report.JobFault.TheVariants.{Refused};
 
 use crate::lines::{fault_line, version_line};
 use exam_files::SheetFault;
 use exam_line::LineFault;
-use exam_send::{WriteFailed, send};
+use exam_send::send;
 use exam_types::Refusal;
 use std::io::Write;
 
@@ -80,7 +78,7 @@ pub fn print_fault<E: Write>(fault: &JobFault, err: &mut E) -> u8
     ensures { spec.Reports E.contents (Err fault.now) err.old result err.new }
 {
     // There is nowhere left to report that the line was not written.
-    let _ = print_error(err, fault_line(fault).as_slice());
+    let _ = send(err, fault_line(fault).as_slice());
     FAILED
 }
 
@@ -92,7 +90,7 @@ pub fn print_line_fault<O: Write, E: Write>(fault: &LineFault, out: &mut O, err:
         LineFault::Help(text) => print_text(text.as_bytes(), out, err),
         LineFault::Version => print_text(version_line().as_slice(), out, err),
         LineFault::NotUnderstood => {
-            let _ = print_error(err, b"line not understood\n");
+            let _ = send(err, b"line not understood\n");
             NOT_UNDERSTOOD
         }
         LineFault::NoMemory => print_fault(&JobFault::Refused(Refusal::NoMemory), err),
@@ -107,12 +105,4 @@ fn print_text<O: Write, E: Write>(text: &[u8], out: &mut O, err: &mut E) -> u8
         Ok(()) => DONE,
         Err(fault) => print_fault(&fault, err),
     }
-}
-
-/// Prints a line on standard error: all of it or, if a write fails, not all of it.
-pub fn print_error<E: Write>(err: &mut E, line: &[u8]) -> Result<(), WriteFailed>
-    ensures ok { OnOk result (Appends (E.contents err.old) (E.contents err.new) line.now) }
-    ensures err { OnErr result (AppendsPart (E.contents err.old) (E.contents err.new) line.now) }
-{
-    send(err, line)
 }

@@ -73,7 +73,7 @@ pub const HALL: &str = "The code of a hall, such as GYM";
 
 pub const STATUSES: &str =
     "Exit status: 0 done, 1 refused, a bad table or a file failed, 2 the line was not understood.{n}{n}\
-A refused command changes nothing. It prints `refused` and a number:{n}   \
+A refused command changes nothing; after 22 and 23 look whether it is done. It prints `refused` and a number:{n}   \
 1 a bad row, with its record and column (0: a wrong number of fields): correct the file, import all of it again{n}   \
 2 the first line is not the header of this kind: copy the header from examples/{n}   \
 3 a record has the key of an earlier one and other contents: keep one of the two{n}   \
@@ -81,7 +81,7 @@ A refused command changes nothing. It prints `refused` and a number:{n}   \
 5 no such paper in the session: check the code, or import papers first{n}   \
 6 no such candidate: check the number, or import candidates first{n}   \
 7 no such hall: check the code, or import halls first{n}   \
-8 no such entry: check both codes, or import entries first{n}   \
+8 not entered for the paper: check both codes, import or reinstate the entry, or decide `refused`{n}   \
 9 the entry is withdrawn already{n}  \
 10 the entry is not withdrawn{n}  \
 12 the candidate has left the session: decide `refused`{n}  \

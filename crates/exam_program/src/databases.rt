@@ -158,7 +158,7 @@ fn run_office<S: Alter, O: Write, E: Write>(
     }
 }
 
-/// Opens the office in the database. For `init` it makes an empty one if there is no table.
+/// Opens the office in the database. For `init` it makes an empty one if there is no table, index or view.
 fn open_office<S: Alter>(
     alloc: Global,
     line: &Line<'_>,

@@ -48,7 +48,7 @@ fn open_or_make<S: Start>(
     ensures over { IfOk result (IsOver (image_at S.Start)) }
     ensures told { IfErr result (λ refusal. IsTrue (is_store_refusal refusal)) }
 {
-    if !has_file(rt, path)? {
+    if length_of(rt, path)?.is_none() {
         make_file(rt, path)?;
     }
     open_database(rt, path, start)
@@ -64,10 +64,10 @@ fn open_present<S: Start>(
     ensures over { IfOk result (IsOver (image_at S.Start)) }
     ensures told { IfErr result (λ refusal. IsTrue (is_store_refusal refusal)) }
 {
-    if !has_file(rt, path)? || length_of(rt, path)? == 0 {
-        return Err(Refusal::BadStore);
+    match length_of(rt, path)? {
+        None | Some(0) => Err(Refusal::BadStore),
+        Some(_) => open_database(rt, path, start),
     }
-    open_database(rt, path, start)
 }
 
 /// Opens an import file.
@@ -92,25 +92,15 @@ fn open_fault(kind: ErrorKind) -> JobFault
     }
 }
 
-/// Whether a file is at the path. A folder, a pipe or a device there is refused: to open it could take forever.
-fn has_file(rt: &HostRuntime, path: &str) -> Result<bool, Refusal>
+/// The length in bytes of the file at the path, or none if there is no file. A folder, a pipe or a device there is
+/// refused: to open it could take forever.
+fn length_of(rt: &HostRuntime, path: &str) -> Result<Option<u64>, Refusal>
     ensures { IfErr result (λ refusal. IsTrue (is_store_refusal refusal)) }
 {
     match fs::metadata(rt, path) {
-        Ok(found) if found.is_file() => Ok(true),
+        Ok(found) if found.is_file() => Ok(Some(found.len())),
         Ok(_) => Err(Refusal::Store),
-        Err(error) if error.kind() == ErrorKind::NotFound => Ok(false),
-        Err(error) => Err(file_refusal(error.kind())),
-    }
-}
-
-/// The length in bytes of the file at the path, 0 if there is none.
-fn length_of(rt: &HostRuntime, path: &str) -> Result<u64, Refusal>
-    ensures { IfErr result (λ refusal. IsTrue (is_store_refusal refusal)) }
-{
-    match fs::metadata(rt, path) {
-        Ok(found) => Ok(found.len()),
-        Err(error) if error.kind() == ErrorKind::NotFound => Ok(0),
+        Err(error) if error.kind() == ErrorKind::NotFound => Ok(None),
         Err(error) => Err(file_refusal(error.kind())),
     }
 }

@@ -91,7 +91,7 @@ fn run_named<S: Start, O: Write, E: Write>(
     }
 }
 
-/// Reports that no database was opened. To `check` a file that is missing or is no database is a bad office.
+/// Reports that no database was opened. To `check` a file that is missing, empty or no database is a bad office.
 fn report_unopened<O: Write>(line: &Line<'_>, refusal: Refusal, out: &mut O) -> Result<u8, JobFault>
     requires { IsTrue (is_store_refusal refusal) }
     ensures { spec.IsNotReached O.contents (job_shown line.now.job) out.old result out.new }

@@ -5,7 +5,8 @@ ghost use Rattle.exam_job.specs.declared.report.JobFault.TheVariants.{Net};
 ghost use Rattle.exam_program.specs.Running.{AreEnded, EndsOne, ServesOn, TellsEnd};
 
 use exam_http::{HttpFault, serve_one};
-use exam_job::{JobFault, connection_fault_line, print, print_error, serving_line};
+use exam_job::{JobFault, connection_fault_line, print, serving_line};
+use exam_send::send;
 use exam_store::Store;
 use exam_types::Day;
 use sqlite::Alter;
@@ -153,7 +154,7 @@ fn tell_end<E: Write>(end: Result<(), HttpFault>, err: &mut E)
         Ok(()) => {}
         Err(fault) => {
             // There is nowhere left to report that this was not written.
-            let _ = print_error(err, connection_fault_line(fault.number()).as_slice());
+            let _ = send(err, connection_fault_line(fault.number()).as_slice());
         }
     }
 }

@@ -6,6 +6,7 @@ ghost use Rattle.exam_request.specs.Answer as spec;
 ghost use Rattle.exam_request.specs.Methods.{allow_text};
 ghost use Rattle.exam_send.specs.Sending.{AppendsPart};
 
+use crate::fault::Fault;
 use crate::methods::allowed;
 use crate::routes::Route;
 use crate::status::{phrase_of, status_of};
@@ -85,10 +86,11 @@ impl Answer {
     pub fn other_method(route: Route) -> Answer
         ensures { result ≡ spec.method_told route }
     {
+        let number = Fault::Method.number();
         Answer {
-            status: StatusCode::METHOD_NOT_ALLOWED,
+            status: status_of(number),
             allow: Some(route),
-            body: Body::Short(error_body(38)),
+            body: Body::Short(error_body(number)),
         }
     }
 

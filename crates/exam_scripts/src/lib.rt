@@ -8,6 +8,7 @@
 //!
 //! After a command, `with room for 9` gives it an output that takes 9 bytes and then fails, and `failing after 9` gives
 //! it an import file that yields its bytes one by one, has each other read interrupted, and fails after the first 9.
+//! `held back` gives it an output that takes everything and then fails to pass it on.
 #![tactic(auto)]
 
 mod commands;

@@ -1,5 +1,6 @@
 -- The appeals of a session, read from the database one by one.
 use Rattle.std.specs.Prelude.{◌≡◌, ⊤, ℕ, List, map, Option, None, Some}
+use Rattle.std.specs.Borrow.{MutBor}
 use Rattle.std.specs.declared.ops.Bound.{Bound}
 use Rattle.std.specs.declared.ops.Bound.TheVariants.{Excluded}
 use Rattle.sqlite_trees.specs.declared.store.Store.{Ghosts}
@@ -15,6 +16,7 @@ use Rattle.exam_views.specs.declared.view.AppealRow.{AppealRow}
 use Rattle.exam_views.specs.Views.{appeal_row}
 use Rattle.exam_tables.specs.Appeals.{appeal_key, appeals_from}
 use Rattle.exam_tables.specs.Faults.{refusal_of}
+use Rattle.exam_store.specs.declared.appeal_rows.AppealRows.{AppealRows}
 use Rattle.exam_store.specs.Kept.{Keeps}
 use Rattle.exam_store.specs.OnlyRead.{OnlyIsRead, read_then}
 use Rattle.exam_store.specs.Stores.{OfficeIn}
@@ -27,6 +29,14 @@ rows_from office s from = map appeal_row (appeals_from office.relations.appeals 
 abbrev pub bound_after : Bound (ℕ × Code) → Option AppealRow → Bound (ℕ × Code)
 bound_after from None = from
 bound_after from (Some row) = Excluded (row.number, row.reference)
+
+-- the store that the source holds
+abbrev pub store_held : {S : Type 0} → AppealRows S → MutBor (OfficeIn S)
+store_held rows = rows.store
+
+-- the rows to come from it
+abbrev pub rows_to_come : {S : Type 0} → AppealRows S → List AppealRow
+rows_to_come rows = rows_from rows.store.now.office rows.session rows.from
 
 module _ {S : Type 0} (g : Ghosts S) where
   -- appeals were only read, until the query for one failed; this is reported as `Store`

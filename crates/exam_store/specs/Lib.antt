@@ -8,7 +8,7 @@
 -- - Applied: a command on an office in a database: its step or a failure of the store; lists of
 --   commands
 -- - Stops: what the next run opens after a stop in the middle of a command
--- - InTurn: the appeals of a session, read one by one: what comes, and why none is read
+-- - InTurn: the appeals of a session, read one by one: the store that is held, what comes, and why none is read
 -- - OnlyRead: what reading appeals leaves
 -- - Stores: what contracts see of a store: its office, and its connection
 pub mod Applied

@@ -2,18 +2,16 @@
 ghost use Rattle.std.specs.Prelude.{◌≡◌, false, Some, IsTrue, IfOk, IfErr};
 ghost use Rattle.sqlite.specs.Held.{state};
 ghost use Rattle.sqlite.specs.State.{HasCleanDisk, Survives};
-ghost use Rattle.exam_views.specs.Sources.{Gives, is_source_refusal};
 ghost use Rattle.exam_views.specs.Views.{appeal_row, appeals_of};
 ghost use Rattle.exam_tables.specs.Appeals.{FailsToConfirm};
 ghost use Rattle.exam_tables.specs.Faults.{is_store_refusal};
 ghost use Rattle.exam_tables.specs.Loaded.{OnlyReads};
 ghost use Rattle.exam_store.specs.InTurn as spec;
-ghost use Rattle.exam_store.specs.OnlyRead.{OnlyIsRead};
 
 use crate::store::Store;
-use exam_office::{AppealRow, AppealSource, Office, state_of};
+use exam_office::{AppealRow, AppealSource, state_of};
 use exam_rules::Appeal;
-use exam_tables::{confirm_appeal, first_appeal};
+use exam_tables::confirm_appeal;
 use exam_types::{Number, Reference, Refusal, SessionCode};
 use sqlite::{Alter, Connection};
 use std::alloc::Global;
@@ -34,10 +32,9 @@ impl<'s, S: Alter> AppealRows<'s, S> {
         alloc: Global,
         session: SessionCode,
     ) -> AppealRows<'s, S>
-        ensures held { result.store.ghost_name ≡ store.entry.ghost_name }
-        ensures same { result.store.now ≡ store.old }
-        ensures rows { spec.rows_from result.store.now.office result.session result.from
-            ≡ appeals_of store.old.office.relations session }
+        ensures held { (spec.store_held result).ghost_name ≡ store.entry.ghost_name }
+        ensures same { (spec.store_held result).now ≡ store.old }
+        ensures rows { spec.rows_to_come result ≡ appeals_of store.old.office.relations session }
     {
         AppealRows {
             store,
@@ -50,7 +47,7 @@ impl<'s, S: Alter> AppealRows<'s, S> {
 
 impl<S: Alter> Drop for AppealRows<'_, S> {
     fn drop(self)
-        ensures { self.exit.0.now ≡ self.entry.store.now }
+        ensures { self.exit.0.now ≡ (spec.store_held self.entry).now }
     {
         let AppealRows {
             store: _,
@@ -67,14 +64,14 @@ impl<S: Alter> AppealSource for AppealRows<'_, S> {
     ghost use Rattle.exam_store.specs.InTurn as spec;
     ghost use Rattle.exam_store.specs.OnlyRead.{OnlyIsRead, read_itself, read_then};
 
-    ghost coming = { λ r. spec.rows_from r.store.now.office r.session r.from };
+    ghost coming = { spec.rows_to_come };
 
     ghost IsHonest = { λ r. ⊤ };
 
-    ghost Refuses = { λ a b e. spec.FailsToRead S.Store a.store.now b.store.now e };
+    ghost Refuses = { λ a b e. spec.FailsToRead S.Store (spec.store_held a).now (spec.store_held b).now e };
 
-    ghost Stays = { λ a b. (b.store.ghost_name ≡ a.store.ghost_name)
-        × OnlyIsRead S.Store a.store.now b.store.now };
+    ghost Stays = { λ a b. ((spec.store_held b).ghost_name ≡ (spec.store_held a).ghost_name)
+        × OnlyIsRead S.Store (spec.store_held a).now (spec.store_held b).now };
 
     fn next(&mut self) -> Result<Option<AppealRow>, Refusal> {
         let row = self
@@ -108,33 +105,8 @@ fn bound_after(
     }
 }
 
-/// The session's first appeal with a key from `from` on, as the database confirms it.
-pub fn read_appeal<S: Alter>(
-    alloc: Global,
-    conn: &mut Connection<S>,
-    office: &Office,
-    session: &SessionCode,
-    from: Bound<(Number, Reference)>,
-) -> Result<Option<AppealRow>, Refusal>
-    ensures row { IfOk result (λ row. Gives row (spec.rows_from office.now session.now from)
-        (spec.rows_from office.now session.now (spec.bound_after from row))) }
-    ensures refusal { IfErr result (λ e. IsTrue (is_source_refusal e)
-        × spec.FailsToRead S.Store (record { office = office.now; database = conn.old })
-        (record { office = office.now; database = conn.new }) e) }
-    ensures read { OnlyIsRead S.Store (record { office = office.now; database = conn.old })
-        (record { office = office.now; database = conn.new }) }
-    ensures mode { conn.old.in_transaction ≡ false → conn.new.in_transaction ≡ false }
-{
-    // This shows that the appeals are in the order of their keys.
-    office.show_order();
-    match first_appeal(office.facts(), session, from) {
-        Some((key, appeal)) => confirmed_row(alloc, conn, key, appeal),
-        None => Ok(None),
-    }
-}
-
 /// An appeal of the office, as a register lists it, if the database confirms it.
-fn confirmed_row<S: Alter>(
+pub(crate) fn confirmed_row<S: Alter>(
     alloc: Global,
     conn: &mut Connection<S>,
     key: &(Number, Reference),

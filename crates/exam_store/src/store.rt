@@ -1,5 +1,5 @@
 //! An office in a database.
-ghost use Rattle.std.specs.Prelude.{◌≡◌, ◌⊎◌, true, false, length, IsTrue, IsSome, IfOk, IfErr, OnOk, OnErr};
+ghost use Rattle.std.specs.Prelude.{◌≡◌, true, false, length, IsTrue, IsSome, IfOk, IfErr, OnOk, OnErr};
 ghost use Rattle.std.specs.Prelude.{MatchResult};
 ghost use Rattle.std.specs.Borrow.{sem, RestsIfErr};
 ghost use Rattle.std.specs.Option.{option_map};
@@ -20,11 +20,10 @@ ghost use Rattle.exam_views.specs.Sources.{Gives, is_source_refusal};
 ghost use Rattle.exam_views.specs.Views.{IsViewOf, appeals_of};
 ghost use Rattle.exam_sql.specs.Made.{lists_tables};
 ghost use Rattle.exam_store.specs.Applied.{MayApply, Refuses, TurnsBy, Applies, AreApplied};
-ghost use Rattle.exam_tables.specs.Faults.{is_store_refusal};
 ghost use Rattle.exam_store.specs.Found.{FailsToOpen, Finds, MakesEmpty, RefusesCreating, RefusesOpening};
 ghost use Rattle.exam_store.specs.Found.{is_open_refusal};
 ghost use Rattle.exam_tables.specs.Transactions.{IsSound, Commits};
-ghost use Rattle.exam_store.specs.InTurn.{FailsToRead, bound_after, rows_from};
+ghost use Rattle.exam_store.specs.InTurn.{FailsToRead, bound_after, rows_from, rows_to_come, store_held};
 ghost use Rattle.exam_store.specs.contracts.store.Store.{the_row};
 ghost use Rattle.exam_store.specs.Kept.{IsKept, KeepsOurs, Rekeeps};
 ghost use Rattle.exam_store.specs.OnlyRead.{OnlyIsRead};
@@ -32,11 +31,11 @@ ghost use Rattle.exam_tables.specs.Loaded.{OnlyReads};
 ghost use Rattle.exam_tables.specs.Unasked.{IsUnasked};
 ghost use Rattle.exam_tables.specs.Versions.{FailsToCreate, IsBlank};
 
-use crate::appeal_rows::{AppealRows, read_appeal};
+use crate::appeal_rows::{AppealRows, confirmed_row};
 use crate::loading::load_version;
 use crate::saving::save;
 use exam_office::{AppealRow, Command, Draft, Office, Own, Reply, SessionView};
-use exam_tables::{NEWEST, count_appeals, is_blank, save_empty, version_of};
+use exam_tables::{NEWEST, count_appeals, first_appeal, is_blank, save_empty, version_of};
 use exam_types::{AccessCode, Day, Number, Reference, Refusal, SessionCode};
 use sqlite::{Alter, Connection, MemStore};
 use std::alloc::Global;
@@ -136,8 +135,9 @@ impl<S: Alter> Store<S> {
         }
     }
 
-    /// Carries out a command on a day, in one transaction, or refuses it. After a refusal everything is as before. Over
-    /// a connection that is shut nothing is written.
+    /// Carries out a command on a day, in one transaction, or refuses it. After a refusal the office and the tables are
+    /// as before; after `NoMemory` or `Store` a stop may still leave the command done. Over a connection that is shut
+    /// nothing is written.
     pub fn apply(&mut self, alloc: Global, command: &Command, today: Day) -> Result<Reply, Refusal>
         ensures step { MayApply command.now today self.old.office result self.new.office }
         ensures kept { IsSound (state S.Store self.new.database) → Rekeeps self.old.office self.new.office
@@ -266,13 +266,12 @@ impl<S: Alter> Store<S> {
         alloc: Global,
         session: &SessionCode,
     ) -> Result<(u32, AppealRows<'_, S>), Refusal>
-        ensures* refused { sem 𝓛 (RestsIfErr (the_row S.row S.Store) self.entry (λ r. r.1.store.ghost_name) result
-            (λ last. last ≡ self.old)) }
-        ensures held { IfOk result (λ r. r.1.store.ghost_name ≡ self.entry.ghost_name) }
-        ensures same { IfOk result (λ r. r.1.store.now ≡ self.old) }
+        ensures* refused { sem 𝓛 (RestsIfErr (the_row S.row S.Store) self.entry
+            (λ r. (store_held r.1).ghost_name) result (λ last. last ≡ self.old)) }
+        ensures held { IfOk result (λ r. (store_held r.1).ghost_name ≡ self.entry.ghost_name) }
+        ensures same { IfOk result (λ r. (store_held r.1).now ≡ self.old) }
         ensures known { OnOk result (has_row code_cmp self.old.office.relations.sessions session.now ≡ true) }
-        ensures rows { IfOk result (λ r. rows_from r.1.store.now.office r.1.session r.1.from
-            ≡ appeals_of self.old.office.relations session.now) }
+        ensures rows { IfOk result (λ r. rows_to_come r.1 ≡ appeals_of self.old.office.relations session.now) }
         ensures count { IfOk result (λ r. r.0 ≡ length (appeals_of self.old.office.relations session.now)) }
         ensures refusal { IfErr result (λ e. (e ≡ UnknownSession)
             × (has_row code_cmp self.old.office.relations.sessions session.now ≡ false)) }
@@ -293,7 +292,12 @@ impl<S: Alter> Store<S> {
         ensures refusal { IfErr result (λ e. IsTrue (is_source_refusal e) × FailsToRead S.Store self.old self.new e) }
         ensures read { OnlyIsRead S.Store self.old self.new }
     {
-        read_appeal(alloc, &mut self.conn, &self.office, session, from)
+        // This shows that the appeals are in the order of their keys.
+        self.office.show_order();
+        match first_appeal(self.office.facts(), session, from) {
+            Some((key, appeal)) => confirmed_row(alloc, &mut self.conn, key, appeal),
+            None => Ok(None),
+        }
     }
 
     /// Returns the connection. Takes no memory.

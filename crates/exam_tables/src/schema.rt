@@ -203,8 +203,6 @@ pub fn version_of<S: Alter>(conn: &mut Connection<S>) -> Result<Version, Refusal
         → IfErr result (IsUnasked (state S.Store conn.old) (state S.Store conn.new)) }
     ensures reads { LoadingBy load_office S.Store conn.old conn.new result version_part }
     ensures known { IfOk result IsKnown }
-    ensures unchanged { HasCleanDisk (state S.Store conn.new) → IfErr result (λ e. e ≡ BadStore
-        → IsUnchanged (state S.Store conn.old) (state S.Store conn.new)) }
 {
     if !lists_tables(conn) {
         ask_nothing(conn)?;

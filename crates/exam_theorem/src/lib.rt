@@ -6,5 +6,5 @@ mod orders;
 mod printing;
 
 pub use life::{carry_over, live};
-pub use orders::{Answered, LineEnd, LineStop, Order, Outcome, follow_all};
+pub use orders::{Answered, LineEnd, LineStop, Order, Outcome};
 pub use printing::{EndOfDay, print_after};

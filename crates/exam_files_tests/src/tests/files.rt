@@ -6,7 +6,7 @@ use std::alloc::Global;
 use std::test::Fail;
 
 /// Quotes, line ends, blank lines, a byte order mark and a last line without an end. Each file of entries but the first
-/// holds the two entries that exist, or one of them twice.
+/// holds the two entries that exist, one of them twice, or none.
 const FORMS: &str = "\
 $ import entries f
 \"number\",paper

@@ -4,12 +4,12 @@ use Rattle.exam_files.proofs.attendances.push_line.Goals as goal
 pub returns-clause-ok : goal.returns-clause-ok
 returns-clause-ok c =
     let t = c.args.text.now.items in
-    let e1 = more t _ _ _ _ c.in_ok-write_to.ensures.ok c.in_ok-push_bytes.ensures.ok in
+    let e1 = more t _ _ _ _ c.in_ok-write_to.ensures.ok c.in_ok-append.ensures.ok in
     let e2 = more t _ _ _ _ e1 (rw c.hall_bytes.ensures.value at c.in_ok-push_left.ensures.ok) in
-    let e3 = more t _ _ _ _ e2 c.in_ok-push_bytes-2.ensures.ok in
+    let e3 = more t _ _ _ _ e2 c.in_ok-append-2.ensures.ok in
     let e4 = more t _ _ _ _ e3 c.in_ok-push_desk.ensures.ok in
-    let e5 = more t _ _ _ _ e4 c.in_ok-push_bytes-3.ensures.ok in
+    let e5 = more t _ _ _ _ e4 c.in_ok-append-3.ensures.ok in
     let e6 = more t _ _ _ _ e5 c.in_ok-write_to-2.ensures.ok in
-    let e7 = more t _ _ _ _ e6 c.in_ok-push_bytes-4.ensures.ok in
+    let e7 = more t _ _ _ _ e6 c.in_ok-append-4.ensures.ok in
     let e8 = more t _ _ _ _ e7 c.in_ok-write_to-3.ensures.ok in
-    more t _ _ _ _ e8 c.in_ok-push_bytes-5.ensures.ok
+    more t _ _ _ _ e8 c.in_ok-append-5.ensures.ok

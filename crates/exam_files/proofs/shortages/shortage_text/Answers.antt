@@ -9,8 +9,8 @@ returns-clause-ok c =
     omega (arith, c.args.shortage.now.candidates.ok.0) in
     let e1 = more t _ _ _ _ c.in_ok-push_heading.ensures.ok
     (rw c.as_slice.ensures.value at c.in_ok-push_halls.ensures.ok) in
-    let e2 = more t _ _ _ _ e1 c.in_ok-push_bytes.ensures.ok in
+    let e2 = more t _ _ _ _ e1 c.in_ok-append.ensures.ok in
     let e3 = more t _ _ _ _ e2 (rw (c.len.ensures, long) at c.in_ok-push_decimal.ensures.ok) in
-    let e4 = more t _ _ _ _ e3 c.in_ok-push_bytes-2.ensures.ok in
+    let e4 = more t _ _ _ _ e3 c.in_ok-append-2.ensures.ok in
     let e5 = more t _ _ _ _ e4 (rw c.as_slice-2.ensures.value at c.in_ok-push_candidates.ensures.ok) in
     rw c.new-text.ensures.items at e5

@@ -60,12 +60,6 @@ returns-in_err-rows-clause-reads g c =
       told = c.in_err-rows.ensures.told;
     })
 
-pub returns-clause-unchanged : goal.returns-clause-unchanged
-returns-clause-unchanged g c = (returns-clause-reads g c).unchanged
-
-pub returns-in_err-rows-clause-unchanged : goal.returns-in_err-rows-clause-unchanged
-returns-in_err-rows-clause-unchanged g c = (returns-in_err-rows-clause-reads g c).unchanged
-
 -- ---- the names of the tables
 
 pub returns-clause-listed : goal.returns-clause-listed
@@ -100,9 +94,6 @@ returns-then-not-lists_tables-clause-reads g c = record {
   told = refl;
 }
 
-pub returns-then-not-lists_tables-clause-unchanged : goal.returns-then-not-lists_tables-clause-unchanged
-returns-then-not-lists_tables-clause-unchanged g c = (returns-then-not-lists_tables-clause-reads g c).unchanged
-
 -- where no statement can be run
 
 pub returns-in_err-ask_nothing-clause-unlisted : goal.returns-in_err-ask_nothing-clause-unlisted
@@ -128,6 +119,3 @@ returns-in_err-ask_nothing-clause-reads g c =
       early = λ clean. omega (arith, c.ask_nothing.ensures.survives.clean, clean);
       told = c.in_err-ask_nothing.ensures.told;
     })
-
-pub returns-in_err-ask_nothing-clause-unchanged : goal.returns-in_err-ask_nothing-clause-unchanged
-returns-in_err-ask_nothing-clause-unchanged g c = (returns-in_err-ask_nothing-clause-reads g c).unchanged

@@ -10,7 +10,7 @@ use Rattle.exam_tables.specs.Appeals.{KeyedAppeal, appeals_from}
 use Rattle.exam_store.specs.InTurn.{rows_from}
 use Rattle.exam_store.specs.OnlyRead.{read_itself}
 use Rattle.exam_store.proofs.ReadInTurn.{among, clean_before, gives_ok, left_any, refused_all}
-use Rattle.exam_store.proofs.appeal_rows.read_appeal.Goals as goal
+use Rattle.exam_store.proofs.store.Store.read_appeal.Goals as goal
 
 pub returns-in-Some-clause-row : goal.returns-in-Some-clause-row
 returns-in-Some-clause-row g c =
@@ -18,7 +18,8 @@ returns-in-Some-clause-row g c =
     let s = c.args.session.now in
     let first = subst (λ (r : Relations). appeals_from r.appeals s c.args.from ≡ it
     ∷ appeals_from r.appeals s (Excluded it.0)) c.facts.ensures c.in-Some.ensures in
-    gives_ok c.args.office.now s c.args.from it first c.confirmed_row.result c.confirmed_row.ensures.row
+    rw (← c.self.view_is)
+    (gives_ok c.self.inside.office s c.args.from it first c.confirmed_row.result c.confirmed_row.ensures.row)
 
 pub returns-in-Some-clause-refusal : goal.returns-in-Some-clause-refusal
 returns-in-Some-clause-refusal g c =
@@ -26,29 +27,32 @@ returns-in-Some-clause-refusal g c =
     let s = c.args.session.now in
     let first = subst (λ (r : Relations). appeals_from r.appeals s c.args.from ≡ it
     ∷ appeals_from r.appeals s (Excluded it.0)) c.facts.ensures c.in-Some.ensures in
-    let has = among c.args.office.now.relations.appeals s c.args.from it _ first in
-    refused_all g.S.Store c.args.office.now c.args.conn.now c.confirmed_row.new.conn it
+    let has = among c.self.inside.office.relations.appeals s c.args.from it _ first in
+    rw (← c.self.view_is)
+    (refused_all g.S.Store c.self.inside.office c.self.inside.conn c.confirmed_row.new.conn it
     (c.show_order.ensures.tables table.Appeals) has c.confirmed_row.result c.confirmed_row.ensures.told
-    c.confirmed_row.ensures.failed
+    c.confirmed_row.ensures.failed)
 
 pub returns-in-Some-clause-read : goal.returns-in-Some-clause-read
 returns-in-Some-clause-read g c =
     let survives = c.confirmed_row.ensures.survives in
-    record {
+    rw (← c.self.view_is)
+    (record {
       office = refl;
-      clean = clean_before (state g.S.Store c.args.conn.now) (state g.S.Store c.confirmed_row.new.conn) survives;
-      left = λ clean. left_any g.S.Store c.args.conn.now c.confirmed_row.new.conn c.confirmed_row.result
+      clean = clean_before (state g.S.Store c.self.inside.conn) (state g.S.Store c.confirmed_row.new.conn) survives;
+      left = λ clean. left_any g.S.Store c.self.inside.conn c.confirmed_row.new.conn c.confirmed_row.result
           (c.confirmed_row.ensures.left clean);
       survives = survives;
-    }
+    })
 
 pub returns-in-None-clause-row : goal.returns-in-None-clause-row
 returns-in-None-clause-row g c =
     let none = subst (λ (r : Relations). appeals_from r.appeals c.args.session.now c.args.from ≡ []) c.facts.ensures
     c.in-None.ensures in
-    let nothing : rows_from c.args.office.now c.args.session.now c.args.from ≡ [] = ap (map appeal_row) none in
-    (nothing, nothing)
+    let nothing : rows_from c.self.inside.office c.args.session.now c.args.from ≡ [] = ap (map appeal_row) none in
+    rw (← c.self.view_is) (nothing, nothing)
 
 pub returns-in-None-clause-read : goal.returns-in-None-clause-read
 returns-in-None-clause-read g c =
-    read_itself g.S.Store (record { office = c.args.office.now; database = c.args.conn.now })
+    rw (← c.self.view_is)
+    (read_itself g.S.Store (record { office = c.self.inside.office; database = c.self.inside.conn }))
