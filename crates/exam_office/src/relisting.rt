@@ -246,7 +246,7 @@ fn relist_entrant(
             let list = lists.relist(alloc, facts, row.session, number)?;
             Ok(ListUndo::Members(row.session, list))
         }
-        // An entry for an unknown paper counts nowhere.
+        // This cannot happen: the command has looked the paper up.
         None => list_anew(alloc, facts, lists),
     }
 }
