@@ -17,7 +17,7 @@ LIMITS = {"sessions": 400, "papers": 2000, "halls": 500, "candidates": 20000}
 MOST_MEMBERS, MOST_OPENINGS = 4096, 256  # of a session
 WITHDRAWN = "SELECT printf('%07d', number), paper FROM entry WHERE live = 0"
 GRANTS = ("SELECT printf('%07d', number), iif((number, ref) IN (SELECT number, ref FROM standing), '', session) "
-          f"FROM appeal WHERE kind = 3 AND state = {states.GRANTED} ORDER BY 1, 2")
+          f"FROM appeal WHERE {states.GRANTED_NEEDS} ORDER BY 1, 2")
 NAMES, CODES = {"name", "title"}, {"session", "paper", "hall", "code"}  # columns
 CODE = "1 to 12 of A-Z, 0-9 and -"
 TIME_CURE = "a time as 09:00; format the column as text"

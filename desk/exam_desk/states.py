@@ -9,6 +9,7 @@ from exam_desk import snapshot
 from exam_desk.office import Office
 
 GRANTED = 2  # the state of an appeal
+GRANTED_NEEDS = f"kind = 3 AND state = {GRANTED}"  # the appeals by which an arrangement is granted
 MOST_AT_ONCE = 1000  # rows
 DECIDING = {  # of each table that decides or shows seats which rows; so candidates who lodge change no name
     "session": "", "paper": "", "hall": "", "opening": "", "candidate": "", "entry": "", "arrangement": "",

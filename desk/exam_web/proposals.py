@@ -51,7 +51,7 @@ TROUBLE = 0  # among the numbers of refusals: what the desk refuses itself
 APPEALS = ("SELECT appeal.*, day, session.start AS start, name FROM appeal JOIN session ON session.code = session "
            "JOIN candidate ON candidate.number = appeal.number ")
 ARRANGED = "SELECT printf('%07d', number), needs, extra FROM arrangement"
-OF_GRANTED = f"{ARRANGED} WHERE number IN (SELECT number FROM appeal WHERE kind = 3 AND state = {states.GRANTED})"
+OF_GRANTED = f"{ARRANGED} WHERE number IN (SELECT number FROM appeal WHERE {states.GRANTED_NEEDS})"
 BY_DAY = "ORDER BY day, session.start, lodged, appeal.number"
 KINDS = ["short", *consequences.KINDS, "codes"]  # the gravest first; their words are in templates/effects.html
 NUMBERS = attrgetter("members", "desks", "short", "clashes")  # of a session
