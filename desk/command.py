@@ -130,6 +130,11 @@ def warn(message: object) -> None:
     print(f"office: {plain(message)}", file=sys.stderr)
 
 
+def complain(*lines: str) -> None:
+    """Prints lines on standard error."""
+    sys.stderr.write("".join(f"{line}\n" for line in lines))
+
+
 def say(text: str) -> None:
     """Prints a text and makes sure that it went out whole."""
     try:
@@ -181,8 +186,7 @@ def tell_consequences(copy: str | None) -> None:
         lines = consequences.done(office(), copy, show_asked)
         progress("")
         with contextlib.suppress(OSError):  # whoever reads no more has what the program said
-            sys.stderr.write("".join(f"{line}\n" for line in lines))
-            sys.stderr.flush()
+            complain(*lines)
 
 
 def office() -> Office:
@@ -198,10 +202,10 @@ def existing_office() -> Office:
     return found
 
 
-def rows() -> contextlib.closing[Rows]:
+def rows() -> Rows:
     """The rows of the office as they are now."""
     from exam_desk import snapshot
-    return contextlib.closing(snapshot.rows(office()))
+    return snapshot.rows(office())
 
 
 def reading(path: str | None = None) -> Reading:

@@ -122,7 +122,7 @@ the candidate sits something else, and a hall that does not suit. --undo leaves 
 """, changes=True)
 def second_sitting(parser: ArgumentParser) -> Plan:
     from commands import programs
-    from exam_desk import second_sitting, states
+    from exam_desk import second_sitting
     given = command.given(parser, "number", "paper", "start?", "hall?", "--yes: do not ask",
                           "--undo: withdraw the second entry, and reinstate the first")
     if given.undo and given.start is not None:
@@ -130,10 +130,10 @@ def second_sitting(parser: ArgumentParser) -> Plan:
     if not given.undo and given.hall is None:
         parser.error("START and HALL are missing")
     with command.reading() as now:
-        plan = (second_sitting.plan_back(now, given.number, given.paper) if given.undo else second_sitting.plan(
-            now, second_sitting.Asked(given.number, given.paper, given.start, given.hall)))
+        plan = (second_sitting.plan_back(now, given.number, given.paper) if given.undo else
+                second_sitting.plan(now, given.number, given.paper, given.start, given.hall))
         return programs.Asked(plan.steps, plan.title, own=partial(second_sitting.lines, plan), question="do this?",
-                              done="done", is_agreed=given.yes, made_for=states.name_of(now.rows))
+                              done="done", is_agreed=given.yes, made_for=now.name)
 
 
 @command.named("""Says what a change would do, and does not do it: what-if COMMAND ..

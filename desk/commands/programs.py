@@ -1,7 +1,5 @@
 """What `office` does for a command of the program, and for each command that changes the office: that gives a plan,
 which `what-if` rehearses, and `office` carries out."""
-from __future__ import annotations
-
 import contextlib
 import itertools
 import os
@@ -13,7 +11,7 @@ from dataclasses import dataclass, field, replace
 import command
 from exam_desk import (beside, changing, consequences, copies, listed, lists, lodging, logbook, losses, notebook,
                        private, refusals, running, turns, typed)
-from exam_desk.changing import Answered, Rehearsal, Step, Tried
+from exam_desk.changing import Answered, Rehearsal, Step
 from exam_desk.office import Office
 from exam_desk.reading import Reading
 from exam_desk.running import Ran
@@ -31,7 +29,6 @@ With the entries of a file, whose header is number,paper: office {0} --list FILE
 ALL_HELP = """
 Each entry of a candidate who leaves, in the same way: office withdraw NUMBER --all
 """
-COPY_OF_A_LIST = "`office back` lists the copy that"  # where others may have had their turn
 MOST_NAMED = 20  # of those who lose a desk, move or sit otherwise
 
 
@@ -47,11 +44,11 @@ class Change:
 
     def said(self, rehearsal: Rehearsal) -> int:
         """Prints what came of the steps in a rehearsal; the status."""
-        return said(rehearsal.answers[0])
+        return said(*rehearsal.answers[0])
 
     def __call__(self) -> int:
         carried = changing.carry_out(command.office(), self.steps, title=self.title)
-        status = said(carried.answers[0])
+        status = said(*carried.answers[0])
         if self.steps[0].words[0] != MIGRATE:
             command.tell_consequences(carried.copy)
         return status
@@ -70,8 +67,8 @@ class Asked(Change):
             raise Stale("the office changed meanwhile, so nothing is changed: give the command again")
         if not self.own:
             command.say_lines(f"{each.step.words[-1]}: {each.first_line()}" for each in rehearsal.answers
-                              if each != rehearsal.refused)
-        refuse(rehearsal)
+                              if each.ran.status == 0)
+        refuse(rehearsal.answers)
         return 0
 
     def __call__(self) -> int:
@@ -84,7 +81,7 @@ class Asked(Change):
             carried = changing.carry_out(command.office(), self.steps, rehearsal.made_from, rehearsal.promised,
                                          self.title, command.progress)
         command.progress("")
-        refuse(carried)
+        refuse(carried.answers)
         print(f"{self.done}; `office changes 1` says who must be told, `office back 1` takes it back")
         if carried.as_promised is False:
             command.warn("the office is not as the trial said: look with `office changes 1`")
@@ -106,17 +103,16 @@ class List(Change):
 
     def __call__(self) -> int:
         statuses: list[int] = []
-        try:
-            carried = listed.carry_out(command.office(), self.title, self.rows,
-                                       lambda line, answered: statuses.append(self.said_of_row(line, answered)))
-        except listed.Stopped as stop:
-            self.say_before()
-            command.warn(self.stopped(stop.carried))
-            command.tell_consequences(stop.carried.copy)
-            raise
+        carried = listed.carry_out(command.office(), self.title, self.rows,
+                                   lambda line, answered: statuses.append(self.said_of_row(line, answered)))
         self.say_before()
-        put(f"{self.tally(carried)}{way_back(carried.copy)}\n")
+        if carried.signal:
+            command.warn(self.stopped(carried))
+        else:
+            put(f"{self.tally(carried)}{way_back(carried.copy)}\n")
         command.tell_consequences(carried.copy)
+        if carried.signal:
+            raise carried.signal
         return int(any(statuses) or len(carried.answers) < len(self.rows))
 
     def said_of_row(self, line: int, answered: Answered) -> int:
@@ -124,18 +120,18 @@ class List(Change):
         words, status = plain(f"line {line}: {answered.step.title()}: {answered.first_line()}"), answered.ran.status
         if not status:
             return int(not put(f"{words}\n"))
-        why = explained(answered)
+        why = answered.explained(command.office())
         is_before = refusals.number_of(answered.first_line()) == refusals.DONE_ALREADY[answered.step.words[0]]
         if is_before and len(why) == 1:
             self.before.append(str(line))
         else:
-            complain(words, why)
+            command.complain(words, *why)
         return status
 
     def say_before(self) -> None:
         if self.before:
             why = refusals.SENTENCES[refusals.DONE_ALREADY[self.steps[0].words[0]]]
-            complain(f"{lists.count(len(self.before), 'row')} refused (line {few(self.before)}): {why}", [])
+            command.complain(f"{lists.count(len(self.before), 'row')} refused (line {few(self.before)}): {why}")
 
     def tally(self, carried: changing.Carried) -> str:
         done = sum(answered.ran.status == 0 for answered in carried.answers)
@@ -176,17 +172,20 @@ class Back(Change):
         office = command.office()
         when, what = copies.when_and_what(self.copy)
         others = notebook.others_than_in(office, self.copy)
-        question = f"put back the office of {when}, before `{plain(what)}`? What was done since then is undone."
-        seen = changing.state_of(office)
-        asked = None if self.is_agreed else (seen, agreed(question, losses.found(office, self.copy)))
-        while not (done := changing.go_back(
-                office, self.title.split(), self.copy,
-                lambda lines: asked is None or asked == (changing.state_of(office), lines))).is_done:
-            before, seen = seen, changing.state_of(office)
+        seen, taken, why = changing.state_of(office), losses.found(office, self.copy), ""
+        while True:
+            if not self.is_agreed:
+                command.say_lines(f"taken away: {line}" for line in taken)
+                command.ask(f"{why}put back the office of {when}, before `{plain(what)}`? What was done since then is "
+                            "undone.")
+            done = changing.go_back(office, self.title.split(), self.copy, lambda lines: self.is_agreed or (
+                (seen, taken) == (changing.state_of(office), lines)))
+            if done.is_done:
+                break
+            before, seen, taken = seen, changing.state_of(office), done.lines
             _, last = copies.when_and_what(copies.listed(office)[0])
             by = f" by `{plain(last)}`" * (seen != before)
-            asked = seen, agreed(f"the office has changed since the question{by}, and nothing is done yet: {question}",
-                                 done.lines)
+            why = f"the office has changed since the question{by}, and nothing is done yet: "
         self.tell("is", done.lines, others)
         sys.stdout.flush()
         command.tell_consequences(done.copy)
@@ -228,7 +227,7 @@ def run(office: Office, words: list[str]) -> int:
     if not {"-h", "--help"}.isdisjoint(itertools.takewhile(lambda word: word != "--", words)):
         found = running.help_text(office, words[0])
         command.say(found + LIST_HELP.format(words[0]) * (words[0] in LISTED) + ALL_HELP * (words[0] == "withdraw"))
-        return 0 if found else outcome(words, Ran(2, "", "line not understood\n"))
+        return 0 if found else said(Step(tuple(words)), Ran(2, "", "line not understood\n"))
     if words[0] == "serve" and len(words) > 1:
         beside.refuse_stranger(office.path)
         if turns.keep_state(office) is not None:
@@ -237,15 +236,14 @@ def run(office: Office, words: list[str]) -> int:
             os.execv(office.program, office.line(*words))
     if change := of_program(words):
         return change()
-    return outcome(words, printed(dispatch(office, words)))
+    return said(Step(tuple(words)), dispatch(office, words))
 
 
 def dispatch(office: Office, words: list[str]) -> Ran:
     """Runs another command of the program; its answer is printed already where it is empty. The bytes of a sheet go out
     as they are; only a terminal gets what hides in names as `?`."""
     if words == ["init"]:
-        from exam_desk import new_office  # here, since it alone needs it
-        return new_office.make(office)
+        return changing.make_new(office)
     if words[0] == "check" and os.path.isfile(office.path):  # changes no facts, but needs the office for itself
         # With a log it is an office that is used, and `back` leaves one file.
         is_lacking = not any(map(os.path.exists, (os.path.realpath(office.path) + "-wal",
@@ -289,8 +287,8 @@ def of_program(words: list[str]) -> Change | None:
 def of_list(name: str, path: str) -> List:
     """Withdraws or reinstates the entries of a file."""
     rows, wrong = listed.rows_of(command.office(), name, path)
-    sys.stderr.write("".join(f"{plain(line)}\n" for line in wrong))
     if wrong:
+        command.complain(*map(plain, wrong))
         raise Trouble("nothing is changed")
     about = changing.named("entries", (tuple(map(str.encode, step.words[1:])) for step in rows.values()))
     title = " ".join([name, "--list", os.path.basename(path), *about])
@@ -299,34 +297,15 @@ def of_list(name: str, path: str) -> List:
 
 def way_back(copy: str | None) -> str:
     """How a list is taken back; nothing where it has changed nothing."""
-    way = "`office back 1`" if copies.listed(command.office())[:1] == [copy] else COPY_OF_A_LIST
-    return f"; {way} takes all of it back" if copy else ""
+    is_last = copies.listed(command.office())[:1] == [copy]  # else others have had their turn
+    return f"; `office back{' 1`' if is_last else '` lists the copy that'} takes all of it back" if copy else ""
 
 
-def said(answered: Answered) -> int:
-    """Prints what the program said of a step, and what it means; the status."""
-    return outcome(answered.step.words, printed(answered.ran), answered.step.data)
-
-
-def refuse(tried: Tried) -> None:
-    """Raises `Trouble`, after what the program says of it, where a step is refused."""
-    if refused := tried.refused:
-        complain(f"{refused.step.title()}: {refused.first_line()}", explained(refused))
+def refuse(answers: list[Answered]) -> None:
+    """Raises `Trouble`, after what the program says of it and what that means, where a step is refused."""
+    if refused := changing.refused_of(answers):
+        command.complain(f"{refused.step.title()}: {refused.first_line()}", *refused.explained(command.office()))
         raise Trouble("nothing is changed")
-
-
-def explained(refused: Answered) -> list[str]:
-    return refusals.explained(command.office(), refused.step.words, refused.ran.complaint, refused.step.data)
-
-
-def complain(line: str, why: list[str]) -> None:
-    """Prints a line on what is refused, and what the refusal means."""
-    sys.stderr.write("".join(f"{each}\n" for each in [line, *why]))
-
-
-def printed(ran: Ran) -> Ran:
-    """Prints the answer."""
-    return ran if put(ran.answer) else ran._replace(status=1, complaint=ran.complaint + "write fault\n")
 
 
 def put(text: str) -> bool:
@@ -339,11 +318,13 @@ def put(text: str) -> bool:
     return True
 
 
-def outcome(words: Sequence[str], ran: Ran, data: bytes | None = None) -> int:
-    """Says what a refusal of a command, or of an import of these bytes, means; the status."""
-    lines = []
+def said(step: Step, ran: Ran) -> int:
+    """Prints what the program said of a step, and what a refusal of it means; the status."""
+    if not put(ran.answer):
+        ran = ran._replace(status=1, complaint=ran.complaint + "write fault\n")
+    words, lines = step.words, list[str]()
     if ran.status in (0, 1):
-        lines = refusals.explained(command.office(), words, ran.complaint, data)
+        lines = Answered(step, ran).explained(command.office())
     elif ran.status == 2:
         text = running.help_text(command.office(), words[0])
         wrong = typed.wrong(running.takes(text), [word for word in words[1:] if word != "--"]) if text else []
@@ -355,7 +336,8 @@ def outcome(words: Sequence[str], ran: Ran, data: bytes | None = None) -> int:
                  [*wrong, *usage] or [f"`office --help` lists the commands{meant(words[0])}"]]
     elif ran.status > 128:
         lines = [f"  {ran.ending()}; {refusals.WHOLE_OR_NOT}"]
-    sys.stderr.write(ran.complaint + "".join(f"{line}\n" for line in lines))
+    sys.stderr.write(ran.complaint)
+    command.complain(*lines)
     return ran.status
 
 
@@ -364,10 +346,3 @@ def meant(name: str) -> str:
     import difflib  # here, since a slip alone needs it
     found = difflib.get_close_matches(name, [*command.COMMANDS, *CHANGES, *running.SHEETS, "init", "check", "serve"], 1)
     return f"; is `office {found[0]}` meant?" if found else ""
-
-
-def agreed(question: str, lines: list[Said]) -> list[Said]:
-    """Raises `Trouble` unless the answer is yes; gives the lines of what was asked about."""
-    command.say_lines(f"taken away: {line}" for line in lines)
-    command.ask(question)
-    return lines

@@ -1,7 +1,5 @@
 """The rows of appeals in words: their kinds and states, what they ask, which are open, what `back` takes away; and the
 last days to lodge and to decide one. The program refuses by itself what comes later: 13 and 17."""
-from __future__ import annotations
-
 import contextlib
 import datetime
 import sqlite3

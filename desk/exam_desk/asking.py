@@ -6,8 +6,6 @@ at who listens does not help before the connection: it says nothing of who is th
 listens is looked at after the connection and before the first byte. A process that listens once in its life, that
 listened before the connection and still does, is at its other end.
 """
-from __future__ import annotations
-
 import collections
 import contextlib
 import itertools

@@ -5,8 +5,6 @@ Its bytes may be anybody's. The two files get the names of this office, and the 
 of a notebook's file. A zip may say of its files that they are as large as all copies may be, and gives no more of them
 than it says. The program looks at the office first.
 """
-from __future__ import annotations
-
 import contextlib
 import functools
 import json

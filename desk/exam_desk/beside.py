@@ -5,8 +5,6 @@ belongs, and nobody else may write there: whoever could, might lay links where f
 another user or one in which others may write is refused, no link in it is followed, and nobody but that user makes
 anything there, a superuser neither.
 """
-from __future__ import annotations
-
 import contextlib
 import errno
 import os

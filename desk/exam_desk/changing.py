@@ -10,8 +10,6 @@ of a change, and of the copy from before it:
     a fault, or a signal    a list puts the copy back; the copy of a single step goes, if the bytes are as before
     killed                  the next change says from the log what was broken off, and how to put the copy back
 """
-from __future__ import annotations
-
 import contextlib
 import errno
 import functools
@@ -24,14 +22,16 @@ from dataclasses import dataclass
 from io import FileIO
 from typing import NamedTuple
 
-from exam_desk import beside, copies, files, logbook, losses, private, refusals, running, states, titles, turns
+from exam_desk import (beside, copies, files, lists, logbook, losses, notebook, private, refusals, running, snapshot,
+                       titles, turns)
 from exam_desk.office import Office
 from exam_desk.trouble import Stale, Trouble
-from exam_desk.words import Said
+from exam_desk.words import Said, few
 
 CHANGES = ["import", "withdraw", "reinstate", "close-hall", "decide", "migrate"]
 PAUSE = 0.2  # seconds from one try to the next
 MOST_NAMED = 3  # sessions, candidates, papers or halls in the title of a change
+HELD = "SELECT (SELECT count(*) FROM candidate), (SELECT count(*) FROM session)"
 Tell = Callable[[str], None]  # hears which step begins
 
 
@@ -62,6 +62,9 @@ class Step:
         return named(kind, (record.fields for record in found)) if files.is_header(kind, next(found, None)) else []
 
 
+NEW = Step(("init",))
+
+
 class Answered(NamedTuple):
     """What the program said of a step."""
     step: Step
@@ -71,27 +74,23 @@ class Answered(NamedTuple):
         said = (self.ran.answer + self.ran.complaint).split("\n")[0]
         return said or self.ran.ending()
 
-
-@dataclass
-class Tried:
-    """What the program said of a list of steps."""
-    answers: list[Answered]  # of the steps up to the first that is refused
-
-    @property
-    def refused(self) -> Answered | None:
-        return refused_of(self.answers)
+    def explained(self, office: Office) -> list[str]:
+        """What it means, where it is a refusal."""
+        return refusals.explained(office, self.step.words, self.ran.complaint, self.step.data)
 
 
-@dataclass
-class Carried(Tried):
+class Carried(NamedTuple):
     """What became of a list of steps."""
+    answers: list[Answered]  # of the steps up to the first that is refused
     copy: str | None  # the path of the copy from before; None where nothing has changed
     as_promised: bool | None  # whether the office is now as the rehearsal said; None where nothing was promised
+    signal: SystemExit | None = None  # which stopped a list
 
 
 @dataclass
-class Rehearsal(Tried):
+class Rehearsal:
     """A list of steps carried out on a private copy, as long as its context lasts."""
+    answers: list[Answered]  # of the steps up to the one behind which it is over
     office: Office
     before: str  # the paths of private copies from before and after
     after: str
@@ -99,12 +98,12 @@ class Rehearsal(Tried):
     @functools.cached_property
     def made_from(self) -> str:
         """The name of the state from before."""
-        return states.name_now(self.office, self.before)
+        return snapshot.name_now(self.office, self.before)
 
     @functools.cached_property
     def promised(self) -> str:
         """The name of the state after it."""
-        return states.name_now(self.office, self.after)
+        return snapshot.name_now(self.office, self.after)
 
 
 class Back(NamedTuple):
@@ -308,7 +307,7 @@ def go_back(office: Office, words: Sequence[str], copy: str, may_go: Callable[[l
 def state_of(office: Office) -> str:
     """The name of the state of the office now; nothing where it cannot be read."""
     with contextlib.suppress(Trouble):
-        return states.name_now(office)
+        return snapshot.name_now(office)
     return ""
 
 
@@ -340,7 +339,42 @@ def way_on(office: Office, found: logbook.Unfinished) -> str:
     if copy not in copies.listed(office):
         return f"{what} was broken off{behind if found.begun else ''}; its copy is gone"
     with contextlib.suppress(Trouble):
-        if state_of(office) == states.name_now(office, copies.file_in(office, copy)):
+        if state_of(office) == snapshot.name_now(office, copies.file_in(office, copy)):
             is_undone = found.begun or copies.is_as_now(office, copy)  # an appeal that is refused is in no state's name
             return f"{what} was broken off; {'nothing of it is left' if is_undone else 'give it again'}"
     return f"{what} was broken off{behind}: {way_back(copy)}"
+
+
+def make_new(office: Office) -> running.Ran:
+    """Makes an empty office where none is, with a line in the log. What one that is gone has left beside it is about
+    other people, so it is set aside, with a warning; it is back in its place where no office came. Of an office that is
+    there it warns. Raises `Trouble` where the folder beside it is not to be had."""
+    with contextlib.ExitStack() as stack:
+        try:
+            lock = stack.enter_context(turns.alone(office, NEW.words))
+        except OSError:  # the program says what is wrong with the place
+            return running.run_over(office, office.path, *NEW.words)
+        if os.path.exists(office.path):
+            ran = run_patiently(office, NEW, lock)
+            if ran.status == 0:
+                tell_there(office)
+            return ran
+        aside, held = notebook.set_aside(office)
+        try:
+            ran = Turn(office, lock, lambda title: None).carried(NEW, logbook.BEGINS).ran
+        finally:
+            if aside and os.path.exists(office.path):
+                office.warn(f"NOTE what an office that is gone left here is set aside: {few(held)}, now in {aside}; "
+                            f"beside its office give it the name `{notebook.PLACE}` again")
+            elif aside:
+                os.rename(aside, beside.folder(office.path, notebook.PLACE))
+    return ran
+
+
+def tell_there(office: Office) -> None:
+    """Says how many an office has that was there before; nothing where that is nobody, or cannot be read."""
+    with contextlib.suppress(Trouble), snapshot.rows(office) as rows:
+        candidates, sessions = rows.execute(HELD).fetchone()
+        if candidates or sessions:
+            office.warn(f"NOTE the office is there already, with {lists.count(candidates, 'candidate')} and "
+                        f"{lists.count(sessions, 'session')}: nothing is changed")

@@ -1,7 +1,5 @@
 """The mistakes of the import files of a folder, before any import: what `office check-files` says, as values. What the
 files would do is tried by the program on a private copy of the office, or on an empty office."""
-from __future__ import annotations
-
 import contextlib
 import os
 import sqlite3
@@ -38,7 +36,7 @@ def office_knows(office: Office) -> mistakes.Known:
     """What the office has, if there is one."""
     if not os.path.exists(office.path):
         return mistakes.Known()
-    with contextlib.closing(snapshot.rows(office)) as connection:
+    with snapshot.rows(office) as connection:
         return mistakes.Known(connection)
 
 
@@ -87,7 +85,7 @@ def would_do(office: Office, texts: Mapping[str, bytes], tell: Tell, progress: P
                 running.run_over(office, office.path, "init")
             rehearsal = stack.enter_context(changing.rehearse(office, steps, tell))
             tell("")
-            if refused := rehearsal.refused:
+            if refused := changing.refused_of(rehearsal.answers):
                 raise Trouble(f"the program says {refused.first_line()} to {refused.step.words[-1]}")
             with (Reading(office, rehearsal.before, progress) as before,
                   Reading(office, rehearsal.after, progress) as after):

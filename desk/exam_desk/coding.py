@@ -2,7 +2,6 @@
 imports of what was read from a workbook, or from a folder of import files."""
 from __future__ import annotations
 
-import contextlib
 import os
 import secrets
 from typing import TYPE_CHECKING, NamedTuple
@@ -30,7 +29,7 @@ def in_office(office: Office) -> dict[str, list[str]]:
     """The row of each candidate of the office, by number; none where there is no office yet."""
     if not os.path.exists(office.path):
         return {}
-    with contextlib.closing(snapshot.rows(office)) as connection:
+    with snapshot.rows(office) as connection:
         return {row[0]: row for row in files.rows_of(connection, "candidates")}
 
 

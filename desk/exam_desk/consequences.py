@@ -1,6 +1,4 @@
 """What a change does to candidates and sessions, in short, in lines for a terminal."""
-from __future__ import annotations
-
 import sqlite3
 from collections import Counter, defaultdict
 from collections.abc import Iterable, Iterator, Mapping
@@ -9,9 +7,9 @@ from typing import NamedTuple
 from exam_desk import copies, facts, lists, notebook, telling
 from exam_desk.asking import Progress
 from exam_desk.effects import Effects, figures, has_seats, openings, other_figures
-from exam_desk.left_behind import left_behind
 from exam_desk.office import Office
 from exam_desk.reading import Reading
+from exam_desk.second_sitting import left_behind
 from exam_desk.telling import Change, counted
 from exam_desk.trouble import Trouble
 from exam_desk.words import clock, few, plain

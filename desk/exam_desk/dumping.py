@@ -1,7 +1,4 @@
 """The facts of an office as the seven import files, or as a workbook of seven sheets."""
-from __future__ import annotations
-
-import contextlib
 import os
 import sqlite3
 
@@ -30,13 +27,13 @@ def left_out(connection: sqlite3.Connection, entries: str, appeals: str) -> list
 def write_folder(office: Office, folder: str) -> list[str]:
     """Makes a folder with the files, whole or not at all, and gives the lines that say what is there. Raises `Trouble`
     where it is there already."""
-    with new_folder(folder) as making, contextlib.closing(snapshot.rows(office)) as connection:
+    with new_folder(folder) as making, snapshot.rows(office) as connection:
         return write_all(connection, making)
 
 
 def write_workbook(office: Office, path: str) -> list[str]:
     """Makes a workbook, and gives the lines that say what is there. Raises `Trouble` where it is there already."""
-    with contextlib.closing(snapshot.rows(office)) as connection:
+    with snapshot.rows(office) as connection:
         rows = {kind: list(files.rows_of(connection, kind)) for kind in files.HEADERS}
         notes = left_out(connection, *2 * ["not in the workbook"])
     put_workbook(path, rows)

@@ -1,6 +1,4 @@
 """What a change does to candidates, sessions and papers: from two readings of an office, before and after it."""
-from __future__ import annotations
-
 import itertools
 import sqlite3
 from collections import Counter

@@ -1,6 +1,5 @@
 """Rows that are shown as they are: the halls of a session, titles, sessions, who is entered."""
-from __future__ import annotations
-
+import functools
 import sqlite3
 from collections.abc import Collection
 from typing import NamedTuple
@@ -47,20 +46,14 @@ def session_row(rows: Rows, session: str) -> sqlite3.Row:
     return sessions(rows, [session])[0]
 
 
-def paper_titles(rows: Rows) -> dict[str, str]:
-    return {code: title for code, title in rows.execute("SELECT code, title FROM paper")}
+def texts(query: str, rows: Rows) -> dict[str, str]:
+    return dict(rows.execute(query).fetchall())
 
 
-def hall_titles(rows: Rows) -> dict[str, str]:
-    return {code: title for code, title in rows.execute("SELECT code, title FROM hall")}
-
-
-def candidate_names(rows: Rows) -> dict[str, str]:
-    return dict(rows.execute("SELECT printf('%07d', number), name FROM candidate").fetchall())
-
-
-def access_codes(rows: Rows) -> dict[str, str]:
-    return dict(rows.execute("SELECT printf('%07d', number), code FROM candidate").fetchall())
+paper_titles = functools.partial(texts, "SELECT code, title FROM paper")
+hall_titles = functools.partial(texts, "SELECT code, title FROM hall")
+candidate_names = functools.partial(texts, "SELECT printf('%07d', number), name FROM candidate")
+access_codes = functools.partial(texts, "SELECT printf('%07d', number), code FROM candidate")
 
 
 def entered(rows: Rows, session: str) -> dict[str, int]:

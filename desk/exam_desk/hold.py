@@ -4,8 +4,6 @@ A request may be handed on again where no whole answer came, since every repeat 
 lodging or a retraction that is done already is answered as before. So a client notices nothing of a gap. A client that
 sends nothing keeps nobody waiting: `serve` sees whole requests alone, and in a crowd a client has a second for its own.
 """
-from __future__ import annotations
-
 import asyncio
 import re
 import resource

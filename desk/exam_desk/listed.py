@@ -1,16 +1,13 @@
 """Withdraws or reinstates the entries of a file one by one, with one copy from before them and the office in turns."""
-from __future__ import annotations
-
 import contextlib
 import itertools
 import os
 import time
 from collections.abc import Callable, Iterator
 
-from exam_desk import changing, checking, copies, facts, files, lists, logbook, mistakes, refusals, turns
+from exam_desk import changing, checking, copies, facts, files, lists, logbook, mistakes, refusals, snapshot, turns
 from exam_desk.changing import Answered, Step
 from exam_desk.office import Office
-from exam_desk.snapshot import rows as rows_now
 from exam_desk.trouble import NoCandidate, NoOffice, Trouble
 from exam_desk.typed import candidate_number
 from exam_desk.words import few
@@ -22,14 +19,6 @@ COUNTING = ("SELECT paper, day FROM entry JOIN paper ON paper.code = paper JOIN 
             "WHERE number = ? AND live = 1 ORDER BY day, start, paper")
 Rows = dict[int, Step]  # by the line in which each begins, the command that it means
 Tell = Callable[[int, Answered], None]  # hears what became of the row that begins in a line
-
-
-class Stopped(SystemExit):
-    """A signal ended a list. The row that it met may be done too."""
-
-    def __init__(self, signal: SystemExit, carried: changing.Carried) -> None:
-        super().__init__(signal.code)
-        self.carried = carried
 
 
 def rows_of(office: Office, command: str, path: str) -> tuple[Rows, list[str]]:
@@ -60,7 +49,7 @@ def of_candidate(office: Office, number: str) -> Rows:
     """The withdrawal of each entry of a candidate that counts; those of sessions that are over stay, which is said.
     Raises `Trouble` where there is no such candidate, or nothing to withdraw."""
     number = candidate_number(number)
-    with contextlib.closing(rows_now(office)) as rows:
+    with snapshot.rows(office) as rows:
         is_known = number in facts.candidate_names(rows)
         entries = rows.execute(COUNTING, [int(number)]).fetchall()
     if not is_known:
@@ -78,8 +67,9 @@ def of_candidate(office: Office, number: str) -> Rows:
 
 def carry_out(office: Office, title: str, rows: Rows, tell: Tell) -> changing.Carried:
     """Carries out each row by itself, so that one that is refused leaves the others. It stops where the office itself
-    cannot be used. The copy from before stays where something may be done. Raises `Stopped` at a signal, and `Trouble`
-    where a turn, the disk or the program is not to be had; the rows before are done then."""
+    cannot be used, and at a signal; the row that this meets may be done too. The copy from before stays where something
+    may be done. Raises `Trouble` where a turn, the disk or the program is not to be had; the rows before are done then.
+    """
     answers: list[Answered] = []
     copy = ""
     try:
@@ -93,7 +83,7 @@ def carry_out(office: Office, title: str, rows: Rows, tell: Tell) -> changing.Ca
                         outcome.answer = f"{len(answers)} of {lists.count(len(rows), 'row')}"
                 time.sleep(BETWEEN)
     except SystemExit as signal:
-        raise Stopped(signal, changing.Carried(answers, copies.kept_if_other(office, copy), None)) from signal
+        return changing.Carried(answers, copies.kept_if_other(office, copy), None, signal)
     except Trouble as fault:
         kept(office, answers, copy)
         if not answers:

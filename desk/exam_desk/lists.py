@@ -1,6 +1,4 @@
 """What lists and papers share: the order of names and desks, counts and arrangements in words."""
-from __future__ import annotations
-
 from collections.abc import Collection, Iterable
 from typing import TypeVar
 

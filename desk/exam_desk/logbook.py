@@ -4,8 +4,6 @@ of the notebook, with the numbers of candidates and no text of a note.
 A line has the time, who worked, the command, its status and the first line of its answer, parted by tabs. A change that
 begins has the status `begins`, a step of a list `step`. Their answers are empty, but the first line names the copy.
 """
-from __future__ import annotations
-
 import contextlib
 import datetime
 import os

@@ -1,7 +1,5 @@
 """What is lost where a copy, or a backup that somebody brings, is put in the place of the office: appeals, decisions,
 and the office itself where the other is of other people."""
-from __future__ import annotations
-
 import contextlib
 import json
 import os

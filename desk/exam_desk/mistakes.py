@@ -9,7 +9,7 @@ from collections.abc import Callable, Iterator, Sequence
 from functools import partial
 from typing import NamedTuple
 
-from exam_desk import files, lists, states, words
+from exam_desk import files, lists, snapshot, words
 
 MOST_COUNTED = 100_000  # mistakes of a file; what is behind the last of them is not looked at
 MOST_TO_MEND = 200  # bytes of a value for which a better one is sought
@@ -17,7 +17,7 @@ LIMITS = {"sessions": 400, "papers": 2000, "halls": 500, "candidates": 20000}
 MOST_MEMBERS, MOST_OPENINGS = 4096, 256  # of a session
 WITHDRAWN = "SELECT printf('%07d', number), paper FROM entry WHERE live = 0"
 GRANTS = ("SELECT printf('%07d', number), iif((number, ref) IN (SELECT number, ref FROM standing), '', session) "
-          f"FROM appeal WHERE {states.GRANTED_NEEDS} ORDER BY 1, 2")
+          f"FROM appeal WHERE {snapshot.GRANTED_NEEDS} ORDER BY 1, 2")
 NAMES, CODES = {"name", "title"}, {"session", "paper", "hall", "code"}  # columns
 CODE = "1 to 12 of A-Z, 0-9 and -"
 TIME_CURE = "a time as 09:00; format the column as text"

@@ -1,6 +1,4 @@
 """The order of names in lists: one on every machine, whatever its language."""
-from __future__ import annotations
-
 import re
 import unicodedata
 

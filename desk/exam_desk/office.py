@@ -1,6 +1,4 @@
 """Which office is meant: a value that is passed on. Nothing in this package reads the environment."""
-from __future__ import annotations
-
 import datetime
 import os
 from collections.abc import Callable

@@ -3,8 +3,6 @@
 The rules of the office allow it, so it is noted and not refused. Until when somebody sits the program says. It is asked
 only of those whom the rows leave in doubt: nobody sits in a hall for longer than it is open.
 """
-from __future__ import annotations
-
 import itertools
 from collections.abc import Collection, Iterable, Iterator, Mapping
 from typing import NamedTuple

@@ -4,8 +4,6 @@ A private copy lies in a folder of its own in desk-office.db/tmp, or in TMPDIR w
 uses it holds the lock in that folder. The system lets go of the lock of a process that ends, in whatever way, and the
 next command removes the folders whose lock is free.
 """
-from __future__ import annotations
-
 import contextlib
 import errno
 import fcntl

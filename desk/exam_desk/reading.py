@@ -6,8 +6,6 @@ code of a candidate, which is among the rows; and sheets are printed from it. `s
 What its answers mean docs/HTTP.md says. One of another form raises `Trouble`: this desk belongs to another version of
 the program.
 """
-from __future__ import annotations
-
 import contextlib
 import functools
 import json
@@ -19,10 +17,10 @@ import time
 from collections.abc import Callable, Collection, Iterable
 from typing import Any, NamedTuple, TypeVar
 
-from exam_desk import asking, bad_rows, facts, private, running, snapshot, states, turns
+from exam_desk import asking, facts, private, running, snapshot, turns
 from exam_desk.asking import Progress, Serve, ask_all
 from exam_desk.office import Office
-from exam_desk.trouble import BadRows, Trouble
+from exam_desk.trouble import BadRows, NoCandidate, Trouble
 from exam_desk.words import plain
 
 Found = TypeVar("Found")
@@ -92,7 +90,7 @@ class Reading(contextlib.AbstractContextManager["Reading"]):
                 self.copy = stack.enter_context(private.private_copy(self.path, office.path))
             except OSError as fault:
                 raise snapshot.unreadable(self.path, fault) from fault
-            self.rows = stack.enter_context(contextlib.closing(snapshot.rows_of(self.copy, self.path)))
+            self.rows = stack.enter_context(snapshot.rows_of(self.copy, self.path))
             self.stack = stack.pop_all()
 
     def __exit__(self, *_: object) -> None:
@@ -101,7 +99,7 @@ class Reading(contextlib.AbstractContextManager["Reading"]):
     @functools.cached_property
     def name(self) -> str:
         """The name of the state that was read."""
-        return states.name_of(self.rows)
+        return snapshot.name_of(self.rows)
 
     @property
     def mark(self) -> str:
@@ -149,10 +147,10 @@ class Reading(contextlib.AbstractContextManager["Reading"]):
         return self.rows.execute(query, [number]).fetchone() is not None
 
     def person(self, number: str) -> Person:
-        """Raises `Trouble` where the office has no such candidate."""
+        """Raises `NoCandidate` where the office has none with this number."""
         row = self.rows.execute("SELECT name, code FROM candidate WHERE number = ?", [int(number)]).fetchone()
         if row is None:
-            raise Trouble(f"there is no candidate {number}")
+            raise NoCandidate(number)
         return Person(number, row["name"], row["code"])
 
     def ask(self, people: Iterable[Person]) -> None:
@@ -204,7 +202,7 @@ class Reading(contextlib.AbstractContextManager["Reading"]):
     def refuse_rows(self, complaint: str) -> None:
         """Raises `BadRows` where the program refuses the rows; it names the table, or else `check` does."""
         if complaint == "refused 24":
-            bad_rows.refuse(self.rows, self.path, bad_rows.LARGE)
+            snapshot.refuse_bad(self.rows, self.path, snapshot.LARGE)
             with self.printing:
                 said = running.run_over(self.office, self.copy, "check").answer
             if said.startswith("bad "):

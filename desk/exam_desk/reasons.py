@@ -3,8 +3,6 @@
 The program prints what is short, and not why a hall does not suit. So its rule stands here again, and each answer is
 compared with the printed shortage: `Reasons.faults`.
 """
-from __future__ import annotations
-
 import re
 import textwrap
 from collections import Counter, defaultdict
@@ -50,7 +48,7 @@ def read_sheet(text: str) -> Shortage:
     return Shortage(session, int(unseated), int(hall_count), int(desks), listed, int(candidates), numbers.split())
 
 
-def compared(reading: Reading, session: str) -> tuple[Reasons, Shortage]:
+def compared(reading: Reading, session: str) -> tuple["Reasons", Shortage]:
     """The reasons and the printed shortage of a session, to be compared. Raises `Trouble` where there is no such
     session, or the program refuses the sheet."""
     session_row(reading.rows, session)

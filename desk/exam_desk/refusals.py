@@ -1,6 +1,4 @@
 """What a refusal of the program means, in words; for an import with the line and the value; for 23 with its cause."""
-from __future__ import annotations
-
 import contextlib
 import errno
 import glob
@@ -93,7 +91,7 @@ def explained(office: Office, words: Sequence[str], complaint: str, data: bytes 
 def sat_later(office: Office, number: str, paper: str) -> list[str]:
     """What is said of an entry that is withdrawn, since the candidate has a second sitting of the paper."""
     from exam_desk import second_sitting, snapshot  # here, since a refusal alone needs them
-    with contextlib.suppress(Trouble), contextlib.closing(snapshot.rows(office)) as rows:
+    with contextlib.suppress(Trouble), snapshot.rows(office) as rows:
         return [f"{number} sits it in {row['session']}, as {row['code']}: `office withdraw {number} {row['code']}` "
                 "withdraws that" for row in second_sitting.sat_later(rows, number, paper)]
     return []

@@ -1,7 +1,5 @@
 """What could help a session that is short of desks: halls that are open in another way, or are not open. All of it is a
 guess, since only the program says what an opening comes to: `what-if`, or a button, has it rehearse each."""
-from __future__ import annotations
-
 import operator
 import sqlite3
 from collections import Counter

@@ -1,8 +1,5 @@
 """Runs the program over an office, or over a copy of one."""
-from __future__ import annotations
-
 import contextlib
-import functools
 import os
 import re
 import shutil
@@ -10,13 +7,10 @@ import signal
 import subprocess
 from collections.abc import Iterator
 from io import FileIO
-from typing import TYPE_CHECKING, NamedTuple
+from typing import NamedTuple
 
 from exam_desk.office import Office
 from exam_desk.trouble import Trouble
-
-if TYPE_CHECKING:
-    from ctypes import CDLL
 
 PR_SET_PDEATHSIG = 1
 INPUT = "/dev/stdin"
@@ -92,15 +86,13 @@ def begun(office: Office, path: str, port: int) -> subprocess.Popen[bytes]:
     answers, so nothing is lost. The thread that begins it must live as long: the system asks for that thread. Raises
     `NotStarted`."""
     import ctypes  # here, since most commands begin sooner without it
-    ends = functools.partial(end_with, os.getpid(), ctypes.CDLL(None))
+    parent, library = os.getpid(), ctypes.CDLL(None)
+
+    def end_with_parent() -> None:
+        library.prctl(PR_SET_PDEATHSIG, signal.SIGKILL)
+        if os.getppid() != parent:  # it has ended already
+            os._exit(1)
     with starting(office):
         return subprocess.Popen(
             office.line_over(path, "serve", str(port)), stdin=subprocess.DEVNULL, stdout=subprocess.PIPE,
-            stderr=subprocess.PIPE, preexec_fn=ends)
-
-
-def end_with(parent: int, library: CDLL) -> None:
-    """What a child does first, so that it is killed where its parent is."""
-    library.prctl(PR_SET_PDEATHSIG, signal.SIGKILL)
-    if os.getppid() != parent:
-        os._exit(1)
+            stderr=subprocess.PIPE, preexec_fn=end_with_parent)

@@ -2,13 +2,12 @@
 
 A plan is a list of steps for `changing.carry_out`. What the candidate sits, where and until when, the program says:
 before the steps and after a rehearsal of them. The codes of the second session and paper are those of the first with
-`-2`, `-3` and so on; by them and by who is entered the second paper is found again.
+`-2`, `-3` and so on; by them and by who is entered the second paper is found again. It stays as it is where the first
+one is moved, becomes another, or has its entry again: nobody thinks of it when that is changed, so it is said.
 """
-from __future__ import annotations
-
 import itertools
 import sqlite3
-from collections.abc import Iterable
+from collections.abc import Iterable, Iterator
 from typing import NamedTuple
 
 from exam_desk import files, lists, overlaps, typed
@@ -16,7 +15,7 @@ from exam_desk.changing import Step
 from exam_desk.reading import Member, Reading, Sitting
 from exam_desk.reasons import Reasons
 from exam_desk.snapshot import Rows
-from exam_desk.trouble import NoCandidate, Trouble
+from exam_desk.trouble import Trouble
 from exam_desk.words import Said, clock, feature_text, plain
 
 MOST_LETTERS = 12  # of the code of a session or a paper
@@ -28,18 +27,24 @@ OPENED = ("SELECT desks, until, reserved, (SELECT count(*) FROM seat WHERE (sess
           "opening.hall)) FROM opening WHERE session = ? AND hall = ?")
 UNLIKE = ("SELECT max(one.live IS NULL), max(one.live <> 1) FROM entry LEFT JOIN entry AS one "
           "ON one.number = entry.number AND one.paper = ? WHERE entry.paper = ? AND entry.live = 1")
-BEGINNING = "WHERE paper.code BETWEEN ?1 AND ?1 || '~'"  # `~` is behind all letters of codes
-SAME_LETTERS = MOST_LETTERS - len("-99999")  # at least so many letters of a code stay before its number
 ARRANGED = "NOTE: the arrangement of {person} is {one} in {first}, and {other} in {session}"
 CLOSED = (0, 24 * 60, False, 0)  # as OPENED says it of a hall that is to be open until the end of the day
-
-
-class Asked(NamedTuple):
-    """What is asked for a candidate: to sit this paper later on the same day."""
-    number: str
-    paper: str
-    start: str  # as 13:00
-    hall: str
+ENTERED = "SELECT printf('%07d', number) FROM entry WHERE paper = ? AND live = 1 ORDER BY number"
+SEATED = "SELECT printf('%07d', number) FROM seat WHERE (session, hall) = (?, ?) ORDER BY number"
+LATER = ("SELECT printf('%07d', number), one.live = 1 FROM entry JOIN entry AS one USING (number) WHERE one.paper = ? "
+         "AND entry.paper = ? AND entry.live = 1 ORDER BY number")
+MOST_LINES, MOST_NAMED = 5, 3
+STAYS = ("NOTE: {paper} in {session}, a second sitting of {first}, stays as it is ({kept}) for {people}: import a row for "
+         "{session} or {paper} too")
+STAYS_OPEN = "NOTE: {hall} stays open in {session}, for the second sitting of {people}"
+SAT_AS = "NOTE: {person} sits {first} as {paper}: `office second-sitting {number} {first} --undo` withdraws {paper}"
+MORE_STAY, MORE = "NOTE: .. and {count} more notes on second sittings", "{names} and {count} more"
+KEPT = {  # what a second sitting can keep: the words, and the columns
+    "on {day} at {start}": ["day", "start"], "{minutes} minutes": ["minutes"], "requires {requires}": ["requires"],
+    "the title {title}": ["title"],
+}
+TEXTS = [STAYS, STAYS_OPEN, SAT_AS, ARRANGED, MORE_STAY, MORE, *KEPT]
+Pairs = list[tuple[sqlite3.Row, sqlite3.Row]]  # of papers, the second made of the first
 
 
 class Plan(NamedTuple):
@@ -54,39 +59,40 @@ class Plan(NamedTuple):
     made: str = ""  # what the steps make or join, in words
 
 
-def plan(reading: Reading, asked: Asked) -> Plan:
-    """The steps to a second sitting. Raises `Trouble` where a value has a wrong form or is not known, or where the
-    candidate has no two papers in the session of the paper."""
-    if wrong := typed.wrong(asked._fields, asked):
+def plan(reading: Reading, number: str, paper: str, start: str, hall: str) -> Plan:
+    """The steps after which a candidate sits a paper later on the same day, at a start such as 13:00. Raises `Trouble`
+    where a value has a wrong form or is not known, or where the candidate has no two papers in the session of the
+    paper."""
+    asked = [number, paper, start, hall]
+    if wrong := typed.wrong(["number", "paper", "start", "hall"], asked):
         raise Trouble(f"{'; '.join(wrong)}; nothing is changed")
-    rows, first = reading.rows, paper_row(reading.rows, asked.paper)
-    refuse_without_clash(reading, asked, first["session"])
-    if rows.execute("SELECT 1 FROM hall WHERE code = ?", [asked.hall]).fetchone() is None:
-        raise Trouble(f"the office has no hall {asked.hall}; nothing is changed")
-    then = rows.execute(SESSIONS_THEN, [first["day"], overlaps.of_day(asked.start), asked.hall])
+    rows, first = reading.rows, paper_row(reading.rows, paper)
+    refuse_without_clash(reading, number, first)
+    if rows.execute("SELECT 1 FROM hall WHERE code = ?", [hall]).fetchone() is None:
+        raise Trouble(f"the office has no hall {hall}; nothing is changed")
+    then = rows.execute(SESSIONS_THEN, [first["day"], overlaps.of_day(start), hall])
     there = next((code for code, in then if is_numbered(code, first["session"])), None)
     session = there or free_code(rows, "session", first["session"])
     wanted = (session, first["minutes"], first["requires"])
-    paper = next((row["code"] for row in second_papers(rows, first)
-                  if (row["session"], row["minutes"], row["requires"]) == wanted), None)
-    code = paper or free_code(rows, "paper", asked.paper)
-    steps = [] if there else [imported("sessions", [session, first["day"], asked.start])]
-    if not paper:
+    known = next((row["code"] for one, row in pairs(rows) if one["code"] == paper
+                  and (row["session"], row["minutes"], row["requires"]) == wanted), None)
+    code = known or free_code(rows, "paper", paper)
+    steps = [] if there else [imported("sessions", [session, first["day"], start])]
+    if not known:
         steps.append(imported("papers", [code, first["title"], session, first["minutes"],
                                          feature_text(first["requires"])]))
-    desks, until, reserved, taken = rows.execute(OPENED, [session, asked.hall]).fetchone() or CLOSED
+    desks, until, reserved, taken = rows.execute(OPENED, [session, hall]).fetchone() or CLOSED
     if taken >= desks:
         desks += 1
-        steps.append(imported("openings", [session, asked.hall, desks, clock(until), "yes" if reserved else "no"]))
-    if (live := is_live(rows, asked.number, code)) is None:
-        steps.append(imported("entries", [asked.number, code]))
+        steps.append(imported("openings", [session, hall, desks, clock(until), "yes" if reserved else "no"]))
+    if (live := is_live(rows, number, code)) is None:
+        steps.append(imported("entries", [number, code]))
     elif not live:
-        steps.append(Step(("reinstate", asked.number, code)))
-    steps.append(Step(("withdraw", asked.number, asked.paper)))
-    made = (f"session {session}{'' if there else ' (new)'} at {asked.start}, paper {code}{'' if paper else ' (new)'}, "
-            f"hall {asked.hall} with {lists.count(desks, 'desk')}")
-    return Plan(" ".join(["second-sitting", *asked]), steps, asked.number, first["session"], session, code, asked.hall,
-                made)
+        steps.append(Step(("reinstate", number, code)))
+    steps.append(Step(("withdraw", number, paper)))
+    made = (f"session {session}{'' if there else ' (new)'} at {start}, paper {code}{'' if known else ' (new)'}, "
+            f"hall {hall} with {lists.count(desks, 'desk')}")
+    return Plan(" ".join(["second-sitting", *asked]), steps, number, first["session"], session, code, hall, made)
 
 
 def paper_row(rows: Rows, code: str) -> sqlite3.Row:
@@ -96,17 +102,14 @@ def paper_row(rows: Rows, code: str) -> sqlite3.Row:
     return found
 
 
-def refuse_without_clash(reading: Reading, asked: Asked, session: str) -> None:
+def refuse_without_clash(reading: Reading, number: str, paper: sqlite3.Row) -> None:
     """Raises `Trouble` where the candidate is not entered for the paper, or for no other one in its session."""
-    if not reading.knows(asked.number):
-        raise NoCandidate(asked.number)
-    member = reading.member(session, asked.number)
-    missed = reading.clashes(session, [asked.number]).get(asked.number, [])
-    if member is None or asked.paper not in (member.sitting.paper, *missed):
-        raise Trouble(f"{asked.number} is not entered for {asked.paper}, or the entry is withdrawn; nothing is changed")
+    member = reading.member(session := paper["session"], number)
+    missed = reading.clashes(session, [number]).get(number, [])
+    if member is None or paper["code"] not in (member.sitting.paper, *missed):
+        raise Trouble(f"{number} is not entered for {paper['code']}, or the entry is withdrawn; nothing is changed")
     if not missed:
-        raise Trouble(f"{asked.number} has no other paper in {session}, so no second sitting is needed; nothing is "
-                      "changed")
+        raise Trouble(f"{number} has no other paper in {session}, so no second sitting is needed; nothing is changed")
 
 
 def numbered(code: str, place: int) -> str:
@@ -127,23 +130,17 @@ def free_code(rows: Rows, table: str, first: str) -> str:
     return next(found for place in itertools.count(2) if (found := numbered(first, place)) not in taken)
 
 
-def second_papers(rows: Rows, first: sqlite3.Row) -> list[sqlite3.Row]:
-    """The papers that were made of a paper for second sittings."""
-    found = rows.execute(f"{PAPERS} {BEGINNING} ORDER BY paper.code", [first["code"][:SAME_LETTERS]])
-    return [row for row in found if is_made_of(rows, row, first)]
-
-
 def first_papers(rows: Rows, second: sqlite3.Row) -> list[sqlite3.Row]:
     """The papers of which a paper may have been made for second sittings."""
-    stem = second["code"].rpartition("-")[0]
-    found = rows.execute(f"{PAPERS} {BEGINNING}", [stem]) if stem else []
+    stem = second["code"].rpartition("-")[0]  # `~` is behind all letters of codes
+    found = rows.execute(f"{PAPERS} WHERE paper.code BETWEEN ?1 AND ?1 || '~'", [stem]) if stem else []
     return [row for row in found if is_made_of(rows, second, row)]
 
 
 def pairs(rows: Rows) -> list[tuple[sqlite3.Row, sqlite3.Row]]:
     """Each paper that may be made of another for second sittings, behind that one."""
     codes = [code for code, in rows.execute("SELECT code FROM session")]
-    later = {each for each in codes for code in codes if is_numbered(each, code)}
+    later = {each for each in codes if each[-1:].isdecimal() for code in codes if is_numbered(each, code)}
     return [(first, second) for second in rows.execute(f"{PAPERS} ORDER BY day, start, paper.code").fetchall()
             if second["session"] in later for first in first_papers(rows, second)]
 
@@ -178,16 +175,15 @@ def is_live(rows: Rows, number: str, paper: str) -> bool | None:
 
 
 def sat_later(rows: Rows, number: str, paper: str) -> list[sqlite3.Row]:
-    """The papers that were made of a paper for second sittings, and for which a candidate is entered. Raises `Trouble`
-    where there is no such paper."""
-    return [row for row in second_papers(rows, paper_row(rows, paper)) if is_live(rows, number, row["code"])]
+    """The papers that were made of a paper for second sittings, and for which a candidate is entered."""
+    return [second for first, second in pairs(rows)
+            if first["code"] == paper and is_live(rows, number, second["code"])]
 
 
 def plan_back(reading: Reading, number: str, paper: str) -> Plan:
     """The steps that take a second sitting back. Raises `Trouble` where the candidate has none of this paper."""
     first = paper_row(reading.rows, paper)
-    if not typed.is_right("number", number) or not reading.knows(number):
-        raise NoCandidate(number)
+    reading.person(typed.candidate_number(number))
     found, live = sat_later(reading.rows, number, paper), is_live(reading.rows, number, paper)
     if not found or live is None:
         raise Trouble(f"{number} has no second sitting of {paper}; nothing is changed")
@@ -252,3 +248,70 @@ def refuse_otherwise(planned: Plan, after: Reading, first: Sitting, second: Memb
             other = after.all_of(number)[each.early if each.late == planned.session else each.late]
             raise Trouble(f"{number} sits {other.paper} in {other.session} from {other.start} to {other.finish}, and "
                           f"would sit {then.paper} from {then.start} to {then.finish}; nothing is changed")
+
+
+def left_behind(before: Reading, after: Reading) -> list[Said]:
+    """What is said of each second sitting which stays as it is while its paper does not, or in a hall that is closed
+    before, with those who sit it, beside the first entry, or with another arrangement than in the first session; at
+    most MOST_LINES, and once more of the rest."""
+    now, made = {row["code"]: row for row in after.rows.execute(PAPERS)}, pairs(after.rows)
+    found = [said for first, second in pairs(before.rows) if first["code"] in now and second["code"] in now
+             for said in stays(after, (first, now[first["code"]]), (second, now[second["code"]]))]
+    found += [*in_closed_halls(before, after, made), *entered_again(before, after, made)]
+    rest = len(found) - MOST_LINES
+    return found[:MOST_LINES] + [Said(MORE_STAY, {"count": f"{rest:,}"})] * (rest > 0)
+
+
+def in_closed_halls(before: Reading, after: Reading, made: Pairs) -> Iterator[Said]:
+    """What is said of each hall which a change closes for a session, and which stays open for a second sitting of it."""
+    were, are = ({(code, hall) for code, hall in each.rows.execute("SELECT session, hall FROM opening")} for each in (before, after))
+    later = {(first["session"], second["session"]) for first, second in made}
+    for hall, session in sorted((hall, then) for code, hall in were - are for first, then in later if first == code):
+        if (session, hall) in are and (people := named(after, SEATED, session, hall)):
+            yield Said(STAYS_OPEN, {"hall": hall, "session": session, "people": people})
+
+
+def entered_again(before: Reading, after: Reading, made: Pairs) -> Iterator[Said]:
+    """What is said of those who had a second sitting before, and have it yet: of each whose first entry counts again
+    beside it, and of the arrangements of the others, as after a grant for one session."""
+    for first, second in made:
+        then, now = (dict(reading.rows.execute(LATER, [first["code"], second["code"]]).fetchall())
+                     for reading in (before, after))  # whether the first entry counts, by number
+        for number in (each for each in now if then.get(each) == 0):
+            if now[number]:
+                yield Said(SAT_AS, {"person": after.person(number).shown(), "number": number, "first": first["code"],
+                                    "paper": second["code"]})
+            else:
+                yield from arranged(before, after, number, first["session"], second["session"])
+
+
+def named(reading: Reading, query: str, *values: str) -> list[str] | Said:
+    """The candidates whose numbers a query finds, the first by their names."""
+    people = [reading.person(number).shown() for number, in reading.rows.execute(query, values).fetchall()]
+    rest = len(people) - MOST_NAMED
+    return Said(MORE, {"names": people[:MOST_NAMED], "count": f"{rest:,}"}) if rest > 0 else people
+
+
+def stays(after: Reading, first: tuple[sqlite3.Row, sqlite3.Row], second: tuple[sqlite3.Row, sqlite3.Row]
+          ) -> Iterator[Said]:
+    """What is said of a second sitting which keeps what its paper has otherwise, and for which somebody is entered; of
+    both as they were and as they are."""
+    row = second[1]
+    values = {**dict(row), "start": clock(row["start"]), "requires": feature_text(row["requires"]),
+              "title": plain(row["title"])}
+    kept = [Said(text, {name: values[name] for name in columns}) for text, columns in KEPT.items()
+            if differ(*first, columns) and not differ(*second, columns) and is_behind(first[1], row, columns)]
+    if kept and (people := named(after, ENTERED, row["code"])):
+        yield Said(STAYS, {"paper": row["code"], "session": row["session"], "first": first[1]["code"], "kept": kept,
+                           "people": people})
+
+
+def differ(one: sqlite3.Row, other: sqlite3.Row, columns: list[str]) -> bool:
+    return any(one[name] != other[name] for name in columns)
+
+
+def is_behind(first: sqlite3.Row, second: sqlite3.Row, columns: list[str]) -> bool:
+    """Whether a second sitting has something otherwise than its paper; a later start of the same day is right."""
+    if "start" in columns:
+        return bool(first["day"] != second["day"] or second["start"] <= first["start"])
+    return differ(first, second, columns)

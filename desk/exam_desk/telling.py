@@ -3,8 +3,6 @@
 Somebody sits otherwise only where a row of theirs, of the session or of one of its papers is another, or where another
 row of somebody in their hall is: desks are numbered hall by hall. So the program need not be asked of the others.
 """
-from __future__ import annotations
-
 import contextlib
 import sqlite3
 from collections import defaultdict

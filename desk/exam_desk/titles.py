@@ -1,7 +1,5 @@
 """The file of titles for the candidates' page: those of papers and halls, and the days of sessions. Once it is written,
 each change of these writes it again; whoever removes it ends that."""
-from __future__ import annotations
-
 import contextlib
 import json
 import os
@@ -63,7 +61,7 @@ def renew(office: Office) -> None:
                   errors="surrogateescape") as file:
             path = file.read()
         if os.path.exists(path):
-            with contextlib.closing(snapshot.rows(office)) as rows:
+            with snapshot.rows(office) as rows:
                 put(path, text(rows))
     except FileNotFoundError:
         return

@@ -1,6 +1,4 @@
 """What goes wrong for reasons that a person can mend. Every other exception is a fault of the scripts."""
-from __future__ import annotations
-
 
 class Trouble(Exception):
     """Why something is not done: a sentence for people, and the file, sheet, cell or field that it speaks of, or ''."""

@@ -12,8 +12,6 @@ serve again, so it never comes between. A list (`listed`) has a lock on its copy
 system lets go of the locks of a process that ends, in whatever way. The one child that inherits a lock, office.lock, is
 the program that a change runs: where the command is killed, the next one waits until that program has ended.
 """
-from __future__ import annotations
-
 import contextlib
 import fcntl
 import json

@@ -1,6 +1,4 @@
 """What a person typed behind the name of a command: numbers without their zeros, and what is wrong with a word."""
-from __future__ import annotations
-
 from collections.abc import Sequence
 
 from exam_desk import files

@@ -1,6 +1,4 @@
 """The words that every part of the desk shares: texts without hidden characters, times, features, days."""
-from __future__ import annotations
-
 import datetime
 from collections.abc import Mapping, Sequence
 from typing import NamedTuple
@@ -47,11 +45,9 @@ def clock(minutes: int) -> str:
 
 def long_day(day: str) -> str:
     """2027-06-07 as Monday, 7 June 2027."""
-    date = datetime.date.fromisoformat(day)
-    return f"{date:%A}, {date.day} {date:%B} {date.year}"
+    return f"{datetime.date.fromisoformat(day):%A, %-d %B %Y}"
 
 
 def short_day(day: str) -> str:
     """2027-06-07 as Mon 7 June 2027."""
-    date = datetime.date.fromisoformat(day)
-    return f"{date:%a} {date.day} {date:%B} {date.year}"
+    return f"{datetime.date.fromisoformat(day):%a %-d %B %Y}"

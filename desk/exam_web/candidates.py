@@ -63,7 +63,8 @@ def papers_without(number: int = -1) -> list[sqlite3.Row]:
 def page(number: int, code: str = "") -> str:
     who, seven = candidate_row(number), f"{number:07}"
     reading, entries = view().reading, view().rows(texts.ENTRIES, [number])
-    later = {row["paper"] for row in entries if second_sitting.sat_later(reading.rows, seven, row["paper"])}
+    later = {first["code"] for first, second in second_sitting.pairs(reading.rows)
+             if second_sitting.is_live(reading.rows, seven, second["code"])}
     return render_template("candidate.html", who=who, entries=entries, sittings=reading.all_of(seven),
                            lodged=view().rows(texts.LODGED, [number]), others=papers_without(number), code=code,
                            second=later, hall_titles=facts.hall_titles(reading.rows),
@@ -257,7 +258,7 @@ def second_plan(form: Form) -> Plan:
     page: Page = ("clashes.second", {"code": Session(form.get("session", "")).code, "number": int(values["number"])})
     asked = checked(page, form, paper="paper", start="start", hall="hall")
     return of_second({**values, **asked}, page, "start",
-                     lambda: second_sitting.plan(view().reading, second_sitting.Asked(values["number"], **asked)))
+                     lambda: second_sitting.plan(view().reading, values["number"], **asked))
 
 
 def second_back(form: Form) -> Plan:

@@ -26,12 +26,12 @@ from markupsafe import Markup
 from werkzeug.wrappers import Response
 
 from exam_desk import (changing, consequences, copies, effects, facts, files, lodging, logbook, private, refusals,
-                       second_sitting, states, telling, words)
+                       second_sitting, snapshot, telling, words)
 from exam_desk.changing import Answered, Step
-from exam_desk.left_behind import left_behind
 from exam_desk.listed import OF_THE_OFFICE
 from exam_desk.office import Office
 from exam_desk.reading import Reading
+from exam_desk.second_sitting import left_behind
 from exam_desk.trouble import Stale, Trouble
 from exam_web.desk import PATIENCE, Desk, View, desk, office, sums, unseated, view
 from exam_web.forms import Asked, Form, Page, Wrong, attached, keep, lead
@@ -51,7 +51,7 @@ TROUBLE = 0  # among the numbers of refusals: what the desk refuses itself
 APPEALS = ("SELECT appeal.*, day, session.start AS start, name FROM appeal JOIN session ON session.code = session "
            "JOIN candidate ON candidate.number = appeal.number ")
 ARRANGED = "SELECT printf('%07d', number), needs, extra FROM arrangement"
-OF_GRANTED = f"{ARRANGED} WHERE number IN (SELECT number FROM appeal WHERE {states.GRANTED_NEEDS})"
+OF_GRANTED = f"{ARRANGED} WHERE number IN (SELECT number FROM appeal WHERE {snapshot.GRANTED_NEEDS})"
 BY_DAY = "ORDER BY day, session.start, lodged, appeal.number"
 KINDS = ["short", *consequences.KINDS, "codes"]  # the gravest first; their words are in templates/effects.html
 NUMBERS = attrgetter("members", "desks", "short", "clashes")  # of a session

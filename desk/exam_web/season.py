@@ -8,7 +8,7 @@ from typing import Any, NamedTuple
 from flask import Blueprint, render_template, request, url_for
 from werkzeug.wrappers import Response
 
-from exam_desk import appeals, facts, logbook, new_office, on_paper, turns
+from exam_desk import appeals, changing, facts, logbook, on_paper, turns
 from exam_desk.telling import people_and_sittings
 from exam_desk.trouble import Trouble
 from exam_web import candidates
@@ -50,7 +50,7 @@ def page() -> str:
 def init() -> Response:
     if desk().is_there():
         return lead("season.page")
-    done = new_office.make(office())
+    done = changing.make_new(office())
     if done.status:
         raise Trouble(done.complaint.strip())
     return lead("season.page", text("The office is there, and empty. Bring a workbook or the seven files."))

@@ -8,7 +8,7 @@ from werkzeug.wrappers import Response
 
 from exam_desk import coding, dumping, facts, files, mistakes
 from exam_desk.changing import Step
-from exam_desk.left_behind import left_behind
+from exam_desk.second_sitting import left_behind
 from exam_desk.mistakes import Mistake
 from exam_desk.workbook.reading import workbook_of
 from exam_desk.workbook.values import Way

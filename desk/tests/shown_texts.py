@@ -17,7 +17,7 @@ from jinja2 import nodes
 
 DESK = pathlib.Path(__file__).resolve().parent.parent
 sys.path.insert(0, str(DESK))
-from exam_desk import appeals, backups, keeping, left_behind, losses, mistakes, refusals  # noqa: E402
+from exam_desk import appeals, backups, keeping, losses, mistakes, refusals, second_sitting  # noqa: E402
 from exam_desk.workbook import cells, opening  # noqa: E402
 from exam_web import application, desk, forms, proposals, session, wording  # noqa: E402
 
@@ -154,7 +154,7 @@ def main():
     found.update(re.findall(r'\btext\("((?:[^"\\]|\\.)*)"', (DESK / "exam_web/wording.py").read_text("utf-8")))
     for table in TABLES.values():
         found.update(table)
-    found.update(SAID, OPENED, OWN, left_behind.TEXTS, [losses.OTHERS, losses.NAMED, losses.UNKNOWN])
+    found.update(SAID, OPENED, OWN, second_sitting.TEXTS, [losses.OTHERS, losses.NAMED, losses.UNKNOWN])
     print(json.dumps({"found": sorted(found), "lost": lost}))
 
 

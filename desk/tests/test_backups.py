@@ -10,7 +10,7 @@ import zipfile
 from unittest import mock
 
 import sample
-from exam_desk import backups, changing, copies, notebook, snapshot, states
+from exam_desk import backups, changing, copies, notebook, snapshot
 from exam_desk.trouble import Stale, Trouble
 
 APPEAL = "INSERT INTO appeal VALUES (1051, 'HA1', 'MON-AM', 1, 'PC1', 0, 0, 'x', 1, NULL, '2027-05-01')"
@@ -64,7 +64,7 @@ class TestTaken(Backups):
             with self.brought(b_zip=zipped(parts)) as (copy, found):
                 self.assertEqual({*found} - {"office.db-wal"}, {"office.db", "notebook/school.json",
                                                                 "notebook/printed.MON-AM.json"})
-                self.assertEqual(states.name_now(self.value, found["office.db"]), states.name_now(self.value))
+                self.assertEqual(snapshot.name_now(self.value, found["office.db"]), snapshot.name_now(self.value))
                 self.assertEqual(copies.when_and_what(copy)[1], "b.zip")
                 for path in found.values():
                     self.assertEqual(stat.S_IMODE(os.stat(path).st_mode) & 0o077, 0, path)
@@ -88,7 +88,7 @@ class TestTaken(Backups):
             file.execute("UPDATE office SET version = 2")
             file.commit()
         with self.brought(office_db=self.bytes_of("office.db")) as (_, found):
-            self.assertNotEqual(states.name_now(self.value, found["office.db"]), "")  # it can be read
+            self.assertNotEqual(snapshot.name_now(self.value, found["office.db"]), "")  # it can be read
         self.assertTrue(self.refused("check").startswith("refused 27"))
 
 
@@ -152,13 +152,13 @@ class TestPutBack(Backups):
 
     def test_into_an_empty_folder_with_its_notebook(self):
         parts = {"office.db": self.first, "office.db-wal": self.second, "notebook/school.json": '"Hill"'}
-        before = states.name_now(self.value)
+        before = snapshot.name_now(self.value)
         for ending in ("", "-wal"):
             os.remove(self.path + ending)
         with open(self.path + "-wal", "wb") as old:  # of another office
             old.write(self.second or b"x" * 4000)
         self.assertEqual(self.put_back("", b_zip=zipped(parts)), (True, [], None))
-        self.assertEqual((states.name_now(self.value), self.office("check")), (before, "good\n"))
+        self.assertEqual((snapshot.name_now(self.value), self.office("check")), (before, "good\n"))
         self.assertEqual((self.office("school"), notebook.school_name(self.value)), ("Hill\n", "Hill"))
         self.assertEqual(stat.S_IMODE(os.stat(self.path).st_mode), 0o600)
 
@@ -177,11 +177,11 @@ class TestPutBack(Backups):
         self.assertEqual(self.office("summary").count("MON-AM"), 0)
 
     def test_the_log_and_the_copy_say_what_it_was(self):
-        before = states.name_now(self.value)
+        before = snapshot.name_now(self.value)
         self.office("withdraw", "0001051", "PH-1")
         parts = {"office.db": self.first, "office.db-wal": self.second}
-        done = self.put_back(states.name_now(self.value), b_zip=zipped(parts))
-        self.assertEqual(states.name_now(self.value), before)
+        done = self.put_back(snapshot.name_now(self.value), b_zip=zipped(parts))
+        self.assertEqual(snapshot.name_now(self.value), before)
         self.assertEqual(copies.when_and_what(done.copy)[1], "back to b.zip")
         self.assertRegex(pathlib.Path(self.desk, "log").read_text("utf-8"),
                          r"\ttester\tback\t0\tas in b\.zip, brought on \d{4}-\d\d-\d\d [0-9:]{8}\n$")

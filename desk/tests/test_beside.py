@@ -11,7 +11,7 @@ import unittest
 from unittest import mock
 
 import sample
-from exam_desk import bad_rows, copies, logbook, private
+from exam_desk import copies, logbook, private, snapshot
 
 NOBODY = 65534
 APPEAL = "INSERT INTO appeal VALUES (1051, ?, 'MON-AM', 1, 'PC1', 0, 0, 'a draught', 1, NULL, '2027-05-01')"
@@ -394,10 +394,10 @@ class Conditions(unittest.TestCase):
     def test_what_cannot_be_read(self):
         with contextlib.closing(sqlite3.connect(":memory:")) as file:
             for condition, right, wrong in (
-                    (bad_rows.CODE, ["", "A-1"], ["a", "A\0", "É", 1, b"A", None]),
-                    (bad_rows.DAY, ["1000-01-01", "2028-02-29"], ["0999-12-31", "2027-02-29", "2027-5-1", "", None]),
-                    (bad_rows.TEXT, ["", "a"], [1, b"a", None]),
-                    (bad_rows.WHOLE, [0, 9_999_999], [-1, 10_000_000, 1.5, "1", None])):
+                    (snapshot.CODE, ["", "A-1"], ["a", "A\0", "É", 1, b"A", None]),
+                    (snapshot.DAY, ["1000-01-01", "2028-02-29"], ["0999-12-31", "2027-02-29", "2027-5-1", "", None]),
+                    (snapshot.TEXT, ["", "a"], [1, b"a", None]),
+                    (snapshot.WHOLE, [0, 9_999_999], [-1, 10_000_000, 1.5, "1", None])):
                 for value in (*right, *wrong):
                     query = f"SELECT {condition.format('value')} FROM (SELECT ? AS value)"
                     with self.subTest(condition, value=value):

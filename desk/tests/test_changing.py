@@ -10,7 +10,7 @@ from unittest import mock
 
 import sample
 from breaking import kill_often, kill_rehearsals
-from exam_desk import changing, copies, files, logbook, states
+from exam_desk import changing, copies, files, logbook, snapshot
 from exam_desk.changing import Step
 from exam_desk.office import Office
 from exam_desk.trouble import Stale, Trouble
@@ -26,7 +26,7 @@ STEPS = [Step(("withdraw", "0001000", "MA-1")), Step(("close-hall", "MON-AM", "G
 
 class Changing(sample.SampleSchool):
     def state(self):
-        return states.name_now(self.value)
+        return snapshot.name_now(self.value)
 
     def change(self, statement, *values):
         with contextlib.closing(sqlite3.connect(self.path)) as file:
@@ -107,7 +107,7 @@ class Lists(Changing):
                              ["withdrawn", "closed", "added 1 changed 0 same 0"])
         self.assertEqual((self.state(), names[0], self.kept(), self.log()), (before, before, [], []))
         carried = changing.carry_out(self.value, STEPS, *names, "three things")
-        self.assertEqual((carried.refused, carried.as_promised, self.state()), (None, True, names[1]))
+        self.assertEqual((changing.refused_of(carried.answers), carried.as_promised, self.state()), (None, True, names[1]))
         self.assertEqual(self.kept(), [carried.copy])
         name = os.path.basename(carried.copy)
         self.assertEqual(self.log(), [
@@ -129,7 +129,7 @@ class Lists(Changing):
             steps.insert(place, wrong)
             steps = steps if place else steps[:3]
             carried = changing.carry_out(self.value, steps)
-            self.assertEqual(carried.refused.first_line(), f"refused {number}")
+            self.assertEqual(changing.refused_of(carried.answers).first_line(), f"refused {number}")
             self.assertEqual((carried.copy, self.state(), self.kept()), (None, before, []), place)
             self.assertEqual(self.log()[-1][1:2], ["1"])
             self.assertIn("all is as before: ", self.log()[-1][2])
@@ -148,7 +148,7 @@ class Lists(Changing):
                 os.replace(self.path + ending + ".left", self.path + ending)
             before = self.state()
             carried = changing.carry_out(self.value, steps)
-            self.assertIsNotNone(carried.refused)
+            self.assertIsNotNone(changing.refused_of(carried.answers))
             self.assertEqual((carried.copy, self.kept(), self.state()), (None, [], before), place)
 
     def test_a_program_that_does_not_start_in_the_middle(self):
@@ -171,14 +171,14 @@ class Lists(Changing):
         for number in (22, 23):
             program = self.program(f'{line} >/dev/null; echo refused {number} >&2; exit 1')
             carried = changing.carry_out(Office(self.path, program, self.value.today, "tester"), STEPS[:1])
-            self.assertEqual((carried.refused.first_line(), carried.copy), (f"refused {number}", self.kept()[0]))
+            self.assertEqual((changing.refused_of(carried.answers).first_line(), carried.copy), (f"refused {number}", self.kept()[0]))
             self.assertNotEqual(self.state(), before)
             self.office("back", "1", "--yes")
             self.assertEqual(self.state(), before)
 
     def test_a_single_command_that_is_refused_leaves_no_copy(self):
         carried = changing.carry_out(self.value, [Step(("reinstate", "0001000", "MA-1"))])
-        self.assertEqual((carried.refused.first_line(), carried.copy, self.kept()), ("refused 10", None, []))
+        self.assertEqual((changing.refused_of(carried.answers).first_line(), carried.copy, self.kept()), ("refused 10", None, []))
 
     def test_an_office_that_cannot_be_read(self):
         self.write("office.db", b"rubbish" * 1000)
@@ -189,7 +189,7 @@ class Lists(Changing):
     def test_no_office(self):
         os.remove(self.path)
         carried = changing.carry_out(self.value, STEPS)
-        self.assertEqual((carried.refused.first_line(), len(carried.answers)), ("refused 24", 1))
+        self.assertEqual((changing.refused_of(carried.answers).first_line(), len(carried.answers)), ("refused 24", 1))
         with self.assertRaises(Trouble), changing.rehearse(self.value, STEPS):
             self.fail("it began")
 
@@ -209,7 +209,7 @@ class Same(Changing):
         self.assertEqual(self.log()[-1][1:], ["0", "added 0 changed 0 same 172"])
         for steps in (self.imported("halls"), self.imported(*sample.KINDS)):
             carried = changing.carry_out(self.value, steps, before, before)
-            self.assertEqual((carried.refused, carried.copy, carried.as_promised), (None, None, True))
+            self.assertEqual((changing.refused_of(carried.answers), carried.copy, carried.as_promised), (None, None, True))
             self.assertEqual(len(carried.answers), len(steps))
         self.assertEqual((self.state(), self.kept()), (before, kept))
 
@@ -242,7 +242,7 @@ class States(Changing):
         with changing.rehearse(self.value, STEPS) as rehearsal:
             made_from = rehearsal.made_from
         self.change(APPEAL, "HA1", 1)  # who lodges an appeal disturbs nobody
-        self.assertIsNone(changing.carry_out(self.value, STEPS[:1], made_from).refused)
+        self.assertIsNone(changing.refused_of(changing.carry_out(self.value, STEPS[:1], made_from).answers))
         now = self.state()
         with self.assertRaises(Stale):
             changing.carry_out(self.value, STEPS[1:], made_from)
@@ -313,7 +313,7 @@ class Full(Changing):
             for name in os.listdir(self.made):
                 shutil.copy2(os.path.join(self.made, name), folder)
             office = Office(os.path.join(folder, "office.db"), sample.built_program(), self.value.today, "tester")
-            before = states.name_now(office)
+            before = snapshot.name_now(office)
             for place in range(len(STEPS)):
                 told = []
 
@@ -323,9 +323,9 @@ class Full(Changing):
                         fill(folder)
                 with contextlib.suppress(Trouble):
                     carried = changing.carry_out(office, STEPS, tell=tell)
-                    self.assertIsNotNone(carried.refused)
+                    self.assertIsNotNone(changing.refused_of(carried.answers))
                 os.remove(os.path.join(folder, "filler"))
-                self.assertEqual((states.name_now(office), copies.listed(office)), (before, []), place)
+                self.assertEqual((snapshot.name_now(office), copies.listed(office)), (before, []), place)
 
     @contextlib.contextmanager
     def small_disk(self):

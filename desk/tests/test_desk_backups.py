@@ -9,7 +9,7 @@ import re
 import unittest
 
 from desk_client import MARK, DeskSchool
-from exam_desk import states
+from exam_desk import snapshot
 from test_backups import zipped
 
 BRING = ("/office/bring", "/office", "backup")
@@ -39,10 +39,10 @@ class Backups(DeskSchool):
 
 class TestBroughtBack(Backups):
     def test_it_is_looked_at_and_put_back_and_that_is_taken_back_too(self):
-        before, (name, content) = states.name_now(self.value), self.handed_out()
+        before, (name, content) = snapshot.name_now(self.value), self.handed_out()
         self.office("withdraw", "0001051", "PH-1")
         self.office("lodge", "0001119", "MON-AM", "arrangement", "quiet", "0", "")
-        later = states.name_now(self.value)
+        later = snapshot.name_now(self.value)
         page, _ = self.browser.send(*BRING, (name, content))
         words = self.browser.words(page)
         for said in (name, "What would change", "1 would join a session", f"lost: tick each {LOST}"):
@@ -51,9 +51,9 @@ class TestBroughtBack(Backups):
         self.put_back(page, 422)
         self.put_back(page, state="0" * 64, lost=LOST)
         self.assertIn("Nothing is changed", self.browser.words(page))
-        self.assertEqual((states.name_now(self.value), len(self.rows("SELECT * FROM appeal"))), (later, 1))
+        self.assertEqual((snapshot.name_now(self.value), len(self.rows("SELECT * FROM appeal"))), (later, 1))
         self.put_back(page, lost=LOST)
-        self.assertEqual((states.name_now(self.value), self.rows("SELECT * FROM appeal")), (before, []))
+        self.assertEqual((snapshot.name_now(self.value), self.rows("SELECT * FROM appeal")), (before, []))
         words = self.browser.words("/office")
         self.assertIn(f"The office is as in {name} . The office from before is the newest copy.", words)
         self.assertRegex(words, f" back to {name} What changed since")
@@ -61,7 +61,7 @@ class TestBroughtBack(Backups):
         self.browser.get(page, 404)
         copy = re.search(r'/office/copies/[0-9a-f]{16}(?=")', self.browser.get("/office"))[0]
         self.put_back(copy)
-        self.assertEqual((states.name_now(self.value), len(self.rows("SELECT * FROM appeal"))), (later, 1))
+        self.assertEqual((snapshot.name_now(self.value), len(self.rows("SELECT * FROM appeal"))), (later, 1))
 
     def test_another_school_s_wants_a_tick(self):
         """It has the same numbers; one of its candidates is this school's, with another code; one session has another
@@ -119,14 +119,14 @@ class TestBroughtBack(Backups):
             self.assertEqual("the last changes may be missing" in self.browser.words(page), is_alone, found[0][0])
 
     def test_what_is_none_is_refused_at_its_field(self):
-        before = states.name_now(self.value)
+        before = snapshot.name_now(self.value)
         for content, said in ((b"number,paper\n", "there is no office in it"), (b"", "there is no office in it"),
                               (b"PK\3\4 no zip", "it is broken"),
                               (b"SQLite format 3\0" + bytes(5000), "this copy is no good office")):
             _, text = self.browser.send(*BRING, ("<b>x.zip", content), status=422)
             self.assertRegex(text, 'name="backup"[^>]*aria-invalid="true"')
             self.assertRegex(text, f'id="fault-bring-backup"[^>]*>[^<]*(<bdi>)?{said}')
-        self.assertEqual((states.name_now(self.value), self.left()), (before, []))
+        self.assertEqual((snapshot.name_now(self.value), self.left()), (before, []))
 
     def test_it_goes_with_the_visit_and_with_the_desk(self):
         page, _ = self.browser.send(*BRING, self.handed_out())
@@ -148,7 +148,7 @@ class TestWithoutAnOffice(Backups):
     def setUp(self):
         super().setUp()
         self.office("school", "Hill School")
-        self.before, self.zip = states.name_now(self.value), self.handed_out()
+        self.before, self.zip = snapshot.name_now(self.value), self.handed_out()
         self.lose()
 
     def test_the_first_page_takes_one(self):
@@ -161,7 +161,7 @@ class TestWithoutAnOffice(Backups):
         self.assertIn("What is in it 3 sessions Mon 7 Jun 2027 – ", words)
         self.assertNotIn("tick", words)
         self.put_back(page)
-        self.assertEqual(states.name_now(self.value), self.before)
+        self.assertEqual(snapshot.name_now(self.value), self.before)
         self.assertEqual(self.office("school"), "Hill School\n")
         words = self.browser.words("/office")
         self.assertIn(f"The office is as in {self.zip[0]} .", words)
@@ -174,7 +174,7 @@ class TestWithoutAnOffice(Backups):
         self.lose()
         [link] = set(re.findall(f'href="{self.browser.prefix}(/office)">', self.browser.get("/").partition("<main")[2]))
         self.put_back(re.search(r'/office/copies/[0-9a-f]{16}(?=")', self.browser.get(link))[0])
-        self.assertEqual(states.name_now(self.value), self.before)
+        self.assertEqual(snapshot.name_now(self.value), self.before)
 
     def test_an_office_that_somebody_makes_meanwhile_stays(self):
         page, _ = self.browser.send(*FIRST, self.zip)
@@ -187,7 +187,7 @@ class TestWithoutAnOffice(Backups):
 
 class TestDamaged(Backups):
     def test_a_copy_and_a_backup_are_put_in_the_place_of_what_cannot_be_read(self):
-        before, backup = states.name_now(self.value), self.handed_out()
+        before, backup = snapshot.name_now(self.value), self.handed_out()
         self.office("withdraw", "0001051", "PH-1")
         copy = re.search(r'/office/copies/[0-9a-f]{16}(?=")', self.browser.get("/office"))[0]
         for bring in (lambda: copy), (lambda: self.browser.send(*BRING, backup)[0]):
@@ -200,7 +200,7 @@ class TestDamaged(Backups):
             self.assertIn("nobody can say which appeals", lost)
             self.put_back(page, 422)
             self.put_back(page, lost=html.unescape(lost))
-            self.assertEqual(states.name_now(self.value), before)
+            self.assertEqual(snapshot.name_now(self.value), before)
 
 
 class TestWhichFile(DeskSchool):

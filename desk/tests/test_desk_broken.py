@@ -13,7 +13,7 @@ import unittest
 import breaking
 import sample
 import test_changing
-from exam_desk import states, turns
+from exam_desk import snapshot, turns
 from test_desk_files import Uploads
 
 HALLS = b"hall,title,features\nR20,Room 20,-\n"
@@ -96,13 +96,13 @@ class AtAnyTime(Uploads):
         super().setUp()
         folder = self.facts()
         self.files = [(name, pathlib.Path(folder, name).read_bytes()) for name in os.listdir(folder)]
-        self.before = states.name_now(self.value)
+        self.before = snapshot.name_now(self.value)
 
     def test_in_a_rehearsal(self):
         chance, (length, _, _) = random.Random(1), self.measured()
         for _ in range(self.KILLS):
             self.kill(self.propose, chance.uniform(0, length))
-            self.assertEqual(states.name_now(self.value), self.before)
+            self.assertEqual(snapshot.name_now(self.value), self.before)
             self.assertNotIn("A change was broken off", self.browser.words("/"))
             self.end()
             self.assertEqual(os.listdir(os.path.join(self.desk, "tmp")), [])
@@ -114,7 +114,7 @@ class AtAnyTime(Uploads):
             proposal = self.propose()
             self.kill(lambda: self.browser.post(proposal + "/do", proposal), chance.uniform(0, 1.1) * length)
             self.put_back(after)
-            self.assertEqual((states.name_now(self.value), self.run_office("check").stdout), (self.before, "good\n"))
+            self.assertEqual((snapshot.name_now(self.value), self.run_office("check").stdout), (self.before, "good\n"))
         if "KILLS" in os.environ:
             print(f"{2 * self.KILLS} kills, half of them in a rehearsal")
 
@@ -125,7 +125,7 @@ class AtAnyTime(Uploads):
         rehearsed = time.monotonic()
         self.browser.post(proposal + "/do", proposal)
         self.browser.get(proposal)  # waits for the end, where that takes longer than the desk lets a request wait
-        done, after = time.monotonic(), states.name_now(self.value)
+        done, after = time.monotonic(), snapshot.name_now(self.value)
         self.office("back", "1", "--yes")
         return rehearsed - began, done - rehearsed, after
 
@@ -153,7 +153,7 @@ class AtAnyTime(Uploads):
     def put_back(self, after):
         """Puts back what is there: whole, or broken off, which the season says. Killed between the last step and its line
         in the log, a change is whole, and the log cannot know it."""
-        state = states.name_now(self.value)
+        state = snapshot.name_now(self.value)
         if state == after:
             self.run_office(*breaking.NEXT)  # it says that the change has no end in the log, where that is so
             self.office("back", "1", "--yes")

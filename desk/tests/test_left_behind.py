@@ -6,8 +6,8 @@ import types
 import unittest
 
 import test_second_sitting
-from exam_desk.left_behind import left_behind
 from exam_desk.reading import Person
+from exam_desk.second_sitting import left_behind
 from test_second_sitting import ONE
 
 STAYS = ("NOTE: MA-1-2 in MON-AM-2, a second sitting of MA-1, stays as it is ({}) for 0000003 ?Bo, =1+1: import a row for "

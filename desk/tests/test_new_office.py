@@ -9,7 +9,7 @@ import time
 import desk_client
 import sample
 import test_changing
-from exam_desk import logbook, new_office, notebook
+from exam_desk import changing, logbook, notebook
 from exam_desk.running import NotStarted
 
 LEFT = "notebook-of-an-office-before-"
@@ -66,7 +66,7 @@ class NewOffice(test_changing.Changing):
         notebook.take_notes(self.value, {"0000001": "own"})
         done = self.run_office("init")
         self.assertEqual((done.stdout, done.stderr, len(self.aside())), ("ready\n", "", 1))
-        self.assertEqual(new_office.make(self.value).answer, "ready\n")
+        self.assertEqual(changing.make_new(self.value).answer, "ready\n")
         self.assertEqual((notebook.notes(self.value), len(self.aside())), ({"0000001": "own"}, 1))
 
     def test_an_office_that_is_there_is_no_new_one(self):
@@ -79,9 +79,9 @@ class NewOffice(test_changing.Changing):
         before = sorted(os.listdir(self.desk))
         refusing = self.write("program", "#!/bin/sh\necho refused 23 >&2\nexit 1\n")
         os.chmod(refusing, 0o700)
-        self.assertEqual(new_office.make(dataclasses.replace(self.value, program=refusing)).status, 1)
+        self.assertEqual(changing.make_new(dataclasses.replace(self.value, program=refusing)).status, 1)
         with self.assertRaises(NotStarted):
-            new_office.make(dataclasses.replace(self.value, program="/nowhere"))
+            changing.make_new(dataclasses.replace(self.value, program="/nowhere"))
         self.assertEqual((sorted(os.listdir(self.desk)), self.said), (before, []))
 
     def test_where_nothing_was_left_nothing_is_said(self):

@@ -12,7 +12,7 @@ import unittest
 import sample
 from cells import Cells
 
-from exam_desk import states  # beside the tests' folder
+from exam_desk import snapshot  # beside the tests' folder
 
 PAGES = [["slips"], *([name, "MON-AM"] for name in ("board", "doors", "poster", "cards", "chart", "counts",
                                                    "session-page"))]
@@ -50,7 +50,7 @@ class Papers(sample.SampleSchool):
         self.assertIn("desk&nbsp;1<", self.office("slips", "--desks", "MON-AM"))
         self.assertEqual(*(self.office("slips", "--only", number, TODAY="2027-05-01 08:15")
                            for number in ("1051", "0001051")))
-        self.assertIn("there is no candidate 9999999", self.refused("slips", "--only", "9999999"))
+        self.assertIn("the office has no candidate 9999999", self.refused("slips", "--only", "9999999"))
         self.assertIn("0001000 sits nothing in TUE-AM", self.refused("slips", "--only", "1000", "TUE-AM"))
         for wrong in ("x1051", "00001051", "000", ""):
             self.assertIn(f"'{wrong}' is no candidate number", self.refused("slips", "--only", wrong))
@@ -248,7 +248,7 @@ class Papers(sample.SampleSchool):
     def test_each_page_says_when_it_was_printed(self):
         for hall in ("AULA", "GYM", "LIB", "PC1", "R12"):
             self.office("rows", hall, "5")
-        foot = f"printed 2027-05-01 08:15:00, state {states.name_now(self.value)[:8]}"
+        foot = f"printed 2027-05-01 08:15:00, state {snapshot.name_now(self.value)[:8]}"
         for words in PAGES:
             text = self.office(*words, TODAY="2027-05-01 08:15")
             title = re.findall("<title>(.*)</title>", text)[0].replace("&#39;", r"\27 ")

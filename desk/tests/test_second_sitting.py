@@ -304,7 +304,7 @@ class Back(SecondSitting):
         self.second(*ONE)
         self.refuses("0000002 has no second sitting of MA-1", "0000002", "MA-1", "--undo")
         self.refuses("0000003 has no second sitting of LAT", "0000003", "LAT", "--undo")
-        self.refuses("the office has no candidate x", "x", "MA-1", "--undo")
+        self.refuses("'x' is no candidate number", "x", "MA-1", "--undo")
         self.refuses("the office has no paper ", "0000003", "", "--undo")
         self.office("withdraw", "0000003", "MA-1-2")
         self.refuses("0000003 has no second sitting of MA-1", "0000003", "MA-1", "--undo")
