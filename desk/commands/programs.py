@@ -10,7 +10,7 @@ from dataclasses import dataclass, field, replace
 
 import command
 from exam_desk import (beside, changing, consequences, copies, listed, lists, lodging, logbook, losses, notebook,
-                       private, refusals, running, turns, typed)
+                       private, refusals, running, snapshot, turns, typed)
 from exam_desk.changing import Answered, Rehearsal, Step
 from exam_desk.office import Office
 from exam_desk.reading import Reading
@@ -63,7 +63,7 @@ class Asked(Change):
     made_for: str = ""  # the name of the state that the steps were made for, where they are for no other
 
     def said(self, rehearsal: Rehearsal) -> int:
-        if self.made_for not in ("", rehearsal.made_from):
+        if self.made_for and self.made_for != snapshot.name_now(rehearsal.office, rehearsal.before):
             raise Stale("the office changed meanwhile, so nothing is changed: give the command again")
         if not self.own:
             command.say_lines(f"{each.step.words[-1]}: {each.first_line()}" for each in rehearsal.answers
@@ -73,13 +73,13 @@ class Asked(Change):
 
     def __call__(self) -> int:
         with rehearsed(self) as (_, rehearsal):
-            if rehearsal.made_from == rehearsal.promised:
+            states = [snapshot.name_now(rehearsal.office, path) for path in (rehearsal.before, rehearsal.after)]
+            if states[0] == states[1]:
                 print("the office has all this already: nothing is changed")
                 return 0
             if not self.is_agreed:
                 command.ask(self.question)
-            carried = changing.carry_out(command.office(), self.steps, rehearsal.made_from, rehearsal.promised,
-                                         self.title, command.progress)
+            carried = changing.carry_out(command.office(), self.steps, *states, self.title, command.progress)
         command.progress("")
         refuse(carried.answers)
         print(f"{self.done}; `office changes 1` says who must be told, `office back 1` takes it back")

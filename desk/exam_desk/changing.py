@@ -87,23 +87,12 @@ class Carried(NamedTuple):
     signal: SystemExit | None = None  # which stopped a list
 
 
-@dataclass
-class Rehearsal:
+class Rehearsal(NamedTuple):
     """A list of steps carried out on a private copy, as long as its context lasts."""
     answers: list[Answered]  # of the steps up to the one behind which it is over
     office: Office
     before: str  # the paths of private copies from before and after
     after: str
-
-    @functools.cached_property
-    def made_from(self) -> str:
-        """The name of the state from before."""
-        return snapshot.name_now(self.office, self.before)
-
-    @functools.cached_property
-    def promised(self) -> str:
-        """The name of the state after it."""
-        return snapshot.name_now(self.office, self.after)
 
 
 class Back(NamedTuple):
@@ -204,13 +193,11 @@ def copied(office: Office, title: str) -> Iterator[str]:
     copy = copies.keep_copy(office, title)
     try:
         yield copy
-    except (OSError, sqlite3.Error, running.NotStarted):
-        copies.kept_if_other(office, copy)
-        raise
-    except SystemExit:  # a signal
+    except (OSError, sqlite3.Error, running.NotStarted, SystemExit) as fault:
         is_kept = copies.kept_if_other(office, copy)
-        office.warn("stopped: look whether it is done; `office back 1` takes it back then" if is_kept else
-                    "stopped: nothing is changed")
+        if isinstance(fault, SystemExit):  # a signal
+            office.warn("stopped: look whether it is done; `office back 1` takes it back then" if is_kept else
+                        "stopped: nothing is changed")
         raise
 
 

@@ -248,17 +248,12 @@ def headline(kind: str, met: list[Met]) -> str:
         return f"{counted(KINDS[kind], ['one'])}: {met[0].person} in {len(met)} sessions"
     is_named = len(met) <= MOST_NAMED or kind in [*OF_PLACES, "name"]
     who = [f"{each.who}: {each.what}" if kind == "needs" else each.who for each in met]
-    where = first(who, "; ") if is_named else most(Counter(each.session for each in met))
+    where = few(who, MOST_NAMED, "; ") if is_named else most(Counter(each.session for each in met))
     return f"{title(kind, met)}: {where}"
 
 
 def most(counts: Counter[str]) -> str:
     """The sessions with the most, and how many in each."""
-    return first([f"{count:,} in {session}" for session, count in counts.most_common() if count], ", ")
-
-
-def first(words: list[str], between: str) -> str:
-    """The first of them, and whether there are more."""
-    return between.join(words[:MOST_NAMED] + [".."] * (len(words) > MOST_NAMED))
+    return few([f"{count:,} in {session}" for session, count in counts.most_common() if count], MOST_NAMED)
 
 

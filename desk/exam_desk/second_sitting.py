@@ -264,7 +264,8 @@ def left_behind(before: Reading, after: Reading) -> list[Said]:
 
 def in_closed_halls(before: Reading, after: Reading, made: Pairs) -> Iterator[Said]:
     """What is said of each hall which a change closes for a session, and which stays open for a second sitting of it."""
-    were, are = ({(code, hall) for code, hall in each.rows.execute("SELECT session, hall FROM opening")} for each in (before, after))
+    were, are = ({(row["session"], row["hall"]) for row in each.rows.execute("SELECT * FROM opening")}
+                 for each in (before, after))
     later = {(first["session"], second["session"]) for first, second in made}
     for hall, session in sorted((hall, then) for code, hall in were - are for first, then in later if first == code):
         if (session, hall) in are and (people := named(after, SEATED, session, hall)):

@@ -1,5 +1,5 @@
-"""The rows of an office as they were at one moment: names, titles, openings, entries, appeals; whether they are rows
-that an office has, and the name of the state that they are: another name, another seating, or other rows that decide it.
+"""The rows of an office as they were at one moment: names, titles, openings, entries, appeals; what is wrong with them;
+and the name of the state that they are: another name, another seating, or other rows that decide it.
 
 Who sits what, where and until when is not read from rows: the program says it (reading.py).
 """

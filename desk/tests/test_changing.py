@@ -102,7 +102,7 @@ class Lists(Changing):
     def test_it_is_carried_out_as_it_was_tried_with_one_copy(self):
         before = self.state()
         with changing.rehearse(self.value, STEPS) as rehearsal:
-            names = rehearsal.made_from, rehearsal.promised
+            names = [snapshot.name_now(self.value, path) for path in (rehearsal.before, rehearsal.after)]
             self.assertEqual([answer.first_line() for answer in rehearsal.answers],
                              ["withdrawn", "closed", "added 1 changed 0 same 0"])
         self.assertEqual((self.state(), names[0], self.kept(), self.log()), (before, before, [], []))
@@ -129,7 +129,7 @@ class Lists(Changing):
             steps.insert(place, wrong)
             steps = steps if place else steps[:3]
             carried = changing.carry_out(self.value, steps)
-            self.assertEqual(changing.refused_of(carried.answers).first_line(), f"refused {number}")
+            self.assertEqual(carried.answers[-1].first_line(), f"refused {number}")
             self.assertEqual((carried.copy, self.state(), self.kept()), (None, before, []), place)
             self.assertEqual(self.log()[-1][1:2], ["1"])
             self.assertIn("all is as before: ", self.log()[-1][2])
@@ -171,14 +171,14 @@ class Lists(Changing):
         for number in (22, 23):
             program = self.program(f'{line} >/dev/null; echo refused {number} >&2; exit 1')
             carried = changing.carry_out(Office(self.path, program, self.value.today, "tester"), STEPS[:1])
-            self.assertEqual((changing.refused_of(carried.answers).first_line(), carried.copy), (f"refused {number}", self.kept()[0]))
+            self.assertEqual((carried.answers[-1].first_line(), carried.copy), (f"refused {number}", self.kept()[0]))
             self.assertNotEqual(self.state(), before)
             self.office("back", "1", "--yes")
             self.assertEqual(self.state(), before)
 
     def test_a_single_command_that_is_refused_leaves_no_copy(self):
         carried = changing.carry_out(self.value, [Step(("reinstate", "0001000", "MA-1"))])
-        self.assertEqual((changing.refused_of(carried.answers).first_line(), carried.copy, self.kept()), ("refused 10", None, []))
+        self.assertEqual((carried.answers[-1].first_line(), carried.copy, self.kept()), ("refused 10", None, []))
 
     def test_an_office_that_cannot_be_read(self):
         self.write("office.db", b"rubbish" * 1000)
@@ -189,7 +189,7 @@ class Lists(Changing):
     def test_no_office(self):
         os.remove(self.path)
         carried = changing.carry_out(self.value, STEPS)
-        self.assertEqual((changing.refused_of(carried.answers).first_line(), len(carried.answers)), ("refused 24", 1))
+        self.assertEqual((carried.answers[-1].first_line(), len(carried.answers)), ("refused 24", 1))
         with self.assertRaises(Trouble), changing.rehearse(self.value, STEPS):
             self.fail("it began")
 
@@ -240,7 +240,7 @@ class Same(Changing):
 class States(Changing):
     def test_stale(self):
         with changing.rehearse(self.value, STEPS) as rehearsal:
-            made_from = rehearsal.made_from
+            made_from = snapshot.name_now(self.value, rehearsal.before)
         self.change(APPEAL, "HA1", 1)  # who lodges an appeal disturbs nobody
         self.assertIsNone(changing.refused_of(changing.carry_out(self.value, STEPS[:1], made_from).answers))
         now = self.state()

@@ -56,13 +56,13 @@ class Kinds(unittest.TestCase):
     def test_many_are_counted_by_session(self):
         new = SITTING._replace(hall=None, desk=None)
         changes = [change(new=new, number=f"{place:07}", session=f"S{place % 7 % 4}") for place in range(1004)]
-        self.assertEqual(brief(changes), ["1,004 lose their desks: 287 in S0, 287 in S1, 287 in S2, .."])
+        self.assertEqual(brief(changes), ["1,004 lose their desks: 287 in S0, 287 in S1, 287 in S2 and 1 more"])
 
     def test_another_name_is_one_candidate(self):
         changes = [change(old_name="Eda", session=session) for session in ("S1", "S2", "S3")]
         self.assertEqual(brief(changes), ["1 has another name: 0000001 Ada"])
         changes = [change(old_name="Eda", number=f"000000{number}") for number in range(5)]
-        self.assertEqual(brief(changes), ["5 have other names: 0000000 Ada; 0000001 Ada; 0000002 Ada; .."])
+        self.assertEqual(brief(changes), ["5 have other names: 0000000 Ada; 0000001 Ada; 0000002 Ada and 2 more"])
         later = [change(new=SITTING._replace(finish="10:15"), session=session) for session in ("S1", "S2", "S3", "S4")]
         self.assertEqual(brief(later), ["1 sits at another time: 0000001 Ada in 4 sessions"])
 

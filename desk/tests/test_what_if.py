@@ -7,7 +7,7 @@ import unittest
 
 import test_changing
 from commands import programs
-from exam_desk import changing, telling
+from exam_desk import changing, snapshot, telling
 from exam_desk.reading import Sitting
 from exam_desk.trouble import Stale
 
@@ -103,11 +103,12 @@ class WhatIf(test_changing.Changing):
         """Another command came between the look at the office and the rehearsal."""
         step = changing.Step(("withdraw", "0001000", "MA-1"))
         with changing.rehearse(self.value, [step]) as rehearsal:
-            for state in ("another", rehearsal.promised):
+            before, after = (snapshot.name_now(self.value, path) for path in (rehearsal.before, rehearsal.after))
+            for state in ("another", after):
                 plan = programs.Asked([step], question="", done="", is_agreed=True, made_for=state)
                 with self.assertRaisesRegex(Stale, "the office changed meanwhile, so nothing is changed"):
                     plan.said(rehearsal)
-            self.assertEqual(programs.Asked([step], question="", done="", is_agreed=True, made_for=rehearsal.made_from,
+            self.assertEqual(programs.Asked([step], question="", done="", is_agreed=True, made_for=before,
                                             own=lambda before, after: []).said(rehearsal), 0)
 
     def test_take_is_its_rehearsal_without_the_question(self):
