@@ -26,8 +26,9 @@ if TYPE_CHECKING:
     from exam_desk.reading import Reading
     from exam_desk.snapshot import Rows
 
+    Parser = argparse.ArgumentParser
     Plan = Callable[[], int | None]  # does what a command is to do, and gives its status, or nothing where all is done
-    Run = Callable[[argparse.ArgumentParser], Plan | int | None]  # takes the words, and does it, or gives the plan
+    Run = Callable[[Parser], Plan | int | None]  # takes the words, and does it, or gives the plan
 
 DESK = os.path.dirname(os.path.realpath(__file__))
 OFFICE = os.path.join(DESK, "office")
@@ -55,7 +56,7 @@ def named(text: str, changes: bool = False) -> Callable[[Run], Run]:
     return put
 
 
-def parser_of(name: str, words: Sequence[str]) -> argparse.ArgumentParser:
+def parser_of(name: str, words: Sequence[str]) -> Parser:
     """The parser of a command of the desk, which takes these words."""
     import argparse  # here, since the program has its own
     sys.argv = [OFFICE, *words]  # where a parser looks for them
@@ -63,7 +64,7 @@ def parser_of(name: str, words: Sequence[str]) -> argparse.ArgumentParser:
                                    formatter_class=argparse.RawDescriptionHelpFormatter)
 
 
-def given_as_typed(parser: argparse.ArgumentParser, usage: str) -> list[str]:
+def given_as_typed(parser: Parser, usage: str) -> list[str]:
     """The words of a command as they are, since a reason may look like an option; unless they ask for help alone."""
     parser.usage = f"{parser.prog} {usage}"
     if sys.argv[1:2] in (["--help"], ["-h"]):
@@ -71,7 +72,7 @@ def given_as_typed(parser: argparse.ArgumentParser, usage: str) -> list[str]:
     return sys.argv[1:]
 
 
-def given(parser: argparse.ArgumentParser, *words: str) -> argparse.Namespace:
+def given(parser: Parser, *words: str) -> argparse.Namespace:
     """The words of a command, asked for as `name`, as `name?` which may be missing, as `name*` which may be several, or
     as a flag `--name`; what one is for stands behind a colon."""
     for word in words:
@@ -130,9 +131,9 @@ def warn(message: object) -> None:
     print(f"office: {plain(message)}", file=sys.stderr)
 
 
-def complain(*lines: str) -> None:
+def complain(lines: Iterable[str]) -> None:
     """Prints lines on standard error."""
-    sys.stderr.write("".join(f"{line}\n" for line in lines))
+    sys.stderr.write("".join(f"{plain(line)}\n" for line in lines))
 
 
 def say(text: str) -> None:
@@ -186,7 +187,7 @@ def tell_consequences(copy: str | None) -> None:
         lines = consequences.done(office(), copy, show_asked)
         progress("")
         with contextlib.suppress(OSError):  # whoever reads no more has what the program said
-            complain(*lines)
+            complain(lines)
 
 
 def office() -> Office:

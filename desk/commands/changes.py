@@ -2,17 +2,11 @@
 from __future__ import annotations
 
 from functools import partial
-from typing import TYPE_CHECKING
 
 import command
+from exam_desk.office import Office
 from exam_desk.trouble import Trouble
 from exam_desk.words import plain
-
-if TYPE_CHECKING:
-    from argparse import ArgumentParser
-
-    from command import Plan
-    from exam_desk.office import Office
 
 
 @command.named("""Lists the copies from before each change, or puts one back: back [NUMBER [--yes]].
@@ -26,7 +20,7 @@ while the question stood, or somebody changed the office, it asks again. A copy 
 first, so that can be taken back too. Notes, the name of the school, rows of desks, printed desks and absences stay as
 they are: it names those that were others in the copy.
 """, changes=True)
-def back(parser: ArgumentParser) -> Plan:
+def back(parser: command.Parser) -> command.Plan:
     from commands import programs
     from exam_desk import copies
     parser.add_argument("copy", metavar="NUMBER", type=place_of_copy, nargs="?", help="a number of the list")
@@ -63,7 +57,7 @@ Opens a hall for a session, or has it open otherwise: open-hall SESSION HALL DES
 
 It imports this one row of openings; the office must know the hall. `office close-hall` closes a hall.
 """, changes=True)
-def open_hall(parser: ArgumentParser) -> Plan:
+def open_hall(parser: command.Parser) -> command.Plan:
     from commands import programs
     from exam_desk import second_sitting, typed
     names = ["session", "hall", "desks", "until"]
@@ -85,7 +79,7 @@ Lodges an appeal at the counter, for a candidate who is there: lodge NUMBER SESS
 It goes the candidates' way, over HTTP, with the candidate's code from the file, through `keep` where that serves. It
 makes the reference, D1, D2 and so on, and prints it with the state. Then decide it: `office decide 0001051 D1 ..`.
 """, changes=True)
-def lodge(parser: ArgumentParser) -> Plan:
+def lodge(parser: command.Parser) -> command.Plan:
     from commands import programs
     from exam_desk import typed
     words = command.given_as_typed(parser, "NUMBER SESSION KIND VALUE .. REASON")
@@ -102,7 +96,7 @@ def lodge(parser: ArgumentParser) -> Plan:
 The access code stays as it is, so a slip that is out still opens the web page. Print another one with the new name by
 `office slips --only NUMBER`.
 """, changes=True)
-def name(parser: ArgumentParser) -> Plan:
+def name(parser: command.Parser) -> command.Plan:
     from commands import programs
     from exam_desk import coding
     given = command.given(parser, "number", "name")
@@ -120,7 +114,7 @@ an entry, and withdraws the entry for PAPER: all of it or nothing. A second cand
 the session, and the paper if it is the same one. It refuses a start before the finish of the other paper, one at which
 the candidate sits something else, and a hall that does not suit. --undo leaves the session and the paper, empty.
 """, changes=True)
-def second_sitting(parser: ArgumentParser) -> Plan:
+def second_sitting(parser: command.Parser) -> command.Plan:
     from commands import programs
     from exam_desk import second_sitting
     given = command.given(parser, "number", "paper", "start?", "hall?", "--yes: do not ask",
@@ -148,7 +142,7 @@ def second_sitting(parser: ArgumentParser) -> Plan:
 It takes each command that changes the office, carries it out on a private copy, asks nothing, and prints what came of
 it; then who would lose a desk, move, get one, join or leave, at most 20 of each. The status is that of the command.
 """)
-def what_if(parser: ArgumentParser) -> int:
+def what_if(parser: command.Parser) -> int:
     from commands import programs
     words = command.given_as_typed(parser, "COMMAND ..")
     own = {name: each for name, each in command.COMMANDS.items() if each.changes}

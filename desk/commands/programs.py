@@ -73,13 +73,15 @@ class Asked(Change):
 
     def __call__(self) -> int:
         with rehearsed(self) as (_, rehearsal):
-            states = [snapshot.name_now(rehearsal.office, path) for path in (rehearsal.before, rehearsal.after)]
-            if states[0] == states[1]:
+            made_from, promised = (snapshot.name_now(rehearsal.office, path)
+                                   for path in (rehearsal.before, rehearsal.after))
+            if made_from == promised:
                 print("the office has all this already: nothing is changed")
                 return 0
             if not self.is_agreed:
                 command.ask(self.question)
-            carried = changing.carry_out(command.office(), self.steps, *states, self.title, command.progress)
+            carried = changing.carry_out(command.office(), self.steps, made_from, promised, self.title,
+                                         command.progress)
         command.progress("")
         refuse(carried.answers)
         print(f"{self.done}; `office changes 1` says who must be told, `office back 1` takes it back")
@@ -117,21 +119,21 @@ class List(Change):
 
     def said_of_row(self, line: int, answered: Answered) -> int:
         """Prints what became of a row, unless it was done before and there is no more to say of it; the status."""
-        words, status = plain(f"line {line}: {answered.step.title()}: {answered.first_line()}"), answered.ran.status
+        words, status = f"line {line}: {answered.step.title()}: {answered.first_line()}", answered.ran.status
         if not status:
-            return int(not put(f"{words}\n"))
+            return int(not put(f"{plain(words)}\n"))
         why = answered.explained(command.office())
         is_before = refusals.number_of(answered.first_line()) == refusals.DONE_ALREADY[answered.step.words[0]]
         if is_before and len(why) == 1:
             self.before.append(str(line))
         else:
-            command.complain(words, *why)
+            command.complain([words, *why])
         return status
 
     def say_before(self) -> None:
         if self.before:
             why = refusals.SENTENCES[refusals.DONE_ALREADY[self.steps[0].words[0]]]
-            command.complain(f"{lists.count(len(self.before), 'row')} refused (line {few(self.before)}): {why}")
+            command.complain([f"{lists.count(len(self.before), 'row')} refused (line {few(self.before)}): {why}"])
 
     def tally(self, carried: changing.Carried) -> str:
         done = sum(answered.ran.status == 0 for answered in carried.answers)
@@ -162,10 +164,9 @@ class Back(Change):
     def tell(self, verb: str, taken: list[Said], others: list[str]) -> None:
         """Says what is taken away, and what is left as it is beside the office though the copy has it otherwise."""
         when, what = copies.when_and_what(self.copy)
-        print(f"the office {verb} as it was on {when}, before {plain(what)}")
-        command.say_lines(f"taken away: {line}" for line in taken)
-        if others:
-            print(f"left as they are now, and otherwise in the copy: {', '.join(map(plain, others))}")
+        left = [f"left as they are now, and otherwise in the copy: {', '.join(others)}"] if others else []
+        command.say_lines([f"the office {verb} as it was on {when}, before {what}",
+                           *(f"taken away: {line}" for line in taken), *left])
 
     def __call__(self) -> int:
         """It asks again where the office changed while the question stood, or appeals and decisions came."""
@@ -187,7 +188,6 @@ class Back(Change):
             by = f" by `{plain(last)}`" * (seen != before)
             why = f"the office has changed since the question{by}, and nothing is done yet: "
         self.tell("is", done.lines, others)
-        sys.stdout.flush()
         command.tell_consequences(done.copy)
         return 0
 
@@ -202,8 +202,7 @@ class Lodging(Change):
 
     def __call__(self, office: Office | None = None) -> int:
         found = lodging.lodge(office or command.office(), self.words)
-        lines = "".join(f"{plain(line)}\n" for line in [found.line, *found.explained])
-        (sys.stderr if found.status else sys.stdout).write(lines)
+        (command.complain if found.status else command.say_lines)([found.line, *found.explained])
         return found.status
 
 
@@ -288,7 +287,7 @@ def of_list(name: str, path: str) -> List:
     """Withdraws or reinstates the entries of a file."""
     rows, wrong = listed.rows_of(command.office(), name, path)
     if wrong:
-        command.complain(*map(plain, wrong))
+        command.complain(wrong)
         raise Trouble("nothing is changed")
     about = changing.named("entries", (tuple(map(str.encode, step.words[1:])) for step in rows.values()))
     title = " ".join([name, "--list", os.path.basename(path), *about])
@@ -304,7 +303,7 @@ def way_back(copy: str | None) -> str:
 def refuse(answers: list[Answered]) -> None:
     """Raises `Trouble`, after what the program says of it and what that means, where a step is refused."""
     if refused := changing.refused_of(answers):
-        command.complain(f"{refused.step.title()}: {refused.first_line()}", *refused.explained(command.office()))
+        command.complain([f"{refused.step.title()}: {refused.first_line()}", *refused.explained(command.office())])
         raise Trouble("nothing is changed")
 
 
@@ -337,7 +336,7 @@ def said(step: Step, ran: Ran) -> int:
     elif ran.status > 128:
         lines = [f"  {ran.ending()}; {refusals.WHOLE_OR_NOT}"]
     sys.stderr.write(ran.complaint)
-    command.complain(*lines)
+    command.complain(lines)
     return ran.status
 
 

@@ -10,25 +10,12 @@ from exam_desk.effects import Effects, figures, has_seats, openings, other_figur
 from exam_desk.office import Office
 from exam_desk.reading import Reading
 from exam_desk.second_sitting import left_behind
-from exam_desk.telling import Change, counted
+from exam_desk.telling import KINDS, Change, counted
 from exam_desk.trouble import Trouble
 from exam_desk.words import clock, few, plain
 
 OVER, PAST, OPENED, SHUT = "over", "past", "opened", "shut"
 CLASHES, TWICE, HALLS, PRINTED = "clashes", "twice", "halls", "printed"
-KINDS = {  # what may be a slip, who has no desk, what no rule of the office forbids, what is on paper; other changes
-    OVER: ("session that is over is changed", "sessions that are over are changed"),
-    PAST: ("session lies in the past: last year's date?", "sessions lie in the past: last year's dates?"),
-    OPENED: ("hall that was closed is open again", "halls that were closed are open again"),
-    SHUT: ("hall is closed when its session begins", "halls are closed when their sessions begin"),
-    **{kind: telling.KINDS[kind] for kind in ("loses", "needs", "lacks")},
-    CLASHES: ("has a new clash", "have new clashes"),
-    TWICE: ("is in two sessions at one time", "are in two sessions at one time"),
-    HALLS: ("hall has candidates of two sessions at one time", "halls have candidates of two sessions at one time"),
-    PRINTED: ("session has printed papers that are out of date (board, counts, slips too)",
-              "sessions have printed papers that are out of date (board, counts, slips too)"),
-    **telling.KINDS,
-}
 UNSEEN = ["arrangements", "openings"]  # kinds of rows of which a value can go and nobody sits otherwise
 SLIPS = {OVER, PAST, OPENED, SHUT}
 OF_PLACES = [*SLIPS, HALLS, PRINTED]  # kinds of which sessions and halls are counted, and not people
@@ -199,9 +186,7 @@ def other_codes(effects: Effects) -> list[str]:
 
 def grouped(found: Mapping[str, list[Change]], people: Groups) -> Groups:
     """The changes, another name once and not in each session, and besides those who are met in other ways, by kind."""
-    renamed = dict[str, Change]()
-    for change in found.get("name", []):
-        renamed.setdefault(change.number, change)
+    renamed = {change.number: change for change in found.get("name", [])}
     people |= {kind: [Met("" if kind == "name" else each.session, each.person(),
                           each.lost_needs() if kind == "needs" else each.what()) for each in part]
                for kind, part in {**found, "name": [*renamed.values()]}.items()}

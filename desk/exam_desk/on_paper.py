@@ -1,15 +1,11 @@
 """What papers of a session were printed, as somebody noted it, and what of it is otherwise since then."""
-from __future__ import annotations
-
 import datetime
 from collections.abc import Iterable, Mapping
-from typing import TYPE_CHECKING, Any, NamedTuple
+from typing import Any, NamedTuple
 
 from exam_desk import facts, lists, logbook, notebook, words
 from exam_desk.office import Office
-
-if TYPE_CHECKING:
-    from exam_desk.reading import Member, Reading
+from exam_desk.reading import Member, Reading
 
 NOTED = "noted"  # beside the lines of what is printed: by whom, how many, and when
 SHOWN = ["name", "paper", "date", "start", "finish", "needs", "extra", "misses", "note"]

@@ -34,8 +34,8 @@ SEATED = "SELECT printf('%07d', number) FROM seat WHERE (session, hall) = (?, ?)
 LATER = ("SELECT printf('%07d', number), one.live = 1 FROM entry JOIN entry AS one USING (number) WHERE one.paper = ? "
          "AND entry.paper = ? AND entry.live = 1 ORDER BY number")
 MOST_LINES, MOST_NAMED = 5, 3
-STAYS = ("NOTE: {paper} in {session}, a second sitting of {first}, stays as it is ({kept}) for {people}: import a row for "
-         "{session} or {paper} too")
+STAYS = ("NOTE: {paper} in {session}, a second sitting of {first}, stays as it is ({kept}) for {people}: import a row "
+         "for {session} or {paper} too")
 STAYS_OPEN = "NOTE: {hall} stays open in {session}, for the second sitting of {people}"
 SAT_AS = "NOTE: {person} sits {first} as {paper}: `office second-sitting {number} {first} --undo` withdraws {paper}"
 MORE_STAY, MORE = "NOTE: .. and {count} more notes on second sittings", "{names} and {count} more"

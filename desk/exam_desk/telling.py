@@ -18,9 +18,18 @@ from exam_desk.words import few, plain
 COLUMNS = ["date", "start", "finish", "paper", "hall", "desk"]
 HEADER = ["tell", "session", "number", "name", *(f"old {name}" for name in COLUMNS), *COLUMNS, "paper title",
           "hall title", "old name", "also"]
-KINDS = {  # the gravest first; what one does and what several do
+KINDS = {  # in which ways a change meets people, sessions and halls, the gravest first; of one, and of several
+    "over": ("session that is over is changed", "sessions that are over are changed"),
+    "past": ("session lies in the past: last year's date?", "sessions lie in the past: last year's dates?"),
+    "opened": ("hall that was closed is open again", "halls that were closed are open again"),
+    "shut": ("hall is closed when its session begins", "halls are closed when their sessions begin"),
     "loses": ("loses the desk", "lose their desks"), "needs": ("loses a need", "lose needs"),
     "lacks": ("joins a session without a desk", "join a session without a desk"),
+    "clashes": ("has a new clash", "have new clashes"),
+    "twice": ("is in two sessions at one time", "are in two sessions at one time"),
+    "halls": ("hall has candidates of two sessions at one time", "halls have candidates of two sessions at one time"),
+    "printed": ("session has printed papers that are out of date (board, counts, slips too)",
+                "sessions have printed papers that are out of date (board, counts, slips too)"),
     "paper": ("sits another paper", "sit other papers"), "moves": ("moves to another hall", "move to other halls"),
     "time": ("sits at another time", "sit at other times"), "name": ("has another name", "have other names"),
     "gets": ("gets a desk", "get desks"), "leaves": ("leaves a session", "leave a session"),
@@ -293,19 +302,13 @@ def titles_of(*readings: Reading) -> Titles:
     return papers, halls
 
 
-class OtherValue(NamedTuple):
-    """A value of a row that was there before, and is another now."""
-    key: str
-    column: str
-    was: str
-    now: str
-
-
-def other_values(before: Reading, after: Reading, kinds: Iterable[str] = CHANGED) -> Iterator[OtherValue]:
-    """Those of the rows of some kinds, as the import files write them, in the order of the kinds."""
+def other_values(before: Reading, after: Reading, kinds: Iterable[str] = CHANGED
+                 ) -> Iterator[tuple[str, str, str, str]]:
+    """The values that are others in rows that were there before, as the import files write them, in the order of the
+    kinds: the key, the column, the value before and now."""
     for kind in kinds:
         keys = files.KEYS.get(kind, 1)
         old = {tuple(row[:keys]): row for row in files.rows_of(before.rows, kind)}
         pairs = ((old.get(tuple(row[:keys]), row), row) for row in files.rows_of(after.rows, kind))
-        yield from (OtherValue(" ".join(row[:keys]), column, was, now) for was_row, row in pairs
+        yield from ((" ".join(row[:keys]), column, was, now) for was_row, row in pairs
                     for column, was, now in zip(files.HEADERS[kind], was_row, row) if was != now)

@@ -25,7 +25,7 @@ from flask import Blueprint, abort, g, render_template, request, url_for
 from markupsafe import Markup
 from werkzeug.wrappers import Response
 
-from exam_desk import (changing, consequences, copies, effects, facts, files, lodging, logbook, private, refusals,
+from exam_desk import (changing, copies, effects, facts, files, lodging, logbook, private, refusals,
                        second_sitting, snapshot, telling, words)
 from exam_desk.changing import Answered, Step
 from exam_desk.listed import OF_THE_OFFICE
@@ -53,7 +53,7 @@ APPEALS = ("SELECT appeal.*, day, session.start AS start, name FROM appeal JOIN 
 ARRANGED = "SELECT printf('%07d', number), needs, extra FROM arrangement"
 OF_GRANTED = f"{ARRANGED} WHERE number IN (SELECT number FROM appeal WHERE {snapshot.GRANTED_NEEDS})"
 BY_DAY = "ORDER BY day, session.start, lodged, appeal.number"
-KINDS = ["short", *consequences.KINDS, "codes"]  # the gravest first; their words are in templates/effects.html
+KINDS = ["short", *telling.KINDS, "codes"]  # the gravest first; their words are in templates/effects.html
 NUMBERS = attrgetter("members", "desks", "short", "clashes")  # of a session
 
 

@@ -107,7 +107,7 @@ class Lists(Changing):
                              ["withdrawn", "closed", "added 1 changed 0 same 0"])
         self.assertEqual((self.state(), names[0], self.kept(), self.log()), (before, before, [], []))
         carried = changing.carry_out(self.value, STEPS, *names, "three things")
-        self.assertEqual((changing.refused_of(carried.answers), carried.as_promised, self.state()), (None, True, names[1]))
+        self.assertEqual((carried.answers[-1].ran.status, carried.as_promised, self.state()), (0, True, names[1]))
         self.assertEqual(self.kept(), [carried.copy])
         name = os.path.basename(carried.copy)
         self.assertEqual(self.log(), [
@@ -209,7 +209,7 @@ class Same(Changing):
         self.assertEqual(self.log()[-1][1:], ["0", "added 0 changed 0 same 172"])
         for steps in (self.imported("halls"), self.imported(*sample.KINDS)):
             carried = changing.carry_out(self.value, steps, before, before)
-            self.assertEqual((changing.refused_of(carried.answers), carried.copy, carried.as_promised), (None, None, True))
+            self.assertEqual((carried.answers[-1].ran.status, carried.copy, carried.as_promised), (0, None, True))
             self.assertEqual(len(carried.answers), len(steps))
         self.assertEqual((self.state(), self.kept()), (before, kept))
 
