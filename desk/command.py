@@ -117,7 +117,7 @@ def tell(kind: type[BaseException], fault: BaseException, place: TracebackType |
         where = f"{fault.filename}: " if fault.filename else ""
         warn(f"{where}{fault.strerror or fault}{who}")
     elif isinstance(fault, sqlite3.Error):
-        warn(f"{office_path()}: {fault}")
+        warn(f"{office().path}: {fault}")
     else:
         sys.__excepthook__(kind, fault, place)
 
@@ -182,9 +182,9 @@ def tell_broken_off() -> None:
 def tell_consequences(copy: str | None) -> None:
     """Says on standard error what a change did to candidates that is done, from the copy of before it."""
     if copy is not None:
-        from exam_desk import consequences
+        from exam_desk import effects
         progress("it is done; who sits otherwise now?")
-        lines = consequences.done(office(), copy, show_asked)
+        lines = effects.done(office(), copy, show_asked)
         progress("")
         with contextlib.suppress(OSError):  # whoever reads no more has what the program said
             complain(lines)
@@ -192,7 +192,7 @@ def tell_consequences(copy: str | None) -> None:
 
 def office() -> Office:
     """The office that is meant."""
-    return Office(office_path(), program(), today, user(), warn, now)
+    return Office(os.environ.get("OFFICE") or "office.db", program(), today, user(), warn, now)
 
 
 def existing_office() -> Office:
@@ -218,10 +218,6 @@ def reading(path: str | None = None) -> Reading:
 def show_asked(done: int, of: int) -> None:
     if of >= MANY and (done % FEW == 0 or done == of):
         progress("" if done == of else f"{done:,} of {of:,} candidates", done / of)
-
-
-def office_path() -> str:
-    return os.environ.get("OFFICE") or "office.db"
 
 
 def program() -> str:

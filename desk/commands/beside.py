@@ -99,8 +99,8 @@ def notes(parser: ArgumentParser) -> None:
 
 def tell_papers(halls: Mapping[str, list[str]]) -> None:
     """Says on standard error which printed papers are out of date, by session."""
-    from exam_desk import consequences
-    for line in consequences.noted(halls):
+    from exam_desk import effects
+    for line in effects.noted(halls):
         print(line, file=sys.stderr)
 
 

@@ -9,7 +9,7 @@ from collections.abc import Callable, Iterator, Sequence
 from dataclasses import dataclass, field, replace
 
 import command
-from exam_desk import (beside, changing, consequences, copies, listed, lists, lodging, logbook, losses, notebook,
+from exam_desk import (beside, changing, copies, effects, listed, lists, lodging, logbook, losses, notebook,
                        private, refusals, running, snapshot, turns, typed)
 from exam_desk.changing import Answered, Rehearsal, Step
 from exam_desk.office import Office
@@ -217,7 +217,7 @@ def rehearsed(change: Change) -> Iterator[tuple[int, Rehearsal]]:
         if change.copy or done - {MIGRATE}:
             with command.reading(rehearsal.before) as before, command.reading(rehearsal.after) as after:
                 command.say_lines([*map(str, change.own(before, after) if change.own else []),
-                                   *consequences.between(before, after, change.most, bool(change.copy))])
+                                   *effects.between(before, after, change.most, bool(change.copy))])
         yield status, rehearsal
 
 

@@ -7,10 +7,9 @@ from collections import Counter
 from collections.abc import Iterator, Mapping
 from dataclasses import replace
 
-from exam_desk import changing, coding, consequences, files, lists, mistakes, overlaps, private, running, snapshot
+from exam_desk import changing, coding, effects, files, lists, mistakes, overlaps, private, running, snapshot
 from exam_desk.asking import Progress
 from exam_desk.changing import Step, Tell
-from exam_desk.effects import Effects
 from exam_desk.office import Office
 from exam_desk.reading import Reading
 from exam_desk.trouble import Trouble
@@ -89,11 +88,11 @@ def would_do(office: Office, texts: Mapping[str, bytes], tell: Tell, progress: P
                 raise Trouble(f"the program says {refused.first_line()} to {refused.step.words[-1]}")
             with (Reading(office, rehearsal.before, progress) as before,
                   Reading(office, rehearsal.after, progress) as after):
-                effects = Effects(before, after)
-                met = {kind: people for kind, people in consequences.groups(effects).items()
-                       if kind not in (consequences.TWICE, consequences.HALLS)}
-                found = [*consequences.short_at_first(before, after), *consequences.brief(met),
-                         *consequences.other_codes(effects), *overlaps.lines(after, overlaps.found(after))]
+                done = effects.Effects(before, after)
+                met = {kind: people for kind, people in effects.groups(done).items()
+                       if kind not in (effects.TWICE, effects.HALLS)}
+                found = [*effects.short_at_first(before, after), *effects.brief(met),
+                         *effects.other_codes(done), *overlaps.lines(after, overlaps.found(after))]
         return [f"once imported: {line}" for line in found]
     except (Trouble, OSError, sqlite3.Error, MemoryError) as fault:
         return [f"nobody can say what the files would do: {plain(fault) or 'there is no memory'}"]

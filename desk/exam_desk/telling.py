@@ -10,7 +10,7 @@ from collections.abc import Collection, Iterable, Iterator, Sequence
 from typing import NamedTuple
 
 from exam_desk import facts, files
-from exam_desk.names import name_order
+from exam_desk.lists import name_order
 from exam_desk.reading import Reading, Sitting
 from exam_desk.trouble import Trouble
 from exam_desk.words import few, plain

@@ -14,7 +14,7 @@ from collections.abc import Mapping
 from flask import Flask, current_app, request, url_for
 from markupsafe import Markup, escape
 
-from exam_desk.names import parted
+from exam_desk.lists import parted
 from exam_desk.words import Said, clock, features, plain
 
 COMMAND = re.compile("(`[^`]+`)")

@@ -23,7 +23,7 @@ from moments import at_one_time, of_candidate
 
 from exam_desk import overlaps, reasons, telling  # beside the tests' folder
 from exam_desk.facts import session_row
-from exam_desk.names import fold, name_order
+from exam_desk.lists import fold, name_order
 from exam_desk.office import Office
 from exam_desk.reading import Reading
 from exam_desk.sheets import papers, printing, slips, texts

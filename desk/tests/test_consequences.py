@@ -6,7 +6,7 @@ import unittest
 from unittest import mock
 
 import sample
-from exam_desk import changing, consequences, copies, logbook, telling
+from exam_desk import changing, copies, effects, logbook, telling
 from exam_desk.office import Office
 from exam_desk.reading import Sitting
 from exam_desk.sheets import papers
@@ -20,7 +20,7 @@ def change(old=SITTING, new=SITTING, number="0000001", session="S1", name="Ada",
 
 
 def brief(changes, clashing=()):
-    return consequences.brief(consequences.grouped(telling.by_kind(changes), {consequences.CLASHES: list(clashing)}))
+    return effects.brief(effects.grouped(telling.by_kind(changes), {effects.CLASHES: list(clashing)}))
 
 
 class Kinds(unittest.TestCase):
@@ -46,7 +46,7 @@ class Kinds(unittest.TestCase):
         news = [SITTING._replace(desk=2), SITTING._replace(start="09:10"), SITTING._replace(hall="B"),
                 SITTING._replace(paper="SP-1"), SITTING._replace(hall=None, desk=None), None]
         changes = [change(new=new, number=f"{place:07}") for place, new in enumerate(news)]
-        clash = consequences.Met("S1", "0000003 Ada", "does not sit MA-1")
+        clash = effects.Met("S1", "0000003 Ada", "does not sit MA-1")
         self.assertEqual(brief(changes, [clash]), [
             "1 loses the desk: S1 0000004 Ada", "1 has a new clash: S1 0000003 Ada",
             "1 sits another paper: S1 0000003 Ada", "1 moves to another hall: S1 0000002 Ada",
@@ -78,13 +78,13 @@ class Kinds(unittest.TestCase):
             "2 sit at other times (4 sittings):", "2 have other desks in the same hall:",
             "2 to tell (4 sittings), 1 with another desk only", ""])
         self.assertTrue(telling.text(changes[:3]).startswith("1 sits at another time (3 sessions):\n"))
-        [title, *_] = consequences.lines(consequences.grouped(telling.by_kind(changes), {}), 1)
+        [title, *_] = effects.lines(effects.grouped(telling.by_kind(changes), {}), 1)
         self.assertEqual(title, "2 sit at other times (4 sittings)")
         with mock.patch.object(papers, "told", lambda *_: [""]):
             page = papers.changes(mock.MagicMock(), mock.MagicMock(office=self.office), changes, "Since 1")
         self.assertIn("<b>2 sit at other times (4 sittings)</b>", page)
-        halls = [consequences.Met(session, "and S3 in A", "") for session in ("S1", "S2")]
-        self.assertEqual(consequences.title(consequences.HALLS, halls),
+        halls = [effects.Met(session, "and S3 in A", "") for session in ("S1", "S2")]
+        self.assertEqual(effects.title(effects.HALLS, halls),
                          "2 halls have candidates of two sessions at one time")
 
     @property
@@ -381,17 +381,17 @@ class Told(sample.SampleSchool):
     def test_another_change_meanwhile(self):
         carried = changing.carry_out(self.value, [changing.Step(("withdraw", "0001000", "MA-1"))])
         self.office("withdraw", "0001306", "LAT")
-        self.assertEqual(consequences.done(self.value, carried.copy, lambda *_: None),
+        self.assertEqual(effects.done(self.value, carried.copy, lambda *_: None),
                          ["the change is done, but nobody can say what it did to candidates: the office has changed "
                           "again meanwhile; try `office changes 1`"])
         newest = copies.listed(self.value)[0]
-        lines = consequences.done(self.value, newest, lambda *_: None)
+        lines = effects.done(self.value, newest, lambda *_: None)
         self.assertTrue(lines[0].startswith("1 sits another paper: MON-AM 0001306 "), lines)
 
     def test_no_memory(self):
         carried = changing.carry_out(self.value, [changing.Step(("withdraw", "0001000", "MA-1"))])
-        with mock.patch("exam_desk.consequences.groups", side_effect=MemoryError):
-            [line] = consequences.done(self.value, carried.copy, lambda *_: None)
+        with mock.patch("exam_desk.effects.groups", side_effect=MemoryError):
+            [line] = effects.done(self.value, carried.copy, lambda *_: None)
         self.assertTrue(line.endswith(": there is no memory; try `office changes 1`"), line)
 
     def test_the_status_stays_where_nobody_can_say(self):

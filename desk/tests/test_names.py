@@ -5,7 +5,7 @@ import sys
 import unittest
 
 sys.path.insert(0, str(pathlib.Path(__file__).resolve().parents[1]))
-from exam_desk import names  # noqa: E402
+from exam_desk import lists  # noqa: E402
 
 # In the order of a list: the surname is what stands before a comma, otherwise the last word.
 IN_ORDER = [
@@ -29,33 +29,33 @@ class Names(unittest.TestCase):
         self.assertGreaterEqual(len(IN_ORDER), 40)
         for seed in range(5):
             mixed = random.Random(seed).sample(IN_ORDER, len(IN_ORDER))
-            self.assertEqual(sorted(mixed, key=lambda name: names.name_order(name, "0000001")), IN_ORDER)
+            self.assertEqual(sorted(mixed, key=lambda name: lists.name_order(name, "0000001")), IN_ORDER)
 
     def test_surname(self):
         for name, letter in UNDER.items():
-            self.assertEqual(names.name_order(name, "0000001")[0][:1], letter, name)
+            self.assertEqual(lists.name_order(name, "0000001")[0][:1], letter, name)
 
     def test_parts(self):
         for name, parts in {"Nuñez,  María-José": ("Nuñez", "María-José"), "Ada Lin": ("Lin", "Ada"), "Ellis": ("Ellis", ""),
                             "Jan van der Berg": ("Berg", "Jan van der"), ", Zed": ("Zed", ""), " ": ("", "")}.items():
-            self.assertEqual(names.parted(name), parts)
+            self.assertEqual(lists.parted(name), parts)
 
     def test_namesakes_by_number(self):
         numbers = ["0000010", "0000002", "0000001"]
-        self.assertEqual(sorted(numbers, key=lambda number: names.name_order("Lin, Ada", number)), numbers[::-1])
+        self.assertEqual(sorted(numbers, key=lambda number: lists.name_order("Lin, Ada", number)), numbers[::-1])
 
     def test_names_that_are_written_otherwise_are_looked_up_as_one(self):
         for one, other in (("Núñez", "nunez"), ("O’Brien", "o'brien"), ("Łoś", "LOS"), ("Straße", "strasse"),
                            ("İpek", "ipek"), ("ﬁnn", "Finn"), ("Ada\u200e Lin", "ada lin"), ("Ｌin", "lin")):
-            self.assertEqual(names.fold(one), names.fold(other))
+            self.assertEqual(lists.fold(one), lists.fold(other))
 
     def test_a_search_compares_words_without_apostrophes_and_commas(self):
         for name, asked in (("O’Neill, Uma", "uma oneill"), ("Smith,Uma", "SMITH uma"), ("كريم، منى", "منى كريم")):
-            for word in names.letters(asked).split():
-                self.assertIn(word, names.letters(name).split())
-            self.assertTrue(names.has_words(names.letters(name), names.letters(asked).split()))
-        self.assertFalse(names.has_words("smith uma", ["uma", "smythe"]))
-        self.assertFalse(names.has_words("smith uma", []))
+            for word in lists.letters(asked).split():
+                self.assertIn(word, lists.letters(name).split())
+            self.assertTrue(lists.has_words(lists.letters(name), lists.letters(asked).split()))
+        self.assertFalse(lists.has_words("smith uma", ["uma", "smythe"]))
+        self.assertFalse(lists.has_words("smith uma", []))
 
 
 if __name__ == "__main__":

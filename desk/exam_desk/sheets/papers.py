@@ -12,7 +12,7 @@ from collections.abc import Collection, Iterable, Iterator, Mapping, Sequence
 from markupsafe import Markup
 
 from exam_desk import facts, lists, notebook, on_paper, second_sitting, telling
-from exam_desk.names import fold
+from exam_desk.lists import fold
 from exam_desk.notebook import Rows
 from exam_desk.on_paper import SHOWN, Desk, Line
 from exam_desk.reading import Member, Reading, Sitting

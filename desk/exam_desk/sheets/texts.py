@@ -8,7 +8,7 @@ from collections import Counter
 from collections.abc import Collection, Iterator
 
 from exam_desk import appeals, facts, lists, overlaps
-from exam_desk.names import has_words, letters
+from exam_desk.lists import has_words, letters
 from exam_desk.office import Office
 from exam_desk.reading import Person, Reading, Sitting
 from exam_desk.snapshot import Rows
