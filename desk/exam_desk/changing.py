@@ -102,22 +102,6 @@ class Back(NamedTuple):
     copy: str | None  # the path of the copy of what was there
 
 
-class Turn(NamedTuple):
-    """The office for this process alone."""
-    office: Office
-    lock: FileIO
-    tell: Tell
-
-    def carried(self, step: Step, status: str, copy: str = "") -> Answered:
-        """Carries out one step, which the program does whole or not at all; `status` begins its line in the log, which
-        can name a copy. Raises OSError where nothing can be written there, and nothing is done."""
-        self.tell(step.title())
-        with logbook.logged(self.office, [*step.words, *step.about], status, os.path.basename(copy)) as outcome:
-            answered = Answered(step, run_patiently(self.office, step, self.lock, copy))
-            outcome.status, outcome.answer = answered.ran.status, answered.first_line()
-        return answered
-
-
 def named(kind: str, rows: Iterable[tuple[bytes, ...]]) -> list[str]:
     """What rows of a kind are about, as words of a title: the key of a single one, of several the sessions, candidates,
     papers or halls that come first. What has no right form, which may be anything, is left out."""
@@ -172,12 +156,13 @@ def carry_out(office: Office, steps: Sequence[Step], made_from: str | None = Non
     if not os.path.isfile(office.path):  # the program says so
         return Carried([Answered(steps[0], run_patiently(office, steps[0]))], None, None)
     title = title or ", ".join(step.title() for step in steps)
-    with unchanged(office), turn(office, title, made_from, tell) as taken, copied(office, title) as copy:
+    with unchanged(office), turn(office, title, made_from) as lock, copied(office, title) as copy:
         if len(steps) == 1:
-            answers = [taken.carried(steps[0], logbook.BEGINS, copy)]
+            tell(steps[0].title())
+            answers = [carried(office, lock, steps[0], logbook.BEGINS, copy)]
             is_undone = has_done_nothing(office, answers[0], copy)
         else:
-            answers = carried_all(taken, title, steps, copy)
+            answers = carried_all(office, lock, title, steps, copy, tell)
             is_undone = refused_of(answers) is not None
         if is_undone:
             copies.drop(copy)
@@ -209,16 +194,17 @@ def has_done_nothing(office: Office, answered: Answered, copy: str) -> bool:
 
 
 @contextlib.contextmanager
-def turn(office: Office, title: str, made_from: str | None = None, tell: Tell = lambda title: None) -> Iterator[Turn]:
-    """The office for this process alone, in the state that was looked at. Says of a change without an end what is known
-    of it. Raises `Stale` where it is in another state, and `Trouble` or OSError where it cannot be had."""
+def turn(office: Office, title: str, made_from: str | None = None) -> Iterator[FileIO]:
+    """The office for this process alone, with its lock, in the state that was looked at. Says of a change without an
+    end what is known of it. Raises `Stale` where it is in another state, and `Trouble` or OSError where it cannot be
+    had."""
     with turns.alone(office, [title]) as lock:
         if made_from is not None and state_of(office) != made_from:
             raise Stale("the office has changed since you looked at it, so nothing is changed: look again")
         if found := logbook.unfinished(office):
             office.warn(way_on(office, found))
             logbook.write_done(office, [found.command], 1, "broken off")
-        yield Turn(office, lock, tell)
+        yield lock
 
 
 @contextlib.contextmanager
@@ -250,22 +236,33 @@ def run_patiently(office: Office, step: Step, lock: FileIO | None = None, copy: 
         time.sleep(PAUSE)
 
 
-def carried_all(taken: Turn, title: str, steps: Sequence[Step], copy: str) -> list[Answered]:
+def carried(office: Office, lock: FileIO, step: Step, status: str, copy: str = "") -> Answered:
+    """Carries out one step with the office alone, which the program does whole or not at all; `status` begins its line
+    in the log, which can name a copy. Raises OSError where nothing can be written there, and nothing is done."""
+    with logbook.logged(office, [*step.words, *step.about], status, os.path.basename(copy)) as outcome:
+        answered = Answered(step, run_patiently(office, step, lock, copy))
+        outcome.status, outcome.answer = answered.ran.status, answered.first_line()
+    return answered
+
+
+def carried_all(office: Office, lock: FileIO, title: str, steps: Sequence[Step], copy: str, tell: Tell
+                ) -> list[Answered]:
     """Carries out steps up to the first that is refused; then, or where one cannot be saved, the copy is put back."""
     answers: list[Answered] = []
-    with (copies.ready(taken.office, copy) as ready,  # it can be moved in when the disk is full
-          logbook.logged(taken.office, [title], answer=os.path.basename(copy)) as outcome):
+    with (copies.ready(office, copy) as ready,  # it can be moved in when the disk is full
+          logbook.logged(office, [title], answer=os.path.basename(copy)) as outcome):
         try:
             for step in steps:
-                answers.append(taken.carried(step, logbook.STEP))
+                tell(step.title())
+                answers.append(carried(office, lock, step, logbook.STEP))
                 if refused_of(answers):
                     break
         except BaseException:
-            restore(taken.office, ready, copy, outcome, "stopped")
+            restore(office, ready, copy, outcome, "stopped")
             copies.drop(copy)
             raise
         if refused := refused_of(answers):
-            restore(taken.office, ready, copy, outcome, f"{refused.step.title()}: {refused.first_line()}")
+            restore(office, ready, copy, outcome, f"{refused.step.title()}: {refused.first_line()}")
             outcome.status = refused.ran.status
         else:
             outcome.status, outcome.answer = 0, f"{len(answers)} steps"
@@ -348,7 +345,7 @@ def make_new(office: Office) -> running.Ran:
             return ran
         aside, held = notebook.set_aside(office)
         try:
-            ran = Turn(office, lock, lambda title: None).carried(NEW, logbook.BEGINS).ran
+            ran = carried(office, lock, NEW, logbook.BEGINS).ran
         finally:
             if aside and os.path.exists(office.path):
                 office.warn(f"NOTE what an office that is gone left here is set aside: {few(held)}, now in {aside}; "

@@ -4,6 +4,7 @@ import itertools
 import os
 import time
 from collections.abc import Callable, Iterator
+from io import FileIO
 
 from exam_desk import changing, checking, copies, facts, files, lists, logbook, mistakes, refusals, snapshot, turns
 from exam_desk.changing import Answered, Step
@@ -75,10 +76,10 @@ def carry_out(office: Office, title: str, rows: Rows, tell: Tell) -> changing.Ca
     try:
         with contextlib.ExitStack() as whole:
             while not is_over(rows, answers):
-                with changing.unchanged(office), changing.turn(office, title) as taken:
+                with changing.unchanged(office), changing.turn(office, title) as lock:
                     copy = copy or whole.enter_context(locked_copy(office, title))
                     with logbook.logged(office, [title], answer=os.path.basename(copy)) as outcome:
-                        in_one_turn(taken, rows, answers, tell)
+                        in_one_turn(office, lock, rows, answers, tell)
                         outcome.status = 0 if is_over(rows, answers) else logbook.STEP
                         outcome.answer = f"{len(answers)} of {lists.count(len(rows), 'row')}"
                 time.sleep(BETWEEN)
@@ -101,11 +102,11 @@ def locked_copy(office: Office, title: str) -> Iterator[str]:
         yield copy
 
 
-def in_one_turn(taken: changing.Turn, rows: Rows, answers: list[Answered], tell: Tell) -> None:
+def in_one_turn(office: Office, lock: FileIO, rows: Rows, answers: list[Answered], tell: Tell) -> None:
     """Carries out rows until others have their turn."""
     until = time.monotonic() + TURN
     for line, step in itertools.islice(rows.items(), len(answers), None):
-        answers.append(taken.carried(step, logbook.STEP))
+        answers.append(changing.carried(office, lock, step, logbook.STEP))
         tell(line, answers[-1])
         if time.monotonic() >= until or is_over(rows, answers):
             break

@@ -185,7 +185,7 @@ def plan_back(reading: Reading, number: str, paper: str) -> Plan:
     first = paper_row(reading.rows, paper)
     reading.person(typed.candidate_number(number))
     found, live = sat_later(reading.rows, number, paper), is_live(reading.rows, number, paper)
-    if not found or live is None:
+    if not found:
         raise Trouble(f"{number} has no second sitting of {paper}; nothing is changed")
     if len(found) > 1:
         raise Trouble(f"{number} has second sittings of {paper} as {', '.join(row['code'] for row in found)}: withdraw "
@@ -197,7 +197,7 @@ def plan_back(reading: Reading, number: str, paper: str) -> Plan:
 
 def lines(planned: Plan, before: Reading, after: Reading) -> list[str | Said]:
     """What a rehearsed plan does for the candidate. Raises `Trouble` where they would not sit as was asked."""
-    number, name, first = member(after, planned.first, planned.number)
+    [(number, name, first)] = after.members(planned.first, [planned.number])
     said, lacks = f"{number} {plain(name)} sits {first.paper}", "" if first.hall else " (has no desk)"
     if not planned.hall:
         missed = after.clashes(planned.first, [planned.number]).get(planned.number, [])
@@ -205,7 +205,7 @@ def lines(planned: Plan, before: Reading, after: Reading) -> list[str | Said]:
         return [f"{said} again{lacks}" + (f", and misses {', '.join(missed)}" if missed else ""),
                 f"session {planned.session} and paper {planned.paper} stay, "
                 + (f"with {lists.count(others, 'candidate')}" if others else "empty")]
-    second = member(after, planned.session, planned.number)
+    [second] = after.members(planned.session, [planned.number])
     refuse_otherwise(planned, after, first, second)
     then = second.sitting
     found = [planned.made, f"{said} until {first.finish}{lacks}, and {then.paper} from {then.start} to {then.finish} "
@@ -222,14 +222,6 @@ def arranged(before: Reading, after: Reading, number: str, first: str, session: 
     one, other = (each or Said("none", {}) for each in now)
     return [Said(ARRANGED, {"person": after.person(number).shown(), "one": one, "first": first, "other": other,
                             "session": session})]
-
-
-def member(reading: Reading, session: str, number: str) -> Member:
-    """Raises `Trouble` where the candidate sits nothing in the session."""
-    found = reading.member(session, number)
-    if found is None:
-        raise Trouble(f"{number} would sit nothing in {session}; nothing is changed")
-    return found
 
 
 def refuse_otherwise(planned: Plan, after: Reading, first: Sitting, second: Member) -> None:
