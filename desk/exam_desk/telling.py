@@ -228,8 +228,7 @@ def with_moves(changes: Iterable[Change]) -> list[Change]:
 
 def entered(reading: Reading, session: str, people: Collection[str] | None, least: int = 1) -> list[str]:
     """The numbers of those of these people, or of all, who have so many entries in a session, or more."""
-    return [number for number, count in facts.entered(reading.rows, session).items()
-            if count >= least and (people is None or number in people)]
+    return [number for number in facts.entered(reading.rows, session, least) if people is None or number in people]
 
 
 def missing(reading: Reading, session: str, people: Collection[str] | None) -> dict[str, list[str]]:
