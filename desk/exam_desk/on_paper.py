@@ -76,7 +76,7 @@ def desks(office: Office, session: str) -> dict[str, Desk]:
 def lines_of(reading: Reading, session: str, members: Iterable[Member]) -> dict[str, Line]:
     """What papers of a session show of these members."""
     notes, members = notebook.notes(reading.office), [*members]
-    missed = reading.clashes(session, {each.number for each in members} & {*facts.entered(reading.rows, session, 2)})
+    missed = reading.clashes(session, facts.entered(reading.rows, session, 2, {each.number for each in members}))
     return {number: Line(Desk(sits.hall or "", sits.desk or 0), [
         name, sits.paper, sits.date, sits.start, sits.finish, "+".join(sits.needs), str(sits.extra),
         "+".join(missed.get(number, ())), notes.get(number, "")]) for number, name, sits in members}

@@ -140,11 +140,6 @@ class Reading(contextlib.AbstractContextManager["Reading"]):
         self.learn(several, "clashes", self.missed, clashes)
         return {person.number: papers for person in several if (papers := self.missed[person.number].get(session))}
 
-    def knows(self, number: str) -> bool:
-        """Whether the office has a candidate with this number of seven digits."""
-        query = "SELECT 1 FROM candidate WHERE printf('%07d', number) = ?"
-        return self.rows.execute(query, [number]).fetchone() is not None
-
     def person(self, number: str) -> Person:
         """Raises `NoCandidate` where the office has none with this number."""
         row = self.rows.execute("SELECT name, code FROM candidate WHERE number = ?", [int(number)]).fetchone()
