@@ -2,15 +2,14 @@
 decided here.
 
 A workbook may come from a stranger, so whatever is read and kept has a limit. The process that reads it hands it over
-as lines of JSON to the one that asked.
+as JSON to the one that asked.
 """
 import functools
-import itertools
 import json
 import re
 import xml.parsers.expat
 import zipfile
-from collections.abc import Iterable, Iterator, Sequence
+from collections.abc import Iterator, Sequence
 from dataclasses import dataclass, field
 from typing import NamedTuple
 from xml.etree.ElementTree import Element, iterparse
@@ -22,7 +21,7 @@ MOST_UNPACKED = 512 << 20  # bytes that come out of it, in all
 MOST_CELLS = 2_000_000  # that are not empty, in all
 MOST_TEXT = 128 << 20  # letters that are kept, in all
 MOST_SHEETS, MOST_ROW, MOST_COLUMN = 500, 1_048_576, 16_384
-MOST_MERGED = 200_000  # rows that merged cells cover
+MOST_MERGED = 200_000  # rows that merged cells cover, in all
 MOST_DEPTH, MOST_QUIET = 256, 4 << 20  # elements in each other, bytes without a tag
 MOST_TAGS = 6_000_000  # in all parts
 PIECE = 1 << 16  # bytes that are looked at together
@@ -34,7 +33,7 @@ NO_WORKBOOK = "it is no workbook, whatever its name: open it in a spreadsheet an
 
 class Cell(NamedTuple):
     kind: str  # text, number, percent, date, time, bool; or as `values.UNREAD` has them
-    text: str  # a text; the digits of a number; 2027-06-07 or 2027-06-07T09:00:00; the seconds of a time
+    text: str  # a text; the digits of a number; 2027-06-07 or 2027-06-07T09:00:00; 09:00:00 of a time
     shown: str  # what the officer sees, as far as that is known, else ''
     formula: bool = False
     struck: bool = False  # all of it, or a part
@@ -51,11 +50,6 @@ class Sheet:
     hidden_columns: list[Sequence[int]] = field(default_factory=list)
     merged: list[Sequence[int]] = field(default_factory=list)  # first row and column, last row and column
     comments: list[Sequence[int]] = field(default_factory=list)  # row and column
-
-    def merge(self, *area: int) -> None:
-        self.merged.append(area)
-        if len(self.merged) > MOST_MERGED:
-            raise Trouble(f"it has more than {MOST_MERGED:,} merged cells")
 
 
 class Book(NamedTuple):
@@ -81,34 +75,26 @@ class Budget:
             raise Trouble(f"it has more than {MOST_CELLS:,} cells or {MOST_TEXT >> 20} MB of letters: split it")
 
 
-def packed(book: Book) -> Iterator[str]:
-    """The lines of a workbook: one for it, one for each sheet and one for each row, with the cells that are new and the
-    numbers of its cells among all."""
-    yield json.dumps({"form": book.form, "notes": book.notes})
-    known: dict[Cell, int] = {}
-    for sheet in book.sheets:
-        yield json.dumps({**vars(sheet), "rows": {}})
-        for row, cells in sheet.rows.items():
-            new = [cell for cell in dict.fromkeys(cells.values()) if cell not in known]
-            known.update(zip(new, itertools.count(len(known))))
-            yield json.dumps([row, new, [*cells], [known[cell] for cell in cells.values()]])
+def packed(book: Book) -> str:
+    """A workbook as JSON: of each row the columns, and the numbers of its cells among all that differ."""
+    numbers: dict[Cell, int] = {}
+    sheets = [{**vars(sheet), "rows": [
+        (row, [*cells], [numbers.setdefault(cell, len(numbers)) for cell in cells.values()])
+        for row, cells in sheet.rows.items()]} for sheet in book.sheets]
+    return json.dumps([book.form, sheets, book.notes, [*numbers]])
 
 
-def unpacked(lines: Iterable[str | bytes]) -> Book:
-    """The workbook of the lines; raises the `Trouble` of one that could not be read."""
-    first, *rest = lines
-    found = json.loads(first)
-    if "refused" in found:
-        raise Trouble(found["refused"])
-    book, known = Book(found["form"], [], found["notes"]), list[Cell]()
-    for found in map(json.loads, rest):
-        if isinstance(found, dict):
-            book.sheets.append(Sheet(**found))
-        else:
-            row, new, columns, numbers = found
-            known += [Cell(*cell) for cell in new]
-            book.sheets[-1].rows[row] = {column: known[number] for column, number in zip(columns, numbers)}
-    return book
+def unpacked(packed: bytes | str) -> Book:
+    """The workbook of this JSON; raises `Trouble` where it is a text alone, which says why it cannot be read."""
+    found = json.loads(packed)
+    if isinstance(found, str):
+        raise Trouble(found)
+    form, sheets, notes, cells = found
+    cells = [Cell(*cell) for cell in cells]
+    for sheet in sheets:
+        sheet["rows"] = {row: dict(zip(columns, map(cells.__getitem__, numbers)))
+                         for row, columns, numbers in sheet["rows"]}
+    return Book(form, [Sheet(**sheet) for sheet in sheets], notes)
 
 
 @functools.cache

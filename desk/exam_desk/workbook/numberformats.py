@@ -62,7 +62,7 @@ def number_cell(raw: str, form: str, epoch: datetime.datetime = WINDOWS) -> Cell
         shown = ""
     if "percent" in marks:
         times = format((tidy * 100).normalize(), "f") if tidy else "0"
-        return Cell("percent", times, shown or f"{times}%")
+        return Cell("percent", f"{times}%", shown or f"{times}%")
     if "power" in marks:
         shown = f"{float(number):.2E}" if form.split(";")[0] == "0.00E+00" else ""
     return Cell("number", plain, shown)
@@ -83,14 +83,12 @@ def moment_cell(number: decimal.Decimal, plain: str, form: str, marks: frozenset
             return Cell("number", plain, "")
         days, rest = divmod(seconds, DAY_SECONDS)
         when = epoch + datetime.timedelta(days=int(days))
-        if not rest and "date" not in marks:
-            return Cell("time", str(seconds), "")
         text = f"{when:%Y-%m-%d}" + (f"T{clock_text(rest)}" if rest else "")
         return Cell("date", text, painted(form, when + datetime.timedelta(seconds=float(rest))))
     shown = ""
     if "elapsed" not in marks and 0 <= number < 1:
         shown = painted(form, epoch + datetime.timedelta(seconds=float(seconds)))
-    return Cell("time", str(seconds), shown)
+    return Cell("time", clock_text(seconds), shown)
 
 
 def clock_text(seconds: decimal.Decimal) -> str:

@@ -8,7 +8,7 @@ from xml.etree.ElementTree import Element
 from exam_desk.trouble import Trouble
 from exam_desk.workbook.cells import (MOST_COLUMN, MOST_ROW, MOST_SHEETS, PASSWORD, Book, Budget, Cell, Parts,
                                       Sheet, local, whole_day)
-from exam_desk.workbook.numberformats import number_cell, whole_seconds
+from exam_desk.workbook.numberformats import clock_text, number_cell, whole_seconds
 
 ASIDE = ("tracked-changes", "shapes", "dde-links", "forms")  # what stands among sheets and rows, and has no cells
 IN_LETTERS = ("annotation", "frame", "custom-shape", "control", "ruby-text", "note")  # in letters, and none of them
@@ -22,16 +22,12 @@ Style = tuple[str, str | None]  # a family and a name, none of what all of the f
 
 def read_ods(archive: zipfile.ZipFile) -> Book:
     """The workbook of a zip; raises `Trouble` or what `child` catches where it cannot be read whole."""
-    parts = Parts(archive)
-    names = [name for name in ("META-INF/manifest.xml", "styles.xml", "content.xml") if name in parts.names]
-    for name in names:
-        parts.look(name)
-        if any(local(element) == "encryption-data" for _, element in parts.elements(name, "start")):
-            raise Trouble(PASSWORD)
-    reader = OdsReader()
-    for name in names[-2:]:
-        for event, element in parts.elements(name, "start", "end"):
-            reader.take(event == "start", local(element), element)
+    parts, reader = Parts(archive), OdsReader()
+    for name in ("META-INF/manifest.xml", "styles.xml", "content.xml"):
+        if name in parts.names:
+            parts.look(name)
+            for event, element in parts.elements(name, "start", "end"):
+                reader.take(event == "start", local(element), element)
     if not reader.spreadsheet:
         raise Trouble("it is a document of another kind: save the table as .xlsx or .ods")
     return Book("ods", reader.sheets, parts.notes(r"(Basic|Scripts)/"))
@@ -61,6 +57,8 @@ class OdsReader:
         """Takes the beginning or the end of an element."""
         if name in ASIDE or self.aside:
             self.aside += (1 if start else -1) if name in ASIDE else 0
+        elif start and name == "encryption-data":
+            raise Trouble(PASSWORD)
         elif start and name == "spreadsheet":
             self.spreadsheet = True
         elif start and name in GROUPS:
@@ -150,7 +148,8 @@ class OdsReader:
         """Keeps whether a cell is merged with others, and its comment."""
         rows, columns = int(given.get("number-rows-spanned", 1)), int(given.get("number-columns-spanned", 1))
         if rows > 1 or columns > 1:
-            sheet.merge(self.row, column, self.row + rows - 1, column + columns - 1)
+            self.budget.keep("")
+            sheet.merged.append((self.row, column, self.row + rows - 1, column + columns - 1))
         if any(local(inside) == "annotation" for inside in part.iter()):
             self.budget.keep("")
             sheet.comments.append((self.row, column))
@@ -174,7 +173,7 @@ class OdsReader:
         elif kind == "time" and (match := DURATION.fullmatch(value)):
             days, hours, minutes, rest = (decimal.Decimal((part or "0").replace(",", ".")) for part in match.groups())
             seconds = ((days * 24 + hours) * 60 + minutes) * 60 + rest
-            found = Cell("time", str(whole_seconds(seconds)), shown)
+            found = Cell("time", clock_text(whole_seconds(seconds)), shown)
         elif kind == "time" or shown or given.get("string-value"):
             found = Cell("text", shown or value or given.get("string-value", ""), shown)
         else:

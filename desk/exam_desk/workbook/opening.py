@@ -11,13 +11,13 @@ from collections import Counter
 
 from exam_desk import files
 from exam_desk.trouble import Trouble
-from exam_desk.workbook.child import MISSING
 from exam_desk.workbook.cells import (MOST_FILE, NO_WORKBOOK, OPEN_AND_SAVE, PASSWORD, Book, Budget, Cell, Sheet,
                                       unpacked)
 
 CHILD = pathlib.Path(__file__).resolve().parent / "child.py"
 PYTHON = "/usr/bin/python3"  # the one for which Debian installs its libraries
 MOST_SECONDS = 600  # of the clock, for the process that reads; of the processor it has fewer
+MISSING = "python3-openpyxl is missing: apt install python3-openpyxl"
 OLD = b"\xd0\xcf\x11\xe0\xa1\xb1\x1a\xe1"  # of Microsoft's compound files
 OLD_FORM = "it is of the old form .xls: open it in a spreadsheet and save it as .xlsx or .ods"
 NO_UTF_8 = "its letters are no UTF-8: save it as CSV UTF-8, or say --encoding cp1252 if a Windows program of Western " \
@@ -44,7 +44,7 @@ def book_of(data: bytes, name: str, encoding: str | None = None) -> Book:
     if len(data) > MOST_FILE:
         raise Trouble(f"it is larger than {MOST_FILE >> 20} MB")
     stem, suffix = os.path.splitext(name)
-    book = read_zip(data) if is_zip(data, encoding) else read_csv(data, stem, encoding)
+    book = unpacked(ask_child("read", data)) if is_zip(data, encoding) else read_csv(data, stem, encoding)
     suffix = suffix[1:].lower()
     if suffix not in ALSO[book.form]:
         book.notes.append(f"the name ends in .{suffix}, but it is a file .{book.form}; it is read as that")
@@ -67,10 +67,6 @@ def is_zip(data: bytes, encoding: str | None = None) -> bool:
     return False
 
 
-def read_zip(data: bytes) -> Book:
-    return unpacked(ask_child("read", data).split(b"\n"))
-
-
 def ask_child(what: str, data: bytes) -> bytes:
     """What the process with limits answers. Where this python lacks openpyxl, Debian's may have it."""
     python = sys.executable
@@ -85,7 +81,7 @@ def ask_child(what: str, data: bytes) -> bytes:
         raise Trouble("it takes too long or too much memory: it is no workbook of a school")
     if done.returncode:
         said = done.stderr.decode("utf-8", "replace").strip().split("\n")[-1]
-        raise Trouble(MISSING if said == MISSING else f"a part of it is broken ({said[:200]}): {OPEN_AND_SAVE}")
+        raise Trouble(MISSING if "'openpyxl'" in said else f"a part of it is broken ({said[:200]}): {OPEN_AND_SAVE}")
     return done.stdout
 
 

@@ -9,8 +9,7 @@ from exam_desk.trouble import Trouble
 from exam_desk.workbook.cells import MOST_MERGED, Cell, Sheet, letters_of, place_name
 from exam_desk.workbook.headers import HEADER_WORDS, MARKED, Given, folded, match_header, seen, text_cells
 from exam_desk.workbook.tables import Headed, Progress
-from exam_desk.workbook.values import (AS_TEXT, MAY_BE_EMPTY, NO_DAY, STRUCK, UNREAD, Mark, Wrong, bare, mark_of,
-                                       shown_of)
+from exam_desk.workbook.values import AS_TEXT, MAY_BE_EMPTY, NO_DAY, STRUCK, UNREAD, Wrong, bare, mark_of, shown_of
 from exam_desk.words import FEATURES
 
 TOTALS = {"total", "totals", "sum", "summe", "gesamt", "count", "anzahl", "grand total", "subtotal"}
@@ -90,13 +89,13 @@ class Table(Headed):
         names = {place: name for name, places in self.header.columns.items() for place in places} | self.marks
         rows, end, covered = self.sheet.rows, max(self.sheet.rows), 0
         for top, left, bottom, right in self.sheet.merged:
+            last = min(bottom, end)
+            covered += max(1, last - top)
+            if covered > MOST_MERGED:
+                raise Trouble(f"its merged cells cover more than {MOST_MERGED:,} rows")
             read = [place for place in names if left <= place <= right]
             if bottom < self.header.row or not read:
                 continue
-            last = min(bottom, end)
-            covered += max(0, last - top)
-            if covered > MOST_MERGED:
-                raise Trouble(f"its merged cells cover more than {MOST_MERGED:,} rows")
             reach = f"{letters_of(left)}{top}:{letters_of(right)}{bottom}"
             self.tell_covered(reach, [(row, place) for row in range(max(top, self.header.row + 1), last + 1)
                                       for place in read if (row, place) != (top, left)])
@@ -203,11 +202,11 @@ class Table(Headed):
 
     def read_marks(self, row: int, here: Row) -> list[int]:
         marks = {place: mark_of(here[place]) for place in self.marks}
-        for place in [place for place, mark in marks.items() if mark is Mark.UNCLEAR]:
+        for place in [place for place, mark in marks.items() if not mark]:
             cell = here[place]
             why = cell and (STRUCK if cell.struck else UNREAD.get(cell.kind)) or "is neither a cross nor empty"
             self.mistake(row, place, f"below {self.marks[place]} {shown_of(cell)!r}: {why}", "cross")
-        return [place for place, mark in marks.items() if mark is Mark.CROSS]
+        return [place for place, mark in marks.items() if mark == "yes"]
 
     def read_field(self, row: int, name: str, here: Row) -> Field:
         """The field of a row, which may be joined of several cells."""

@@ -12,7 +12,7 @@ from exam_desk import files, mistakes
 from exam_desk.workbook.cells import Cell, Sheet, letters_of, place_name
 from exam_desk.workbook.headers import (HEADER_WORDS, MARKED, OF_PEOPLE, Given, Header, folded, is_called_list, seen,
                                         text_cells)
-from exam_desk.workbook.values import NEAR, SHORT_FEATURES, UNREAD, Mark, Value, Way, Wrong, mark_of, read_value, shown_of
+from exam_desk.workbook.values import NEAR, SHORT_FEATURES, UNREAD, Value, Way, Wrong, mark_of, read_value, shown_of
 
 WORDS = {"change": "", "note": "NOTE: ", "mistake": "MISTAKE: "}  # in the order in which they are printed
 MOST_PLACES = 5  # of lines that stand together
@@ -172,8 +172,8 @@ class Headed:
     def first_crosses(self) -> dict[int, int]:
         """Of each column with crosses below the header the first row with one. Numbers count as crosses where a column
         has nothing else than 1 and 0."""
-        others = self.first_places(lambda cell: mark_of(cell) is Mark.UNCLEAR)
-        return {place: row for place, row in self.first_places(lambda cell: mark_of(cell) is Mark.CROSS).items()
+        others = self.first_places(lambda cell: not mark_of(cell))
+        return {place: row for place, row in self.first_places(lambda cell: mark_of(cell) == "yes").items()
                 if place not in others or self.sheet.rows[row][place].kind != "number"}
 
     # -- lines on the header
@@ -276,5 +276,5 @@ class Headed:
 def says_gone(header: str, cell: Cell) -> bool:
     """Whether a cell below a header says that an entry does not count."""
     if is_called_list(header):
-        return mark_of(cell) is not Mark.NONE
+        return mark_of(cell) != "no"
     return cell.kind == "text" and is_called_list(cell.text)

@@ -138,7 +138,8 @@ class Reader:
                 sheet.hidden_columns.append((int(element.attrib["min"]), int(element.attrib["max"])))
             elif tag == "mergeCell":
                 first, _, last = element.attrib["ref"].partition(":")
-                sheet.merge(*place_of(first), *place_of(last or first))
+                self.budget.keep("")
+                sheet.merged.append((*place_of(first), *place_of(last or first)))
         for linked in self.links_of(part).values():
             if self.roots.get(linked) == "comments":
                 sheet.comments += [place_of(each.attrib["ref"]) for each in self.tree(linked).iterfind(".//{*}comment")]
