@@ -8,7 +8,7 @@ from xml.etree.ElementTree import Element
 from exam_desk.trouble import Trouble
 from exam_desk.workbook.cells import (MOST_COLUMN, MOST_ROW, MOST_SHEETS, PASSWORD, Book, Budget, Cell, Parts,
                                       Sheet, local, whole_day)
-from exam_desk.workbook.numberformats import clock_text, number_cell, whole_seconds
+from exam_desk.workbook.numberformats import clock_text, number_cell
 
 ASIDE = ("tracked-changes", "shapes", "dde-links", "forms")  # what stands among sheets and rows, and has no cells
 IN_LETTERS = ("annotation", "frame", "custom-shape", "control", "ruby-text", "note")  # in letters, and none of them
@@ -172,8 +172,7 @@ class OdsReader:
             found = Cell("date", whole_day(value), shown)
         elif kind == "time" and (match := DURATION.fullmatch(value)):
             days, hours, minutes, rest = (decimal.Decimal((part or "0").replace(",", ".")) for part in match.groups())
-            seconds = ((days * 24 + hours) * 60 + minutes) * 60 + rest
-            found = Cell("time", clock_text(whole_seconds(seconds)), shown)
+            found = Cell("time", clock_text(round(((days * 24 + hours) * 60 + minutes) * 60 + rest)), shown)
         elif kind == "time" or shown or given.get("string-value"):
             found = Cell("text", shown or value or given.get("string-value", ""), shown)
         else:
