@@ -67,12 +67,15 @@ class Budget:
     cells: int = MOST_CELLS
     text: int = MOST_TEXT
 
-    def keep(self, text: str, cells: int = 1) -> None:
-        """Takes some cells of one text out of the budget; raises `Trouble` where nothing is left."""
+    def keep(self, text: str, cells: int = 1, row: int = 1, column: int = 1) -> None:
+        """Takes some cells of one text, the last at this place, out of the budget; raises `Trouble` where nothing is
+        left, or no spreadsheet has the place."""
         self.cells -= cells
         self.text -= len(text) * cells
         if self.cells < 0 or self.text < 0:
             raise Trouble(f"it has more than {MOST_CELLS:,} cells or {MOST_TEXT >> 20} MB of letters: split it")
+        if not (0 < row <= MOST_ROW and 0 < column <= MOST_COLUMN):
+            raise Trouble("it has a cell beyond the last row or column")
 
 
 def packed(book: Book) -> str:

@@ -1,6 +1,6 @@
 """The rows of a table: which of them count, and what their cells say."""
-import enum
 import functools
+import re
 from collections.abc import Iterator, Mapping
 from typing import NamedTuple
 
@@ -12,7 +12,7 @@ from exam_desk.workbook.tables import Headed, Progress
 from exam_desk.workbook.values import AS_TEXT, MAY_BE_EMPTY, NO_DAY, STRUCK, UNREAD, Wrong, bare, mark_of, shown_of
 from exam_desk.words import FEATURES
 
-TOTALS = {"total", "totals", "sum", "summe", "gesamt", "count", "anzahl", "grand total", "subtotal"}
+TOTAL = re.compile("(totals?|grand total|subtotal|summe|gesamt|anzahl)([ :].*)?|(sum|count)( of .*|[ :]+[0-9.,]*)?")
 EXAMPLE = "e.g. "  # before the first value of the template's example
 ANY_HEADER = set[str]().union(*HEADER_WORDS.values())
 EACH = 10_000  # rows after which a line says how far it is
@@ -161,14 +161,10 @@ class Table(Headed):
 
     def is_total(self, row: int, here: Row, is_last: bool) -> bool:
         """Whether a row is a total below the table: it is left out, and a line says so."""
-        cells, columns = self.sheet.rows[row].values(), self.header.columns
-        if not any(cell.formula or total_of(cell) for cell in cells):
-            return False
-        header = files.HEADERS[self.kind]
+        cells, columns, header = self.sheet.rows[row].values(), self.header.columns, files.HEADERS[self.kind]
         keys = [here.get(columns[name][0]) for name in header[:files.KEYS.get(self.kind, 1)] if name in columns]
-        word = Total.SAID in map(total_of, cells)
+        word, key_is_word = any(map(says_total, cells)), any(map(says_total, keys))
         computed = any(cell and cell.formula for cell in here.values())
-        key_is_word = any(map(total_of, keys))
         if not (key_is_word or word and not all(keys) or computed and not any(keys)):
             return False
         needed = [name for name in header if name not in MAY_BE_EMPTY]
@@ -259,19 +255,7 @@ def is_example(here: Row) -> bool:
     return first is not None and first.kind == "text" and first.text.startswith(EXAMPLE)
 
 
-class Total(enum.IntEnum):
-    """Whether a cell says that its row is a total; perhaps where it begins with a word such as sum."""
-
-    NO, PERHAPS, SAID = range(3)
-
-
 @functools.lru_cache(1 << 16)
-def total_of(cell: Cell | None) -> Total:
-    if cell is None or cell.kind != "text" or cell.text[:1].isdigit():
-        return Total.NO
-    word = bare(cell.text[:101]).lower().rstrip(":")
-    first = word.split(" ")[0].rstrip(":")
-    if word not in TOTALS and first not in TOTALS:
-        return Total.NO
-    is_said = len(cell.text) <= 100 and (word in TOTALS or first in ("total", "totals", "summe"))
-    return Total.SAID if is_said else Total.PERHAPS
+def says_total(cell: Cell | None) -> bool:
+    """Whether a cell says that its row is a total, such as `Total`, `Summe der Plätze` or `Sum: 24`."""
+    return cell is not None and cell.kind == "text" and TOTAL.fullmatch(bare(cell.text[:100]).lower()) is not None

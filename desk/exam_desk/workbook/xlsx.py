@@ -8,8 +8,8 @@ from collections.abc import Iterator
 from xml.etree.ElementTree import Element, parse
 
 from exam_desk.trouble import Trouble
-from exam_desk.workbook.cells import (MOST_COLUMN, MOST_ROW, MOST_SHEETS, NO_WORKBOOK, OPEN_AND_SAVE, Book, Budget,
-                                      Cell, Parts, Sheet, local, place_name, whole_day)
+from exam_desk.workbook.cells import (MOST_SHEETS, NO_WORKBOOK, OPEN_AND_SAVE, Book, Budget, Cell, Parts, Sheet,
+                                      local, place_name, whole_day)
 from exam_desk.workbook.numberformats import BUILT_IN, GENERAL, MACINTOSH, WINDOWS, number_cell, text_cell
 
 STRICT = "http://purl.oclc.org/ooxml/"  # begins the names of the elements of another form
@@ -156,11 +156,9 @@ class Reader:
                 raise Trouble(f"{place_name(sheet, row, column)} {why}: {OPEN_AND_SAVE}") from fault
             if cell is None:
                 continue
-            if not (0 < at <= MOST_ROW and 0 < column <= MOST_COLUMN):
-                raise Trouble("it has a cell beyond the last row or column")
+            self.budget.keep(cell.text, 1, at, column)
             if column in sheet.rows.setdefault(at, {}):
                 raise Trouble(f"it has the cell {place_name(sheet, at, column)} twice: {OPEN_AND_SAVE}")
-            self.budget.keep(cell.text)
             sheet.rows[at][column] = cell
 
     def cell(self, part: Element) -> Cell | None:
