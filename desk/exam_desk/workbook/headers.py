@@ -170,13 +170,11 @@ def given_of(kind: str, said: object) -> Given:
             fixed[name] = str(value.get("always", ""))
             if set(value) != {"always"} or not mistakes.RIGHT[name](fixed[name].encode()):
                 raise Trouble(f'[{kind}] {name}: write {{ always = ".." }}, with {mistakes.CURES[name]}')
-        elif not texts or not all(isinstance(text, str) and text.strip() for text in texts) or \
-                name == "sheet" and value is texts:
-            raise Trouble(f'[{kind}] {name}: write a header such as "Pupil ID"')
-        elif value is texts and name not in ("name", "title"):
-            raise Trouble(f"[{kind}] {name}: one header; only names and titles are joined of several")
-        else:
+        elif texts and all(isinstance(text, str) and text.strip() for text in texts) and \
+                (value is not texts or name in ("name", "title")):
             headers[name] = texts
+        else:
+            raise Trouble(f'[{kind}] {name}: write a header such as "Pupil ID"; only names and titles have several')
     [sheet] = headers.pop("sheet", [""])
     return Given(headers, fixed, sheet)
 

@@ -26,8 +26,8 @@ PAINTED = {  # the words of a format of dates, in python's; n is a minute
     ",": ","}
 NUMBER = re.compile(r"\s*[+-]?([0-9]+\.?[0-9]*|\.[0-9]+)([eE][+-]?[0-9]+)?\s*")
 TOKEN = re.compile(r'"[^"]*"|\\.|_.|\*.|\[[^\]]*\]|General|AM/PM|yy\?|([ymdhs])\1*|[0#?]+(?:[0#?,.]*[0#?])?,*|.', re.I)
-LOCALE = re.compile(r"\[\$[^\]-]*-([0-9A-F]+)\]", re.I)  # a language in the last ten bits, digits in the first
-GREGORIAN = (0, 1, 2)  # calendars, in the eight bits between
+LOCALE = re.compile(r"\[\$[^\]-]*-([0-9A-F]+)\]", re.I)  # digits, a calendar, a country in six bits, a language in ten
+COUNTRY, ENGLISH = 0xfc00, 9
 OTHER_DIGITS = 2 << 24  # the first number of a language and its digits where these are of another script
 DIGITS = re.compile(r"(?P<group>#,)?#*(?P<zeros>0*)(?:\.(?P<places>0+))?")
 
@@ -164,9 +164,7 @@ def locale_of(form: str) -> int:
 def painted(form: str, when: datetime.datetime) -> str:
     """How a date is shown, where the format is plain; '' where that is not known."""
     words = [token if token[0] in '"\\_*' else token.lower() for token in sections(form)[0]]
-    locale = locale_of(form)
-    foreign = locale & 0x3ff not in (0, 9) and {"mmm", "mmmm", "ddd", "dddd"} & set(words)
-    if foreign or locale >= OTHER_DIGITS or locale >> 16 & 0xff not in GREGORIAN:
+    if locale_of(form) & ~COUNTRY not in (0, ENGLISH):
         return ""
     known = PAINTED | ({"h": "%-I", "hh": "%I"} if "am/pm" in words else {})
     letters = "".join(word[0] if word[0] in "ymdhs" else " " for word in words)

@@ -4,7 +4,6 @@ import importlib.util
 import os
 import pathlib
 import re
-import stat
 import subprocess
 import sys
 from collections import Counter
@@ -30,7 +29,7 @@ ALSO = {"xlsx": ("xlsx", "xlsm", "xltx", "xltm"), "ods": ("ods", "ots"), "csv": 
 def open_book(path: str, encoding: str | None = None) -> Book:
     """The workbook at a path; raises `Trouble` with the path where it cannot be read whole."""
     try:
-        if not stat.S_ISREG(os.stat(path).st_mode):
+        if os.path.exists(path) and not os.path.isfile(path):
             raise Trouble("it is no file")
         with open(path, "rb") as file:
             return book_of(file.read(MOST_FILE + 1), os.path.basename(path), encoding)
@@ -55,9 +54,7 @@ def is_zip(data: bytes, encoding: str | None = None) -> bool:
     """Whether a file is a zip or else a text; raises `Trouble` where it is neither. A text has no zeros but in UTF-16,
     or in an encoding that the officer names."""
     if data.startswith(OLD):
-        if "EncryptedPackage".encode("utf-16-le") in data:
-            raise Trouble(PASSWORD)
-        raise Trouble(OLD_FORM)
+        raise Trouble(PASSWORD if "EncryptedPackage".encode("utf-16-le") in data else OLD_FORM)
     if data.startswith((b"PK\3\4", b"PK\5\6")):
         return True
     start = data[:1000].lstrip(b"\xef\xbb\xbf \r\n\t").lower()

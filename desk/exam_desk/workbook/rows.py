@@ -2,12 +2,13 @@
 import functools
 import re
 from collections.abc import Iterator, Mapping
+from dataclasses import replace
 from typing import NamedTuple
 
 from exam_desk import files, mistakes
 from exam_desk.trouble import Trouble
 from exam_desk.workbook.cells import MOST_MERGED, Cell, Sheet, letters_of, place_name
-from exam_desk.workbook.headers import HEADER_WORDS, MARKED, Given, folded, match_header, seen, text_cells
+from exam_desk.workbook.headers import HEADER_WORDS, MARKED, Given, find_header, folded, seen, text_cells
 from exam_desk.workbook.tables import Headed, Progress
 from exam_desk.workbook.values import AS_TEXT, MAY_BE_EMPTY, NO_DAY, STRUCK, UNREAD, Wrong, bare, mark_of, shown_of
 from exam_desk.words import FEATURES
@@ -18,7 +19,6 @@ ANY_HEADER = set[str]().union(*HEADER_WORDS.values())
 EACH = 10_000  # rows after which a line says how far it is
 MOST_ABOVE = 1000  # rows in which a value above an empty cell is looked for
 Row = Mapping[int, Cell | None]  # by column, what is read of a row
-Field = tuple[str, bool]  # its text, and whether that is wrong
 
 
 class Record(NamedTuple):
@@ -151,10 +151,10 @@ class Table(Headed):
     def begins_other(self, row: int) -> bool:
         """Whether a second table begins here, which ends the reading."""
         cells = self.sheet.rows[row]
-        if sum(text.lstrip()[:1].isalpha() and folded(text) in ANY_HEADER for text in text_cells(cells).values()) < 2:
+        if len(ANY_HEADER.intersection(map(folded, text_cells(cells).values()))) < 2:
             return False
-        found = {kind: match_header(kind, row, cells, Given()).columns.keys() for kind in files.HEADERS}
-        kinds = [kind for kind, have in found.items() if len(have) >= 2 and files.needed_columns(kind) <= have]
+        alone = replace(self.sheet, rows={row: cells})
+        kinds = [kind for kind in files.HEADERS if find_header(kind, alone, Given())]
         if kinds:
             self.mistake(row, None, f"a second table begins here ({kinds[0]}?): give it a sheet of its own")
         return bool(kinds)
@@ -184,13 +184,11 @@ class Table(Headed):
     def read_row(self, row: int, here: Row) -> list[Record]:
         """The records of a row: one, or in a table of papers one for each cross."""
         header, columns = files.HEADERS[self.kind], self.header.columns
-        read = [self.read_field(row, name, here) for name in header]
-        fields, is_wrong = [text for text, _ in read], any(wrong for _, wrong in read)
+        fields = [self.read_field(row, name, here) for name in header]
         places = [columns[name][0] if name in columns else None for name in header]
         crosses = self.read_marks(row, here)
-        if self.kind == "entries" and self.marks:  # a number with a mistake is entered for nothing
-            return [Record(self.sheet, row, [places[0], place], [fields[0], self.marks[place]])
-                    for place in crosses if not is_wrong]
+        if self.kind == "entries" and self.marks:
+            return [Record(self.sheet, row, [places[0], place], [fields[0], self.marks[place]]) for place in crosses]
         if self.marks:
             named = {self.marks[place] for place in crosses}
             fields[header.index(MARKED[self.kind])] = "+".join(name for name in FEATURES if name in named) or "-"
@@ -204,20 +202,14 @@ class Table(Headed):
             self.mistake(row, place, f"below {self.marks[place]} {shown_of(cell)!r}: {why}", "cross")
         return [place for place, mark in marks.items() if mark == "yes"]
 
-    def read_field(self, row: int, name: str, here: Row) -> Field:
+    def read_field(self, row: int, name: str, here: Row) -> str:
         """The field of a row, which may be joined of several cells."""
         places = self.header.columns.get(name, [])
-        if len(places) < 2:
-            return self.read_one(row, name, here, places[0]) if places else (self.fixed.get(name, ""), False)
-        found = [self.read_one(row, name, here, place) for place in places if here[place]]
-        text, is_wrong = " ".join(text for text, _ in found), any(wrong for _, wrong in found)
-        said = text.encode("utf-8", "replace")
-        if is_wrong or mistakes.RIGHT[name](said):
-            return text, is_wrong
-        self.mistake(row, places[0], f"{name} {files.shown(said)}: {mistakes.needed(name, said)}", name)
-        return text, True
+        if len(places) > 1:
+            return " ".join(self.read_one(row, name, here, place) for place in places if here[place])
+        return self.read_one(row, name, here, places[0]) if places else self.fixed.get(name, "")
 
-    def read_one(self, row: int, name: str, here: Row, place: int) -> Field:
+    def read_one(self, row: int, name: str, here: Row, place: int) -> str:
         """The field of one cell. A time is taken beside a day if that is the day of the session, or no day."""
         cell = here[place]
         try:
@@ -232,14 +224,14 @@ class Table(Headed):
             what = f"{name} is missing{self.above(row, place)}" if cell is None else \
                 f"{name} {files.shown(shown_of(cell).encode('utf-8', 'replace'))}: {fault}"
             self.mistake(row, place, what, f"{name} {fault}")
-            return (cell.text if cell else ""), True
+            return cell.text if cell else ""
         if value.text != (cell.shown if cell else ""):
             why = f" ({value.why})" if value.why else ""
             group = name if name == "date" else name + value.why.split(",")[0]
             self.change(row, place, f"{name} {shown_of(cell)} became {value.text or '(empty)'}{why}", group)
         if value.note:
             self.note(row, place, f"{name} {value.text} {value.note}", name + value.note)
-        return value.text, False
+        return value.text
 
     def above(self, row: int, place: int) -> str:
         """What stands above an empty cell, if it was meant to be filled down."""
