@@ -87,10 +87,6 @@ def text_cells(cells: Mapping[int, Cell]) -> dict[int, str]:
     return {column: cell.text for column, cell in cells.items() if cell.kind == "text" and len(cell.text) <= 200}
 
 
-def named_kind(sheet: Sheet) -> str | None:
-    return KINDS.get(folded(sheet.name))
-
-
 def is_called_list(name: str) -> bool:
     """Whether a file or a sheet is called withdrawals, reinstatements or the like."""
     return LISTS.match(folded(name)) is not None

@@ -119,16 +119,11 @@ def read_csv(data: bytes, name: str, encoding: str | None = None) -> Book:
         for record in files.records(text.encode(), comma.encode()):
             if not record.closed:
                 raise Trouble(f"a quote is not closed in line {record.line}")
-            if cells := {column: text_cell(field.decode(), budget) for column, field in enumerate(record.fields, 1)
-                         if field}:
-                sheet.rows[record.line] = cells
+            for column, shown in enumerate(map(bytes.decode, record.fields), 1):
+                if shown:
+                    budget.keep(shown)
+                    told = re.sub(r'\A="([^"]*)"\Z', r"\1", shown)  # some programs write ="0000017" for the zeros
+                    sheet.rows.setdefault(record.line, {})[column] = Cell("text", told, shown)
     except csv.Error:
         raise Trouble(f"one of its fields has more than {files.MOST_BYTES:,} bytes: is a quote not closed?") from None
     return Book("csv", [sheet], [f"its columns are parted by {NAMES.get(comma, comma)}"] * (comma != ","))
-
-
-def text_cell(shown: str, budget: Budget) -> Cell:
-    """A field of CSV. Some programs write ="0000017" so that a spreadsheet leaves the zeros."""
-    text = re.sub(r'\A="([^"]*)"\Z', r"\1", shown)
-    budget.keep(text)
-    return Cell("text", text, shown)

@@ -14,7 +14,7 @@ from typing import NamedTuple
 from exam_desk import files, mistakes
 from exam_desk.trouble import Trouble
 from exam_desk.workbook.cells import Book, Sheet, place_name
-from exam_desk.workbook.headers import WITHIN, Header, find_header, folded, named_kind, possible_headers
+from exam_desk.workbook.headers import KINDS, WITHIN, Header, find_header, folded, possible_headers
 from exam_desk.workbook.opening import ask_child, open_book
 from exam_desk.workbook.rows import Record, Table
 from exam_desk.workbook.tables import Job, Line, Progress, Report
@@ -65,18 +65,21 @@ def read_book(book: Book, job: Job, progress: Progress = lambda text: None) -> R
 def read_sheets(job: Job, sheets: list[Sheet], progress: Progress) -> dict[str, list[Record]]:
     """The records of each kind that has some."""
     records: dict[str, list[Record]] = {}
-    for table in find_tables(job, sheets):
-        if found := table.records(progress):
-            records.setdefault(table.kind, []).extend(found)
-        if table.kind == "sessions":
-            job.days |= {record.fields[0]: record.fields[1] for record in found}
-    return records
+    tables = [table for sheet in sheets for table in tables_of(job, sheet)]
+    for kind in files.HEADERS:
+        progress(kind)
+        for table in chosen(job, kind, [table for table in tables if table.kind == kind]):
+            records.setdefault(kind, []).extend(table.records())
+        if kind == "sessions":
+            job.days |= {record.fields[0]: record.fields[1] for record in records.get(kind, [])}
+    return {kind: found for kind, found in records.items() if found}
 
 
 # -- which sheet is what
 
 def usable_sheets(job: Job, book: Book) -> list[Sheet]:
-    """The sheets that are to be read; of the others a line says why they are not."""
+    """The sheets that are to be read; of the others a line says why they are not. Of a hidden one that is the only one
+    of its kind the officer must say."""
     wanted, leave = job.sheets, job.leave
     names = [sheet.name for sheet in book.sheets]
     said = [given.sheet for given in job.given.values() if given.sheet and book.form != "csv"]
@@ -90,19 +93,14 @@ def usable_sheets(job: Job, book: Book) -> list[Sheet]:
         elif sheet.rows:
             (hidden if sheet.hidden and wanted is None else usable).append(sheet)
     job.papers = named_papers(job, usable)
-    tell_hidden(job, hidden, usable)
-    return usable
-
-
-def tell_hidden(job: Job, hidden: list[Sheet], usable: list[Sheet]) -> None:
-    """A hidden sheet is left, unless it is the only one of its kind: then the officer must say."""
     shown = {kind for sheet in usable for kind in headers_of(job, sheet)} if hidden else set()
     for sheet in hidden:
-        if alone := set(headers_of(job, sheet)) - shown:
+        if alone := headers_of(job, sheet).keys() - shown:
             job.report.mistake(f"is hidden: show it if it has the {' or '.join(sorted(alone))}"
                                + job.way.or_say("which sheets are to be read with --sheet"), sheet)
         else:
             job.report.note("is hidden, so it is not read", sheet)
+    return usable
 
 
 def may_be(job: Job, kind: str, sheet: Sheet) -> bool:
@@ -114,7 +112,7 @@ def may_be(job: Job, kind: str, sheet: Sheet) -> bool:
 def kinds_by_name(job: Job, sheet: Sheet) -> list[str]:
     """The kinds that the file of columns or else the name of the sheet says."""
     given = [kind for kind, said in job.given.items() if said.sheet and may_be(job, kind, sheet)]
-    named = named_kind(sheet)
+    named = KINDS.get(folded(sheet.name))
     return given or ([named] if named and may_be(job, named, sheet) else [])
 
 
@@ -146,16 +144,9 @@ def named_papers(job: Job, sheets: list[Sheet]) -> set[str]:
     return codes - {""}
 
 
-def find_tables(job: Job, sheets: list[Sheet]) -> list[Table]:
-    """The tables of the sheets; a line says which sheet is none."""
-    found = [table for sheet in sheets for table in tables_of(job, sheet)]
-    return [table for kind in files.HEADERS
-            for table in chosen(job, kind, [table for table in found if table.kind == kind])]
-
-
 def tables_of(job: Job, sheet: Sheet) -> list[Table]:
     """The tables of a sheet, which the file of columns may read as several kinds."""
-    kinds, by_name, named = headers_of(job, sheet), kinds_by_name(job, sheet), named_kind(sheet)
+    kinds, by_name, named = headers_of(job, sheet), kinds_by_name(job, sheet), KINDS.get(folded(sheet.name))
     if named and not by_name:
         job.report.note(f"is not read: the file of columns says another sheet of {named}", sheet)
         return []
@@ -166,30 +157,31 @@ def tables_of(job: Job, sheet: Sheet) -> list[Table]:
         job.report.note(f"is read as {[*kinds][0]}, by its header", sheet)
     found = {kind: Table(job, kind, sheet, header) for kind, header in kinds.items() if header}
     for kind in [kind for kind in kinds if kind not in found and kind != "entries"]:
-        tell_no_header(job, kind, sheet)
+        nearest = max(possible_headers(kind, sheet, job.of_kind(kind)), key=lambda header: len(header.columns))
+        lacking = ", ".join(name for name in files.HEADERS[kind] if name not in nearest.columns)
+        text = f"none of the first {WITHIN} rows is a header of {kind}; this one lacks {lacking}"
+        job.report.mistake(text, sheet, nearest.row)
     if not kinds or "entries" in kinds and "entries" not in found:
-        found |= {"entries": table for table in [list_table(job, sheet, "entries" in by_name)] if table}
+        return [*found.values(), *list_table(job, sheet, "entries" in by_name)]
     return [*found.values()]
 
 
-def list_table(job: Job, sheet: Sheet, is_named: bool) -> Table | None:
+def list_table(job: Job, sheet: Sheet, is_named: bool) -> list[Table]:
     """A sheet that lists candidates below a header of the column number: by papers, or for the paper whose code is its
     name. A line says why it is none."""
     found, paper = possible_headers("entries", sheet, job.of_kind("entries"), "number"), job.paper(sheet.name)
     header = next((header for header in found if header.columns), None)
     table = header and Table(job, "entries", sheet, header, paper)
     if table and (paper or table.marks):
-        return table
-    if is_named:
+        return [table]
+    if is_named or paper:
+        text = "bears the name of a paper, but no row is a header with the column number" if paper else \
+            "no row is a header with number and paper, or with number and the codes of papers"
         cure = "" if job.papers else "; no papers are known: put them into the workbook, or import them first"
-        text = f"neither a header number, paper nor one of number and the codes of papers is found{cure}"
-        job.report.mistake(text, sheet, min(sheet.rows))
-    elif paper:
-        text = "bears the name of a paper, but no row is a header with the column number"
-        job.report.mistake(text, sheet, min(sheet.rows))
+        job.report.mistake(text + cure, sheet, min(sheet.rows))
     else:
         job.report.note("is not read: no row is the header of one of the seven kinds", sheet)
-    return None
+    return []
 
 
 def chosen(job: Job, kind: str, tables: list[Table]) -> list[Table]:
@@ -203,17 +195,6 @@ def chosen(job: Job, kind: str, tables: list[Table]) -> list[Table]:
     options = job.way.or_say(f"--together {kind} to read them as one list, or --leave NAME")
     job.report.mistake(f"{names} could both be the {kind}: keep one{options}", filled[1].sheet)
     return []
-
-
-def tell_no_header(job: Job, kind: str, sheet: Sheet) -> None:
-    nearest = max(possible_headers(kind, sheet, job.of_kind(kind)), key=lambda header: len(header.columns))
-    row, columns = min(sheet.rows), files.HEADERS[kind]
-    if len(nearest.columns) > 1:
-        row, columns = nearest.row, [name for name in columns if name not in nearest.columns]
-        cure = f"this header of {kind} lacks "
-    else:
-        cure = f"no row of the first {WITHIN} is a header of {kind}; it needs the columns "
-    job.report.mistake(cure + ", ".join(columns), sheet, row)
 
 
 # -- what `office check-files` would say of the files

@@ -9,14 +9,13 @@ from exam_desk import files, mistakes
 from exam_desk.trouble import Trouble
 from exam_desk.workbook.cells import MOST_MERGED, Cell, Sheet, letters_of, place_name
 from exam_desk.workbook.headers import HEADER_WORDS, MARKED, Given, find_header, folded, seen, text_cells
-from exam_desk.workbook.tables import Headed, Progress
+from exam_desk.workbook.tables import Headed
 from exam_desk.workbook.values import AS_TEXT, MAY_BE_EMPTY, NO_DAY, STRUCK, UNREAD, Wrong, bare, mark_of, shown_of
 from exam_desk.words import FEATURES
 
 TOTAL = re.compile("(totals?|grand total|subtotal|summe|gesamt|anzahl)([ :].*)?|(sum|count)( of .*|[ :]+[0-9.,]*)?")
 EXAMPLE = "e.g. "  # before the first value of the template's example
 ANY_HEADER = set[str]().union(*HEADER_WORDS.values())
-EACH = 10_000  # rows after which a line says how far it is
 MOST_ABOVE = 1000  # rows in which a value above an empty cell is looked for
 Row = Mapping[int, Cell | None]  # by column, what is read of a row
 
@@ -33,7 +32,7 @@ class Record(NamedTuple):
 class Table(Headed):
     """A table, whose rows are read."""
 
-    def records(self, progress: Progress) -> list[Record]:
+    def records(self) -> list[Record]:
         self.tell_header()
         self.look_at_hidden()
         for row, column in sorted((row, column) for row, column in self.sheet.comments if row > self.header.row):
@@ -41,13 +40,11 @@ class Table(Headed):
         self.look_at_mixed_dates()
         found: list[Record] = []
         formulas: dict[int, int] = {}
-        for count, (row, here) in enumerate(self.counting_rows(self.filled_cells()), 1):
+        for row, here in self.counting_rows(self.filled_cells()):
             self.tell_struck(row)
             results = [place for place, cell in here.items() if cell and cell.formula and cell.kind not in UNREAD]
             formulas = dict.fromkeys(results, row) | formulas
             found += self.read_row(row, here)
-            if count % EACH == 0:
-                progress(f"{self.kind}: {count:,} rows")
         for place, row in formulas.items():
             self.note(row, place, f"formulas in column {letters_of(place)}: their last results are read")
         if not found:
