@@ -13,7 +13,7 @@ from typing import NamedTuple
 
 from exam_desk import files, mistakes
 from exam_desk.trouble import Trouble
-from exam_desk.workbook.cells import Book, Sheet, place_name
+from exam_desk.workbook.cells import Book, Cell, Sheet, place_name
 from exam_desk.workbook.headers import KINDS, WITHIN, Header, find_header, folded, possible_headers
 from exam_desk.workbook.opening import ask_child, open_book
 from exam_desk.workbook.rows import Record, Table
@@ -123,7 +123,7 @@ def headers_of(job: Job, sheet: Sheet) -> dict[str, Header | None]:
     told = [kind for kind, said in job.given.items() if said.headers and not said.sheet]
     if named := {kind: header for kind in told if (header := find_header(kind, sheet, job.given[kind]))}:
         return {**named}  # the officer has named their headers
-    if job.paper(sheet.name):
+    if job.paper(Cell("text", sheet.name, sheet.name)):
         return {}  # a list of those who sit it
     headers = {kind: header for kind in files.HEADERS if may_be(job, kind, sheet)
                and (header := find_header(kind, sheet, job.of_kind(kind), True))}
@@ -169,7 +169,8 @@ def tables_of(job: Job, sheet: Sheet) -> list[Table]:
 def list_table(job: Job, sheet: Sheet, is_named: bool) -> list[Table]:
     """A sheet that lists candidates below a header of the column number: by papers, or for the paper whose code is its
     name. A line says why it is none."""
-    found, paper = possible_headers("entries", sheet, job.of_kind("entries"), "number"), job.paper(sheet.name)
+    found = possible_headers("entries", sheet, job.of_kind("entries"), "number")
+    paper = job.paper(Cell("text", sheet.name, sheet.name))
     header = next((header for header in found if header.columns), None)
     table = header and Table(job, "entries", sheet, header, paper)
     if table and (paper or table.marks):

@@ -1,11 +1,12 @@
 """The rows of a table: which of them count, and what their cells say."""
 import functools
+import itertools
 import re
 from collections.abc import Iterator, Mapping
 from dataclasses import replace
 from typing import NamedTuple
 
-from exam_desk import files, mistakes
+from exam_desk import files
 from exam_desk.trouble import Trouble
 from exam_desk.workbook.cells import MOST_MERGED, Cell, Sheet, letters_of, place_name
 from exam_desk.workbook.headers import HEADER_WORDS, MARKED, Given, find_header, folded, seen, text_cells
@@ -41,7 +42,9 @@ class Table(Headed):
         found: list[Record] = []
         formulas: dict[int, int] = {}
         for row, here in self.counting_rows(self.filled_cells()):
-            self.tell_struck(row)
+            for place, cell in self.sheet.rows[row].items():
+                if cell.struck and place not in self.places():
+                    self.note(row, place, f"{shown_of(cell)!r} is struck out; the row is read", "struck")
             results = [place for place, cell in here.items() if cell and cell.formula and cell.kind not in UNREAD]
             formulas = dict.fromkeys(results, row) | formulas
             found += self.read_row(row, here)
@@ -81,7 +84,8 @@ class Table(Headed):
                 self.mistake(row, place, text, "mixed")
 
     def filled_cells(self) -> dict[tuple[int, int], Cell]:
-        """What the cells that are merged downwards say for the rows below their first."""
+        """What the cells that are merged downwards say for the rows below their first. A value below a merged cell is one
+        that nobody sees."""
         filled: dict[tuple[int, int], Cell] = {}
         names = {place: name for name, places in self.header.columns.items() for place in places} | self.marks
         rows, end, covered = self.sheet.rows, max(self.sheet.rows), 0
@@ -94,8 +98,10 @@ class Table(Headed):
             if bottom < self.header.row or not read:
                 continue
             reach = f"{letters_of(left)}{top}:{letters_of(right)}{bottom}"
-            self.tell_covered(reach, [(row, place) for row in range(max(top, self.header.row + 1), last + 1)
-                                      for place in read if (row, place) != (top, left)])
+            for row, place in itertools.product(range(max(top, self.header.row + 1), last + 1), read):
+                if (row, place) != (top, left) and (cell := seen(rows.get(row, {}).get(place))):
+                    text = f"{shown_of(cell)!r} is hidden by the merged cells {reach}: split them"
+                    self.mistake(row, place, text, "covered")
             cell = seen(rows.get(top, {}).get(left))
             if cell and left != right:
                 self.mistake(top, left, f"{reach} is merged over columns: split it")
@@ -104,13 +110,6 @@ class Table(Headed):
                 text = f"{reach} is merged: {names[left]} {shown_of(cell)} counts for rows {top} to {last}"
                 self.change(top, left, text, "merged")
         return filled
-
-    def tell_covered(self, reach: str, places: list[tuple[int, int]]) -> None:
-        """A value below a merged cell is one that nobody sees."""
-        for row, place in places:
-            if cell := seen(self.sheet.rows.get(row, {}).get(place)):
-                text = f"{shown_of(cell)!r} is hidden by the merged cells {reach}: split them"
-                self.mistake(row, place, text, "covered")
 
     def counting_rows(self, filled: Mapping[tuple[int, int], Cell]) -> Iterator[tuple[int, Row]]:
         """The rows that are read, each with its cells of the table; of those that are left a line says why."""
@@ -124,7 +123,7 @@ class Table(Headed):
                 self.tell_beside(row)
             elif all(folded(cell.text) == head.get(at) if cell else at not in head for at, cell in here.items()):
                 self.note(row, None, "repeats the header; it is not read", "repeated")
-            elif is_example(here):
+            elif next(cell.text for _, cell in sorted(here.items()) if cell).startswith(EXAMPLE):
                 text = f"{place_name(self.sheet, row)} is the example of the template; it is not read"
                 self.job.report.note(text, what="example")
             elif self.is_total(row, here, row == last):
@@ -139,11 +138,6 @@ class Table(Headed):
         if places:
             shown = shown_of(self.sheet.rows[row][min(places)])
             self.note(row, min(places), f"{shown!r} stands beside empty columns; the row is not read", "beside")
-
-    def tell_struck(self, row: int) -> None:
-        for place, cell in self.sheet.rows[row].items():
-            if cell.struck and place not in self.places():
-                self.note(row, place, f"{shown_of(cell)!r} is struck out; the row is read", "struck")
 
     def begins_other(self, row: int) -> bool:
         """Whether a second table begins here, which ends the reading."""
@@ -237,11 +231,6 @@ class Table(Headed):
                 where = place_name(self.sheet, line, place)
                 return f"; {where} above has {shown_of(cell)}: fill it down if it counts here too"
         return ""
-
-
-def is_example(here: Row) -> bool:
-    first = here[min(place for place, cell in here.items() if cell)]
-    return first is not None and first.kind == "text" and first.text.startswith(EXAMPLE)
 
 
 @functools.lru_cache(1 << 16)

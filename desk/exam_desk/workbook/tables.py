@@ -115,9 +115,9 @@ class Job:
         except Wrong:
             return ""
 
-    def paper(self, name: str) -> str:
-        """The paper whose code the name of a sheet is, or ''."""
-        code = self.said("paper", Cell("text", name, name))
+    def paper(self, cell: Cell | None) -> str:
+        """The paper whose code a cell has, or ''."""
+        code = self.said("paper", cell)
         return code if code in self.papers else ""
 
 
@@ -145,10 +145,9 @@ class Headed:
         """The columns below features, for entries those below the codes of papers, which may have crosses."""
         free = {place: cell for place, cell in self.head.items() if place not in self.places()}
         if self.kind == "entries":
-            codes = {place: self.job.said("paper", cell) for place, cell in free.items()}
-            return {place: code for place, code in codes.items() if code in self.job.papers}
-        words = {place: folded(text) for place, text in text_cells(free).items() if self.kind in MARKED}
-        return {place: SHORT_FEATURES[word] for place, word in words.items() if word in SHORT_FEATURES}
+            return {place: code for place, cell in free.items() if (code := self.job.paper(cell))}
+        return {place: SHORT_FEATURES[word] for place, text in text_cells(free).items()
+                if self.kind in MARKED and (word := folded(text)) in SHORT_FEATURES}
 
     def tell(self, sort: str, row: int | None, column: int | None, text: str, what: str = "") -> None:
         self.job.report.add(sort, text, self.sheet, row, column, what)
@@ -265,9 +264,8 @@ class Headed:
             return f"{what}, and has crosses ({where}): correct the code, or delete the column"
         if self.paper and folded(said) in NAMES_PAPERS:
             return f"{shown_of(cell)!r} names papers, as the sheet does: delete the column, or call the sheet Entries"
-        is_paper = cell is not None and self.job.said("paper", cell) in self.job.papers
         may_be_code = files.is_code(said.encode("utf-8", "replace")) or folded(said) in SHORT_FEATURES
-        if self.kind == "candidates" and (is_paper or place in crosses and may_be_code):
+        if self.kind == "candidates" and (self.job.paper(cell) or place in crosses and may_be_code):
             return f"what stands below {shown_of(cell)} is not read here: put papers on a sheet Entries, and needs " \
                 "on a sheet Arrangements, with the numbers"
         return ""
