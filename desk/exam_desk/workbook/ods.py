@@ -127,7 +127,13 @@ class OdsReader:
         for part in element:
             given = attributes(part)
             count = max(1, int(given.get("number-columns-repeated", 1)))
-            self.keep_beside(sheet, part, given, column)
+            rows, columns = int(given.get("number-rows-spanned", 1)), int(given.get("number-columns-spanned", 1))
+            if rows > 1 or columns > 1:
+                self.budget.keep("")
+                sheet.merged.append((self.row, column, self.row + rows - 1, column + columns - 1))
+            if any(local(inside) == "annotation" for inside in part.iter()):
+                self.budget.keep("")
+                sheet.comments.append((self.row, column))
             style = given.get("style-name")
             struck = self.is_struck(style) or style is None and (struck_row or any(
                 first <= column <= last for first, last in self.struck_columns))
@@ -139,16 +145,6 @@ class OdsReader:
             self.budget.keep("", len(found) * (repeat - 1))
             sheet.rows |= dict.fromkeys(range(self.row, self.row + repeat), found)
         self.row += repeat
-
-    def keep_beside(self, sheet: Sheet, part: Element, given: dict[str, str], column: int) -> None:
-        """Keeps whether a cell is merged with others, and its comment."""
-        rows, columns = int(given.get("number-rows-spanned", 1)), int(given.get("number-columns-spanned", 1))
-        if rows > 1 or columns > 1:
-            self.budget.keep("")
-            sheet.merged.append((self.row, column, self.row + rows - 1, column + columns - 1))
-        if any(local(inside) == "annotation" for inside in part.iter()):
-            self.budget.keep("")
-            sheet.comments.append((self.row, column))
 
     def cell(self, part: Element, given: dict[str, str], struck: bool) -> Cell | None:
         paragraphs = [inside for inside in part if local(inside) == "p"]

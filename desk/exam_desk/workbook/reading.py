@@ -56,8 +56,11 @@ def read_book(book: Book, job: Job, progress: Progress = lambda text: None) -> R
         where = ": see `office template`" if job.way.is_command else ""
         job.report.mistake(f"no sheet has rows of one of the seven kinds{where}")
     keep_codes(job, records.get("candidates", []))
-    if [*records] == ["entries"]:
-        tell_entered(job, records["entries"])
+    if [*records] == ["entries"] and job.way.is_command:  # it may be a list of withdrawals, which no import carries out
+        fields = [tuple(map(encoded, record.fields)) for record in records["entries"]]
+        if 2 * (count := sum(entry in job.known.entries for entry in fields)) >= len(fields):
+            job.report.note(f"{count} of {len(fields)} entries count already; "
+                            "to withdraw them: office withdraw --list FILE")
     check_files(job, records, progress)
     return Reading(records, job.report)
 
@@ -213,14 +216,6 @@ def keep_codes(job: Job, candidates: list[Record]) -> None:
         found = list(records)
         job.report.lines.append(Line("note", mistakes.no_codes(len(found)), found[0].sheet,
                                      [record.row for record in found], found[0].columns[2], mistakes.NO_CODE))
-
-
-def tell_entered(job: Job, entries: list[Record]) -> None:
-    """A list of entries half of which or more count already may be one of withdrawals, which no import carries out."""
-    count = sum(tuple(map(encoded, record.fields)) in job.known.entries for record in entries)
-    if job.way.is_command and 2 * count >= len(entries):
-        job.report.note(f"{count} of {len(entries)} entries count already; "
-                        "to withdraw them: office withdraw --list FILE")
 
 
 def check_files(job: Job, records: Mapping[str, list[Record]], progress: Progress) -> None:

@@ -255,7 +255,9 @@ class Headed:
         if self.kind in MARKED and place in crosses and folded(said) in NEAR:
             return f"{said!r} has crosses and is no feature: call it {NEAR[folded(said)]} if that is meant, or delete " \
                 "the column"
-        if self.kind == "entries" and (row := self.first_places(partial(says_gone, said)).get(place)):
+        gone = self.first_places(lambda cell: mark_of(cell) != "no" if is_called_list(said) else
+                                 is_called_list(cell.text)) if self.kind == "entries" else {}
+        if row := gone.get(place):
             where = place_name(self.sheet, row, place)
             return f"{where} seems to say that an entry is withdrawn: delete each such row, then the column"
         if self.kind == "entries" and place in crosses and folded(said) not in OF_PEOPLE:
@@ -269,10 +271,3 @@ class Headed:
             return f"what stands below {shown_of(cell)} is not read here: put papers on a sheet Entries, and needs " \
                 "on a sheet Arrangements, with the numbers"
         return ""
-
-
-def says_gone(header: str, cell: Cell) -> bool:
-    """Whether a cell below a header says that an entry does not count."""
-    if is_called_list(header):
-        return mark_of(cell) != "no"
-    return cell.kind == "text" and is_called_list(cell.text)
