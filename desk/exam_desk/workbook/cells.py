@@ -145,40 +145,34 @@ class Parts:
     def look(self, name: str) -> str:
         """Looks through a part, and gives the name of its first element, behind its namespace."""
         parser = xml.parsers.expat.ParserCreate(namespace_separator=" ")
-        depth = tags = cells = before = quiet = 0
-        root = ""
+        around, root, cells, quiet = list[str](), "", 0, 0
 
         def start(name: str, _: dict[str, str]) -> None:
-            nonlocal depth, tags, cells, root
-            depth += 1
-            tags += 1
-            cells += name == CELL
+            nonlocal root, cells
             root = root or name
-            if depth > MOST_DEPTH:
+            around.append(name)
+            cells += name == CELL
+            self.tags -= 1
+            if len(around) > MOST_DEPTH:
                 raise Trouble("its XML is nested too deep: it is no workbook of a school")
 
-        def stop(_: str) -> None:
-            nonlocal depth
-            depth -= 1
+        def refuse_type(*_: object) -> None:
+            raise Trouble("it holds a document type, which no spreadsheet writes")
+        parser.StartElementHandler, parser.EndElementHandler = start, lambda _: around.pop()
         parser.StartDoctypeDeclHandler = refuse_type
-        parser.StartElementHandler, parser.EndElementHandler = start, stop
         with self.archive.open(name) as stream:
             while piece := stream.read(PIECE):
+                before = self.tags
                 parser.Parse(piece)
-                quiet, before = quiet + len(piece) if tags == before else 0, tags
+                quiet = quiet + len(piece) if self.tags == before else 0
                 if quiet > MOST_QUIET:
                     raise Trouble("a piece of its XML has no end: it is no workbook of a school")
                 if cells > MOST_CELLS:
                     Budget().keep("", cells)
-                if tags > self.tags:
+                if self.tags < 0:
                     raise Trouble(f"it has more than {MOST_TAGS:,} elements: it is no workbook of a school")
         parser.Parse(b"", True)
-        self.tags -= tags
         return root
-
-
-def refuse_type(*_: object) -> None:
-    raise Trouble("it holds a document type, which no spreadsheet writes")
 
 
 def local(element: Element) -> str:

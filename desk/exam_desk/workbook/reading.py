@@ -108,8 +108,7 @@ def usable_sheets(job: Job, book: Book) -> list[Sheet]:
 
 def may_be(job: Job, kind: str, sheet: Sheet) -> bool:
     """Whether the file of columns does not say another sheet of a kind."""
-    said = job.of_kind(kind).sheet
-    return not said or folded(said) == folded(sheet.name)
+    return folded(job.of_kind(kind).sheet) in ("", folded(sheet.name))
 
 
 def kinds_by_name(job: Job, sheet: Sheet) -> list[str]:
