@@ -4,7 +4,6 @@ import functools
 import posixpath
 import re
 import zipfile
-from collections.abc import Iterator
 from xml.etree.ElementTree import Element, parse
 
 from exam_desk.trouble import Trouble
@@ -76,7 +75,12 @@ class Reader:
         self.epoch = MACINTOSH if is_1904 else WINDOWS
         self.looks = [look for part in self.with_root("styleSheet") for look in looks_of(self.tree(part))] \
             or [(GENERAL, False)]
-        self.texts = [letters for part in self.with_root("sst") for letters in self.shared(part)]
+        self.texts: list[Letters] = []  # to which cells refer by their numbers
+        for _, element in (each for part in self.with_root("sst") for each in parts.elements(part, "end")):
+            if local(element) == "si":
+                self.texts.append(letters_of(element))
+                self.budget.keep(self.texts[-1][0])
+                element.clear()
 
     def with_root(self, root: str) -> list[str]:
         """The part with this first element, if there is one."""
@@ -96,15 +100,6 @@ class Reader:
         links = self.tree(beside).findall("*") if beside in self.roots else []
         return {link.attrib["Id"]: posixpath.normpath(posixpath.join(f"/{folder}", link.attrib["Target"])).lstrip("/")
                 for link in links if link.get("TargetMode") != "External"}
-
-    def shared(self, part: str) -> Iterator[Letters]:
-        """The texts to which cells refer by their numbers."""
-        for _, element in self.parts.elements(part, "end"):
-            if local(element) == "si":
-                letters = letters_of(element)
-                self.budget.keep(letters[0])
-                yield letters
-                element.clear()
 
     def book(self) -> Book:
         notes = ["it counts its days from 1904; its dates are read so"] * (self.epoch is MACINTOSH)
