@@ -78,9 +78,7 @@ def folded(text: str) -> str:
 
 def seen(cell: Cell | None) -> Cell | None:
     """A cell, or none where it holds only what no eye sees."""
-    if cell is None or cell.kind != "text" or cell.text.isascii() and not cell.text.isspace():
-        return cell
-    return cell if bare(cell.text) else None
+    return cell if cell is None or cell.kind != "text" or bare(cell.text) else None
 
 
 def text_cells(cells: Mapping[int, Cell]) -> dict[int, str]:

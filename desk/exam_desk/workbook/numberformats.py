@@ -6,7 +6,6 @@ import re
 
 from exam_desk.workbook.cells import Cell, whole_day
 
-DAY_SECONDS = 86_400
 LAST_SERIAL = 2_950_000  # a day in the year 9976
 MOST_NUMBER = 10 ** 15  # a spreadsheet keeps fifteen digits
 LONG_NUMBER = 10 ** 11  # from here on the format General shows a power of ten
@@ -61,7 +60,7 @@ def number_cell(raw: str, form: str, epoch: datetime.datetime = WINDOWS) -> Cell
 
 def moment_cell(number: decimal.Decimal, form: str, kind: str, epoch: datetime.datetime) -> Cell:
     """The cell of a number under a format of dates or of times."""
-    seconds = round(number * DAY_SECONDS)
+    seconds = round(number * 86_400)
     if kind == "elapsed":
         return Cell("time", clock_text(seconds), "")
     if not 0 <= number < LAST_SERIAL:

@@ -22,7 +22,6 @@ OLD_FORM = "it is of the old form .xls: open it in a spreadsheet and save it as 
 NO_UTF_8 = "its letters are no UTF-8: save it as CSV UTF-8, or say --encoding cp1252 if a Windows program of Western " \
     "Europe wrote it"
 OTHERS = (b"<html", b"<!doctype", b"<table", b"<?xml", b"<meta", b"%pdf", b"{\\rtf")
-NAMES = {"\t": "tabs"}  # of what parts columns
 ALSO = {"xlsx": ("xlsx", "xlsm", "xltx", "xltm"), "ods": ("ods", "ots"), "csv": ("csv", "txt", "tsv")}
 
 
@@ -126,4 +125,5 @@ def read_csv(data: bytes, name: str, encoding: str | None = None) -> Book:
                     sheet.rows.setdefault(record.line, {})[column] = Cell("text", told, shown)
     except csv.Error:
         raise Trouble(f"one of its fields has more than {files.MOST_BYTES:,} bytes: is a quote not closed?") from None
-    return Book("csv", [sheet], [f"its columns are parted by {NAMES.get(comma, comma)}"] * (comma != ","))
+    named = "tabs" if comma == "\t" else comma
+    return Book("csv", [sheet], [f"its columns are parted by {named}"] * (comma != ","))
