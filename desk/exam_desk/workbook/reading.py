@@ -8,7 +8,6 @@ import re
 import shutil
 import tempfile
 from collections.abc import Iterable, Iterator, Mapping, Sequence
-from dataclasses import replace
 from typing import NamedTuple
 
 from exam_desk import files, mistakes
@@ -44,7 +43,8 @@ def mend_folder(folder: str, job: Job, encoding: str | None, progress: Progress)
             book.notes.append(f"{name} is none of the seven files; it is not read")
     if not book.sheets:
         raise Trouble("none of the seven files is there", folder)
-    return read_book(book, replace(job, together=[*job.together, *together]), progress)
+    job.together = [*job.together, *together]
+    return read_book(book, job, progress)
 
 
 def read_book(book: Book, job: Job, progress: Progress = lambda text: None) -> Reading:
