@@ -14,7 +14,7 @@ from exam_desk.workbook.tables import Headed
 from exam_desk.workbook.values import AS_TEXT, MAY_BE_EMPTY, NO_DAY, STRUCK, UNREAD, Wrong, bare, mark_of, shown_of
 from exam_desk.words import FEATURES
 
-TOTAL = re.compile("(totals?|grand total|subtotal|summe|gesamt|anzahl)([ :].*)?|(sum|count)( of .*|[ :]+[0-9.,]*)?")
+TOTAL = re.compile("(totals?|summe)([ :].*)?|(grand total|subtotal|gesamt|anzahl|sum|count)([ :]+[0-9.,]*)?")
 EXAMPLE = "e.g. "  # before the first value of the template's example
 ANY_HEADER = set[str]().union(*HEADER_WORDS.values())
 MOST_ABOVE = 1000  # rows in which a value above an empty cell is looked for

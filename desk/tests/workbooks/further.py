@@ -393,5 +393,5 @@ case("iso-nonsense", xlsx(candidates(["0000001", "Ada Lin", ("raw", '<c r="{ref}
      only=True, mistakes=[["Candidates!C2", "a spreadsheet made a date of it"]])
 case("of-two-kinds", xlsx(sheet("Data", [*SESSIONS, *HALLS], ["S1", "2027-06-01", "09:00", "A", "Hall A", "-"])), 1, only=True,
      mistakes=[["Data", "could be sessions or halls"]])
-case("called-like-a-total", xlsx(candidates(ADA, [None, "Sum Ting", "CODE0002"], [None, "Sum of all", None])), 1, only=True,
+case("called-like-a-total", xlsx(candidates(ADA, [None, "Sum Ting", "CODE0002"], [None, "Sum: 1,024", None])), 1, only=True,
      mistakes=[["Candidates!A3", "number is missing"]], told=[["Candidates!4", "total"]])
