@@ -177,21 +177,18 @@ class Table(Headed):
         header, columns = files.HEADERS[self.kind], self.header.columns
         fields = [self.read_field(row, name, here) for name in header]
         places = [columns[name][0] if name in columns else None for name in header]
-        crosses = self.read_marks(row, here)
+        marks = {place: mark_of(here[place]) for place in self.marks}
+        for place in [place for place, mark in marks.items() if not mark]:
+            cell = here[place]
+            why = cell and (STRUCK if cell.struck else UNREAD.get(cell.kind)) or "is neither a cross nor empty"
+            self.mistake(row, place, f"below {self.marks[place]} {shown_of(cell)!r}: {why}", "cross")
+        crosses = [place for place, mark in marks.items() if mark == "yes"]
         if self.kind == "entries" and self.marks:
             return [Record(self.sheet, row, [places[0], place], [fields[0], self.marks[place]]) for place in crosses]
         if self.marks:
             named = {self.marks[place] for place in crosses}
             fields[header.index(MARKED[self.kind])] = "+".join(name for name in FEATURES if name in named) or "-"
         return [Record(self.sheet, row, places, fields)]
-
-    def read_marks(self, row: int, here: Row) -> list[int]:
-        marks = {place: mark_of(here[place]) for place in self.marks}
-        for place in [place for place, mark in marks.items() if not mark]:
-            cell = here[place]
-            why = cell and (STRUCK if cell.struck else UNREAD.get(cell.kind)) or "is neither a cross nor empty"
-            self.mistake(row, place, f"below {self.marks[place]} {shown_of(cell)!r}: {why}", "cross")
-        return [place for place, mark in marks.items() if mark == "yes"]
 
     def read_field(self, row: int, name: str, here: Row) -> str:
         """The field of a row, which may be joined of several cells."""

@@ -395,3 +395,5 @@ case("of-two-kinds", xlsx(sheet("Data", [*SESSIONS, *HALLS], ["S1", "2027-06-01"
      mistakes=[["Data", "could be sessions or halls"]])
 case("called-like-a-total", xlsx(candidates(ADA, [None, "Sum Ting", "CODE0002"], [None, "Sum: 1,024", None])), 1, only=True,
      mistakes=[["Candidates!A3", "number is missing"]], told=[["Candidates!4", "total"]])
+case("joined-too-long", xlsx(sheet("Candidates", ["number", "Vorname", "Nachname", "code"], ["0000001", 50 * "a", 50 * "b",
+     "CODE0001"])), 1, only=True, mistakes=[["Candidates!B2", "it has 101"]])
