@@ -98,9 +98,7 @@ def decoded(data: bytes, encoding: str | None) -> str:
 def comma_of(lines: list[str]) -> str:
     """What parts the columns of a CSV file: what its first line says, or what stands as often in most of the first
     lines."""
-    if lines and (match := re.fullmatch("sep=(.)", lines[0])):
-        if match[1] != "\t" and not (match[1].isascii() and match[1].isprintable() and match[1] != '"'):
-            raise Trouble(f"{match[1]} cannot part columns, as its first line says: save it with commas or semicolons")
+    if lines and (match := re.fullmatch(r"sep=([\t !#-~])", lines[0])):
         return match[1]
     bare = [re.sub('"[^"]*"', "", line) for line in lines]
     counts = {mark: Counter(line.count(mark) for line in bare if mark in line) for mark in ",;\t|"}

@@ -120,7 +120,9 @@ class Table(Headed):
             own = {place: seen(cells.get(place)) for place in data}
             here = {place: cell or filled.get((row, place)) for place, cell in own.items()} if filled else own
             if not any(own.values()):
-                self.tell_beside(row)
+                for place in [place for place in sorted(cells) if seen(cells[place])][:1]:
+                    text = f"{shown_of(cells[place])!r} stands beside empty columns; the row is not read"
+                    self.note(row, place, text, "beside")
             elif all(folded(cell.text) == head.get(at) if cell else at not in head for at, cell in here.items()):
                 self.note(row, None, "repeats the header; it is not read", "repeated")
             elif next(cell.text for _, cell in sorted(here.items()) if cell).startswith(EXAMPLE):
@@ -132,12 +134,6 @@ class Table(Headed):
                 break
             else:
                 yield row, here
-
-    def tell_beside(self, row: int) -> None:
-        places = [place for place, cell in self.sheet.rows[row].items() if seen(cell)]
-        if places:
-            shown = shown_of(self.sheet.rows[row][min(places)])
-            self.note(row, min(places), f"{shown!r} stands beside empty columns; the row is not read", "beside")
 
     def begins_other(self, row: int) -> bool:
         """Whether a second table begins here, which ends the reading."""

@@ -196,10 +196,8 @@ class Headed:
 
     def tell_names(self) -> None:
         row = self.header.row
-        above = sorted(line for line in self.sheet.rows if line < row)
-        if above:
-            rows = f"rows {above[0]} to {above[-1]} above it are" if len(above) > 1 else f"row {above[0]} above it is"
-            self.note(row, None, f"is taken as the header; {rows} not read")
+        if min(self.sheet.rows) < row:
+            self.note(row, None, "is taken as the header; what stands above it is not read")
         read = {name: " with ".join(repr(self.head[place].text.strip()) for place in places)
                 for name, places in self.header.columns.items()}
         others = {name: shown for name, shown in read.items() if shown.lower() != repr(name)}
