@@ -42,11 +42,8 @@ def made(rows: Mapping[str, Sequence[Sequence[str]]] | None) -> bytes:
     book = Workbook()
     book.remove(book.active)
     for kind, [first, *more] in EXAMPLES.items():
-        sheet = book.create_sheet(kind.capitalize())
-        if rows is None:
-            fill(sheet, kind, [[EXAMPLE + first, *more]], **GREY)
-        else:
-            fill(sheet, kind, rows.get(kind, []))
+        texts = [[EXAMPLE + first, *more]] if rows is None else rows.get(kind, [])
+        fill(book.create_sheet(kind.capitalize()), kind, texts, **(GREY if rows is None else {}))
     out = io.BytesIO()
     book.save(out)
     return out.getvalue()
