@@ -42,11 +42,14 @@ def add_choices(parser: ArgumentParser) -> None:
 def read_source(office: Office, path: str, given: Namespace, is_folder: bool) -> Reading:
     """Reads a workbook, or a folder of import files, as the options say. Raises `Trouble` where it cannot be read."""
     from exam_desk.checking import office_knows
-    from exam_desk.workbook import headers, reading, tables, values
+    from exam_desk.workbook import headers, opening, reading, tables, values
     asked, way = headers.read_columns(given.columns) if given.columns else ({}, values.Way())
     way = way._replace(dates=given.dates or way.dates)
     job = tables.Job(office_knows(office), way, asked, given.sheet, given.leave, given.together, given.hidden)
-    return (reading.mend_folder if is_folder else reading.read_workbook)(path, job, given.encoding, command.progress)
+    command.progress("opening")
+    if is_folder:
+        return reading.mend_folder(path, job, given.encoding, command.progress)
+    return reading.read_book(opening.open_book(path, given.encoding), job, command.progress)
 
 
 def print_lines(reading: Reading, everything: bool) -> None:

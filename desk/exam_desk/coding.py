@@ -115,9 +115,9 @@ def steps_of(reading: Reading) -> list[Step]:
     if empty := sum(not record.fields[2] for record in reading.records.get("candidates", [])):
         raise Trouble(f"{lists.count(empty, 'candidate')} without an access code: nothing is changed; give --codes too "
                       "to make them")
-    steps = [Step(("import", kind, f"{kind}.csv" if place == 1 else f"{kind}-{place}.csv"), text)
+    steps = [Step(("import", kind, name), text)
              for kind in files.HEADERS if (rows := [record.fields for record in reading.records.get(kind, [])])
-             for place, (text, _) in enumerate(file_parts(kind, rows), 1)]  # several where they are too many for one
+             for name, text, _ in file_parts(kind, rows)]  # several where they are too many for one
     if not steps:
         raise Trouble("there is no row to import")
     return steps

@@ -194,7 +194,7 @@ class Writing(unittest.TestCase):
     def test_texts_stay_texts_whatever_they_look_like(self) -> None:
         names = ["=1+1", "#N/A", "A_x0041_", "A\ufffeB\uffff", "0017", "2027-06-01", "1E5", "'t Hooft", "=HYPERLINK(\"x\")", "TRUE", "\u05d0 \u00e9"]
         rows = [[f"{place:07}", name, f"CODE{place:04}"] for place, name in enumerate(names, 1)]
-        book = opening.read_zip(workbook_of({"candidates": rows}))
+        book = opening.book_of(workbook_of({"candidates": rows}), "new.xlsx")
         [sheet] = [sheet for sheet in book.sheets if sheet.name == "Candidates"]
         found = [[cell.text for _, cell in sorted(cells.items())] for row, cells in sorted(sheet.rows.items()) if row > 1]
         self.assertEqual(rows, found)

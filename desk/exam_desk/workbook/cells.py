@@ -2,15 +2,14 @@
 decided here.
 
 A workbook may come from a stranger, so whatever is read and kept has a limit. The process that reads it hands it over
-as lines of JSON to the one that asked.
+as JSON to the one that asked.
 """
 import functools
-import itertools
 import json
 import re
 import xml.parsers.expat
 import zipfile
-from collections.abc import Iterable, Iterator, Sequence
+from collections.abc import Iterator, Sequence
 from dataclasses import dataclass, field
 from typing import NamedTuple
 from xml.etree.ElementTree import Element, iterparse
@@ -22,7 +21,7 @@ MOST_UNPACKED = 512 << 20  # bytes that come out of it, in all
 MOST_CELLS = 2_000_000  # that are not empty, in all
 MOST_TEXT = 128 << 20  # letters that are kept, in all
 MOST_SHEETS, MOST_ROW, MOST_COLUMN = 500, 1_048_576, 16_384
-MOST_MERGED = 200_000  # rows that merged cells cover
+MOST_MERGED = 200_000  # rows that merged cells cover, in all
 MOST_DEPTH, MOST_QUIET = 256, 4 << 20  # elements in each other, bytes without a tag
 MOST_TAGS = 6_000_000  # in all parts
 PIECE = 1 << 16  # bytes that are looked at together
@@ -34,7 +33,7 @@ NO_WORKBOOK = "it is no workbook, whatever its name: open it in a spreadsheet an
 
 class Cell(NamedTuple):
     kind: str  # text, number, percent, date, time, bool; or as `values.UNREAD` has them
-    text: str  # a text; the digits of a number; 2027-06-07 or 2027-06-07T09:00:00; the seconds of a time
+    text: str  # a text; the digits of a number; 2027-06-07 or 2027-06-07T09:00:00; 09:00:00 of a time
     shown: str  # what the officer sees, as far as that is known, else ''
     formula: bool = False
     struck: bool = False  # all of it, or a part
@@ -52,11 +51,6 @@ class Sheet:
     merged: list[Sequence[int]] = field(default_factory=list)  # first row and column, last row and column
     comments: list[Sequence[int]] = field(default_factory=list)  # row and column
 
-    def merge(self, *area: int) -> None:
-        self.merged.append(area)
-        if len(self.merged) > MOST_MERGED:
-            raise Trouble(f"it has more than {MOST_MERGED:,} merged cells")
-
 
 class Book(NamedTuple):
     """A workbook: its form is xlsx, ods or csv; the notes are for the officer."""
@@ -73,42 +67,37 @@ class Budget:
     cells: int = MOST_CELLS
     text: int = MOST_TEXT
 
-    def keep(self, text: str, cells: int = 1) -> None:
-        """Takes some cells of one text out of the budget; raises `Trouble` where nothing is left."""
+    def keep(self, text: str, cells: int = 1, row: int = 1, column: int = 1) -> None:
+        """Takes some cells of one text, the last at this place, out of the budget; raises `Trouble` where nothing is
+        left, or no spreadsheet has the place."""
         self.cells -= cells
         self.text -= len(text) * cells
         if self.cells < 0 or self.text < 0:
             raise Trouble(f"it has more than {MOST_CELLS:,} cells or {MOST_TEXT >> 20} MB of letters: split it")
+        if not (0 < row <= MOST_ROW and 0 < column <= MOST_COLUMN):
+            raise Trouble("it has a cell beyond the last row or column")
 
 
-def packed(book: Book) -> Iterator[str]:
-    """The lines of a workbook: one for it, one for each sheet and one for each row, with the cells that are new and the
-    numbers of its cells among all."""
-    yield json.dumps({"form": book.form, "notes": book.notes})
-    known: dict[Cell, int] = {}
-    for sheet in book.sheets:
-        yield json.dumps({**vars(sheet), "rows": {}})
-        for row, cells in sheet.rows.items():
-            new = [cell for cell in dict.fromkeys(cells.values()) if cell not in known]
-            known.update(zip(new, itertools.count(len(known))))
-            yield json.dumps([row, new, [*cells], [known[cell] for cell in cells.values()]])
+def packed(book: Book) -> str:
+    """A workbook as JSON: of each row the columns, and the numbers of its cells among all that differ."""
+    numbers: dict[Cell, int] = {}
+    sheets = [{**vars(sheet), "rows": [
+        (row, [*cells], [numbers.setdefault(cell, len(numbers)) for cell in cells.values()])
+        for row, cells in sheet.rows.items()]} for sheet in book.sheets]
+    return json.dumps([book.form, sheets, book.notes, [*numbers]])
 
 
-def unpacked(lines: Iterable[str | bytes]) -> Book:
-    """The workbook of the lines; raises the `Trouble` of one that could not be read."""
-    first, *rest = lines
-    found = json.loads(first)
-    if "refused" in found:
-        raise Trouble(found["refused"])
-    book, known = Book(found["form"], [], found["notes"]), list[Cell]()
-    for found in map(json.loads, rest):
-        if isinstance(found, dict):
-            book.sheets.append(Sheet(**found))
-        else:
-            row, new, columns, numbers = found
-            known += [Cell(*cell) for cell in new]
-            book.sheets[-1].rows[row] = {column: known[number] for column, number in zip(columns, numbers)}
-    return book
+def unpacked(packed: bytes | str) -> Book:
+    """The workbook of this JSON; raises `Trouble` where it is a text alone, which says why it cannot be read."""
+    found = json.loads(packed)
+    if isinstance(found, str):
+        raise Trouble(found)
+    form, sheets, notes, cells = found
+    cells = [Cell(*cell) for cell in cells]
+    for sheet in sheets:
+        sheet["rows"] = {row: dict(zip(columns, map(cells.__getitem__, numbers)))
+                         for row, columns, numbers in sheet["rows"]}
+    return Book(form, [Sheet(**sheet) for sheet in sheets], notes)
 
 
 @functools.cache
@@ -156,40 +145,34 @@ class Parts:
     def look(self, name: str) -> str:
         """Looks through a part, and gives the name of its first element, behind its namespace."""
         parser = xml.parsers.expat.ParserCreate(namespace_separator=" ")
-        depth = tags = cells = before = quiet = 0
-        root = ""
+        around, root, cells, quiet = list[str](), "", 0, 0
 
         def start(name: str, _: dict[str, str]) -> None:
-            nonlocal depth, tags, cells, root
-            depth += 1
-            tags += 1
-            cells += name == CELL
+            nonlocal root, cells
             root = root or name
-            if depth > MOST_DEPTH:
+            around.append(name)
+            cells += name == CELL
+            self.tags -= 1
+            if len(around) > MOST_DEPTH:
                 raise Trouble("its XML is nested too deep: it is no workbook of a school")
 
-        def stop(_: str) -> None:
-            nonlocal depth
-            depth -= 1
+        def refuse_type(*_: object) -> None:
+            raise Trouble("it holds a document type, which no spreadsheet writes")
+        parser.StartElementHandler, parser.EndElementHandler = start, lambda _: around.pop()
         parser.StartDoctypeDeclHandler = refuse_type
-        parser.StartElementHandler, parser.EndElementHandler = start, stop
         with self.archive.open(name) as stream:
             while piece := stream.read(PIECE):
+                before = self.tags
                 parser.Parse(piece)
-                quiet, before = quiet + len(piece) if tags == before else 0, tags
+                quiet = quiet + len(piece) if self.tags == before else 0
                 if quiet > MOST_QUIET:
                     raise Trouble("a piece of its XML has no end: it is no workbook of a school")
                 if cells > MOST_CELLS:
                     Budget().keep("", cells)
-                if tags > self.tags:
+                if self.tags < 0:
                     raise Trouble(f"it has more than {MOST_TAGS:,} elements: it is no workbook of a school")
         parser.Parse(b"", True)
-        self.tags -= tags
         return root
-
-
-def refuse_type(*_: object) -> None:
-    raise Trouble("it holds a document type, which no spreadsheet writes")
 
 
 def local(element: Element) -> str:

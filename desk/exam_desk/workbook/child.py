@@ -1,6 +1,6 @@
 """A process of its own, with limits of memory and time, that reads or makes one workbook: child.py WHAT < BYTES
 
-`read` answers with the lines of `cells.packed`, `write` with the bytes of an .xlsx. A bomb ends this process alone.
+`read` answers as `cells.packed`, `write` with the bytes of an .xlsx. A bomb ends this process alone.
 """
 import io
 import json
@@ -13,7 +13,6 @@ from xml.parsers.expat import ExpatError
 
 MOST_MEMORY = 1 << 30  # bytes
 MOST_SECONDS = 60  # of the processor
-MISSING = "python3-openpyxl is missing: apt install python3-openpyxl"
 
 
 def limit(most_written: int) -> None:
@@ -39,7 +38,7 @@ def read(data: bytes) -> bytes:
                 raise Trouble("it is of the form .xlsb: save it as .xlsx")
             else:
                 from exam_desk.workbook.xlsx import read_xlsx as reader
-            return "\n".join(packed(reader(archive))).encode()
+            return packed(reader(archive)).encode()
     except (zipfile.BadZipFile, zlib.error, OSError, EOFError, NotImplementedError) as fault:
         why = f"it is broken or cut short: {fault}"
     except (ExpatError, ValueError, LookupError, ArithmeticError) as fault:
@@ -48,14 +47,11 @@ def read(data: bytes) -> bytes:
         why = trouble.sentence
     except MemoryError:
         why = f"it asks for more than {MOST_MEMORY >> 30} GB: it is no school's workbook"
-    return json.dumps({"refused": why}).encode()
+    return json.dumps(why).encode()
 
 
 def write(data: bytes) -> bytes:
-    try:
-        from exam_desk.workbook.making import made
-    except ModuleNotFoundError:
-        sys.exit(MISSING)
+    from exam_desk.workbook.making import made
     return made(json.loads(data))
 
 

@@ -78,17 +78,11 @@ def folded(text: str) -> str:
 
 def seen(cell: Cell | None) -> Cell | None:
     """A cell, or none where it holds only what no eye sees."""
-    if cell is None or cell.kind != "text" or cell.text.isascii() and not cell.text.isspace():
-        return cell
-    return cell if bare(cell.text) else None
+    return cell if cell is None or cell.kind != "text" or bare(cell.text) else None
 
 
 def text_cells(cells: Mapping[int, Cell]) -> dict[int, str]:
     return {column: cell.text for column, cell in cells.items() if cell.kind == "text" and len(cell.text) <= 200}
-
-
-def named_kind(sheet: Sheet) -> str | None:
-    return KINDS.get(folded(sheet.name))
 
 
 def is_called_list(name: str) -> bool:
@@ -170,13 +164,11 @@ def given_of(kind: str, said: object) -> Given:
             fixed[name] = str(value.get("always", ""))
             if set(value) != {"always"} or not mistakes.RIGHT[name](fixed[name].encode()):
                 raise Trouble(f'[{kind}] {name}: write {{ always = ".." }}, with {mistakes.CURES[name]}')
-        elif not texts or not all(isinstance(text, str) and text.strip() for text in texts) or \
-                name == "sheet" and value is texts:
-            raise Trouble(f'[{kind}] {name}: write a header such as "Pupil ID"')
-        elif value is texts and name not in ("name", "title"):
-            raise Trouble(f"[{kind}] {name}: one header; only names and titles are joined of several")
-        else:
+        elif texts and all(isinstance(text, str) and text.strip() for text in texts) and \
+                (value is not texts or name in ("name", "title")):
             headers[name] = texts
+        else:
+            raise Trouble(f'[{kind}] {name}: write a header such as "Pupil ID"; only names and titles have several')
     [sheet] = headers.pop("sheet", [""])
     return Given(headers, fixed, sheet)
 

@@ -6,7 +6,7 @@ from collections.abc import Mapping, Sequence
 from typing import Any
 
 from openpyxl.comments import Comment
-from openpyxl.styles import Alignment, Font, PatternFill
+from openpyxl.styles import Font, PatternFill
 from openpyxl.utils import get_column_letter
 from openpyxl.workbook.workbook import Workbook
 from openpyxl.worksheet.datavalidation import DataValidation
@@ -42,11 +42,8 @@ def made(rows: Mapping[str, Sequence[Sequence[str]]] | None) -> bytes:
     book = Workbook()
     book.remove(book.active)
     for kind, [first, *more] in EXAMPLES.items():
-        sheet = book.create_sheet(kind.capitalize())
-        if rows is None:
-            fill(sheet, kind, [[EXAMPLE + first, *more]], **GREY)
-        else:
-            fill(sheet, kind, rows.get(kind, []))
+        texts = [[EXAMPLE + first, *more]] if rows is None else rows.get(kind, [])
+        fill(book.create_sheet(kind.capitalize()), kind, texts, **(GREY if rows is None else {}))
     out = io.BytesIO()
     book.save(out)
     return out.getvalue()
@@ -63,10 +60,9 @@ def fill(sheet: Any, kind: str, rows: Sequence[Sequence[str]], **looks: Any) -> 
         if rule := list_of(kind, place, name):
             rule.add(f"{letter}2:{letter}{LAST_ROW.get(kind, 20_001)}")
             sheet.add_data_validation(rule)
-    like = None
     for number, row in enumerate(rows, 2):
         for place, text in enumerate(row, 1):
-            like = put(sheet, number, place, text, like, **looks)
+            put(sheet, number, place, text, **looks)
 
 
 def list_of(kind: str, place: int, name: str) -> Any:
@@ -86,16 +82,12 @@ def list_of(kind: str, place: int, name: str) -> Any:
                           error=f"not on the list: {mistakes.CURES[name]}"[:MOST_ERROR])
 
 
-def put(sheet: Any, row: int, column: int, text: str, like: Any = None, **looks: Any) -> Any:
+def put(sheet: Any, row: int, column: int, text: str, **looks: Any) -> None:
     """A text cell, whatever the text looks like: openpyxl would make a formula of =1+1 and an error of #N/A, and a
     spreadsheet would make a letter of _x0041_."""
     cell = sheet.cell(row, column)
     text = re.sub("_(?=x[0-9A-Fa-f]{4}_)", "_x005F_", text)
     cell.value = re.sub("[\ufffe\uffff]", lambda match: f"_x{ord(match[0]):04X}_", text)  # no letters of XML
     cell.data_type = "s"
-    if like is not None:
-        cell._style = like._style  # a look of its own for each cell takes ten times as long
-        return cell
-    for name, look in {"number_format": TEXT, "alignment": Alignment(horizontal="left"), **looks}.items():
+    for name, look in {"number_format": TEXT, **looks}.items():
         setattr(cell, name, look)
-    return cell

@@ -4,25 +4,20 @@ import decimal
 import functools
 import re
 
-from exam_desk.workbook.cells import Cell
+from exam_desk.workbook.cells import Cell, whole_day
 
-DAY_SECONDS = 86_400
 LAST_SERIAL = 2_950_000  # a day in the year 9976
 MOST_NUMBER = 10 ** 15  # a spreadsheet keeps fifteen digits
 LONG_NUMBER = 10 ** 11  # from here on the format General shows a power of ten
 WINDOWS, MACINTOSH = datetime.datetime(1899, 12, 30), datetime.datetime(1904, 1, 1)  # the day 0
 MACHINE_DATE = "m/d/yy?"  # the date that each machine shows in its own way
 GENERAL = "General"
-BUILT_IN = {  # formats by number
-    **dict(enumerate([GENERAL, "0", "0.00", "#,##0", "#,##0.00"])), **dict.fromkeys((5, 6), '"$"#,##0_);("$"#,##0)'),
-    **dict.fromkeys((7, 8), '"$"#,##0.00_);("$"#,##0.00)'), 9: "0%", 10: "0.00%", 11: "0.00E+00", 12: "# ?/?",
+BUILT_IN = {  # formats by number; each machine has a currency of its own, and shows it or not
+    **dict(enumerate([GENERAL, "0", "0.00", "#,##0", "#,##0.00"])), 9: "0%", 10: "0.00%", 11: "0.00E+00", 12: "# ?/?",
+    **dict.fromkeys((5, 6, 37, 38, 41, 42), "#,##0"), **dict.fromkeys((7, 8, 39, 40, 43, 44), "#,##0.00"),
     13: "# ??/??", 14: MACHINE_DATE, 15: "d-mmm-yy", 16: "d-mmm", 17: "mmm-yy", 18: "h:mm AM/PM",
     19: "h:mm:ss AM/PM", 20: "h:mm", 21: "h:mm:ss", 22: MACHINE_DATE + " h:mm", 32: "h:mm", 33: "h:mm",
     **dict.fromkeys((*range(27, 32), *range(34, 37), *range(50, 59)), MACHINE_DATE),
-    **dict.fromkeys((37, 38), "#,##0_);(#,##0)"), **dict.fromkeys((39, 40), "#,##0.00_);(#,##0.00)"),
-    41: r'_(* #,##0_);_(* \(#,##0\);_(* "-"_);_(@_)', 42: r'_("$"* #,##0_);_("$"* \(#,##0\);_("$"* "-"_);_(@_)',
-    43: r'_(* #,##0.00_);_(* \(#,##0.00\);_(* "-"??_);_(@_)',
-    44: r'_("$"* #,##0.00_);_("$"* \(#,##0.00\);_("$"* "-"??_);_(@_)',
     45: "mm:ss", 46: "[h]:mm:ss", 47: "mmss.0", 48: "##0.0E+0", 49: "@"}
 PAINTED = {  # the words of a format of dates, in python's; n is a minute
     "yyyy": "%Y", "yy": "%y", "mmmm": "%B", "mmm": "%b", "mm": "%m", "m": "%-m", "dddd": "%A", "ddd": "%a", "dd": "%d",
@@ -30,8 +25,8 @@ PAINTED = {  # the words of a format of dates, in python's; n is a minute
     ",": ","}
 NUMBER = re.compile(r"\s*[+-]?([0-9]+\.?[0-9]*|\.[0-9]+)([eE][+-]?[0-9]+)?\s*")
 TOKEN = re.compile(r'"[^"]*"|\\.|_.|\*.|\[[^\]]*\]|General|AM/PM|yy\?|([ymdhs])\1*|[0#?]+(?:[0#?,.]*[0#?])?,*|.', re.I)
-LOCALE = re.compile(r"\[\$[^\]-]*-([0-9A-F]+)\]", re.I)  # a language in the last ten bits, digits in the first
-GREGORIAN = (0, 1, 2)  # calendars, in the eight bits between
+LOCALE = re.compile(r"\[\$[^\]-]*-([0-9A-F]+)\]", re.I)  # digits, a calendar, a country in six bits, a language in ten
+COUNTRY, ENGLISH = 0xfc00, 9
 OTHER_DIGITS = 2 << 24  # the first number of a language and its digits where these are of another script
 DIGITS = re.compile(r"(?P<group>#,)?#*(?P<zeros>0*)(?:\.(?P<places>0+))?")
 
@@ -49,54 +44,35 @@ def number_cell(raw: str, form: str, epoch: datetime.datetime = WINDOWS) -> Cell
     number = decimal.Decimal(raw)
     if abs(number) > MOST_NUMBER:
         return Cell("number", f"{number:.5E}", f"{number:.5E}")
-    tidy = decimal.Context(prec=15).create_decimal(number).normalize()  # beyond is noise of binary numbers
-    plain = format(tidy, "f") if tidy else "0"
-    marks = format_marks(form)
-    if marks & {"date", "time"}:
-        return moment_cell(number, plain, form, marks, epoch)
+    kind = kind_of(form)
+    if kind in ("date", "time", "elapsed"):
+        return moment_cell(number, form, kind, epoch)
+    tidy = decimal.Context(prec=15).create_decimal(number * 100 if kind == "percent" else number).normalize()
+    plain = format(tidy, "f") if tidy else "0"  # beyond fifteen digits is noise of binary numbers
     try:
-        shown = shown_number(form, tidy * 100 if "percent" in marks else tidy)
+        shown = shown_number(form, tidy)
         if not shown:
             return Cell("unseen", plain, "") if tidy else None
     except Unknown:
-        shown = ""
-    if "percent" in marks:
-        times = format((tidy * 100).normalize(), "f") if tidy else "0"
-        return Cell("percent", times, shown or f"{times}%")
-    if "power" in marks:
-        shown = f"{float(number):.2E}" if form.split(";")[0] == "0.00E+00" else ""
-    return Cell("number", plain, shown)
+        shown = f"{float(number):.2E}" if form == BUILT_IN[11] else ""
+    return Cell("percent", f"{plain}%", shown or f"{plain}%") if kind == "percent" else Cell("number", plain, shown)
 
 
-def whole_seconds(seconds: decimal.Decimal) -> decimal.Decimal:
-    """Seconds without the noise of binary numbers."""
-    near = decimal.Decimal(round(seconds))
-    return near if abs(seconds - near) < decimal.Decimal("0.05") else seconds
-
-
-def moment_cell(number: decimal.Decimal, plain: str, form: str, marks: frozenset[str],
-                epoch: datetime.datetime) -> Cell:
+def moment_cell(number: decimal.Decimal, form: str, kind: str, epoch: datetime.datetime) -> Cell:
     """The cell of a number under a format of dates or of times."""
-    seconds = whole_seconds(round(number * DAY_SECONDS, 3))
-    if "date" in marks or number >= 1 and "elapsed" not in marks:
-        if not 0 <= number < LAST_SERIAL:
-            return Cell("number", plain, "")
-        days, rest = divmod(seconds, DAY_SECONDS)
-        when = epoch + datetime.timedelta(days=int(days))
-        if not rest and "date" not in marks:
-            return Cell("time", str(seconds), "")
-        text = f"{when:%Y-%m-%d}" + (f"T{clock_text(rest)}" if rest else "")
-        return Cell("date", text, painted(form, when + datetime.timedelta(seconds=float(rest))))
-    shown = ""
-    if "elapsed" not in marks and 0 <= number < 1:
-        shown = painted(form, epoch + datetime.timedelta(seconds=float(seconds)))
-    return Cell("time", str(seconds), shown)
+    seconds = round(number * 86_400)
+    if kind == "elapsed":
+        return Cell("time", clock_text(seconds), "")
+    if not 0 <= number < LAST_SERIAL:
+        return Cell("number", str(number), "")
+    when = epoch + datetime.timedelta(seconds=seconds)
+    if kind == "date" or number >= 1:
+        return Cell("date", whole_day(when.isoformat()), painted(form, when))
+    return Cell("time", clock_text(seconds), painted(form, when))
 
 
-def clock_text(seconds: decimal.Decimal) -> str:
-    whole = int(seconds)
-    text = f"{whole // 3600:02}:{whole // 60 % 60:02}:{whole % 60:02}"
-    return text if whole == seconds else text + f"{float(seconds) % 1:.3f}"[1:]
+def clock_text(seconds: int) -> str:
+    return f"{seconds // 3600:02}:{seconds // 60 % 60:02}:{seconds % 60:02}"
 
 
 @functools.cache
@@ -107,18 +83,19 @@ def sections(form: str) -> list[list[str]]:
 
 
 @functools.cache
-def format_marks(form: str) -> frozenset[str]:
-    """What a number format makes of a number: date, time, elapsed (time), percent, power (of ten)."""
+def kind_of(form: str) -> str:
+    """What a number format makes of a number: date, time (of day), elapsed (time), percent or number."""
     tokens = sections(form)[0]
-    elapsed = any(re.fullmatch(r"\[(h+|m+|s+)\]", token, re.I) for token in tokens)
     bare = "".join(token for token in tokens if token[0] not in '"\\_*[').lower()
-    digits = re.search("[0#?]", re.sub(r"s[.,]0+", "s", bare).replace("yy?", "yy"))
+    if "%" in bare:
+        return "percent"
+    if bare in ("general", "@") or re.search("[0#?]", re.sub(r"s[.,]0+", "s", bare).replace("yy?", "yy")):
+        return "number"
+    elapsed = any(re.fullmatch(r"\[(h+|m+|s+)\]", token, re.I) for token in tokens)
     clock = elapsed or re.search("[hs]", bare)
-    marks = {"percent": "%" in bare, "power": digits and re.search(r"e[+-]", bare)}
-    if bare not in ("general", "@") and not digits:
-        is_date = re.search("[ydge]|b[12]", bare) or "m" in bare and not clock or "mmm" in bare
-        marks |= {"date": is_date, "time": clock, "elapsed": elapsed}
-    return frozenset(mark for mark, has in marks.items() if has)
+    if re.search("[ydgeb]|mmm", bare) or "m" in bare and not clock:
+        return "date"
+    return "elapsed" if elapsed else "time" if clock else "number"
 
 
 def shown_number(form: str, number: decimal.Decimal) -> str:
@@ -186,9 +163,7 @@ def locale_of(form: str) -> int:
 def painted(form: str, when: datetime.datetime) -> str:
     """How a date is shown, where the format is plain; '' where that is not known."""
     words = [token if token[0] in '"\\_*' else token.lower() for token in sections(form)[0]]
-    locale = locale_of(form)
-    foreign = locale & 0x3ff not in (0, 9) and {"mmm", "mmmm", "ddd", "dddd"} & set(words)
-    if foreign or locale >= OTHER_DIGITS or locale >> 16 & 0xff not in GREGORIAN:
+    if locale_of(form) & ~COUNTRY not in (0, ENGLISH):
         return ""
     known = PAINTED | ({"h": "%-I", "hh": "%I"} if "am/pm" in words else {})
     letters = "".join(word[0] if word[0] in "ymdhs" else " " for word in words)

@@ -2,18 +2,16 @@
 import decimal
 import re
 import zipfile
-from collections.abc import Iterator
 from xml.etree.ElementTree import Element
 
 from exam_desk.trouble import Trouble
-from exam_desk.workbook.cells import (MOST_COLUMN, MOST_ROW, MOST_SHEETS, PASSWORD, Book, Budget, Cell, Parts,
-                                      Sheet, local, whole_day)
-from exam_desk.workbook.numberformats import number_cell, whole_seconds
+from exam_desk.workbook.cells import MOST_SHEETS, PASSWORD, Book, Budget, Cell, Parts, Sheet, local, whole_day
+from exam_desk.workbook.numberformats import clock_text, number_cell
 
 ASIDE = ("tracked-changes", "shapes", "dde-links", "forms")  # what stands among sheets and rows, and has no cells
 IN_LETTERS = ("annotation", "frame", "custom-shape", "control", "ruby-text", "note")  # in letters, and none of them
 GROUPS = ("table-row-group", "table-column-group")
-SPACES = {"s": "\0", "tab": "\1", "line-break": "\2"}  # what stands in letters as an element
+SPACES = {"s": " ", "tab": "\t", "line-break": "\n"}  # what stands in letters as an element
 FAMILIES = {"p": "paragraph", "span": "text", "a": "text"}  # of the styles of what stands in a cell
 DURATION = re.compile(r"P(?:([0-9]+)D)?T([0-9]+)H(?:([0-9]+)M)?(?:([0-9]+(?:[.,][0-9]+)?)S)?")
 NUMBERS = {"float": "General", "currency": "General", "percentage": "0%"}
@@ -22,16 +20,12 @@ Style = tuple[str, str | None]  # a family and a name, none of what all of the f
 
 def read_ods(archive: zipfile.ZipFile) -> Book:
     """The workbook of a zip; raises `Trouble` or what `child` catches where it cannot be read whole."""
-    parts = Parts(archive)
-    names = [name for name in ("META-INF/manifest.xml", "styles.xml", "content.xml") if name in parts.names]
-    for name in names:
-        parts.look(name)
-        if any(local(element) == "encryption-data" for _, element in parts.elements(name, "start")):
-            raise Trouble(PASSWORD)
-    reader = OdsReader()
-    for name in names[-2:]:
-        for event, element in parts.elements(name, "start", "end"):
-            reader.take(event == "start", local(element), element)
+    parts, reader = Parts(archive), OdsReader()
+    for name in ("META-INF/manifest.xml", "styles.xml", "content.xml"):
+        if name in parts.names:
+            parts.look(name)
+            for event, element in parts.elements(name, "start", "end"):
+                reader.take(event == "start", local(element), element)
     if not reader.spreadsheet:
         raise Trouble("it is a document of another kind: save the table as .xlsx or .ods")
     return Book("ods", reader.sheets, parts.notes(r"(Basic|Scripts)/"))
@@ -61,6 +55,8 @@ class OdsReader:
         """Takes the beginning or the end of an element."""
         if name in ASIDE or self.aside:
             self.aside += (1 if start else -1) if name in ASIDE else 0
+        elif start and name == "encryption-data":
+            raise Trouble(PASSWORD)
         elif start and name == "spreadsheet":
             self.spreadsheet = True
         elif start and name in GROUPS:
@@ -124,36 +120,31 @@ class OdsReader:
 
     def keep_row(self, sheet: Sheet, element: Element) -> None:
         given = attributes(element)
-        repeat = repeated(sheet, given, "row")
+        repeat = max(1, int(given.get("number-rows-repeated", 1)))
         sheet.hidden_rows += [(self.row, self.row + repeat - 1)] * self.is_hidden(given, "table-row")
         struck_row = self.is_struck(given.get("default-cell-style-name"))
         column, found = 1, dict[int, Cell]()
         for part in element:
             given = attributes(part)
-            count = repeated(sheet, given, "column")
-            self.keep_beside(sheet, part, given, column)
+            count = max(1, int(given.get("number-columns-repeated", 1)))
+            rows, columns = int(given.get("number-rows-spanned", 1)), int(given.get("number-columns-spanned", 1))
+            if rows > 1 or columns > 1:
+                self.budget.keep("")
+                sheet.merged.append((self.row, column, self.row + rows - 1, column + columns - 1))
+            if any(local(inside) == "annotation" for inside in part.iter()):
+                self.budget.keep("")
+                sheet.comments.append((self.row, column))
             style = given.get("style-name")
             struck = self.is_struck(style) or style is None and (struck_row or any(
                 first <= column <= last for first, last in self.struck_columns))
             if cell := self.cell(part, given, struck):
-                if column + count - 1 > MOST_COLUMN or self.row + repeat - 1 > MOST_ROW:
-                    raise Trouble(f"the sheet {sheet.name} repeats a cell beyond its last row or column")
-                self.budget.keep(cell.text, count)
+                self.budget.keep(cell.text, count, self.row + repeat - 1, column + count - 1)
                 found |= dict.fromkeys(range(column, column + count), cell)
             column += count
         if found:
             self.budget.keep("", len(found) * (repeat - 1))
             sheet.rows |= dict.fromkeys(range(self.row, self.row + repeat), found)
         self.row += repeat
-
-    def keep_beside(self, sheet: Sheet, part: Element, given: dict[str, str], column: int) -> None:
-        """Keeps whether a cell is merged with others, and its comment."""
-        rows, columns = int(given.get("number-rows-spanned", 1)), int(given.get("number-columns-spanned", 1))
-        if rows > 1 or columns > 1:
-            sheet.merge(self.row, column, self.row + rows - 1, column + columns - 1)
-        if any(local(inside) == "annotation" for inside in part.iter()):
-            self.budget.keep("")
-            sheet.comments.append((self.row, column))
 
     def cell(self, part: Element, given: dict[str, str], struck: bool) -> Cell | None:
         paragraphs = [inside for inside in part if local(inside) == "p"]
@@ -173,44 +164,28 @@ class OdsReader:
             found = Cell("date", whole_day(value), shown)
         elif kind == "time" and (match := DURATION.fullmatch(value)):
             days, hours, minutes, rest = (decimal.Decimal((part or "0").replace(",", ".")) for part in match.groups())
-            seconds = ((days * 24 + hours) * 60 + minutes) * 60 + rest
-            found = Cell("time", str(whole_seconds(seconds)), shown)
+            found = Cell("time", clock_text(round(((days * 24 + hours) * 60 + minutes) * 60 + rest)), shown)
         elif kind == "time" or shown or given.get("string-value"):
             found = Cell("text", shown or value or given.get("string-value", ""), shown)
         else:
             return None
         struck = struck or any(self.is_struck(attributes(inside).get("style-name"), FAMILIES.get(local(inside), ""))
-                               for paragraph in paragraphs for inside in in_letters(paragraph))
+                               for paragraph in paragraphs for inside in paragraph.iter())
         is_unseen = paragraphs and not shown
         return found and found._replace(kind="unseen" if is_unseen else found.kind, formula=formula, struck=struck)
 
 
-def repeated(sheet: Sheet, given: dict[str, str], what: str) -> int:
-    count = int(given.get(f"number-{what}s-repeated", 1))
-    if count < 1:
-        raise Trouble(f"the sheet {sheet.name} repeats a {what} {count} times")
-    return count
-
-
-def letters(paragraph: Element) -> str:
+def letters(element: Element) -> str:
     """The letters of a paragraph, in which white space counts once and elements stand for more."""
-    text = re.sub("[ \t\r\n]+", " ", "".join(pieces(paragraph)))
-    return text.replace("\0", " ").replace("\1", "\t").replace("\2", "\n")
-
-
-def pieces(element: Element) -> Iterator[str]:
-    yield element.text or ""
+    text = plain_space(element.text)
     for inside in element:
         if (name := local(inside)) in SPACES:
-            yield SPACES[name] * max(0, min(int(attributes(inside).get("c", 1)), 1000))
+            text += SPACES[name] * max(0, min(int(attributes(inside).get("c", 1)), 1000))
         elif name not in IN_LETTERS:
-            yield from pieces(inside)
-        yield inside.tail or ""
+            text += letters(inside)
+        text += plain_space(inside.tail)
+    return text
 
 
-def in_letters(element: Element) -> Iterator[Element]:
-    """The elements of a paragraph whose letters are its own, itself first."""
-    yield element
-    for inside in element:
-        if local(inside) not in IN_LETTERS:
-            yield from in_letters(inside)
+def plain_space(text: str | None) -> str:
+    return re.sub("[ \t\r\n]+", " ", text or "")

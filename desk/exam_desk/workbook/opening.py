@@ -4,33 +4,31 @@ import importlib.util
 import os
 import pathlib
 import re
-import stat
 import subprocess
 import sys
 from collections import Counter
 
 from exam_desk import files
 from exam_desk.trouble import Trouble
-from exam_desk.workbook.child import MISSING
 from exam_desk.workbook.cells import (MOST_FILE, NO_WORKBOOK, OPEN_AND_SAVE, PASSWORD, Book, Budget, Cell, Sheet,
                                       unpacked)
 
 CHILD = pathlib.Path(__file__).resolve().parent / "child.py"
 PYTHON = "/usr/bin/python3"  # the one for which Debian installs its libraries
 MOST_SECONDS = 600  # of the clock, for the process that reads; of the processor it has fewer
+MISSING = "python3-openpyxl is missing: apt install python3-openpyxl"
 OLD = b"\xd0\xcf\x11\xe0\xa1\xb1\x1a\xe1"  # of Microsoft's compound files
 OLD_FORM = "it is of the old form .xls: open it in a spreadsheet and save it as .xlsx or .ods"
 NO_UTF_8 = "its letters are no UTF-8: save it as CSV UTF-8, or say --encoding cp1252 if a Windows program of Western " \
     "Europe wrote it"
 OTHERS = (b"<html", b"<!doctype", b"<table", b"<?xml", b"<meta", b"%pdf", b"{\\rtf")
-NAMES = {"\t": "tabs"}  # of what parts columns
 ALSO = {"xlsx": ("xlsx", "xlsm", "xltx", "xltm"), "ods": ("ods", "ots"), "csv": ("csv", "txt", "tsv")}
 
 
 def open_book(path: str, encoding: str | None = None) -> Book:
     """The workbook at a path; raises `Trouble` with the path where it cannot be read whole."""
     try:
-        if not stat.S_ISREG(os.stat(path).st_mode):
+        if os.path.exists(path) and not os.path.isfile(path):
             raise Trouble("it is no file")
         with open(path, "rb") as file:
             return book_of(file.read(MOST_FILE + 1), os.path.basename(path), encoding)
@@ -44,7 +42,7 @@ def book_of(data: bytes, name: str, encoding: str | None = None) -> Book:
     if len(data) > MOST_FILE:
         raise Trouble(f"it is larger than {MOST_FILE >> 20} MB")
     stem, suffix = os.path.splitext(name)
-    book = read_zip(data) if is_zip(data, encoding) else read_csv(data, stem, encoding)
+    book = unpacked(ask_child("read", data)) if is_zip(data, encoding) else read_csv(data, stem, encoding)
     suffix = suffix[1:].lower()
     if suffix not in ALSO[book.form]:
         book.notes.append(f"the name ends in .{suffix}, but it is a file .{book.form}; it is read as that")
@@ -55,9 +53,7 @@ def is_zip(data: bytes, encoding: str | None = None) -> bool:
     """Whether a file is a zip or else a text; raises `Trouble` where it is neither. A text has no zeros but in UTF-16,
     or in an encoding that the officer names."""
     if data.startswith(OLD):
-        if "EncryptedPackage".encode("utf-16-le") in data:
-            raise Trouble(PASSWORD)
-        raise Trouble(OLD_FORM)
+        raise Trouble(PASSWORD if "EncryptedPackage".encode("utf-16-le") in data else OLD_FORM)
     if data.startswith((b"PK\3\4", b"PK\5\6")):
         return True
     start = data[:1000].lstrip(b"\xef\xbb\xbf \r\n\t").lower()
@@ -65,10 +61,6 @@ def is_zip(data: bytes, encoding: str | None = None) -> bool:
     if start.startswith(OTHERS) or has_zeros and data[:2] not in (b"\xff\xfe", b"\xfe\xff"):
         raise Trouble(NO_WORKBOOK)
     return False
-
-
-def read_zip(data: bytes) -> Book:
-    return unpacked(ask_child("read", data).split(b"\n"))
 
 
 def ask_child(what: str, data: bytes) -> bytes:
@@ -85,7 +77,7 @@ def ask_child(what: str, data: bytes) -> bytes:
         raise Trouble("it takes too long or too much memory: it is no workbook of a school")
     if done.returncode:
         said = done.stderr.decode("utf-8", "replace").strip().split("\n")[-1]
-        raise Trouble(MISSING if said == MISSING else f"a part of it is broken ({said[:200]}): {OPEN_AND_SAVE}")
+        raise Trouble(MISSING if "'openpyxl'" in said else f"a part of it is broken ({said[:200]}): {OPEN_AND_SAVE}")
     return done.stdout
 
 
@@ -106,9 +98,7 @@ def decoded(data: bytes, encoding: str | None) -> str:
 def comma_of(lines: list[str]) -> str:
     """What parts the columns of a CSV file: what its first line says, or what stands as often in most of the first
     lines."""
-    if lines and (match := re.fullmatch("sep=(.)", lines[0])):
-        if match[1] != "\t" and not (match[1].isascii() and match[1].isprintable() and match[1] != '"'):
-            raise Trouble(f"{match[1]} cannot part columns, as its first line says: save it with commas or semicolons")
+    if lines and (match := re.fullmatch(r"sep=([\t !#-~])", lines[0])):
         return match[1]
     bare = [re.sub('"[^"]*"', "", line) for line in lines]
     counts = {mark: Counter(line.count(mark) for line in bare if mark in line) for mark in ",;\t|"}
@@ -126,16 +116,12 @@ def read_csv(data: bytes, name: str, encoding: str | None = None) -> Book:
         for record in files.records(text.encode(), comma.encode()):
             if not record.closed:
                 raise Trouble(f"a quote is not closed in line {record.line}")
-            if cells := {column: text_cell(field.decode(), budget) for column, field in enumerate(record.fields, 1)
-                         if field}:
-                sheet.rows[record.line] = cells
+            for column, shown in enumerate(map(bytes.decode, record.fields), 1):
+                if shown:
+                    budget.keep(shown)
+                    told = re.sub(r'\A="([^"]*)"\Z', r"\1", shown)  # some programs write ="0000017" for the zeros
+                    sheet.rows.setdefault(record.line, {})[column] = Cell("text", told, shown)
     except csv.Error:
         raise Trouble(f"one of its fields has more than {files.MOST_BYTES:,} bytes: is a quote not closed?") from None
-    return Book("csv", [sheet], [f"its columns are parted by {NAMES.get(comma, comma)}"] * (comma != ","))
-
-
-def text_cell(shown: str, budget: Budget) -> Cell:
-    """A field of CSV. Some programs write ="0000017" so that a spreadsheet leaves the zeros."""
-    text = re.sub(r'\A="([^"]*)"\Z', r"\1", shown)
-    budget.keep(text)
-    return Cell("text", text, shown)
+    named = "tabs" if comma == "\t" else comma
+    return Book("csv", [sheet], [f"its columns are parted by {named}"] * (comma != ","))

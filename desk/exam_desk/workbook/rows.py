@@ -1,25 +1,24 @@
 """The rows of a table: which of them count, and what their cells say."""
-import enum
 import functools
+import itertools
+import re
 from collections.abc import Iterator, Mapping
+from dataclasses import replace
 from typing import NamedTuple
 
-from exam_desk import files, mistakes
+from exam_desk import files
 from exam_desk.trouble import Trouble
 from exam_desk.workbook.cells import MOST_MERGED, Cell, Sheet, letters_of, place_name
-from exam_desk.workbook.headers import HEADER_WORDS, MARKED, Given, folded, match_header, seen, text_cells
-from exam_desk.workbook.tables import Headed, Progress
-from exam_desk.workbook.values import (AS_TEXT, MAY_BE_EMPTY, NO_DAY, STRUCK, UNREAD, Mark, Wrong, bare, mark_of,
-                                       shown_of)
+from exam_desk.workbook.headers import HEADER_WORDS, MARKED, Given, find_header, folded, seen, text_cells
+from exam_desk.workbook.tables import Headed
+from exam_desk.workbook.values import AS_TEXT, MAY_BE_EMPTY, NO_DAY, STRUCK, UNREAD, Wrong, bare, mark_of, shown_of
 from exam_desk.words import FEATURES
 
-TOTALS = {"total", "totals", "sum", "summe", "gesamt", "count", "anzahl", "grand total", "subtotal"}
+TOTAL = re.compile("(totals?|summe)([ :].*)?|(grand total|subtotal|gesamt|anzahl|sum|count)([ :]+[0-9.,]*)?")
 EXAMPLE = "e.g. "  # before the first value of the template's example
 ANY_HEADER = set[str]().union(*HEADER_WORDS.values())
-EACH = 10_000  # rows after which a line says how far it is
 MOST_ABOVE = 1000  # rows in which a value above an empty cell is looked for
 Row = Mapping[int, Cell | None]  # by column, what is read of a row
-Field = tuple[str, bool]  # its text, and whether that is wrong
 
 
 class Record(NamedTuple):
@@ -34,7 +33,7 @@ class Record(NamedTuple):
 class Table(Headed):
     """A table, whose rows are read."""
 
-    def records(self, progress: Progress) -> list[Record]:
+    def records(self) -> list[Record]:
         self.tell_header()
         self.look_at_hidden()
         for row, column in sorted((row, column) for row, column in self.sheet.comments if row > self.header.row):
@@ -42,13 +41,13 @@ class Table(Headed):
         self.look_at_mixed_dates()
         found: list[Record] = []
         formulas: dict[int, int] = {}
-        for count, (row, here) in enumerate(self.counting_rows(self.filled_cells()), 1):
-            self.tell_struck(row)
+        for row, here in self.counting_rows(self.filled_cells()):
+            for place, cell in self.sheet.rows[row].items():
+                if cell.struck and place not in self.places():
+                    self.note(row, place, f"{shown_of(cell)!r} is struck out; the row is read", "struck")
             results = [place for place, cell in here.items() if cell and cell.formula and cell.kind not in UNREAD]
             formulas = dict.fromkeys(results, row) | formulas
             found += self.read_row(row, here)
-            if count % EACH == 0:
-                progress(f"{self.kind}: {count:,} rows")
         for place, row in formulas.items():
             self.note(row, place, f"formulas in column {letters_of(place)}: their last results are read")
         if not found:
@@ -85,21 +84,24 @@ class Table(Headed):
                 self.mistake(row, place, text, "mixed")
 
     def filled_cells(self) -> dict[tuple[int, int], Cell]:
-        """What the cells that are merged downwards say for the rows below their first."""
+        """What the cells that are merged downwards say for the rows below their first. A value below a merged cell is one
+        that nobody sees."""
         filled: dict[tuple[int, int], Cell] = {}
         names = {place: name for name, places in self.header.columns.items() for place in places} | self.marks
         rows, end, covered = self.sheet.rows, max(self.sheet.rows), 0
         for top, left, bottom, right in self.sheet.merged:
+            last = min(bottom, end)
+            covered += max(1, last - top)
+            if covered > MOST_MERGED:
+                raise Trouble(f"its merged cells cover more than {MOST_MERGED:,} rows")
             read = [place for place in names if left <= place <= right]
             if bottom < self.header.row or not read:
                 continue
-            last = min(bottom, end)
-            covered += max(0, last - top)
-            if covered > MOST_MERGED:
-                raise Trouble(f"its merged cells cover more than {MOST_MERGED:,} rows")
             reach = f"{letters_of(left)}{top}:{letters_of(right)}{bottom}"
-            self.tell_covered(reach, [(row, place) for row in range(max(top, self.header.row + 1), last + 1)
-                                      for place in read if (row, place) != (top, left)])
+            for row, place in itertools.product(range(max(top, self.header.row + 1), last + 1), read):
+                if (row, place) != (top, left) and (cell := seen(rows.get(row, {}).get(place))):
+                    text = f"{shown_of(cell)!r} is hidden by the merged cells {reach}: split them"
+                    self.mistake(row, place, text, "covered")
             cell = seen(rows.get(top, {}).get(left))
             if cell and left != right:
                 self.mistake(top, left, f"{reach} is merged over columns: split it")
@@ -108,13 +110,6 @@ class Table(Headed):
                 text = f"{reach} is merged: {names[left]} {shown_of(cell)} counts for rows {top} to {last}"
                 self.change(top, left, text, "merged")
         return filled
-
-    def tell_covered(self, reach: str, places: list[tuple[int, int]]) -> None:
-        """A value below a merged cell is one that nobody sees."""
-        for row, place in places:
-            if cell := seen(self.sheet.rows.get(row, {}).get(place)):
-                text = f"{shown_of(cell)!r} is hidden by the merged cells {reach}: split them"
-                self.mistake(row, place, text, "covered")
 
     def counting_rows(self, filled: Mapping[tuple[int, int], Cell]) -> Iterator[tuple[int, Row]]:
         """The rows that are read, each with its cells of the table; of those that are left a line says why."""
@@ -125,10 +120,12 @@ class Table(Headed):
             own = {place: seen(cells.get(place)) for place in data}
             here = {place: cell or filled.get((row, place)) for place, cell in own.items()} if filled else own
             if not any(own.values()):
-                self.tell_beside(row)
+                for place in [place for place in sorted(cells) if seen(cells[place])][:1]:
+                    text = f"{shown_of(cells[place])!r} stands beside empty columns; the row is not read"
+                    self.note(row, place, text, "beside")
             elif all(folded(cell.text) == head.get(at) if cell else at not in head for at, cell in here.items()):
                 self.note(row, None, "repeats the header; it is not read", "repeated")
-            elif is_example(here):
+            elif next(cell.text for _, cell in sorted(here.items()) if cell).startswith(EXAMPLE):
                 text = f"{place_name(self.sheet, row)} is the example of the template; it is not read"
                 self.job.report.note(text, what="example")
             elif self.is_total(row, here, row == last):
@@ -138,38 +135,23 @@ class Table(Headed):
             else:
                 yield row, here
 
-    def tell_beside(self, row: int) -> None:
-        places = [place for place, cell in self.sheet.rows[row].items() if seen(cell)]
-        if places:
-            shown = shown_of(self.sheet.rows[row][min(places)])
-            self.note(row, min(places), f"{shown!r} stands beside empty columns; the row is not read", "beside")
-
-    def tell_struck(self, row: int) -> None:
-        for place, cell in self.sheet.rows[row].items():
-            if cell.struck and place not in self.places():
-                self.note(row, place, f"{shown_of(cell)!r} is struck out; the row is read", "struck")
-
     def begins_other(self, row: int) -> bool:
         """Whether a second table begins here, which ends the reading."""
         cells = self.sheet.rows[row]
-        if sum(text.lstrip()[:1].isalpha() and folded(text) in ANY_HEADER for text in text_cells(cells).values()) < 2:
+        if len(ANY_HEADER.intersection(map(folded, text_cells(cells).values()))) < 2:
             return False
-        found = {kind: match_header(kind, row, cells, Given()).columns.keys() for kind in files.HEADERS}
-        kinds = [kind for kind, have in found.items() if len(have) >= 2 and files.needed_columns(kind) <= have]
+        alone = replace(self.sheet, rows={row: cells})
+        kinds = [kind for kind in files.HEADERS if find_header(kind, alone, Given())]
         if kinds:
             self.mistake(row, None, f"a second table begins here ({kinds[0]}?): give it a sheet of its own")
         return bool(kinds)
 
     def is_total(self, row: int, here: Row, is_last: bool) -> bool:
         """Whether a row is a total below the table: it is left out, and a line says so."""
-        cells, columns = self.sheet.rows[row].values(), self.header.columns
-        if not any(cell.formula or total_of(cell) for cell in cells):
-            return False
-        header = files.HEADERS[self.kind]
+        cells, columns, header = self.sheet.rows[row].values(), self.header.columns, files.HEADERS[self.kind]
         keys = [here.get(columns[name][0]) for name in header[:files.KEYS.get(self.kind, 1)] if name in columns]
-        word = Total.SAID in map(total_of, cells)
+        word, key_is_word = any(map(says_total, cells)), any(map(says_total, keys))
         computed = any(cell and cell.formula for cell in here.values())
-        key_is_word = any(map(total_of, keys))
         if not (key_is_word or word and not all(keys) or computed and not any(keys)):
             return False
         needed = [name for name in header if name not in MAY_BE_EMPTY]
@@ -189,40 +171,29 @@ class Table(Headed):
     def read_row(self, row: int, here: Row) -> list[Record]:
         """The records of a row: one, or in a table of papers one for each cross."""
         header, columns = files.HEADERS[self.kind], self.header.columns
-        read = [self.read_field(row, name, here) for name in header]
-        fields, is_wrong = [text for text, _ in read], any(wrong for _, wrong in read)
+        fields = [self.read_field(row, name, here) for name in header]
         places = [columns[name][0] if name in columns else None for name in header]
-        crosses = self.read_marks(row, here)
-        if self.kind == "entries" and self.marks:  # a number with a mistake is entered for nothing
-            return [Record(self.sheet, row, [places[0], place], [fields[0], self.marks[place]])
-                    for place in crosses if not is_wrong]
+        marks = {place: mark_of(here[place]) for place in self.marks}
+        for place in [place for place, mark in marks.items() if not mark]:
+            cell = here[place]
+            why = cell and (STRUCK if cell.struck else UNREAD.get(cell.kind)) or "is neither a cross nor empty"
+            self.mistake(row, place, f"below {self.marks[place]} {shown_of(cell)!r}: {why}", "cross")
+        crosses = [place for place, mark in marks.items() if mark == "yes"]
+        if self.kind == "entries" and self.marks:
+            return [Record(self.sheet, row, [places[0], place], [fields[0], self.marks[place]]) for place in crosses]
         if self.marks:
             named = {self.marks[place] for place in crosses}
             fields[header.index(MARKED[self.kind])] = "+".join(name for name in FEATURES if name in named) or "-"
         return [Record(self.sheet, row, places, fields)]
 
-    def read_marks(self, row: int, here: Row) -> list[int]:
-        marks = {place: mark_of(here[place]) for place in self.marks}
-        for place in [place for place, mark in marks.items() if mark is Mark.UNCLEAR]:
-            cell = here[place]
-            why = cell and (STRUCK if cell.struck else UNREAD.get(cell.kind)) or "is neither a cross nor empty"
-            self.mistake(row, place, f"below {self.marks[place]} {shown_of(cell)!r}: {why}", "cross")
-        return [place for place, mark in marks.items() if mark is Mark.CROSS]
-
-    def read_field(self, row: int, name: str, here: Row) -> Field:
+    def read_field(self, row: int, name: str, here: Row) -> str:
         """The field of a row, which may be joined of several cells."""
         places = self.header.columns.get(name, [])
-        if len(places) < 2:
-            return self.read_one(row, name, here, places[0]) if places else (self.fixed.get(name, ""), False)
-        found = [self.read_one(row, name, here, place) for place in places if here[place]]
-        text, is_wrong = " ".join(text for text, _ in found), any(wrong for _, wrong in found)
-        said = text.encode("utf-8", "replace")
-        if is_wrong or mistakes.RIGHT[name](said):
-            return text, is_wrong
-        self.mistake(row, places[0], f"{name} {files.shown(said)}: {mistakes.needed(name, said)}", name)
-        return text, True
+        if len(places) > 1:
+            return " ".join(self.read_one(row, name, here, place) for place in places if here[place])
+        return self.read_one(row, name, here, places[0]) if places else self.fixed.get(name, "")
 
-    def read_one(self, row: int, name: str, here: Row, place: int) -> Field:
+    def read_one(self, row: int, name: str, here: Row, place: int) -> str:
         """The field of one cell. A time is taken beside a day if that is the day of the session, or no day."""
         cell = here[place]
         try:
@@ -237,14 +208,14 @@ class Table(Headed):
             what = f"{name} is missing{self.above(row, place)}" if cell is None else \
                 f"{name} {files.shown(shown_of(cell).encode('utf-8', 'replace'))}: {fault}"
             self.mistake(row, place, what, f"{name} {fault}")
-            return (cell.text if cell else ""), True
+            return cell.text if cell else ""
         if value.text != (cell.shown if cell else ""):
             why = f" ({value.why})" if value.why else ""
             group = name if name == "date" else name + value.why.split(",")[0]
             self.change(row, place, f"{name} {shown_of(cell)} became {value.text or '(empty)'}{why}", group)
         if value.note:
             self.note(row, place, f"{name} {value.text} {value.note}", name + value.note)
-        return value.text, False
+        return value.text
 
     def above(self, row: int, place: int) -> str:
         """What stands above an empty cell, if it was meant to be filled down."""
@@ -255,24 +226,7 @@ class Table(Headed):
         return ""
 
 
-def is_example(here: Row) -> bool:
-    first = here[min(place for place, cell in here.items() if cell)]
-    return first is not None and first.kind == "text" and first.text.startswith(EXAMPLE)
-
-
-class Total(enum.IntEnum):
-    """Whether a cell says that its row is a total; perhaps where it begins with a word such as sum."""
-
-    NO, PERHAPS, SAID = range(3)
-
-
 @functools.lru_cache(1 << 16)
-def total_of(cell: Cell | None) -> Total:
-    if cell is None or cell.kind != "text" or cell.text[:1].isdigit():
-        return Total.NO
-    word = bare(cell.text[:101]).lower().rstrip(":")
-    first = word.split(" ")[0].rstrip(":")
-    if word not in TOTALS and first not in TOTALS:
-        return Total.NO
-    is_said = len(cell.text) <= 100 and (word in TOTALS or first in ("total", "totals", "summe"))
-    return Total.SAID if is_said else Total.PERHAPS
+def says_total(cell: Cell | None) -> bool:
+    """Whether a cell says that its row is a total, such as `Total`, `Summe der Plätze` or `Sum: 24`."""
+    return cell is not None and cell.kind == "text" and TOTAL.fullmatch(bare(cell.text[:100]).lower()) is not None

@@ -12,7 +12,7 @@ from exam_desk import files, mistakes
 from exam_desk.workbook.cells import Cell, Sheet, letters_of, place_name
 from exam_desk.workbook.headers import (HEADER_WORDS, MARKED, OF_PEOPLE, Given, Header, folded, is_called_list, seen,
                                         text_cells)
-from exam_desk.workbook.values import NEAR, SHORT_FEATURES, UNREAD, Mark, Value, Way, Wrong, mark_of, read_value, shown_of
+from exam_desk.workbook.values import NEAR, SHORT_FEATURES, UNREAD, Value, Way, Wrong, mark_of, read_value, shown_of
 
 WORDS = {"change": "", "note": "NOTE: ", "mistake": "MISTAKE: "}  # in the order in which they are printed
 MOST_PLACES = 5  # of lines that stand together
@@ -115,9 +115,9 @@ class Job:
         except Wrong:
             return ""
 
-    def paper(self, name: str) -> str:
-        """The paper whose code the name of a sheet is, or ''."""
-        code = self.said("paper", Cell("text", name, name))
+    def paper(self, cell: Cell | None) -> str:
+        """The paper whose code a cell has, or ''."""
+        code = self.said("paper", cell)
         return code if code in self.papers else ""
 
 
@@ -145,10 +145,9 @@ class Headed:
         """The columns below features, for entries those below the codes of papers, which may have crosses."""
         free = {place: cell for place, cell in self.head.items() if place not in self.places()}
         if self.kind == "entries":
-            codes = {place: self.job.said("paper", cell) for place, cell in free.items()}
-            return {place: code for place, code in codes.items() if code in self.job.papers}
-        words = {place: folded(text) for place, text in text_cells(free).items() if self.kind in MARKED}
-        return {place: SHORT_FEATURES[word] for place, word in words.items() if word in SHORT_FEATURES}
+            return {place: code for place, cell in free.items() if (code := self.job.paper(cell))}
+        return {place: SHORT_FEATURES[word] for place, text in text_cells(free).items()
+                if self.kind in MARKED and (word := folded(text)) in SHORT_FEATURES}
 
     def tell(self, sort: str, row: int | None, column: int | None, text: str, what: str = "") -> None:
         self.job.report.add(sort, text, self.sheet, row, column, what)
@@ -172,8 +171,8 @@ class Headed:
     def first_crosses(self) -> dict[int, int]:
         """Of each column with crosses below the header the first row with one. Numbers count as crosses where a column
         has nothing else than 1 and 0."""
-        others = self.first_places(lambda cell: mark_of(cell) is Mark.UNCLEAR)
-        return {place: row for place, row in self.first_places(lambda cell: mark_of(cell) is Mark.CROSS).items()
+        others = self.first_places(lambda cell: not mark_of(cell))
+        return {place: row for place, row in self.first_places(lambda cell: mark_of(cell) == "yes").items()
                 if place not in others or self.sheet.rows[row][place].kind != "number"}
 
     # -- lines on the header
@@ -197,10 +196,8 @@ class Headed:
 
     def tell_names(self) -> None:
         row = self.header.row
-        above = sorted(line for line in self.sheet.rows if line < row)
-        if above:
-            rows = f"rows {above[0]} to {above[-1]} above it are" if len(above) > 1 else f"row {above[0]} above it is"
-            self.note(row, None, f"is taken as the header; {rows} not read")
+        if min(self.sheet.rows) < row:
+            self.note(row, None, "is taken as the header; what stands above it is not read")
         read = {name: " with ".join(repr(self.head[place].text.strip()) for place in places)
                 for name, places in self.header.columns.items()}
         others = {name: shown for name, shown in read.items() if shown.lower() != repr(name)}
@@ -256,7 +253,9 @@ class Headed:
         if self.kind in MARKED and place in crosses and folded(said) in NEAR:
             return f"{said!r} has crosses and is no feature: call it {NEAR[folded(said)]} if that is meant, or delete " \
                 "the column"
-        if self.kind == "entries" and (row := self.first_places(partial(says_gone, said)).get(place)):
+        gone = self.first_places(lambda cell: mark_of(cell) != "no" if is_called_list(said) else
+                                 is_called_list(cell.text)) if self.kind == "entries" else {}
+        if row := gone.get(place):
             where = place_name(self.sheet, row, place)
             return f"{where} seems to say that an entry is withdrawn: delete each such row, then the column"
         if self.kind == "entries" and place in crosses and folded(said) not in OF_PEOPLE:
@@ -265,16 +264,8 @@ class Headed:
             return f"{what}, and has crosses ({where}): correct the code, or delete the column"
         if self.paper and folded(said) in NAMES_PAPERS:
             return f"{shown_of(cell)!r} names papers, as the sheet does: delete the column, or call the sheet Entries"
-        is_paper = cell is not None and self.job.said("paper", cell) in self.job.papers
         may_be_code = files.is_code(said.encode("utf-8", "replace")) or folded(said) in SHORT_FEATURES
-        if self.kind == "candidates" and (is_paper or place in crosses and may_be_code):
+        if self.kind == "candidates" and (self.job.paper(cell) or place in crosses and may_be_code):
             return f"what stands below {shown_of(cell)} is not read here: put papers on a sheet Entries, and needs " \
                 "on a sheet Arrangements, with the numbers"
         return ""
-
-
-def says_gone(header: str, cell: Cell) -> bool:
-    """Whether a cell below a header says that an entry does not count."""
-    if is_called_list(header):
-        return mark_of(cell) is not Mark.NONE
-    return cell.kind == "text" and is_called_list(cell.text)

@@ -1,7 +1,6 @@
 """What a cell says as a value of the office: `read_value` has a rule for each column of the import files."""
 import datetime
 import decimal
-import enum
 import functools
 import re
 import unicodedata
@@ -11,7 +10,6 @@ from typing import NamedTuple
 
 from exam_desk import files, mistakes
 from exam_desk.workbook.cells import Cell
-from exam_desk.workbook.numberformats import clock_text
 from exam_desk.words import FEATURES, long_day, plain
 
 MOST_LETTERS = 1000  # of a cell: the patterns take long for longer ones
@@ -56,8 +54,8 @@ NEXT_DAYS = ("1899-12-31", "1900-01-01")  # of a time of more than 24 hours
 NO_DAY = ("1899-12-30", "1904-01-01", *NEXT_DAYS)  # what stands in front of a time alone
 HOURS = re.compile(r"([0-9]{1,2})(?::([0-5][0-9])(?::00)?|"
                    r" ?(?:h|hrs?|hours?|Std\.?) ?(?:([0-5]?[0-9]) ?(?:min|mins|minutes|m)?)?)", re.I)
-MINUTES = re.compile(r"([0-9]{1,3}) ?(min|mins|minutes|Minuten|')\.?", re.I)
-PERCENT = re.compile(r"([0-9]{1,3})(?:[.,]0+)? ?(?:%|percent|per cent|Prozent)", re.I)
+UNITS = {"minutes": re.compile(r"([0-9]{1,3}) ?(min|mins|minutes|Minuten|')\.?", re.I),
+         "extra": re.compile(r"([0-9]{1,3})(?:[.,]0+)? ?(?:%|percent|per cent|Prozent)", re.I)}
 TIMES = [re.compile(form) for form in (
     r"(?P<hour>[0-9]{1,2}):(?P<minute>[0-9]{2})(?::00(?:\.0+)?)?",
     r"(?i)(?P<hour>0?[1-9]|1[0-2])(?:[:.](?P<minute>[0-5][0-9]))?(?::00)? ?(?P<half>[ap])\.?m\.?",
@@ -72,8 +70,7 @@ UNREAD = {  # the kinds that no column takes
     "unseen": "a value whose number format shows nothing: delete it, or give it another format"}
 REFUSED = UNREAD | {  # what is said of a kind where a column does not take it
     "date": f"a spreadsheet made a date of it: {AGAIN}", "time": f"a spreadsheet made a time of it: {AGAIN}",
-    "bool": f"a spreadsheet made TRUE or FALSE of it: {AGAIN}", "percent": f"it is a percentage: {AGAIN}",
-    "number": "it is a number: type it as text"}
+    "bool": f"a spreadsheet made TRUE or FALSE of it: {AGAIN}", "percent": f"it is a percentage: {AGAIN}"}
 EMPTY = Cell("text", "", "")
 MAY_BE_EMPTY = {"requires", "features", "needs", "extra", "reserved", "code"}  # columns in which that is a value
 STRUCK = "is struck out: delete the row, or take the line away if it counts"
@@ -107,8 +104,6 @@ def read_value(column: str, cell: Cell | None, way: Way) -> Value:
     """The value of a cell, or of an empty one, as a column of the import files asks for it; raises `Wrong`."""
     found = cell or EMPTY
     read, kinds = READERS[column]
-    if found.kind in UNREAD:
-        raise Wrong(UNREAD[found.kind])
     if len(found.text) > MOST_LETTERS:
         raise Wrong(f"has {len(found.text):,} letters; at most {MOST_LETTERS} are looked at")
     if found.struck:
@@ -118,20 +113,23 @@ def read_value(column: str, cell: Cell | None, way: Way) -> Value:
     if taught is not None:
         return Value(taught, "by the file of columns")
     if found.kind not in kinds:
-        raise Wrong(REFUSED[found.kind])
+        raise Wrong(REFUSED.get(found.kind, f"it is a number: {mistakes.CURES[column]}"))
+    if found.kind == "number" and column != "reserved":
+        refuse_other_digits(column, found)
     value = read(column, found, text, way)
-    is_none = column == "code" and not value.text
-    if not is_none and not mistakes.RIGHT[column](value.text.encode("utf-8", "surrogatepass")):
-        raise Wrong(mistakes.needed(column, value.text.encode("utf-8", "replace")) if cell else "is missing")
+    if not mistakes.RIGHT[column](value.text.encode("utf-8", "surrogatepass")) and (value.text or column != "code"):
+        said = "has seconds: " if SECONDS.search(text) else ""
+        needed = mistakes.needed(column, value.text.encode("utf-8", "replace"))
+        raise Wrong(said + needed if cell else "is missing")
     return value._replace(why=reason(done, value.why))
 
 
-def refuse_other_digits(cell: Cell) -> None:
-    """Raises `Wrong` where a number is shown as other digits: 17 under the format "2027"000 is shown as 2027017."""
-    if cell.kind != "number":
-        return
+def refuse_other_digits(column: str, cell: Cell) -> None:
+    """Raises `Wrong` where a number is shown as other digits: 17 under the format "2027"000 is shown as 2027017. A code
+    is all that is shown."""
     shown = re.sub(r"[^0-9.,-]", "", GROUPS.sub("", cell.shown)).strip(".,").replace(",", ".")
-    if not NUMBER.fullmatch(shown) or decimal.Decimal(shown) != decimal.Decimal(cell.text):
+    has_more = column in mistakes.CODES and re.search("[^0-9., ]", cell.shown)
+    if has_more or not NUMBER.fullmatch(shown) or decimal.Decimal(shown) != decimal.Decimal(cell.text):
         how = f"shown as {cell.shown}" if cell.shown else "shown by a format of its own"
         raise Wrong(f"is the number {cell.text}, but {how}: type what counts as text")
 
@@ -140,9 +138,7 @@ def shown_of(cell: Cell | None) -> str:
     """A cell in words, for a line on it."""
     if cell is None:
         return "(empty)"
-    if not cell.shown and cell.kind == "time":
-        return f"{clock_text(decimal.Decimal(cell.text))} (a true time)"
-    text = cell.shown or cell.text + " (a true date)" * (cell.kind == "date")
+    text = cell.shown or cell.text + f" (a true {cell.kind})" * (cell.kind in ("date", "time"))
     return plain(text if len(text) <= 200 else f"{text[:197]}..")
 
 
@@ -170,26 +166,18 @@ def parts_of(text: str, forms: list[re.Pattern[str]]) -> dict[str, str]:
     return next((match.groupdict("") for match in (form.fullmatch(text) for form in forms) if match), {})
 
 
-class Mark(enum.Enum):
-    """What a cell of a table of crosses holds."""
-
-    NONE, CROSS, UNCLEAR = range(3)
-
-
-def mark_of(cell: Cell | None) -> Mark:
-    if cell is None:
-        return Mark.NONE
-    if cell.kind not in ("text", "number", "bool") or cell.struck or len(cell.text) > 20:
-        return Mark.UNCLEAR
-    word = cell.text if cell.kind == "bool" else bare(cell.shown).translate(DASHES).lower()
-    is_none = word in NO and (word or cell.kind == "text")
-    return Mark.CROSS if word in YES else Mark.NONE if is_none else Mark.UNCLEAR
+@functools.lru_cache(1 << 16)
+def mark_of(cell: Cell | None) -> str:
+    """What a cell of a table of crosses says: yes, no, or '' where that is not clear."""
+    try:
+        return read_value("reserved", cell, Way()).text
+    except Wrong:
+        return ""
 
 
 # -- numbers of candidates, codes and names
 
 def read_number(column: str, cell: Cell, text: str, way: Way) -> Value:
-    refuse_other_digits(cell)
     quoted = cell.kind == "text" and text.startswith(QUOTES)
     digits = text[1:] if quoted else text
     padded = mistakes.with_zeros(digits.encode("utf-8", "surrogatepass")).decode("utf-8", "surrogatepass")
@@ -202,8 +190,10 @@ def read_number(column: str, cell: Cell, text: str, way: Way) -> Value:
 
 def read_code(column: str, cell: Cell, text: str, way: Way) -> Value:
     """The code of a session, a paper or a hall, or an access code."""
+    if cell.kind == "number" and re.fullmatch("0[0-9]+", cell.shown):
+        return Value(cell.shown)
     if cell.kind == "number":
-        return code_of_number(text, cell)
+        return Value(text, "", "is a number in the workbook: right only if the code has no zeros in front and no E")
     plain = text.translate(DASHES)
     code = plain.upper() if plain.isascii() else plain
     joined = re.sub(r"\s+", "-", code)
@@ -214,35 +204,17 @@ def read_code(column: str, cell: Cell, text: str, way: Way) -> Value:
     return Value(code, done, "looks like what a spreadsheet makes of a code such as MAR-1" if is_day else "")
 
 
-def code_of_number(text: str, cell: Cell) -> Value:
-    if "E" in cell.shown.upper() or not re.fullmatch("[0-9]+", text):
-        how = f", shown as {cell.shown}" if cell.shown != text else ""
-        raise Wrong(f"a spreadsheet made the number {text} of it{how}: {AGAIN}")
-    if re.search("[^0-9., ]", cell.shown):
-        raise Wrong(f"is the number {text}, but shown as {cell.shown}: type what counts as text")
-    refuse_other_digits(cell)
-    if re.fullmatch("0[0-9]+", cell.shown):
-        return Value(cell.shown)
-    return Value(text, "", "is a number in the workbook: right only if the code has no zeros in front and no E")
-
-
 def read_name(column: str, cell: Cell, text: str, way: Way) -> Value:
     if re.search("[\n\r\t\v\f\x85\u2028\u2029]", text):
         raise Wrong("a line end or a tab inside: make it one line")
-    note = "is a number in the workbook" if cell.kind == "number" else ""
-    if note and cell.shown != text:
-        refuse_other_digits(cell)
-        text = cell.shown
-    if re.search("[\u200c\u200d]", text) and not mistakes.WRONG_LETTERS(text):
-        note = "holds a joiner that no eye sees; it is kept"
-    return Value(text, "", note)
+    if cell.kind == "number":
+        return Value(cell.shown, "", "is a number in the workbook")
+    return Value(text, "", "holds a joiner that no eye sees; it is kept" * bool(re.search("[\u200c\u200d]", text)))
 
 
 # -- words
 
 def read_yes(column: str, cell: Cell, text: str, way: Way) -> Value:
-    if cell.kind == "bool":
-        return Value("yes" if text == "true" else "no", "yes or no")
     if cell.kind == "number":  # some spreadsheets store TRUE as a number that is shown so
         text = bare(cell.shown)
     word = text.translate(DASHES).lower()
@@ -276,19 +248,16 @@ def read_date(column: str, cell: Cell, text: str, way: Way) -> Value:
     if cell.kind == "number" and re.fullmatch("[0-9]{5}", text):  # nobody sees which day a count of days is
         day = datetime.date(1899, 12, 30) + datetime.timedelta(days=int(text))
         raise Wrong(f"a number without the format of a date: if {day} is meant, give the column the format date")
-    refuse_other_digits(cell)
     said = parts_of(text, DATES)
-    if not said:
-        return Value(text)
     if "short" in said:
         raise Wrong("the year has two digits: write a date as 2027-06-07")
     if "first" in said:
         return slashed(int(said["first"]), int(said["second"]), said["year"], way)
     if said.get("time", "").strip("0:."):
         raise Wrong(f"has a time too, {said['time'][:5]}: leave the date alone in its cell")
-    month = said.get("month") or MONTHS.get(said["name"].lower())
+    month = said.get("month") or MONTHS.get(said.get("name", "").lower())
     if not month:
-        raise Wrong(mistakes.CURES["date"])
+        return Value(text)
     value = day_value(f"{said['year']}-{month:0>2}-{said['day']:0>2}",
                       ", the day first as always with points" * ("point" in said))
     if weekday := said.get("weekday", "").lower():
@@ -308,15 +277,13 @@ def day_value(text: str, more: str = "") -> Value:
 
 def slashed(first: int, second: int, year: str, way: Way) -> Value:
     """A date such as 01/06/2027, whose day and month only the officer knows apart."""
-    dates = {"day-first": f"{year}-{second:02}-{first:02}", "month-first": f"{year}-{first:02}-{second:02}"}
-    possible = [order for order, month in (("day-first", second), ("month-first", first)) if month <= 12]
-    if first == second:
-        return day_value(dates["month-first"])
-    if len(possible) < 2 and way.dates in ("", *possible) and possible:
-        return day_value(dates[possible[0]], f", as there is no month {max(first, second)}")
-    if way.dates in possible:
-        return day_value(dates[way.dates], f", {way.dates}")
-    if way.dates or not possible:
+    orders, most = {"day-first": (second, first), "month-first": (first, second)}, max(first, second)
+    dates = {order: f"{year}-{month:02}-{day:02}" for order, (month, day) in orders.items()
+             if month <= 12 and way.dates in ("", order)}
+    if len({*dates.values()}) == 1:
+        return day_value(dates.popitem()[1], f", as there is no month {most}" if most > 12 else
+                         f", {way.dates}" if way.dates else "")
+    if not dates:
         raise Wrong(f"is no date with the {way.dates.replace('-', ' ')}" if way.dates else mistakes.CURES["date"])
     raise Wrong(f"{' or '.join(dates.values())}{BOTH_DATES}{way.or_say('--dates day-first or --dates month-first')}")
 
@@ -324,13 +291,8 @@ def slashed(first: int, second: int, year: str, way: Way) -> Value:
 # -- times of day, minutes, desks and percent
 
 def read_time(column: str, cell: Cell, text: str, way: Way) -> Value:
-    """The time of a cell, with the day that stands there too. A number is none, whatever part of a day it is."""
-    if cell.kind == "number":
-        raise Wrong("a number: type a time as 09:00, or give the column the format time")
-    text = clock_text(decimal.Decimal(text)) if cell.kind == "time" else text
+    """The time of a cell, with the day that stands there too."""
     said = parts_of(text, TIMES)
-    if not said and SECONDS.search(text):
-        raise Wrong("has seconds: write a time as 09:00")
     if not said:
         return Value(text)
     if not said["hour"]:
@@ -350,32 +312,22 @@ def read_time(column: str, cell: Cell, text: str, way: Way) -> Value:
 
 def read_whole(column: str, cell: Cell, text: str, way: Way) -> Value:
     """Minutes, desks, or percent of extra time."""
-    refuse_other_digits(cell)
     if cell.kind == "number" and re.search("[^0-9.,' -]", cell.shown):
         text = bare(cell.shown)  # with its unit
-    elif cell.kind == "percent":
-        text = f"{text}%"
-    elif cell.kind == "time":
-        text = clock_text(decimal.Decimal(text)).removeprefix("0")
     if column == "extra" and text.lower() in NONE:
         return Value("0", "none" if text else "empty is none")
     number = re.sub(r"^0+(?=[0-9])", "", text)
     done = "zeros in front taken away" if number != text else ""
     number = re.sub(r"^([0-9]+)\.(?!000$)0+$", r"\1", number)
-    note = "is 1 percent; 100 percent is 100" if (column, number) == ("extra", "1") else ""
-    if column == "extra" and (match := PERCENT.fullmatch(number)):
-        number, done = match[1], reason(done, "percent")
-    elif column == "extra" and re.fullmatch(r"0?[.,][0-9]+", number):
+    if column in UNITS and (match := UNITS[column].fullmatch(number)):
+        return Value(match[1], "percent" if column == "extra" else column)
+    if column == "extra" and re.fullmatch(r"0?[.,][0-9]+", number):
         percent = (decimal.Decimal(number.replace(",", ".")) * 100).normalize()
         raise Wrong(f"{percent:f} percent? Write the percent as a whole number")
-    elif column == "minutes" and (match := MINUTES.fullmatch(number)):
-        number, done = match[1].lstrip("0"), reason(done, "minutes")
-    elif column == "minutes" and (match := HOURS.fullmatch(number)):
+    if column == "minutes" and (match := HOURS.fullmatch(number)):
         hours, minutes = int(match[1]), int(match[2] or match[3] or 0)
-        number, done = str(60 * hours + minutes), reason(done, f"{hours} h {minutes} min")
-    elif column == "minutes" and SECONDS.search(number):
-        raise Wrong("has seconds: write the minutes as a number")
-    return Value(number, done, note)
+        return Value(str(60 * hours + minutes), f"{hours} h {minutes} min")
+    return Value(number, done, "is 1 percent; 100 percent is 100" * ((column, number) == ("extra", "1")))
 
 
 Reader = Callable[[str, Cell, str, Way], Value]  # of a column, a cell, its letters and what the officer said
@@ -384,7 +336,7 @@ READERS: dict[str, tuple[Reader, str]] = {  # with the kinds of cells that a col
     "reserved": (read_yes, "text number bool"),
     **dict.fromkeys(["session", "paper", "hall", "code"], (read_code, "text number")),
     **dict.fromkeys(["name", "title"], (read_name, "text number")),
-    **dict.fromkeys(["start", "until"], (read_time, "text number date time")),
+    **dict.fromkeys(["start", "until"], (read_time, "text date time")),
     "minutes": (read_whole, "text number time"), "desks": (read_whole, "text number"),
     "extra": (read_whole, "text number percent"),
     **dict.fromkeys(["requires", "features", "needs"], (read_features, "text"))}

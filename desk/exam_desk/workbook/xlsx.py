@@ -4,12 +4,11 @@ import functools
 import posixpath
 import re
 import zipfile
-from collections.abc import Iterator
 from xml.etree.ElementTree import Element, parse
 
 from exam_desk.trouble import Trouble
-from exam_desk.workbook.cells import (MOST_COLUMN, MOST_ROW, MOST_SHEETS, NO_WORKBOOK, OPEN_AND_SAVE, Book, Budget,
-                                      Cell, Parts, Sheet, local, place_name, whole_day)
+from exam_desk.workbook.cells import (MOST_SHEETS, NO_WORKBOOK, OPEN_AND_SAVE, Book, Budget, Cell, Parts, Sheet,
+                                      local, place_name, whole_day)
 from exam_desk.workbook.numberformats import BUILT_IN, GENERAL, MACINTOSH, WINDOWS, number_cell, text_cell
 
 STRICT = "http://purl.oclc.org/ooxml/"  # begins the names of the elements of another form
@@ -76,7 +75,12 @@ class Reader:
         self.epoch = MACINTOSH if is_1904 else WINDOWS
         self.looks = [look for part in self.with_root("styleSheet") for look in looks_of(self.tree(part))] \
             or [(GENERAL, False)]
-        self.texts = [letters for part in self.with_root("sst") for letters in self.shared(part)]
+        self.texts: list[Letters] = []  # to which cells refer by their numbers
+        for _, element in (each for part in self.with_root("sst") for each in parts.elements(part, "end")):
+            if local(element) == "si":
+                self.texts.append(letters_of(element))
+                self.budget.keep(self.texts[-1][0])
+                element.clear()
 
     def with_root(self, root: str) -> list[str]:
         """The part with this first element, if there is one."""
@@ -96,15 +100,6 @@ class Reader:
         links = self.tree(beside).findall("*") if beside in self.roots else []
         return {link.attrib["Id"]: posixpath.normpath(posixpath.join(f"/{folder}", link.attrib["Target"])).lstrip("/")
                 for link in links if link.get("TargetMode") != "External"}
-
-    def shared(self, part: str) -> Iterator[Letters]:
-        """The texts to which cells refer by their numbers."""
-        for _, element in self.parts.elements(part, "end"):
-            if local(element) == "si":
-                letters = letters_of(element)
-                self.budget.keep(letters[0])
-                yield letters
-                element.clear()
 
     def book(self) -> Book:
         notes = ["it counts its days from 1904; its dates are read so"] * (self.epoch is MACINTOSH)
@@ -138,7 +133,8 @@ class Reader:
                 sheet.hidden_columns.append((int(element.attrib["min"]), int(element.attrib["max"])))
             elif tag == "mergeCell":
                 first, _, last = element.attrib["ref"].partition(":")
-                sheet.merge(*place_of(first), *place_of(last or first))
+                self.budget.keep("")
+                sheet.merged.append((*place_of(first), *place_of(last or first)))
         for linked in self.links_of(part).values():
             if self.roots.get(linked) == "comments":
                 sheet.comments += [place_of(each.attrib["ref"]) for each in self.tree(linked).iterfind(".//{*}comment")]
@@ -155,11 +151,9 @@ class Reader:
                 raise Trouble(f"{place_name(sheet, row, column)} {why}: {OPEN_AND_SAVE}") from fault
             if cell is None:
                 continue
-            if not (0 < at <= MOST_ROW and 0 < column <= MOST_COLUMN):
-                raise Trouble("it has a cell beyond the last row or column")
+            self.budget.keep(cell.text, 1, at, column)
             if column in sheet.rows.setdefault(at, {}):
                 raise Trouble(f"it has the cell {place_name(sheet, at, column)} twice: {OPEN_AND_SAVE}")
-            self.budget.keep(cell.text)
             sheet.rows[at][column] = cell
 
     def cell(self, part: Element) -> Cell | None:

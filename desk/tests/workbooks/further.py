@@ -391,3 +391,9 @@ case("row-number-with-point", own_sheet(row_xml(1, *CANDIDATES) + row_xml(2, *AD
      files=A, quiet=True)
 case("iso-nonsense", xlsx(candidates(["0000001", "Ada Lin", ("raw", '<c r="{ref}" t="d"><v>2027</v></c>')])), 1,
      only=True, mistakes=[["Candidates!C2", "a spreadsheet made a date of it"]])
+case("of-two-kinds", xlsx(sheet("Data", [*SESSIONS, *HALLS], ["S1", "2027-06-01", "09:00", "A", "Hall A", "-"])), 1, only=True,
+     mistakes=[["Data", "could be sessions or halls"]])
+case("called-like-a-total", xlsx(candidates(ADA, [None, "Sum Ting", "CODE0002"], [None, "Sum: 1,024", None])), 1, only=True,
+     mistakes=[["Candidates!A3", "number is missing"]], told=[["Candidates!4", "total"]])
+case("joined-too-long", xlsx(sheet("Candidates", ["number", "Vorname", "Nachname", "code"], ["0000001", 50 * "a", 50 * "b",
+     "CODE0001"])), 1, only=True, mistakes=[["Candidates!B2", "it has 101"]])
