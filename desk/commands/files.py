@@ -83,7 +83,8 @@ It reads sessions.csv, papers.csv, halls.csv, openings.csv, candidates.csv, arra
 are there, and the office's file if there is one; it changes nothing. Each mistake is a line: file, line, value, cure.
 What the program takes, though it may be wrong, is a note. Files without a mistake it imports into a private copy, and
 notes who would have no desk, who would miss a paper, who would sit otherwise, and which sessions would be at one time.
-Candidates without an access code are no mistake, since `office take FOLDER --codes` makes them; one line counts them.
+Candidates without an access code are no mistake, since `office take FOLDER` fills in those that the office has, and makes
+the others with --codes; one line counts them.
 The status is 1 if `office import` would refuse a file: for a mistake, or for a code that is empty.
 """)
 def check_files(parser: ArgumentParser) -> bool:

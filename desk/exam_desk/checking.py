@@ -29,7 +29,7 @@ def lines_on(name: str, found: mistakes.Found, word: str) -> Iterator[str]:
         yield f"{f'{name} line {mistake.line}: ' if name else ''}{word}{mistake.what}: {mistake.text}"
     for column, count in found.counts.items():
         if column == mistakes.NO_CODE:
-            yield f"{name}: {mistakes.no_codes(count)}; without them an import refuses the file"
+            yield f"{name}: {mistakes.no_codes(count, found.kept)}; without them an import refuses the file"
         elif count > found.most:
             yield f"{name}: .. and {lists.count(count - found.most, 'more line')} on {column}"
 

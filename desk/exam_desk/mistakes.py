@@ -66,6 +66,7 @@ class Found:
 
     def __init__(self, most: int) -> None:
         self.most, self.count = most, 0  # without empty codes
+        self.kept = 0  # of the empty codes, how many the office has
         self.shown: list[Mistake] = []
         self.counts: Counter[str] = Counter()
 
@@ -162,10 +163,11 @@ def cure(column: str, field: bytes) -> Cure:
     return Cure(f"write {better.text} ({CURES[column]})", better.text)
 
 
-def no_codes(count: int) -> str:
-    """What is said once of all candidates without an access code."""
-    verb = "has" if count == 1 else "have"
-    return f"{lists.count(count, 'candidate')} {verb} no access code; `office take .. --codes` makes them"
+def no_codes(count: int, kept: int = 0) -> str:
+    """What is said once of all candidates without an access code, of whom the office has so many with one."""
+    verb, others = "has" if count == 1 else "have", ", and with --codes makes the others" * (kept < count)
+    way = f"`office take ..` fills in {kept} from the office{others}" if kept else "`office take .. --codes` makes them"
+    return f"{lists.count(count, 'candidate')} {verb} no access code; {way}"
 
 
 def with_zeros(field: bytes) -> bytes:
@@ -254,7 +256,7 @@ class File:
         if commas:
             self.wrong.add(header.line, "file", commas)
         for name in self.missing:
-            how = "leave it empty; `office take .. --codes` makes the codes" if name == "code" else CURES[name]
+            how = "leave it empty; `office take .. --codes` fills it" if name == "code" else CURES[name]
             self.wrong.add(header.line, "file", f"the column {name} is missing: add it ({how})")
         if b"" in header.fields:
             self.wrong.add(header.line, "file", "columns without a name: delete them")
@@ -279,6 +281,7 @@ class File:
                 continue
             if not right(field):
                 self.wrong.add(record.line, column, partial(cure, column, field), field)
+                self.wrong.kept += column == "code" and not field and bool(self.known.codes.get(record.fields[0]))
                 continue
             if table and field not in (self.known.keys[table] or {field}):
                 self.wrong.add(record.line, column, f"is not among the {table}", field)
