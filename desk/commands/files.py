@@ -75,6 +75,22 @@ def made(source: str, new: str, given: Namespace, is_folder: bool, lines_name: s
     return 0
 
 
+@command.named("""Makes a backup of the office as one file: backup FILE.zip
+
+    office backup /backup/office-2027-05-30.zip
+
+It is the zip that the page Office hands out in a browser: the office as it is at one moment, its notebook and its log.
+Nobody has to stop for it. It is for its owner alone, since it holds all access codes and reasons. A file that is there
+is left as it is, and the status is 1. To go back bring it at that page; the handbook says how without a browser.
+""")
+def backup(parser: ArgumentParser) -> None:
+    from exam_desk import backups, files, private
+    path, office = command.given(parser, "file").file, command.existing_office()
+    packed = private.zipped(office.path, f"office-{office.today()}", partial(backups.fill, office))
+    files.put(path, packed)
+    command.say(f"{plain(path)}: {len(packed)} bytes\n")
+
+
 @command.named("""Looks through the import files of a folder before any import: check-files FOLDER.
 
     office check-files .

@@ -10,11 +10,12 @@ import contextlib
 import errno
 import fcntl
 import os
+import pathlib
 import shutil
 import stat
 import tempfile
 import time
-from collections.abc import Iterator
+from collections.abc import Callable, Iterator
 from typing import BinaryIO
 
 from exam_desk import beside
@@ -48,6 +49,15 @@ def private_copy(path: str, office: str) -> Iterator[str]:
 def own_folder(office: str) -> contextlib.AbstractContextManager[str]:
     """A private folder beside an office; in TMPDIR where there is no office."""
     return private_folder(beside.make_folder(office, PLACE) if os.path.isfile(office) else tempfile.gettempdir())
+
+
+def zipped(office: str, name: str, fill: Callable[[str], object]) -> bytes:
+    """A zip of what is put into a folder of this name, which is made in a private one."""
+    with own_folder(office) as folder:
+        place = os.path.join(folder, name)
+        os.mkdir(place, 0o700)
+        fill(place)
+        return pathlib.Path(shutil.make_archive(place, "zip", folder, name)).read_bytes()
 
 
 @contextlib.contextmanager

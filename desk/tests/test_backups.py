@@ -70,6 +70,21 @@ class TestTaken(Backups):
                     self.assertEqual(stat.S_IMODE(os.stat(path).st_mode) & 0o077, 0, path)
             self.assertEqual(os.listdir(self.tmp), [])
 
+    def test_what_the_command_hands_out(self):
+        """A file for its owner alone, never in the place of another: the office of then, its notebook and its log."""
+        self.office("school", "Hill")
+        self.assertRegex(self.office("backup", "b.zip"), r"^b\.zip: [0-9]+ bytes\n$")
+        self.assertEqual(stat.S_IMODE(os.stat(os.path.join(self.folder, "b.zip")).st_mode), 0o600)
+        before, content, log = states.name_now(self.value), self.bytes_of("b.zip"), self.bytes_of("desk-office.db/log")
+        self.office("withdraw", "0001051", "PH-1")
+        self.assertEqual(self.refused("backup", "b.zip"), "office: b.zip is there already; name another\n")
+        self.assertEqual(self.bytes_of("b.zip"), content)
+        with zipfile.ZipFile(io.BytesIO(content)) as archive:
+            self.assertEqual(archive.read(f"office-{sample.TODAY}/desk-office.db/log"), log)
+        with self.brought(b_zip=content) as (_, found):
+            self.assertEqual({*found}, {"office.db", "office.db-wal", "notebook/school.json"})
+            self.assertEqual(states.name_now(self.value, found["office.db"]), before)
+
     def test_the_second_file_counts(self):
         """What a stopped program left there, such as the last appeals."""
         with contextlib.closing(sqlite3.connect(self.path)) as file:
