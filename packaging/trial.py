@@ -130,6 +130,7 @@ def only_needed(run, _):
 
 
 def with_all(run, root):
+    """What is recommended is there: workbooks, and the desk in a browser."""
     workbook_day(run)
     line = entered(root, "examoffice", "office", "desk", "--port", "0")
     with subprocess.Popen(line, stdin=subprocess.DEVNULL, stdout=subprocess.PIPE, stderr=subprocess.PIPE,

@@ -85,7 +85,7 @@ def keep(parser: ArgumentParser) -> bool:
         keeping.stop(office)
         print("ended")
         return False
-    where = given.place if given.place.isdigit() else os.path.dirname(given.place)
+    where = os.path.dirname(given.place) or given.place
     status = (keeping.status(office) if given.what == "status" else
               keeping.start(office, [sys.executable, command.OFFICE, "keep", "run", where, "--days", str(given.days)]))
     print(status.sentence)
@@ -100,9 +100,6 @@ def place_of(given: str) -> str:
         if not 1 <= int(given) <= 65535:
             raise ArgumentTypeError("a port is 1 to 65535")
         return str(int(given))
-    path = os.path.join(os.path.abspath(given), keeping.SOCKET)
     if not os.path.isdir(given):
         raise ArgumentTypeError(f"{given} is neither a port nor a folder")
-    if len(os.fsencode(path)) > keeping.MOST_PATH:
-        raise ArgumentTypeError(f"the path {path} is longer than {keeping.MOST_PATH} bytes")
-    return path
+    return os.path.join(os.path.abspath(given), keeping.SOCKET)

@@ -36,7 +36,6 @@ from exam_desk.words import plain
 
 JOURNAL = "keep.log"  # beside the office
 SOCKET = "keep.socket"  # in the folder that `keep` is given
-MOST_PATH = 107  # bytes of the path of a socket
 BACKLOG = 4096  # a socket without room refuses at once; the system may allow less
 MOST_LOG = 1 << 20  # bytes
 MOST_LINE = 1 << 12  # bytes of what `serve` complains of
@@ -85,6 +84,7 @@ class Keep:
         self.hold.over.set()
 
     async def run(self) -> None:
+        """Listens until the end; a signal ends it, but SIGUSR1, by which a command asks it to step aside."""
         loop = asyncio.get_running_loop()
         for number in (signal.SIGTERM, signal.SIGINT, signal.SIGHUP):
             loop.add_signal_handler(number, self.end)
@@ -96,6 +96,7 @@ class Keep:
         say("ended")
 
     async def serve_again_and_again(self) -> None:
+        """Says each fault, and waits longer behind each of those that come at once."""
         failures = 0
         while not self.ending:
             began = time.monotonic()
@@ -122,7 +123,7 @@ class Keep:
     async def locked(self, file: FileIO, turn: FileIO) -> None:
         """Waits until a lock is had or `keep` ends."""
         while not self.ending and not turns.try_lock(file):
-            if self.hold.waiting():
+            if self.hold.asked > self.hold.answered:
                 turns.try_lock(turn)
             await asyncio.sleep(turns.PAUSE)
 
@@ -150,7 +151,7 @@ class Keep:
                 fault = self.hold.fault or (f"serve ended with status {process.returncode}" if ended.done() else "")
             finally:
                 opening.cancel()
-                self.hold.close()
+                self.hold.opened.clear()
                 self.show(fault or "aside")
                 process.kill()  # what it answered is kept in any case
                 last = await ended
@@ -233,6 +234,7 @@ def run(office: Office, place: str, days: int) -> None:
     with turns.lock_file(office, "keep.lock") as lock:
         if not turns.try_lock(lock, lock=fcntl.lockf):
             raise Trouble(RUNS)
+        turns.note(lock, "")  # of the one before, which may have been killed
         asyncio.run(Keep(office, place, days, lock).run())
 
 
@@ -268,14 +270,24 @@ def stop(office: Office) -> None:
         time.sleep(0.02)
 
 
+def ending(office: Office) -> str:
+    """How the last `keep` ended, as far as it has left word, and what begins another."""
+    left = turns.said_by(0, turns.text_of(office, "keep.lock"), is_gone=True)
+    if left.get("state") == "serving":
+        where = os.path.dirname(left["place"]) or left["place"]
+        return (f"it was killed while it served for {left['day']}, or the machine stopped; all that it answered is kept; "
+                f"`office keep start {where}` begins it, and a service begins by itself")
+    journal = beside.folder(office.path, JOURNAL)
+    with contextlib.suppress(OSError, IndexError), open(journal, encoding="utf-8", errors="replace") as file:
+        return f"the last line of {journal}: {plain(file.read().splitlines()[-1]).removeprefix('office: ')}"
+    return "`office keep start` begins it"
+
+
 def status(office: Office) -> Status:
     """What `keep` does; it serves only where `serve` answers through it in time. Raises `Trouble` where none runs."""
     state = turns.keep_state(office)
     if state is None:
-        journal, why = beside.folder(office.path, JOURNAL), "`office keep start` begins it"
-        with contextlib.suppress(OSError, IndexError), open(journal, encoding="utf-8", errors="replace") as file:
-            why = f"the last line of {journal}: {plain(file.read().splitlines()[-1]).removeprefix('office: ')}"
-        raise Trouble(f"`keep` does not run; {why}")
+        raise Trouble(f"`keep` does not run; {ending(office)}")
     process, what = state["pid"], f"{plain(state.get('state', 'it begins'))}; it tries again by itself"
     if process <= 0:
         return Status(False, "`keep` runs in another container or on another machine: ask there")

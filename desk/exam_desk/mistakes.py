@@ -94,6 +94,7 @@ class Known:
     """What the office knows, or will know after the files that were looked at before; None for what cannot be said."""
 
     def __init__(self, connection: sqlite3.Connection | None = None) -> None:
+        """Of the office whose rows these are; without them nothing is known."""
         self.keys: dict[str, set[bytes] | None] = {kind: set() for kind in LIMITS}
         self.papers: dict[bytes, bytes] = {}  # the session of each
         self.openings: set[tuple[bytes, ...]] = set()
@@ -276,6 +277,7 @@ class File:
         return True
 
     def look_at_values(self, record: files.Record) -> None:
+        """Looks at each value alone, and whether what it refers to is known; passes over columns that are missing."""
         for field, (column, right, table) in zip(record.fields, self.columns):
             if column in self.missing:
                 continue

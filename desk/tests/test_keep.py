@@ -112,6 +112,10 @@ class Kept(sample.KeptSchool):
         serve = self.served_by()
         os.kill(self.state()["pid"], signal.SIGKILL)
         sample.until(lambda: has_ended(serve))
+        self.assertEqual(self.refused("keep", "status"),
+                         f"office: `keep` does not run; it was killed while it served for {sample.TODAY}, or the machine "
+                         f"stopped; all that it answered is kept; `office keep start {self.port}` begins it, and a service "
+                         "begins by itself\n")
         self.assertEqual(self.office("withdraw", "0001000", "MA-1"), "withdrawn\n")
         self.office("keep", "start", str(self.port))
         self.assertEqual(self.ask("GET", "appeals")[1]["appeals"][0]["state"], "open")
