@@ -1,5 +1,5 @@
-"""A backup: what is handed out as a zip; and one that somebody brings, such a zip or the files of an office. That becomes
-a copy in a private folder, which is looked at and put in the place of the office as other copies are.
+"""A backup: what is handed out as a zip; and what somebody brings, such a zip or the files of an office. That becomes a
+copy in a private folder, which is looked at and put in the place of the office as other copies are.
 
 Its bytes may be anybody's. The two files get the names of this office, and the rest is left but for what has the name
 of a notebook's file. A zip may say of its files that they are as large as all copies may be, and gives no more of them
@@ -35,7 +35,7 @@ Parts = Mapping[str, Callable[[], IO[bytes]]]  # by name, what opens them
 
 
 def fill(office: Office, folder: str) -> None:
-    """Copies the office's two files as they are at one moment into a folder, and the notebook and the log beside them."""
+    """Copies the office's two files of one moment into a folder, and the notebook and the log beside them."""
     path = copies.file_in(office, folder)
     private.copy_files(os.path.realpath(office.path), path)
     pathlib.Path(path + "-wal").touch()  # where there is none nothing is missing, and the backup says so

@@ -23,8 +23,7 @@ WORKBOOKS = (".xlsx", ".xlsm", ".ods")
 
 
 def lines_on(name: str, found: mistakes.Found, word: str) -> Iterator[str]:
-    """The lines on a file, of those on one column the first alone, and one on all empty codes. Rows that are in no file
-    have no name."""
+    """The lines on a file (rows in no file have no name): of one column the first alone, and one on all empty codes."""
     for mistake in found:
         yield f"{f'{name} line {mistake.line}: ' if name else ''}{word}{mistake.what}: {mistake.text}"
     for column, count in found.counts.items():
@@ -43,8 +42,7 @@ def office_knows(office: Office) -> mistakes.Known:
 
 
 def texts_in(folder: str) -> dict[str, bytes]:
-    """The import files of a folder by kind, in the order in which they are imported, as far as an import reads them.
-    Raises `Trouble` where one is no file."""
+    """The import files of a folder by kind, in order, as far as an import reads them. `Trouble` where one is none."""
     names = os.listdir(folder)
     paths = {kind: os.path.join(folder, f"{kind}.csv") for kind in files.HEADERS if f"{kind}.csv" in names}
     for path in paths.values():

@@ -67,13 +67,14 @@ def put(path: str, text: bytes) -> None:
         number = os.open(path, os.O_WRONLY | os.O_CREAT | os.O_EXCL, 0o600)
     except FileExistsError:
         raise Trouble(f"{path} is there already; name another") from None
-    with open(number, "wb") as file:
-        try:
+    try:
+        with open(number, "wb") as file:
             file.write(text)
-            file.flush()
-        except BaseException:
-            os.remove(path)
-            raise
+    except BaseException as fault:
+        os.remove(path)
+        if isinstance(fault, OSError):
+            fault.filename = path
+        raise
 
 
 def records(text: bytes, comma: bytes = b",") -> Iterator[Record]:
@@ -144,8 +145,7 @@ def rows_of(connection: sqlite3.Connection, kind: str) -> Iterator[list[str]]:
 
 
 def guarded(text: str) -> str:
-    """A text that no spreadsheet takes for a formula, even one that parts at semicolons: an apostrophe stands before
-    each sign with which a formula could begin."""
+    """A text that no spreadsheet takes for a formula, behind a semicolon neither: an apostrophe is before each sign."""
     return FORMULA.sub(r"\1'\2", text)
 
 

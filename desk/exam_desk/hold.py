@@ -108,8 +108,7 @@ class Hold:
 
 
 async def whole_request(reader: asyncio.StreamReader) -> bytes:
-    """A request as far as `serve` reads it: the head to its empty line, then as many bytes as the head names. The limit
-    of the reader is LIMIT."""
+    """A request as far as `serve` reads it: the head, then as many bytes as that names. The reader's limit is LIMIT."""
     head = b""
     try:
         head = await reader.readuntil(END)

@@ -112,8 +112,7 @@ class Keep:
                 await asyncio.sleep(min(0.1 * 2 ** failures, LONGEST_PAUSE))
 
     async def served(self) -> str:
-        """Serves until a command wants the office, the day ends, `keep` ends, or `serve` fails; gives the fault, or
-        ""."""
+        """Serves until a command wants the office, the day or `keep` ends, or `serve` fails; gives the fault, or ""."""
         with (turns.lock_file(self.office, "turn.lock") as turn, turns.lock_file(self.office, "want.lock") as want,
               turns.lock_file(self.office, "office.lock") as office):
             await self.locked(want, turn)
@@ -184,8 +183,7 @@ class Keep:
 
 
 def last_complaint(process: subprocess.Popen[bytes]) -> str:
-    """Waits until `serve` has ended. Says what it complains of, since it would stop at a full pipe; gives what came
-    last."""
+    """Says what `serve` complains of until it ends, since it would stop at a full pipe; gives what came last."""
     last = ""
     assert process.stderr
     while line := process.stderr.readline(MOST_LINE):
@@ -230,6 +228,7 @@ def make_room(path: str) -> None:
 
 def run(office: Office, place: str, days: int) -> None:
     """Serves until a signal ends it. Raises `Trouble` where another `keep` serves the office."""
+    office.today()  # a day that is none is said before anything begins
     signal.signal(signal.SIGUSR1, signal.SIG_IGN)  # a command that comes before the handler need not step it aside
     with turns.lock_file(office, "keep.lock") as lock:
         if not turns.try_lock(lock, lock=fcntl.lockf):
@@ -275,8 +274,8 @@ def ending(office: Office) -> str:
     left = turns.said_by(0, turns.text_of(office, "keep.lock"), is_gone=True)
     if left.get("state") == "serving":
         where = os.path.dirname(left["place"]) or left["place"]
-        return (f"it was killed while it served for {left['day']}, or the machine stopped; all that it answered is kept; "
-                f"`office keep start {where}` begins it, and a service begins by itself")
+        return (f"it was killed while it served for {left['day']}, or the machine stopped; all that it answered is kept"
+                f"; `office keep start {where}` begins it, and a service begins by itself")
     journal = beside.folder(office.path, JOURNAL)
     with contextlib.suppress(OSError, IndexError), open(journal, encoding="utf-8", errors="replace") as file:
         return f"the last line of {journal}: {plain(file.read().splitlines()[-1]).removeprefix('office: ')}"

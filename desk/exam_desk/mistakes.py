@@ -78,8 +78,7 @@ class Found:
         return bool(self.counts)
 
     def add(self, line: int, column: str, cure: str | Callable[[], Cure], field: bytes | None = None) -> None:
-        """Counts one more on a column, and names the field if one is given. A cure that is long to make is made only
-        where it is shown."""
+        """Counts one more on a column, and names the field if one is given. A cure is made only where it is shown."""
         if column == "code" and field == b"":
             self.counts[NO_CODE] += 1
             return
@@ -342,8 +341,7 @@ def sharers(number: bytes, sharing: Sequence[bytes], is_twin: bool) -> Cure:
 
 
 def beginning_of(text: bytes) -> str:
-    """What stands in place of a header. A first line can have a million fields, so it is gone again before another is
-    looked at."""
+    """What stands in place of a header. A first line can have a million fields: it is gone before the next comes."""
     first = next(files.records(text), None)
     others = [other for other in files.HEADERS if files.is_header(other, first)]
     return f"these are {others[0]}" if others else "no such header is found" if first else "the file is empty"
