@@ -123,9 +123,8 @@ It fills the column `code` where that is empty: with the code that the office ha
 with a new one. It keeps the codes that are there, and makes none twice. --new names who gets another code all the same;
 without CANDIDATES.csv their rows alone are written, as the office has them.
 
-It writes a new file that only its owner can read, never over one that is there; look at it, and import it. With
---import it writes none. A code has ten letters and digits, without vowels and what looks alike, and begins with a
-letter, so that no spreadsheet takes it for a number.
+It writes a new file for its owner alone, never over one that is there: look at it, and import it. With --import it
+writes none. A code has ten letters and digits, no vowels and nothing that looks alike, and begins with a letter.
 """, changes=True)
 def codes(parser: ArgumentParser) -> Plan:
     from commands import programs

@@ -29,7 +29,7 @@ from collections.abc import Iterator, Sequence
 from io import FileIO
 from typing import NamedTuple
 
-from exam_desk import asking, beside, copies, hold, running, turns
+from exam_desk import asking, beside, copies, hold, refusals, running, turns
 from exam_desk.office import Office
 from exam_desk.trouble import Trouble
 from exam_desk.words import plain
@@ -287,7 +287,9 @@ def status(office: Office) -> Status:
     state = turns.keep_state(office)
     if state is None:
         raise Trouble(f"`keep` does not run; {ending(office)}")
-    process, what = state["pid"], f"{plain(state.get('state', 'it begins'))}; it tries again by itself"
+    process, fault = state["pid"], plain(state.get("state", "it begins"))
+    means = map(str.strip, refusals.explained(office, ["serve"], fault.rpartition(": ")[2]))
+    what = "; ".join([fault, *means, "it tries again by itself"])
     if process <= 0:
         return Status(False, "`keep` runs in another container or on another machine: ask there")
     if "place" not in state:

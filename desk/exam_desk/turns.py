@@ -73,8 +73,7 @@ def note(file: FileIO, text: str) -> None:
 
 def text_of(office: Office, name: str) -> str:
     with contextlib.suppress(OSError, beside.Strange):
-        lock = beside.open_file(office.path, name, flags=os.O_RDONLY)
-        with open(lock, encoding="utf-8", errors="replace") as file:
+        with open(beside.open_file(office.path, name, flags=os.O_RDONLY), encoding="utf-8", errors="replace") as file:
             return file.read(NOTE_BYTES).strip()
     return ""
 
