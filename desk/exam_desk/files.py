@@ -78,11 +78,9 @@ def put(path: str, text: bytes) -> None:
 
 
 def records(text: bytes, comma: bytes = b",") -> Iterator[Record]:
-    """The records of a file, the header among them. Blank lines are none; an open quote runs to the end.
-
-    Python's reader finds them in texts, so each byte becomes a letter. It knows no byte order mark, and says nothing of
-    an open quote: such a quote holds the blank line that is put behind the file.
-    """
+    """The records of a file, the header among them. Blank lines are none; an open quote runs to the end. Python's
+    reader finds them in texts, so each byte becomes a letter. It knows no byte order mark, and says nothing of an open
+    quote: such a quote holds the blank line that is put behind the file."""
     lines = io.TextIOWrapper(io.BytesIO(text.removeprefix(BOM)), "latin-1", newline="")
     behind = iter(["\n"])
     csv.field_size_limit(MOST_BYTES + 1)

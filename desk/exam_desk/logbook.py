@@ -96,8 +96,7 @@ def unfinished(office: Office) -> Unfinished | None:
         elif last and command == last.begun:
             last.done = command
     return next((each for each in found.values()
-                 if not each.lets_go or not turns.is_taken(office, copies.PLACE, each.copy, copies.TITLE)),
-                None)
+                 if not each.lets_go or not turns.is_taken(office, copies.PLACE, each.copy, copies.TITLE)), None)
 
 
 def made(office: Office) -> str:

@@ -109,11 +109,8 @@ def sweep(place: str) -> None:
 
 def copy_files(source: str, target: str) -> None:
     """Copies the two files of an office as they were at one moment, though a program may write meanwhile. No link is
-    followed.
-
-    A program that has the office open only adds to the second file. One that opens it changes the first file, or begins
-    the second anew: then the copy is made again.
-    """
+    followed. A program that has the office open only adds to the second file. One that opens it changes the first file,
+    or begins the second anew: then the copy is made again."""
     for _ in range(TRIES):
         before = moment(source)
         if before is not None:
