@@ -219,9 +219,8 @@ def undoing(what: str, is_last: bool) -> str:
 
 
 def put_back(office: Office, copy: str) -> str | None:
-    """Puts a copy in the place of the office, with the office alone; both are on the disk at each moment. Gives the
-    copy of what was there; None where nothing was: then a backup brings its notebook. Raises `Trouble` where the copy
-    is no good office."""
+    """Puts a copy in the place of the office, with the office alone; both are on the disk at each moment. The copy of
+    what was there, None where nothing was: then a backup brings its notebook. `Trouble` where it is no good office."""
     with ready(office, copy) as path:
         check(office, path)
         kept: str | None = None

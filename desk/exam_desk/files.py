@@ -111,9 +111,8 @@ def below_header(text: bytes, path: str, header: Iterable[str]) -> Iterator[Reco
 
 def texts_by_number(content: bytes, path: str, column: str, most: int,
                     known: Collection[str] | None = None) -> dict[str, str]:
-    """The texts by number of a file that is no import, in the order of its rows; its header is `number` and the column.
-    Zeros in front of a number may be missing. Raises `Trouble` where it is no such file, a text has more bytes than the
-    most, or a number is not a known one."""
+    """The texts by number of a file that is no import, in order; its header is `number` and the column. Zeros before a
+    number may be missing. `Trouble` where it is no such file, a text is too long, or a number is not a known one."""
     found: dict[str, str] = {}
     for row in below_header(content, path, ["number", column]):
         wrong, fields = "", [field.decode("utf-8", "replace") for field in row.fields]
