@@ -287,8 +287,9 @@ def status(office: Office) -> Status:
     state = turns.keep_state(office)
     if state is None:
         raise Trouble(f"`keep` does not run; {ending(office)}")
-    process, fault = state["pid"], plain(state.get("state", "it begins"))
+    process, fault = state["pid"], plain(state.get("state", "aside"))
     means = map(str.strip, refusals.explained(office, ["serve"], fault.rpartition(": ")[2]))
+    fault = "it begins, or a command has the office" if fault == "aside" else fault
     what = "; ".join([fault, *means, "it tries again by itself"])
     if process <= 0:
         return Status(False, "`keep` runs in another container or on another machine: ask there")
