@@ -30,7 +30,7 @@ class Hold:
     """Hands requests on to a server, one after the other, while there is one."""
 
     def __init__(self) -> None:
-        """Lets the process have as many files open as the system allows, and takes half as many clients."""
+        """Lets the process have FILES open, or as many as the system allows, and takes half as many clients."""
         self.server: asking.Server | None = None
         self.opened = asyncio.Event()
         self.over = asyncio.Event()  # the server is to end: it has to begin anew, or `keep` has another reason

@@ -85,6 +85,7 @@ def alone(office: Office, words: Sequence[str]) -> Iterator[FileIO]:
     began, is_silent = time.monotonic(), True
 
     def pause(whom: Callable[[], str]) -> None:
+        """Waits until the next try, and says once behind whom."""
         nonlocal is_silent
         waited = time.monotonic() - began
         if is_silent and waited > SILENCE:
