@@ -42,7 +42,7 @@ def office_knows(office: Office) -> mistakes.Known:
 
 
 def texts_in(folder: str) -> dict[str, bytes]:
-    """The import files of a folder by kind, in order, as far as an import reads them. `Trouble` where one is none."""
+    """The import files of a folder by kind, in order, as far as an import reads them. `Trouble` at what is no file."""
     names = os.listdir(folder)
     paths = {kind: os.path.join(folder, f"{kind}.csv") for kind in files.HEADERS if f"{kind}.csv" in names}
     for path in paths.values():
