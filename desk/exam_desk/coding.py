@@ -83,7 +83,7 @@ def coded(office: Office, path: str | None, new: list[str]) -> Coded:
 
 
 def renamed(office: Office, number: str, name: str) -> Step:
-    """A candidate's row with another name and the same code. `Trouble` where there is none, or that is no name."""
+    """A candidate's row with another name, the same code. `Trouble` where nobody has the number, or it is no name."""
     known = in_office(office)
     if not known:
         raise NoOffice(office.path)

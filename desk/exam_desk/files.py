@@ -142,7 +142,7 @@ def rows_of(connection: sqlite3.Connection, kind: str) -> Iterator[list[str]]:
 
 
 def guarded(text: str) -> str:
-    """A text that no spreadsheet takes for a formula, behind a semicolon neither: an apostrophe is before each sign."""
+    """A text that no spreadsheet takes for a formula, nor what is behind a `;`: an apostrophe is before each sign."""
     return FORMULA.sub(r"\1'\2", text)
 
 
