@@ -130,6 +130,7 @@ def only_needed(run, _):
 
 
 def with_all(run, root):
+    """What is recommended is there: workbooks, and the desk in a browser."""
     workbook_day(run)
     line = entered(root, "examoffice", "office", "desk", "--port", "0")
     with subprocess.Popen(line, stdin=subprocess.DEVNULL, stdout=subprocess.PIPE, stderr=subprocess.PIPE,
@@ -173,6 +174,8 @@ def remove(root: pathlib.Path, users: str) -> None:
     ran("mount", "-t", "proc", "proc", root / "proc")  # `keep` looks there who listens
     in_root(root, "examoffice", "office", "keep", "start", free_port())
     same(len(processes_in(root)) > 0, True, "a `keep` before the removal")
+    said = in_root(root, "root", "sh", "-c", "dpkg -i /tmp/examoffice.deb 2>&1")
+    same("still runs version" in said, True, f"an upgrade names a `keep` that was begun by hand: {said}")
     kept = office.read_bytes()
     in_root(root, "root", "dpkg", "-r", "examoffice")
     same(processes_in(root), [], "processes after the removal")

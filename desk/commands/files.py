@@ -15,7 +15,6 @@ if TYPE_CHECKING:
     from argparse import ArgumentParser, Namespace
 
     from command import Plan
-    from exam_desk.coding import Coded
     from exam_desk.office import Office
     from exam_desk.workbook.reading import Reading
 
@@ -78,6 +77,20 @@ def made(source: str, new: str, given: Namespace, is_folder: bool, lines_name: s
     return 0
 
 
+@command.named("""Makes a backup of the office as one file, also while it is served: backup FILE.zip
+
+    office backup /srv/backup/2027-05-30.zip
+
+It is the zip that the page Office hands out in a browser, and takes back: the office as it is at one moment, its
+notebook and its log. It is for its owner alone, since it holds all access codes. A file that is there stays as it is.
+""")
+def backup(parser: ArgumentParser) -> None:
+    from exam_desk import backups, files, private
+    path, office = command.given(parser, "file").file, command.existing_office()
+    files.put(path, private.zipped(office.path, f"office-{office.today()}", partial(backups.fill, office)))
+    command.say(f"{plain(path)}: {os.path.getsize(path)} bytes\n")
+
+
 @command.named("""Looks through the import files of a folder before any import: check-files FOLDER.
 
     office check-files .
@@ -86,7 +99,7 @@ It reads sessions.csv, papers.csv, halls.csv, openings.csv, candidates.csv, arra
 are there, and the office's file if there is one; it changes nothing. Each mistake is a line: file, line, value, cure.
 What the program takes, though it may be wrong, is a note. Files without a mistake it imports into a private copy, and
 notes who would have no desk, who would miss a paper, who would sit otherwise, and which sessions would be at one time.
-Candidates without an access code are no mistake, since `office take FOLDER --codes` makes them; one line counts them.
+Candidates without an access code are no mistake: one line counts them, and says how `office take` fills the codes in.
 The status is 1 if `office import` would refuse a file: for a mistake, or for a code that is empty.
 """)
 def check_files(parser: ArgumentParser) -> bool:
@@ -113,13 +126,12 @@ It fills the column `code` where that is empty: with the code that the office ha
 with a new one. It keeps the codes that are there, and makes none twice. --new names who gets another code all the same;
 without CANDIDATES.csv their rows alone are written, as the office has them.
 
-It writes a new file that only its owner can read, never over one that is there; look at it, and import it. With
---import it writes none. A code has ten letters and digits, without vowels and what looks alike, and begins with a
-letter, so that no spreadsheet takes it for a number.
+It writes a new file for its owner alone, never over one that is there: look at it, and import it. With --import it
+writes none. A code has ten letters and digits, no vowels and nothing that looks alike, and begins with a letter.
 """, changes=True)
 def codes(parser: ArgumentParser) -> Plan:
     from commands import programs
-    from exam_desk import coding, files
+    from exam_desk import coding, files, lists
     from exam_desk.changing import Step
     parser.add_argument("candidates", metavar="CANDIDATES.csv", nargs="?", help="candidates.csv if not given")
     parser.add_argument("--new", metavar="NUMBER", type=typed.number, nargs="+", default=[],
@@ -134,15 +146,13 @@ def codes(parser: ArgumentParser) -> Plan:
         step = Step(("import", "candidates", "rows with new codes"), files.file_of("candidates", found.rows))
         return programs.Change([step], " ".join(["codes", *(["--new", *given.new] if given.new else [])]))
     output = given.output or f"{os.path.splitext(path)[0]}-with-codes.csv"
-    return partial(write_codes, output, found)
 
-
-def write_codes(path: str, found: Coded) -> None:
-    from exam_desk import files, lists
-    files.put(path, files.file_of("candidates", found.rows))
-    kept = f", {found.kept} filled from the office" if found.kept else ""
-    made, rows = lists.count(found.made, "code"), lists.count(len(found.rows), "row")
-    command.say(f"{plain(path)}: {made} made for {rows}{kept}\n")
+    def write() -> None:
+        files.put(output, files.file_of("candidates", found.rows))
+        kept = f", {found.kept} filled from the office" if found.kept else ""
+        made, rows = lists.count(found.made, "code"), lists.count(len(found.rows), "row")
+        command.say(f"{plain(output)}: {made} made for {rows}{kept}\n")
+    return write
 
 
 @command.named("""\
@@ -172,11 +182,10 @@ def dump(parser: ArgumentParser) -> None:
 
     office mend facts                           makes the folder facts-mended
 
-It reads sessions.csv, papers.csv, halls.csv, openings.csv, candidates.csv, arrangements.csv and entries.csv, those
-that are there, by the rules of `office read`: numbers get their zeros back, dates and times their form, and each
-change is a line with its file, column and line of the file, such as candidates!A17. What cannot be decided is a MISTAKE
-with a cure; where there is one nothing is written, and the status is 1. The files of FOLDER stay as they are. The new
-folder is for its owner alone, and has besides the files all these lines, in mend.txt.
+It reads those of the seven files that are there (sessions.csv ..) by the rules of `office read`: numbers get their
+zeros back, dates and times their form, and each change is a line with its file, column and line of the file, such as
+candidates!A17. What cannot be decided is a MISTAKE with a cure; where there is one nothing is written, and the status
+is 1. The files of FOLDER stay. The new folder is for its owner alone, and has all these lines, too, in mend.txt.
 """)
 def mend(parser: ArgumentParser) -> int:
     add_reading(parser)

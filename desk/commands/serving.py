@@ -64,18 +64,19 @@ Serves candidates day after day, and steps aside for each change of the office: 
 Another user of the machine can take a port while `keep` is away. A folder that is yours and holds nothing else is safe:
 its group may use the socket, so give it the group of nginx. At each new day `keep` keeps a copy of the office, and
 serves with the new date; where `serve` fails or hangs it begins anew. A candidate notices nothing of the gaps: each
-request waits up to 30 seconds for its answer. It writes to keep.log in the folder desk-office.db beside the office,
-where the lock files and the copies of the days are too.
+request waits up to 30 seconds for its answer. It writes to keep.log in desk-office.db, beside the copies of days.
 """)
 def keep(parser: ArgumentParser) -> bool:
-    from exam_desk import beside, keeping
+    from exam_desk import beside, keeping, turns
     parser.add_argument("what", choices=["start", "run", "stop", "status"])
     parser.add_argument("place", type=place_of, nargs="?", default=PORT, help="a port, or a folder for the socket")
     parser.add_argument("--days", type=int, default=DAYS, help=f"how many copies of days are kept ({DAYS})")
     given = parser.parse_args()
     if given.days < 1:
         parser.error("DAYS is 1 or more")
-    office = command.existing_office()
+    office = command.office()
+    if turns.keep_state(office) is None:  # one whose file is gone may be served still
+        office = command.existing_office()
     beside.refuse_stranger(office.path)
     beside.refuse_strange(beside.folder(office.path))
     if given.what == "run":
@@ -85,7 +86,7 @@ def keep(parser: ArgumentParser) -> bool:
         keeping.stop(office)
         print("ended")
         return False
-    where = given.place if given.place.isdigit() else os.path.dirname(given.place)
+    where = os.path.dirname(given.place) or given.place
     status = (keeping.status(office) if given.what == "status" else
               keeping.start(office, [sys.executable, command.OFFICE, "keep", "run", where, "--days", str(given.days)]))
     print(status.sentence)
@@ -100,9 +101,6 @@ def place_of(given: str) -> str:
         if not 1 <= int(given) <= 65535:
             raise ArgumentTypeError("a port is 1 to 65535")
         return str(int(given))
-    path = os.path.join(os.path.abspath(given), keeping.SOCKET)
     if not os.path.isdir(given):
         raise ArgumentTypeError(f"{given} is neither a port nor a folder")
-    if len(os.fsencode(path)) > keeping.MOST_PATH:
-        raise ArgumentTypeError(f"the path {path} is longer than {keeping.MOST_PATH} bytes")
-    return path
+    return os.path.join(os.path.abspath(given), keeping.SOCKET)

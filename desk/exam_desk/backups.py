@@ -1,5 +1,5 @@
-"""A backup that somebody brings: a zip, such as the page Office hands out, or the files of an office. It becomes a copy
-in a private folder, which is looked at and put in the place of the office as other copies are.
+"""A backup: what is handed out as a zip; and what somebody brings, such a zip or the files of an office. That becomes a
+copy in a private folder, which is looked at and put in the place of the office as other copies are.
 
 Its bytes may be anybody's. The two files get the names of this office, and the rest is left but for what has the name
 of a notebook's file. A zip may say of its files that they are as large as all copies may be, and gives no more of them
@@ -16,7 +16,7 @@ import zlib
 from collections.abc import Callable, Iterator, Mapping
 from typing import IO
 
-from exam_desk import copies, files, notebook, private, running
+from exam_desk import beside, copies, files, logbook, notebook, private, running
 from exam_desk.office import Office
 from exam_desk.trouble import Trouble
 from exam_desk.workbook.cells import PASSWORD
@@ -30,6 +30,18 @@ BROKEN = "it is broken or cut short: bring it again, or another backup"
 TOO_LARGE = "it is larger than any office"
 UNREADABLE = (zipfile.BadZipFile, zipfile.LargeZipFile, zlib.error, RuntimeError, EOFError, OSError, ValueError)
 Parts = Mapping[str, Callable[[], IO[bytes]]]  # by name, what opens them
+
+
+def fill(office: Office, folder: str) -> None:
+    """Copies the office's two files of one moment into a folder, and the notebook and the log beside them."""
+    path = copies.file_in(office, folder)
+    private.copy_files(os.path.realpath(office.path), path)
+    pathlib.Path(path + "-wal").touch()  # where there is none nothing is missing, and the backup says so
+    os.mkdir(beside.folder(path), 0o700)
+    notebook.copy_into(office, beside.folder(path))
+    with (contextlib.suppress(FileNotFoundError),
+          open(beside.open_file(office.path, logbook.NAME, flags=os.O_RDONLY), "rb") as log):
+        files.put(beside.folder(path, logbook.NAME), log.read())
 
 
 @contextlib.contextmanager

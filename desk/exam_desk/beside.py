@@ -25,8 +25,7 @@ class Strange(Trouble):
 
 
 def folder(office: str, *names: str) -> str:
-    """The path of the folder beside an office's file, or of what lies in it; a link to that file has the folder of the
-    file itself."""
+    """The path of the folder beside an office's file, or of what lies in it; a link has the folder of its file."""
     path = os.path.realpath(office)
     return os.path.join(os.path.dirname(path), "desk-" + os.path.basename(path), *names)
 
@@ -72,8 +71,7 @@ def open_folder(office: str, *names: str) -> Iterator[int]:
 
 
 def open_file(office: str, *names: str, flags: int) -> int:
-    """A descriptor of a file in the folder; `Strange` as for a folder. A new one is for its owner alone, and so are the
-    folders that are made for it."""
+    """A descriptor of a file in the folder; `Strange` as for a folder. New ones, folders too, are for their owner."""
     refuse_stranger(office)
     if flags & os.O_CREAT:
         make_folder(office, *names[:-1])
@@ -100,8 +98,8 @@ def opened(path: str, flags: int, outer: int | None = None) -> int:
 def strange(found: os.stat_result, flags: int) -> str:
     """Why what was opened is not to be trusted; nothing where it is."""
     if found.st_uid != os.geteuid():
-        return (f"belongs to {user_name(found.st_uid)}: if it is the office's, `chown -R {user_name(os.geteuid())}:` it; "
-                "otherwise move it away")
+        return (f"belongs to {user_name(found.st_uid)}: if it is the office's, `chown -R {user_name(os.geteuid())}:` "
+                "it; otherwise move it away")
     if found.st_mode & OTHERS:
         return "can be written by others: look what they left, then `chmod go-w` it, or move it away"
     if not flags & os.O_DIRECTORY and not stat.S_ISREG(found.st_mode):

@@ -20,13 +20,12 @@ WORKBOOKS = (".xlsx", ".xlsm", ".ods")
 
 
 def lines_on(name: str, found: mistakes.Found, word: str) -> Iterator[str]:
-    """The lines on a file, of those on one column the first alone, and one on all empty codes. Rows that are in no file
-    have no name."""
+    """The lines on a file (rows in no file have no name): of one column the first alone, and one on all empty codes."""
     for mistake in found:
         yield f"{f'{name} line {mistake.line}: ' if name else ''}{word}{mistake.what}: {mistake.text}"
     for column, count in found.counts.items():
         if column == mistakes.NO_CODE:
-            yield f"{name}: {mistakes.no_codes(count)}; without them an import refuses the file"
+            yield f"{name}: {mistakes.no_codes(count, found.kept)}; without them an import refuses the file"
         elif count > found.most:
             yield f"{name}: .. and {lists.count(count - found.most, 'more line')} on {column}"
 
@@ -40,8 +39,7 @@ def office_knows(office: Office) -> mistakes.Known:
 
 
 def texts_in(folder: str) -> dict[str, bytes]:
-    """The import files of a folder by kind, in the order in which they are imported, as far as an import reads them.
-    Raises `Trouble` where one is no file."""
+    """The import files of a folder by kind, in order, as far as an import reads them. `Trouble` at what is no file."""
     names = os.listdir(folder)
     paths = {kind: os.path.join(folder, f"{kind}.csv") for kind in files.HEADERS if f"{kind}.csv" in names}
     for path in paths.values():

@@ -34,8 +34,7 @@ def in_office(office: Office) -> dict[str, list[str]]:
 
 
 def read(text: bytes, path: str) -> list[list[str]]:
-    """The rows of a file after the header. Raises `Trouble` where an import would not take them, were there a code in
-    each empty last column."""
+    """The rows of a file after the header. Raises `Trouble` where an import would not take them, empty codes apart."""
     found, forms = [], files.FORMS["candidates"]
     for row in files.below_header(text, path, files.HEADERS["candidates"]):
         coded = [*row.fields[:2], *(code or SOME_CODE for code in row.fields[2:])]
@@ -83,8 +82,7 @@ def coded(office: Office, path: str | None, new: list[str]) -> Coded:
 
 
 def renamed(office: Office, number: str, name: str) -> Step:
-    """The import of a candidate's row with another name and the same code. Raises `Trouble` where there is no such
-    candidate, or the name has another form."""
+    """A candidate's row with another name, the same code. `Trouble` where nobody has the number, or it is no name."""
     known = in_office(office)
     if not known:
         raise NoOffice(office.path)
@@ -107,8 +105,7 @@ def add_codes(office: Office, reading: Reading) -> None:
 
 
 def steps_of(reading: Reading) -> list[Step]:
-    """The imports of what was read, in order. Raises `Trouble` where there is a mistake, a candidate without an access
-    code, or nothing."""
+    """The imports of what was read, in order. `Trouble` at a mistake or an empty code, or where there is nothing."""
     from exam_desk.workbook.reading import file_parts  # here, since `office codes` needs no workbook
     if count := reading.report.count("mistake"):
         raise Trouble(f"{lists.count(count, 'mistake')}: nothing is changed")

@@ -28,10 +28,8 @@ EMPTY_LOG = 41  # bytes of a second file that holds no change
 
 
 def keep_copy(office: Office, command: str) -> str:
-    """Copies the office from before a command and gives the path of the copy. Call it with the office alone.
-
-    Its running number is one more than the highest, so that the order does not depend on the clock.
-    """
+    """Copies the office from before a command; gives the path. Call it with the office alone. The running number is one
+    more than the highest, so that the order does not depend on the clock."""
     copy = make(office, PLACE, named(max(map(number_of, listed(office)), default=0) + 1, command), command)
     prune(office)
     return copy
@@ -44,14 +42,11 @@ def named(number: int, what: str) -> str:
 
 
 def keep_day(office: Office, day: datetime.date, most: int) -> str | None:
-    """Copies the office for a day that has no copy yet, and gives its path; of all days the last ones stay, and none to
-    come, which a wrong clock has made."""
+    """Copies the office for a day that has no copy; gives its path. The last days stay, and none that is to come."""
     if os.path.lexists(beside.folder(office.path, DAYS, day.isoformat())):
         return None
     copy = make(office, DAYS, day.isoformat())
-    others = [path for path in folders(office, DAYS, DAY) if path != copy]
-    others.sort(key=lambda path: (path <= copy, path))
-    for old in others[:max(len(others) + 1 - most, 0)]:
+    for old in sorted(folders(office, DAYS, DAY), key=lambda path: (path == copy, path <= copy, path))[:-most]:
         drop(old)
     return copy
 
@@ -119,8 +114,7 @@ def folders(office: Office, place: str, form: re.Pattern[str]) -> list[str]:
 def parts(copy: str) -> re.Match[str]:
     """The name of a copy: its running number, day, time and command."""
     found = NAME.fullmatch(os.path.basename(copy))
-    if found is None:
-        raise Trouble("is no copy of an office", copy)
+    assert found  # nothing with another name is listed
     return found
 
 
@@ -225,9 +219,8 @@ def undoing(what: str, is_last: bool) -> str:
 
 
 def put_back(office: Office, copy: str) -> str | None:
-    """Puts a copy in the place of the office, with the office alone; both are on the disk at each moment. Gives the
-    copy of what was there; None where nothing was: then a backup brings its notebook. Raises `Trouble` where the copy
-    is no good office."""
+    """Puts a copy in the place of the office, with the office alone; both are on the disk at each moment. The copy of
+    what was there, None where nothing was: then a backup brings its notebook. `Trouble` where it is no good office."""
     with ready(office, copy) as path:
         check(office, path)
         kept: str | None = None

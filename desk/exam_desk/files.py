@@ -67,21 +67,20 @@ def put(path: str, text: bytes) -> None:
         number = os.open(path, os.O_WRONLY | os.O_CREAT | os.O_EXCL, 0o600)
     except FileExistsError:
         raise Trouble(f"{path} is there already; name another") from None
-    with open(number, "wb") as file:
-        try:
+    try:
+        with open(number, "wb") as file:
             file.write(text)
-            file.flush()
-        except BaseException:
-            os.remove(path)
-            raise
+    except BaseException as fault:
+        os.remove(path)
+        if isinstance(fault, OSError):
+            fault.filename = path
+        raise
 
 
 def records(text: bytes, comma: bytes = b",") -> Iterator[Record]:
-    """The records of a file, the header among them. Blank lines are none; an open quote runs to the end.
-
-    Python's reader finds them in texts, so each byte becomes a letter. It knows no byte order mark, and says nothing of
-    an open quote: such a quote holds the blank line that is put behind the file.
-    """
+    """The records of a file, the header among them. Blank lines are none; an open quote runs to the end. Python's
+    reader finds them in texts, so each byte becomes a letter. It knows no byte order mark, and says nothing of an open
+    quote: such a quote holds the blank line that is put behind the file."""
     lines = io.TextIOWrapper(io.BytesIO(text.removeprefix(BOM)), "latin-1", newline="")
     behind = iter(["\n"])
     csv.field_size_limit(MOST_BYTES + 1)
@@ -112,9 +111,8 @@ def below_header(text: bytes, path: str, header: Iterable[str]) -> Iterator[Reco
 
 def texts_by_number(content: bytes, path: str, column: str, most: int,
                     known: Collection[str] | None = None) -> dict[str, str]:
-    """The texts by number of a file that is no import, in the order of its rows; its header is `number` and the column.
-    Zeros in front of a number may be missing. Raises `Trouble` where it is no such file, a text has more bytes than the
-    most, or a number is not a known one."""
+    """The texts by number of a file that is no import, in order; its header is `number` and the column. Zeros before a
+    number may be missing. `Trouble` where it is no such file, a text is too long, or a number is not a known one."""
     found: dict[str, str] = {}
     for row in below_header(content, path, ["number", column]):
         wrong, fields = "", [field.decode("utf-8", "replace") for field in row.fields]
@@ -144,8 +142,7 @@ def rows_of(connection: sqlite3.Connection, kind: str) -> Iterator[list[str]]:
 
 
 def guarded(text: str) -> str:
-    """A text that no spreadsheet takes for a formula, even one that parts at semicolons: an apostrophe stands before
-    each sign with which a formula could begin."""
+    """A text that no spreadsheet takes for a formula, nor what is behind a `;`: an apostrophe is before each sign."""
     return FORMULA.sub(r"\1'\2", text)
 
 

@@ -28,6 +28,7 @@ class Hold:
     """Hands requests on to a server, one after the other, while there is one."""
 
     def __init__(self) -> None:
+        """Lets the process have FILES open, or as many as the system allows, and takes half as many clients."""
         self.server: asking.Server | None = None
         self.opened = asyncio.Event()
         self.over = asyncio.Event()  # the server is to end: it has to begin anew, or `keep` has another reason
@@ -44,20 +45,14 @@ class Hold:
         self.server = server
         self.opened.set()
 
-    def close(self) -> None:
-        self.opened.clear()
-
     def give_up(self, fault: str) -> None:
         """Hands nothing on until another server is there."""
-        self.close()
+        self.opened.clear()
         self.fault = fault
         self.over.set()
 
-    def waiting(self) -> int:
-        """How many requests have no answer yet."""
-        return self.asked - self.answered
-
     async def take(self, reader: asyncio.StreamReader, writer: asyncio.StreamWriter) -> None:
+        """Answers one client; one that is too many has its answer before its request is read."""
         self.clients += 1
         try:
             answer = FULL
@@ -111,8 +106,7 @@ class Hold:
 
 
 async def whole_request(reader: asyncio.StreamReader) -> bytes:
-    """A request as far as `serve` reads it: the head to its empty line, then as many bytes as the head names. The limit
-    of the reader is LIMIT."""
+    """A request as far as `serve` reads it: the head, then as many bytes as that names. The reader's limit is LIMIT."""
     head = b""
     try:
         head = await reader.readuntil(END)

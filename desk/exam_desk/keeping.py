@@ -29,14 +29,13 @@ from collections.abc import Iterator, Sequence
 from io import FileIO
 from typing import NamedTuple
 
-from exam_desk import asking, beside, copies, hold, running, turns
+from exam_desk import asking, beside, copies, hold, refusals, running, turns
 from exam_desk.office import Office
 from exam_desk.trouble import Trouble
 from exam_desk.words import plain
 
 JOURNAL = "keep.log"  # beside the office
 SOCKET = "keep.socket"  # in the folder that `keep` is given
-MOST_PATH = 107  # bytes of the path of a socket
 BACKLOG = 4096  # a socket without room refuses at once; the system may allow less
 MOST_LOG = 1 << 20  # bytes
 MOST_LINE = 1 << 12  # bytes of what `serve` complains of
@@ -85,6 +84,7 @@ class Keep:
         self.hold.over.set()
 
     async def run(self) -> None:
+        """Listens until the end; a signal ends it, but SIGUSR1, by which a command asks it to step aside."""
         loop = asyncio.get_running_loop()
         for number in (signal.SIGTERM, signal.SIGINT, signal.SIGHUP):
             loop.add_signal_handler(number, self.end)
@@ -96,6 +96,7 @@ class Keep:
         say("ended")
 
     async def serve_again_and_again(self) -> None:
+        """Says each fault, and waits longer behind each of those that come at once."""
         failures = 0
         while not self.ending:
             began = time.monotonic()
@@ -111,8 +112,7 @@ class Keep:
                 await asyncio.sleep(min(0.1 * 2 ** failures, LONGEST_PAUSE))
 
     async def served(self) -> str:
-        """Serves until a command wants the office, the day ends, `keep` ends, or `serve` fails; gives the fault, or
-        ""."""
+        """Serves until a command wants the office, the day or `keep` ends, or `serve` fails; gives the fault, or ""."""
         with (turns.lock_file(self.office, "turn.lock") as turn, turns.lock_file(self.office, "want.lock") as want,
               turns.lock_file(self.office, "office.lock") as office):
             await self.locked(want, turn)
@@ -122,7 +122,7 @@ class Keep:
     async def locked(self, file: FileIO, turn: FileIO) -> None:
         """Waits until a lock is had or `keep` ends."""
         while not self.ending and not turns.try_lock(file):
-            if self.hold.waiting():
+            if self.hold.asked > self.hold.answered:
                 turns.try_lock(turn)
             await asyncio.sleep(turns.PAUSE)
 
@@ -150,7 +150,7 @@ class Keep:
                 fault = self.hold.fault or (f"serve ended with status {process.returncode}" if ended.done() else "")
             finally:
                 opening.cancel()
-                self.hold.close()
+                self.hold.opened.clear()
                 self.show(fault or "aside")
                 process.kill()  # what it answered is kept in any case
                 last = await ended
@@ -183,8 +183,7 @@ class Keep:
 
 
 def last_complaint(process: subprocess.Popen[bytes]) -> str:
-    """Waits until `serve` has ended. Says what it complains of, since it would stop at a full pipe; gives what came
-    last."""
+    """Says what `serve` complains of until it ends, since it would stop at a full pipe; gives what came last."""
     last = ""
     assert process.stderr
     while line := process.stderr.readline(MOST_LINE):
@@ -229,10 +228,12 @@ def make_room(path: str) -> None:
 
 def run(office: Office, place: str, days: int) -> None:
     """Serves until a signal ends it. Raises `Trouble` where another `keep` serves the office."""
+    office.today()  # a day that is none is said before anything begins
     signal.signal(signal.SIGUSR1, signal.SIG_IGN)  # a command that comes before the handler need not step it aside
     with turns.lock_file(office, "keep.lock") as lock:
         if not turns.try_lock(lock, lock=fcntl.lockf):
             raise Trouble(RUNS)
+        turns.note(lock, "")  # of the one before, which may have been killed
         asyncio.run(Keep(office, place, days, lock).run())
 
 
@@ -268,15 +269,28 @@ def stop(office: Office) -> None:
         time.sleep(0.02)
 
 
+def ending(office: Office) -> str:
+    """How the last `keep` ended, as far as it has left word, and what begins another."""
+    left = turns.said_by(0, turns.text_of(office, "keep.lock"), is_gone=True)
+    if left.get("state") == "serving":
+        where = os.path.dirname(left["place"]) or left["place"]
+        return (f"it was killed while it served for {left['day']}, or the machine stopped; all that it answered is kept"
+                f"; `office keep start {where}` begins it, and a service begins by itself")
+    journal = beside.folder(office.path, JOURNAL)
+    with contextlib.suppress(OSError, IndexError), open(journal, encoding="utf-8", errors="replace") as file:
+        return f"the last line of {journal}: {plain(file.read().splitlines()[-1]).removeprefix('office: ')}"
+    return "`office keep start` begins it"
+
+
 def status(office: Office) -> Status:
     """What `keep` does; it serves only where `serve` answers through it in time. Raises `Trouble` where none runs."""
     state = turns.keep_state(office)
     if state is None:
-        journal, why = beside.folder(office.path, JOURNAL), "`office keep start` begins it"
-        with contextlib.suppress(OSError, IndexError), open(journal, encoding="utf-8", errors="replace") as file:
-            why = f"the last line of {journal}: {plain(file.read().splitlines()[-1]).removeprefix('office: ')}"
-        raise Trouble(f"`keep` does not run; {why}")
-    process, what = state["pid"], f"{plain(state.get('state', 'it begins'))}; it tries again by itself"
+        raise Trouble(f"`keep` does not run; {ending(office)}")
+    process, fault = state["pid"], plain(state.get("state", "aside"))
+    means = map(str.strip, refusals.explained(office, ["serve"], fault.rpartition(": ")[2]))
+    fault = "it begins, or a command has the office" if fault == "aside" else fault
+    what = "; ".join([fault, *means, "it tries again by itself"])
     if process <= 0:
         return Status(False, "`keep` runs in another container or on another machine: ask there")
     if "place" not in state:

@@ -25,8 +25,7 @@ class Lodged(NamedTuple):
 
 
 def asked(words: Sequence[str]) -> dict[str, str | int]:
-    """The body of the request that the words NUMBER SESSION KIND VALUE .. REASON ask for, without the reference. Raises
-    `Trouble` where one is wrong."""
+    """The body that NUMBER SESSION KIND VALUE .. REASON ask for, without a reference. `Trouble` where one is wrong."""
     if wrong := typed.wrong_of_lodging(words):
         raise Trouble(f"{'; '.join(wrong)}; nothing is changed")
     named = dict(zip(["session", "kind", *KINDS[words[2]], "reason"], words[1:]))
@@ -49,8 +48,8 @@ def served(office: Office) -> Iterator[asking.Server]:
     state, today = turns.keep_state(office), office.today().isoformat()
     if state and "place" in state:
         if state.get("day", today) != today:
-            raise Trouble(f"`keep` serves with the day {state['day']}, and this is to be lodged on {today}: `office keep "
-                          "stop`, or leave TODAY out")
+            raise Trouble(f"`keep` serves with the day {state['day']}, and this is to be lodged on {today}: "
+                          "`office keep stop`, or leave TODAY out")
         yield asking.Server(state["pid"], state["place"])
         return
     serve = Serve(office, office.path, functools.partial(refuse, office))
@@ -77,8 +76,7 @@ def post(server: asking.Server, number: str, code: str, body: bytes) -> dict[str
 
 
 def lodge(office: Office, words: Sequence[str]) -> Lodged:
-    """Lodges what the words ask, with a line in the log before and after it. Raises `Trouble` as of `asked`, and where
-    nothing was answered."""
+    """Lodges what the words ask, with lines in the log. Raises `Trouble` as `asked`, and where nothing was answered."""
     values = asked(words)
     beside.refuse_stranger(office.path)
     code, ref = candidate(office, words[0])
@@ -86,11 +84,9 @@ def lodge(office: Office, words: Sequence[str]) -> Lodged:
     with logbook.logged(office, ["lodge", *words]) as outcome:
         with served(office) as server:
             answer = post(server, words[0], code, body)
-        if "error" in answer:
-            last = f" last day {answer['day']}" if "day" in answer else ""
-            outcome.status, outcome.answer = 1, f"refused {answer['error']}{last}"
-        else:
-            outcome.status, outcome.answer = 0, f"{ref} {answer['state']}"
+        last = f" last day {answer['day']}" if "day" in answer else ""
+        outcome.status = int("error" in answer)
+        outcome.answer = f"refused {answer['error']}{last}" if outcome.status else f"{ref} {answer['state']}"
     if outcome.status:
-        return Lodged(outcome.status, outcome.answer, refusals.explained(office, ["lodge"], outcome.answer))
+        return Lodged(1, outcome.answer, refusals.explained(office, ["lodge"], outcome.answer))
     return Lodged(0, f"{words[0]} {outcome.answer}", [])

@@ -50,9 +50,8 @@ def write(office: Office, words: Sequence[str], status: int | str, answer: str) 
     now = datetime.datetime.now().isoformat(" ", "seconds")
     columns = [now, office.user, " ".join(shown(words)), str(status), answer]
     line = "\t".join(map(plain, columns)) + "\n"
-    file = beside.open_file(office.path, NAME, flags=os.O_WRONLY | os.O_CREAT | os.O_APPEND)
-    with open(file, "wb") as log_file:
-        log_file.write(line.encode("utf-8", "backslashreplace"))
+    with open(beside.open_file(office.path, NAME, flags=os.O_WRONLY | os.O_CREAT | os.O_APPEND), "wb") as log:
+        log.write(line.encode("utf-8", "backslashreplace"))
 
 
 def write_done(office: Office, words: Sequence[str], status: int | str, answer: str) -> None:
@@ -95,8 +94,7 @@ def unfinished(office: Office) -> Unfinished | None:
         elif last and command == last.begun:
             last.done = command
     return next((each for each in found.values()
-                 if not each.lets_go or not turns.is_taken(office, copies.PLACE, each.copy, copies.TITLE)),
-                None)
+                 if not each.lets_go or not turns.is_taken(office, copies.PLACE, each.copy, copies.TITLE)), None)
 
 
 def made(office: Office) -> str:

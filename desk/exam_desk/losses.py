@@ -43,7 +43,7 @@ def of_others(office: Office, copy: str) -> list[Said]:
             why.append(Said(OTHERS, {
                 "gone": candidates - alike, "candidates": candidates, "over": sessions - same, "sessions": sessions,
                 "new": brought - alike, "brought": brought, "later": held - same, "held": held}))
-    with contextlib.suppress(OSError, ValueError, RecursionError, Trouble):  # none stands beside it, or the office's is damaged
+    with contextlib.suppress(OSError, ValueError, RecursionError, Trouble):  # none is beside it, or one is damaged
         with open(os.path.join(copy, notebook.PLACE, "school.json"), "rb", opener=private.no_link) as file:
             school, other = notebook.school_name(office), plain(str(json.loads(file.read())))
         if copies.is_brought(copy) and school and other and plain(school) != other:

@@ -66,6 +66,7 @@ class Found:
 
     def __init__(self, most: int) -> None:
         self.most, self.count = most, 0  # without empty codes
+        self.kept = 0  # of the empty codes, how many the office has
         self.shown: list[Mistake] = []
         self.counts: Counter[str] = Counter()
 
@@ -77,8 +78,7 @@ class Found:
         return bool(self.counts)
 
     def add(self, line: int, column: str, cure: str | Callable[[], Cure], field: bytes | None = None) -> None:
-        """Counts one more on a column, and names the field if one is given. A cure that is long to make is made only
-        where it is shown."""
+        """Counts one more on a column, and names the field if one is given. A cure is made only where it is shown."""
         if column == "code" and field == b"":
             self.counts[NO_CODE] += 1
             return
@@ -93,6 +93,7 @@ class Known:
     """What the office knows, or will know after the files that were looked at before; None for what cannot be said."""
 
     def __init__(self, connection: sqlite3.Connection | None = None) -> None:
+        """Of the office whose rows these are; without them nothing is known."""
         self.keys: dict[str, set[bytes] | None] = {kind: set() for kind in LIMITS}
         self.papers: dict[bytes, bytes] = {}  # the session of each
         self.openings: set[tuple[bytes, ...]] = set()
@@ -162,10 +163,11 @@ def cure(column: str, field: bytes) -> Cure:
     return Cure(f"write {better.text} ({CURES[column]})", better.text)
 
 
-def no_codes(count: int) -> str:
-    """What is said once of all candidates without an access code."""
-    verb = "has" if count == 1 else "have"
-    return f"{lists.count(count, 'candidate')} {verb} no access code; `office take .. --codes` makes them"
+def no_codes(count: int, kept: int = 0) -> str:
+    """What is said once of all candidates without an access code, of whom the office has so many with one."""
+    verb, others = "has" if count == 1 else "have", ", and with --codes makes the others" * (kept < count)
+    way = f"`office take ..` fills in {kept} from the office{others}" if kept else "`office take .. --codes` makes them"
+    return f"{lists.count(count, 'candidate')} {verb} no access code; {way}"
 
 
 def with_zeros(field: bytes) -> bytes:
@@ -254,7 +256,7 @@ class File:
         if commas:
             self.wrong.add(header.line, "file", commas)
         for name in self.missing:
-            how = "leave it empty; `office take .. --codes` makes the codes" if name == "code" else CURES[name]
+            how = "leave it empty; `office take .. --codes` fills it" if name == "code" else CURES[name]
             self.wrong.add(header.line, "file", f"the column {name} is missing: add it ({how})")
         if b"" in header.fields:
             self.wrong.add(header.line, "file", "columns without a name: delete them")
@@ -274,11 +276,13 @@ class File:
         return True
 
     def look_at_values(self, record: files.Record) -> None:
+        """Looks at each value alone, and whether what it refers to is known; passes over columns that are missing."""
         for field, (column, right, table) in zip(record.fields, self.columns):
             if column in self.missing:
                 continue
             if not right(field):
                 self.wrong.add(record.line, column, partial(cure, column, field), field)
+                self.wrong.kept += column == "code" and not field and bool(self.known.codes.get(record.fields[0]))
                 continue
             if table and field not in (self.known.keys[table] or {field}):
                 self.wrong.add(record.line, column, f"is not among the {table}", field)
@@ -337,8 +341,7 @@ def sharers(number: bytes, sharing: Sequence[bytes], is_twin: bool) -> Cure:
 
 
 def beginning_of(text: bytes) -> str:
-    """What stands in place of a header. A first line can have a million fields, so it is gone again before another is
-    looked at."""
+    """What stands in place of a header. A first line can have a million fields: it is gone before the next comes."""
     first = next(files.records(text), None)
     others = [other for other in files.HEADERS if files.is_header(other, first)]
     return f"these are {others[0]}" if others else "no such header is found" if first else "the file is empty"

@@ -8,11 +8,12 @@ import contextlib
 import errno
 import fcntl
 import os
+import pathlib
 import shutil
 import stat
 import tempfile
 import time
-from collections.abc import Iterator
+from collections.abc import Callable, Iterator
 from typing import BinaryIO
 
 from exam_desk import beside
@@ -30,22 +31,40 @@ def private_copy(path: str, office: str) -> Iterator[str]:
     source = path if is_beside else os.path.realpath(path)  # an office may be a link, what lies beside it may not
     with contextlib.suppress(OSError):
         sweep(tempfile.gettempdir())
+    with filled(office, lambda folder: copy_files(source, os.path.join(folder, NAME))) as folder:
+        yield os.path.join(folder, NAME)
+
+
+@contextlib.contextmanager
+def filled(office: str, fill: Callable[[str], object]) -> Iterator[str]:
+    """A private folder beside an office with what `fill` puts there; in TMPDIR where that cannot be written there."""
     with contextlib.ExitStack() as stack:
         try:
             folder = stack.enter_context(own_folder(office))
-            copy_files(source, os.path.join(folder, NAME))
+            fill(folder)
         except (OSError, beside.Strange) as fault:
             if isinstance(fault, OSError) and fault.errno not in ELSEWHERE:
                 raise
             stack.close()
             folder = stack.enter_context(private_folder(tempfile.gettempdir()))
-            copy_files(source, os.path.join(folder, NAME))
-        yield os.path.join(folder, NAME)
+            fill(folder)
+        yield folder
 
 
 def own_folder(office: str) -> contextlib.AbstractContextManager[str]:
     """A private folder beside an office; in TMPDIR where there is no office."""
     return private_folder(beside.make_folder(office, PLACE) if os.path.isfile(office) else tempfile.gettempdir())
+
+
+def zipped(office: str, name: str, fill: Callable[[str], object]) -> bytes:
+    """A zip of what `fill` puts into a folder of this name."""
+    def pack(folder: str) -> None:
+        place = os.path.join(folder, name)
+        os.mkdir(place, 0o700)
+        fill(place)
+        shutil.make_archive(place, "zip", folder, name)
+    with filled(office, pack) as folder:
+        return pathlib.Path(folder, f"{name}.zip").read_bytes()
 
 
 @contextlib.contextmanager
@@ -64,8 +83,7 @@ def private_folder(place: str) -> Iterator[str]:
 
 
 def claim(folder: str) -> BinaryIO | None:
-    """The lock of a private folder, held until it is closed; None where another process holds it, or the folder is
-    gone."""
+    """The lock of a private folder, held until it is closed; None where another holds it, or the folder is gone."""
     with contextlib.ExitStack() as stack, contextlib.suppress(FileNotFoundError, BlockingIOError):
         lock = stack.enter_context(open(os.path.join(folder, LOCK), "ab", opener=no_link))
         fcntl.flock(lock.fileno(), fcntl.LOCK_EX | fcntl.LOCK_NB)
@@ -89,11 +107,8 @@ def sweep(place: str) -> None:
 
 def copy_files(source: str, target: str) -> None:
     """Copies the two files of an office as they were at one moment, though a program may write meanwhile. No link is
-    followed.
-
-    A program that has the office open only adds to the second file. One that opens it changes the first file, or begins
-    the second anew: then the copy is made again.
-    """
+    followed. A program that has the office open only adds to the second file. One that opens it changes the first file,
+    or begins the second anew: then the copy is made again."""
     for _ in range(TRIES):
         before = moment(source)
         if before is not None:

@@ -71,46 +71,38 @@ def note(file: FileIO, text: str) -> None:
 
 def text_of(office: Office, name: str) -> str:
     with contextlib.suppress(OSError, beside.Strange):
-        lock = beside.open_file(office.path, name, flags=os.O_RDONLY)
-        with open(lock, encoding="utf-8", errors="replace") as file:
+        with open(beside.open_file(office.path, name, flags=os.O_RDONLY), encoding="utf-8", errors="replace") as file:
             return file.read(NOTE_BYTES).strip()
     return ""
-
-
-class Wait:
-    """The patience of one command: it says once behind whom it waits, and raises `Trouble` where it waits too long."""
-
-    def __init__(self, office: Office) -> None:
-        self.office = office
-        self.began = time.monotonic()
-        self.silent = True
-
-    def pause(self, whom: Callable[[], str]) -> None:
-        waited = time.monotonic() - self.began
-        if self.silent and waited > SILENCE:
-            self.silent = False
-            self.office.warn(f"waiting for {whom()}")
-        if waited > PATIENCE:
-            raise Trouble(f"{whom()} has the office, and {PATIENCE} seconds are over; nothing is changed, try again")
-        time.sleep(PAUSE)
 
 
 @contextlib.contextmanager
 def alone(office: Office, words: Sequence[str]) -> Iterator[FileIO]:
     """The office for this process alone, and office.lock: waits up to PATIENCE seconds for others, then raises
     `Trouble`. `keep` takes turn.lock while a command has want.lock, so whoever has that looks at turn.lock again."""
-    wait = Wait(office)
+    began, is_silent = time.monotonic(), True
+
+    def pause(whom: Callable[[], str]) -> None:
+        """Waits until the next try, and says once behind whom."""
+        nonlocal is_silent
+        waited = time.monotonic() - began
+        if is_silent and waited > SILENCE:
+            is_silent = False
+            office.warn(f"waiting for {whom()}")
+        if waited > PATIENCE:
+            raise Trouble(f"{whom()} has the office, and {PATIENCE} seconds are over; nothing is changed, try again")
+        time.sleep(PAUSE)
     with lock_file(office, "turn.lock") as turn, lock_file(office, "want.lock") as want:
         while not (is_free(turn) and try_lock(want) and is_free(turn)):
             fcntl.flock(want, fcntl.LOCK_UN)
-            wait.pause(lambda: f"another command ({text_of(office, 'want.lock')})" if is_free(turn) else
-                       "`keep` (it answers candidates who wait)")
+            pause(lambda: f"another command ({text_of(office, 'want.lock')})" if is_free(turn) else
+                  "`keep` (it answers candidates who wait)")
         note(want, f"process {os.getpid()}, {' '.join(words)}")
         ask_keep_aside(office)
         with lock_file(office, "office.lock") as lock:
             while not try_lock(lock):
-                wait.pause(lambda: f"`keep` (it does not step aside: {state})" if (state := keep_state(office)) else
-                           "the program (a command that began it was killed)")  # this process has want.lock
+                pause(lambda: f"`keep` (it does not step aside: {state})" if (state := keep_state(office)) else
+                      "the program (a command that began it was killed)")  # this process has want.lock
             yield lock
 
 
@@ -123,10 +115,7 @@ def is_taken(office: Office, *names: str) -> bool:
 
 
 def keep_state(office: Office) -> Said | None:
-    """What `keep` has said of itself; None where it does not run.
-
-    In a folder that is not ours alone it does not run, whatever lies there.
-    """
+    """What `keep` has said of itself; None where it does not run, as in a folder that is not ours alone."""
     with (contextlib.suppress(OSError, beside.Strange),
           open(beside.open_file(office.path, "keep.lock", flags=os.O_RDONLY), "rb") as lock):
         asked = fcntl.fcntl(lock, fcntl.F_GETLK, struct.pack(FLOCK, fcntl.F_WRLCK, os.SEEK_SET, 0, 0, 0))
@@ -136,11 +125,11 @@ def keep_state(office: Office) -> Said | None:
     return None
 
 
-def said_by(process: int, text: bytes) -> Said:
-    """What `keep` has said, where the text is whole and its own; else its process alone."""
+def said_by(process: int, text: bytes | str, is_gone: bool = False) -> Said:
+    """What `keep` has said, where the text is whole and its own, or of one that is gone; else its process alone."""
     with contextlib.suppress(ValueError, RecursionError):
         said = json.loads(text)
-        if isinstance(said, dict) and said.get("pid") == process:
+        if isinstance(said, dict) and (is_gone or said.get("pid") == process):
             return cast(Said, said)
     return {"pid": process}
 

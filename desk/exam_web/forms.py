@@ -3,11 +3,8 @@ a sheet to print, or a file."""
 import base64
 import contextlib
 import hashlib
-import os
-import pathlib
 import re
 import secrets
-import shutil
 from collections.abc import Callable, Iterator, Mapping
 from typing import Any, NamedTuple
 
@@ -125,9 +122,4 @@ def attached(content: bytes, name: str, kind: str = "text/csv") -> Response:
 def archive(name: str, fill: Callable[[str], object]) -> Response:
     """A zip of the files that are put into a folder; its name has the day."""
     name = f"{name}-{desk().office.today().isoformat()}"
-    with private.own_folder(desk().office.path) as folder:
-        place = os.path.join(folder, name)
-        os.mkdir(place, 0o700)
-        fill(place)
-        packed = shutil.make_archive(place, "zip", folder, name)
-        return attached(pathlib.Path(packed).read_bytes(), f"{name}.zip", "application/zip")
+    return attached(private.zipped(desk().office.path, name, fill), f"{name}.zip", "application/zip")

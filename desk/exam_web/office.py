@@ -1,6 +1,6 @@
 """The office: whether it serves, its copies and how one is put back, its log; a backup, and one that is brought."""
 import contextlib
-import os
+import functools
 import pathlib
 import re
 import sys
@@ -12,7 +12,7 @@ from flask import Blueprint, abort, g, render_template, request
 from markupsafe import Markup, escape
 from werkzeug.wrappers import Response
 
-from exam_desk import backups, beside, changing, copies, keeping, logbook, losses, notebook, on_paper, private, turns
+from exam_desk import backups, changing, copies, keeping, logbook, losses, notebook, on_paper, turns
 from exam_desk.trouble import Stale, Trouble
 from exam_web.desk import View, desk, office, once, sums, view
 from exam_web.forms import Wrong, archive, at_field, lead, tell_papers, whole
@@ -162,13 +162,4 @@ def keep() -> Response:
 
 @pages.post("/office/backup")
 def backup() -> Response:
-    """The office's two files, with the notebook where it lies beside them."""
-    here = desk().office
-
-    def fill(folder: str) -> None:
-        path = os.path.join(folder, here.base_name())
-        private.copy_files(os.path.realpath(here.path), path)
-        pathlib.Path(path + "-wal").touch()  # where there is none nothing is missing, and the backup says so
-        os.mkdir(beside.folder(path), 0o700)
-        notebook.copy_into(here, beside.folder(path))
-    return archive("office", fill)
+    return archive("office", functools.partial(backups.fill, desk().office))

@@ -195,11 +195,11 @@ class Held(unittest.IsolatedAsyncioTestCase):
         self.open()
         asked = [asyncio.create_task(self.hold.answer(REQUEST)) for _ in range(20)]
         await self.until(lambda: len(self.got) == 1)
-        self.hold.close()
+        self.hold.opened.clear()
         self.gate.set()
         await self.until(lambda: any(task.done() for task in asked))
         await asyncio.sleep(0.2)
-        self.assertEqual((len(self.got), self.hold.waiting()), (1, 19))
+        self.assertEqual((len(self.got), self.hold.asked - self.hold.answered), (1, 19))
         self.open()
         self.assertEqual(await asyncio.gather(*asked), [ANSWER] * 20)
 

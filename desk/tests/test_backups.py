@@ -1,5 +1,6 @@
 """Backups that somebody brings: what becomes of their bytes, whoever made them."""
 import contextlib
+import errno
 import io
 import os
 import pathlib
@@ -10,7 +11,7 @@ import zipfile
 from unittest import mock
 
 import sample
-from exam_desk import backups, changing, copies, notebook, snapshot
+from exam_desk import backups, changing, copies, files, notebook, private, snapshot
 from exam_desk.trouble import Stale, Trouble
 
 APPEAL = "INSERT INTO appeal VALUES (1051, 'HA1', 'MON-AM', 1, 'PC1', 0, 0, 'x', 1, NULL, '2027-05-01')"
@@ -69,6 +70,33 @@ class TestTaken(Backups):
                 for path in found.values():
                     self.assertEqual(stat.S_IMODE(os.stat(path).st_mode) & 0o077, 0, path)
             self.assertEqual(os.listdir(self.tmp), [])
+
+    def test_what_the_command_hands_out(self):
+        """A file for its owner alone, never in the place of another: the office of then, its notebook and its log."""
+        self.office("school", "Hill")
+        self.assertRegex(self.office("backup", "b.zip"), r"^b\.zip: [0-9]+ bytes\n$")
+        self.assertEqual(stat.S_IMODE(os.stat(os.path.join(self.folder, "b.zip")).st_mode), 0o600)
+        before, content, log = snapshot.name_now(self.value), self.bytes_of("b.zip"), self.bytes_of("desk-office.db/log")
+        self.office("withdraw", "0001051", "PH-1")
+        self.assertEqual(self.refused("backup", "b.zip"), "office: b.zip is there already; name another\n")
+        self.assertEqual(self.bytes_of("b.zip"), content)
+        with zipfile.ZipFile(io.BytesIO(content)) as archive:
+            self.assertEqual(archive.read(f"office-{sample.TODAY}/desk-office.db/log"), log)
+        with self.brought(b_zip=content) as (_, found):
+            self.assertEqual({*found}, {"office.db", "office.db-wal", "notebook/school.json"})
+            self.assertEqual(snapshot.name_now(self.value, found["office.db"]), before)
+
+    def test_a_full_disk_keeps_none_back(self):
+        """It is packed in TMPDIR then; where the new file has no room, nothing of it is left."""
+        full = OSError(errno.ENOSPC, "No space left on device")
+        with mock.patch("exam_desk.private.own_folder", side_effect=full):
+            content = private.zipped(self.path, "x", lambda folder: backups.fill(self.value, folder))
+        with zipfile.ZipFile(io.BytesIO(content)) as archive:
+            self.assertEqual(archive.read("x/office.db"), self.first)
+        with self.assertRaises(OSError) as raised, mock.patch("builtins.open", side_effect=full):
+            files.put(os.path.join(self.folder, "b.zip"), content)
+        self.assertEqual(raised.exception.filename, os.path.join(self.folder, "b.zip"))
+        self.assertFalse(os.path.exists(raised.exception.filename))
 
     def test_the_second_file_counts(self):
         """What a stopped program left there, such as the last appeals."""

@@ -150,6 +150,8 @@ class Verdicts(sample.SampleSchool):
         self.assertEqual((done.returncode, done.stderr), (1, ""))
         self.assertTrue(done.stdout.startswith(f"{line}NOTE: {once}"), done.stdout)
         self.assertTrue(done.stdout.endswith("\n7 files, 0 mistakes, 2 notes\n"), done.stdout)
+        self.assertIn("candidates.csv: 60 candidates have no access code; `office take ..` fills in 60 from the office; "
+                      "without", self.run_office("check-files", "facts").stdout)
         self.assertIn("refused 1 record 1 column 3\n", self.refused("import", "candidates", path))
         self.assertIn("candidates!C2:C61: code (empty) became the one that the office has; 60 times\n",
                       self.office("take", "facts", "--yes"))
@@ -201,7 +203,7 @@ class Words(unittest.TestCase):
         text = b"number;name\n1000;Ada Lin\n0001017;\n0001034\n"
         self.assertEqual(self.mistakes_in("candidates", text), ([
             "semicolons part the columns: save it with commas",
-            "the column code is missing: add it (leave it empty; `office take .. --codes` makes the codes)",
+            "the column code is missing: add it (leave it empty; `office take .. --codes` fills it)",
             "leading zeros lost? 0001000 (seven digits; format the column as text)", "1 to 80 bytes; it has 0",
             "1 field in place of 3; values are missing"], []))
         self.assertEqual(self.mistakes_in("candidates", b" Number,,name,code\n1000,,Ada,CODE0001\n"), ([
@@ -247,6 +249,12 @@ class Words(unittest.TestCase):
         self.assertEqual([*checking.lines_on("c.csv", found, "")], [
             "c.csv: 2 candidates have no access code; `office take .. --codes` makes them; without them an import "
             "refuses the file"])
+        known = mistakes.Known()
+        known.codes[b"0001017"] = b"CODE0001"
+        found, _ = mistakes.looked_through("candidates", text, known)
+        self.assertEqual([*checking.lines_on("c.csv", found, "")], [
+            "c.csv: 2 candidates have no access code; `office take ..` fills in 1 from the office, and with --codes makes "
+            "the others; without them an import refuses the file"])
         for empty in (b" ", "\u00a0\u200b".encode()):
             cure = mistakes.cure("code", empty)
             self.assertEqual(cure, ("it holds nothing that can be seen: empty it, and a code can be made", ""))

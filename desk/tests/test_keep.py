@@ -39,7 +39,10 @@ class Kept(sample.KeptSchool):
         self.assertIn("serves this office already", self.refused("keep", "start", str(self.port)))
         self.assertIn("serves this office already", self.refused("serve", str(self.port)))
         self.assertEqual(os.listdir(os.path.join(self.desk, "days")), [sample.TODAY])
+        os.rename(self.path, f"{self.path}.away")  # what is served still can be ended
         self.assertEqual(self.office("keep", "stop"), "ended\n")
+        self.assertIn("there is no office here", self.refused("keep", "status"))
+        os.rename(f"{self.path}.away", self.path)
         self.assertRegex(self.refused("keep", "status"), "does not run; the last line of .*/keep.log: .* ended\n$")
         os.remove(os.path.join(self.desk, "keep.log"))
         self.assertIn("does not run; `office keep start` begins it", self.refused("keep", "status"))
@@ -112,6 +115,10 @@ class Kept(sample.KeptSchool):
         serve = self.served_by()
         os.kill(self.state()["pid"], signal.SIGKILL)
         sample.until(lambda: has_ended(serve))
+        self.assertEqual(self.refused("keep", "status"),
+                         f"office: `keep` does not run; it was killed while it served for {sample.TODAY}, or the machine "
+                         f"stopped; all that it answered is kept; `office keep start {self.port}` begins it, and a service "
+                         "begins by itself\n")
         self.assertEqual(self.office("withdraw", "0001000", "MA-1"), "withdrawn\n")
         self.office("keep", "start", str(self.port))
         self.assertEqual(self.ask("GET", "appeals")[1]["appeals"][0]["state"], "open")

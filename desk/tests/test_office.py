@@ -50,7 +50,7 @@ class Words(sample.SampleSchool):
             path = self.write("sessions.csv", f"session,date,start\n{row}\n")
             self.assertIn(f"  sessions.csv line 2: {text}\n", self.refused("import", "sessions", path))
         path = self.write("candidates.csv", "number,name,code\n0001000,Ada,\n")
-        self.assertIn("  candidates.csv: 1 candidate has no access code; `office take .. --codes` makes them",
+        self.assertIn("  candidates.csv: 1 candidate has no access code; `office take ..` fills in 1 from the office; without",
                       self.refused("import", "candidates", path))
 
     def test_a_file_that_is_not_there_is_named_with_its_folder(self):

@@ -76,6 +76,14 @@ class Crowded(unittest.TestCase):
                 answer.side_effect = [said]
                 self.assertEqual(keeping.status(None), (False, f"process 7 does not serve now: {why}"))
 
+    def test_status_says_what_a_refusal_means(self):
+        for state, said in (("serve ended with status 1: refused 27",
+                             "serve ended with status 1: refused 27; an earlier version of the program made the file; "
+                             "`office migrate` carries it over"), ("aside", "it begins, or a command has the office")):
+            with mock.patch("exam_desk.turns.keep_state", return_value={"pid": 7, "place": "8080", "state": state}):
+                self.assertEqual(keeping.status(None).sentence,
+                                 f"process 7 does not serve now: {said}; it tries again by itself")
+
 
 class Hanging(sample.SampleSchool):
     def test_a_serve_that_hangs_is_replaced_and_its_client_is_answered(self):
