@@ -138,8 +138,7 @@ class Papers(sample.SampleSchool):
         for part in ("<p><bdi>Hill &lt;School&gt;</bdi><br>Tuesday, 8 June 2027, starts",
                      "48 candidates: 46 seated, 2 without a desk.", "4 candidates = 2 desks + 2 unseated",
                      "Each of these 4 candidates can sit only in LIB, which has 2 desks.",
-                     "<li>AULA, GYM, PC1, R12, R14: <bdi>no reader</bdi></li>",
-                     "<li>LIB: <bdi>suits, but 2 of 2 desks are taken: "):
+                     self.office("why", "TUE-AM").partition("what could help")[0]):
             self.assertIn(part, text)
         self.assertIn("no session XX", self.refused("session-page", "XX"))
 
