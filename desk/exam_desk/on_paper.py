@@ -116,12 +116,10 @@ def all_noted(office: Office) -> dict[str, Paper]:
 
 def with_other_notes(office: Office, notes: Mapping[str, str]) -> dict[str, list[str]]:
     """By session the halls of those of whom other notes are on paper than these by number."""
-    found = {}
-    for code, paper in all_noted(office).items():
-        other = [line for number, line in paper.lines.items() if line.shown[-1] != notes.get(number, line.shown[-1])]
-        if other:
-            found[code] = sorted({line.desk.hall for line in other} - {""})
-    return found
+    found = {code: {line.desk.hall for number, line in paper.lines.items()
+                    if line.shown[-1] != notes.get(number, line.shown[-1])}
+             for code, paper in all_noted(office).items()}
+    return {code: sorted(halls - {""}) for code, halls in found.items() if halls}
 
 
 def with_another(office: Office, what: str, value: object) -> dict[str, list[str]]:
