@@ -155,9 +155,7 @@ def otherwise(move: Move) -> str:
 
 
 def place(line: Line | None, nowhere: str) -> str:
-    if line is None:
-        return nowhere
-    return f"{line.desk.hall} {line.desk.desk}" if line.desk.hall else "no desk"
+    return nowhere if line is None else " ".join(map(str, line.desk)) if line.desk.hall else "no desk"
 
 
 @command.named("""Keeps how the desks of halls stand, for the seating charts: rows [HALL DESKS-IN-A-ROW [RUNNING]]

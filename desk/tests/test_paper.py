@@ -8,11 +8,14 @@ import shutil
 import sqlite3
 import subprocess
 import unittest
+from unittest import mock
 
 import sample
 from cells import Cells
 
 from exam_desk import states  # beside the tests' folder
+from exam_desk.reading import Reading
+from exam_desk.sheets import session_page
 
 PAGES = [["slips"], *([name, "MON-AM"] for name in ("board", "doors", "poster", "cards", "chart", "counts",
                                                    "session-page"))]
@@ -141,6 +144,12 @@ class Papers(sample.SampleSchool):
                      self.office("why", "TUE-AM").partition("what could help")[0]):
             self.assertIn(part, text)
         self.assertIn("no session XX", self.refused("session-page", "XX"))
+        drawn = []
+        for most in (4, 3):  # four are on the sheet: two sit in LIB, and two have no desk
+            with Reading(self.value) as reading, mock.patch.object(session_page, "MOST_DRAWN", most):
+                text = session_page.Page(reading, "TUE-AM").document().partition("<div class=cards>")[2]
+                drawn.append(re.findall(r"<ol>(.*?)</ol>", text))
+        self.assertEqual([[chips.count("<li>") for chips in lists] for lists in drawn], [[2, 2], [0, 2]])
 
     def change(self, *statements):
         """Changes rows that no seat depends on."""

@@ -13,6 +13,7 @@ from exam_desk.sheets import pages
 from exam_desk.sheets.pages import html, joined, table, text
 from exam_desk.words import clock, features, few, long_day
 
+MOST_DRAWN = 60  # candidates; who has which desk stands below
 SECTIONS = {"halls": "Halls", "shortage": "Shortage", "seats": "Who sits where", "clashes": "Clashes",
             "appeals": "Appeals"}
 HEADER = ("<header><h1>Session {}</h1><p>{}{}, starts {}</p><p>{}: {:,} seated, {:,} without a desk. {} with {}, {:,} "
@@ -119,10 +120,10 @@ class Page:
         return html("<p class=sum>{} = {} + {}</p>\n<dl class=balance>{}</dl>", *bars, joined(drawn))
 
     def drawing(self) -> Markup:
-        """Each listed candidate at a desk of a listed hall, or without a desk; then the halls that suit none of
-        them."""
-        halls = [hall for hall, _ in self.shortage.halls]
-        full = [("in", f"{hall}: {count(len(self.seated[hall]), 'desk')}, all taken", self.seated[hall])
+        """Each listed candidate at a desk of a listed hall, of many those without a desk alone; then the halls that suit
+        none of them."""
+        halls, is_drawn = [hall for hall, _ in self.shortage.halls], len(self.shortage.candidates) <= MOST_DRAWN
+        full = [("in", f"{hall}: {count(len(self.seated[hall]), 'desk')}, all taken", self.seated[hall] * is_drawn)
                 for hall in halls]
         cards = [html(CARD, kind, title, html("<ol>{}</ol>", joined(map(chip, members))))
                  for kind, title, members in [*full, ("lacking", f"No desk: {len(self.unseated):,}", self.unseated)]]
