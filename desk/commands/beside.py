@@ -6,7 +6,7 @@ from typing import TYPE_CHECKING
 
 import command
 from exam_desk.trouble import Trouble
-from exam_desk.words import few, plain
+from exam_desk.words import few
 
 if TYPE_CHECKING:
     from argparse import ArgumentParser
@@ -23,15 +23,12 @@ OF_HALLS, WHOLE = "sheet, poster, cards, chart of {}", "board, counts, slips"
 
     office absent MON-AM 0001051 0001060    notes two candidates as absent
     office absent MON-AM - <numbers.txt     as many as stand in a file, parted by spaces or lines
-    office absent MON-AM --there 0001060    takes one back
-    office absent MON-AM --nobody           notes that nobody was absent
-    office absent MON-AM >board.csv         prints number, paper, present, absent or no desk, by paper
+    office absent MON-AM >board.csv         prints session, date, number, paper, and present, absent or no desk
 
 All of it from the day of the session on. Who was missing is no fact of the office: no seat changes by it. Zeros in
 front of a number may be left out; where one number is wrong nothing is noted. The paper is the one that the candidate
 was to sit, of a second sitting the paper that it was made of. Where nobody noted anything of a session, all who have a
-desk are listed as present, and a note says so; so does one of who was noted, and has left the session. The log has who
-was noted, by number.
+desk are listed as present, and a note says so; so does one of who was noted, and has left the session.
 """)
 def absent(parser: ArgumentParser) -> None:
     from exam_desk import lists, notebook, second_sitting
@@ -54,8 +51,8 @@ def absent(parser: ArgumentParser) -> None:
     if noted and noted.gone:
         command.warn(f"NOTE the exam board's list lacks who is noted as absent and has left {session}: "
                      f"{few(noted.gone)}")
-    for paper, other, count in later if not notes else ():
-        command.warn(f"NOTE {paper} is sat in {other} too: `office absent {other}` has {lists.count(count, 'candidate')}")
+    for paper, code, count in later if not notes else ():
+        command.warn(f"NOTE {paper} is sat in {code} too: `office absent {code}` has {lists.count(count, 'candidate')}")
     command.say(text)
 
 
@@ -75,11 +72,11 @@ def numbers(words: list[str]) -> list[str]:
     office notes notes.csv    takes the notes of a file with the header number,text
     office notes              prints them, with names
 
-A note stands on what invigilators and candidates get, and on nothing else. It is no fact of the office: no seat depends
-on it. A later row for a number replaces the note, an empty text takes it away; notes that are not in the file stay. A
-text has at most 200 bytes. Where one row is wrong no row is taken. Notes lie beside the office, for its user alone, and
-in its copies; `office back` leaves them as they are. A line says which printed papers have another note. The log has
-whose note is another, and no text of it.
+A note stands on the invigilators' sheet and on the slip; what is behind `staff:` in it stands on the sheet alone. No
+seat depends on it. A later row for a number replaces the note, an empty text takes it away; notes that are not in the
+file stay. A text has at most 200 bytes. Where one row is wrong no row is taken. Notes lie beside the office, for its
+user alone, and in its copies; `office back` leaves them as they are. A line says which printed papers have another
+note. The log has whose note is another, and no text of it.
 """)
 def notes(parser: ArgumentParser) -> None:
     from exam_desk import facts, files, notebook, on_paper
@@ -143,11 +140,11 @@ def compared(reading: Reading, session: str) -> list[str]:
         raise Trouble(f"nobody noted which desks are printed for {session}; `office printed {session}` does")
     if found.holds():
         return ["the papers are up to date"]
-    halls = ", ".join(hall for hall in found.halls if hall not in found.empty)
+    halls, empty = ", ".join(hall for hall in found.halls if hall not in found.empty), ", ".join(found.empty)
     again = "; ".join([*([OF_HALLS.format(halls)] if halls else []), WHOLE])
     shared = (f"{what} {old or '-'} -> {new or '-'}" for what, old, new in found.others)
     return [*shared, *map(otherwise, found.moves), f"to print again: {again}",
-            *([f"to take away, as nobody sits there now: {OF_HALLS.format(', '.join(found.empty))}"] if found.empty else [])]
+            *([f"to take away, as nobody sits there now: {OF_HALLS.format(empty)}"] if empty else [])]
 
 
 def otherwise(move: Move) -> str:
@@ -158,9 +155,7 @@ def otherwise(move: Move) -> str:
 
 
 def place(line: Line | None, nowhere: str) -> str:
-    if line is None:
-        return nowhere
-    return f"{line.desk.hall} {line.desk.desk}" if line.desk.hall else "no desk"
+    return nowhere if line is None else " ".join(map(str, line.desk)) if line.desk.hall else "no desk"
 
 
 @command.named("""Keeps how the desks of halls stand, for the seating charts: rows [HALL DESKS-IN-A-ROW [RUNNING]]
@@ -187,23 +182,24 @@ def rows(parser: ArgumentParser) -> None:
         notebook.keep_rows(office, given.hall, asked := notebook.Rows(given.across or 0, given.running))
         tell_papers(on_paper.with_another(office, on_paper.OF_ROWS.format(given.hall), asked))
     kept = sorted(notebook.rows_of_halls(office).items())
-    lines = [f"{hall}: rows of {rows.across}, {rows.running}\n" for hall, rows in kept]
-    command.say("".join(lines) or "nothing is kept\n")
+    command.say_lines([f"{hall}: rows of {rows.across}, {rows.running}" for hall, rows in kept] or ["nothing is kept"])
 
 
-@command.named("""Keeps the name of the school, which stands on its papers: school [NAME]
+@command.named("""Keeps the name of the school, which stands on its papers: school [NAME] [--page ADDRESS]
 
-    office school "Hill School"    takes the name
-    office school                  prints it
-    office school ''               takes it away
+    office school "Hill School" --page https://exams.hill.example
 
-A line says which printed papers have another one.
+Without words it prints both. '' takes one away. A line says which printed papers have another name.
 """)
 def school(parser: ArgumentParser) -> None:
     from exam_desk import notebook, on_paper
+    parser.add_argument("--page", metavar="ADDRESS", help="of the candidates' page; it stands on slips")
     given = command.given(parser, "name?")
     office = command.office()
+    if given.page is not None:
+        notebook.set_school_name(office, given.page, notebook.PAGE)
     if given.name is not None:
         notebook.set_school_name(office, given.name)
         tell_papers(on_paper.with_another(office, on_paper.OF_SCHOOL, given.name))
-    command.say(f"{plain(notebook.school_name(office)) or 'no name'}\n")
+    address = notebook.school_name(office, notebook.PAGE)
+    command.say_lines([notebook.school_name(office) or "no name", *filter(None, [address])])

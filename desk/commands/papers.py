@@ -33,7 +33,8 @@ begins a sheet.
     office rows GYM 8               once for each hall: how its desks stand
     office chart MON-AM >chart.html
 
-A page for a browser, on A4: each hall as rows of desks, with the name, number and paper of who sits there.
+A page for a browser, on A4: each hall as rows of desks, with the name, number and paper of who sits there. A line says
+of which halls there is no chart yet.
 """),
     "counts": ("session", """\
 Prints how many copies of each paper each hall needs, and the last finish: counts SESSION >counts.html
@@ -57,7 +58,7 @@ the name, so each knows which door is theirs. It shows no paper and no arrangeme
     "summary": ("session*", """\
 Prints a line for each session, with all its counts: summary [SESSION ..]
 
-They are members, seated, short, desks, free, clashes, overlaps, open appeals. A NOTE names each two sessions at one time.
+They are members, seated, short, desks, free, clashes, overlaps, open appeals. A NOTE names two sessions at one time.
 Clashes are the candidates who miss a paper there, since another one is at the same time: `office clashes SESSION`.
 Free desks beside candidates who are short are in halls that do not suit them: `office why SESSION` says why.
 """),
@@ -65,12 +66,19 @@ Free desks beside candidates who are short are in halls that do not suit them: `
 
 
 def print_page(name: str, words: str, parser: ArgumentParser) -> None:
-    """Prints the page that the function of this name makes."""
+    """Prints the page that the function of this name makes; without the charts of halls that it cannot draw."""
     from exam_desk.sheets import papers, texts
     make = texts.summary if name == "summary" else getattr(papers, name)
-    asked = vars(command.given(parser, *words.split())).values()
+    session, *halls = vars(command.given(parser, *words.split())).values()
     with command.reading() as reading:
-        command.say(make(reading, *asked))
+        try:
+            text = make(reading, session, *halls)
+        except papers.NotDrawn as trouble:
+            if not trouble.others:
+                raise
+            command.warn(trouble)
+            text = make(reading, session, trouble.others)
+        command.say(text)
 
 
 for page, (taken, text) in PAGES.items():
@@ -86,9 +94,6 @@ def warned(faults: list[str]) -> bool:
 
 @command.named("""\
 Prints the door lists, the attendance sheets and the clash list of a session as text: print-session SESSION | lp
-
-    office print-session MON-AM | lp
-    office print-session MON-AM --lines 66 --columns 80 | lp -o sides=two-sided-long-edge
 
 Each sheet is as the program prints it, from one state of the office, and begins a new page. They are made from what the
 program answers for each candidate; a dozen are compared with its own, and where one differs, nothing is printed and the
@@ -125,11 +130,7 @@ def session_page(parser: ArgumentParser) -> bool:
 Prints a slip of paper for each candidate, to be cut out and handed over: slips [SESSION ..] >slips.html
 
     office slips >slips.html                          everybody, all sessions
-    office slips MON-AM --desks >slips.html           one session, with desk numbers
     office slips MON-AM MON-PM --codes >slips.html    the sessions of a day, with the access codes
-    office slips --only 0001051 >slip.html            one candidate
-    office slips --order forms.csv >slips.html        by the groups of a file with the header number,group
-    office slips --csv >letters.csv                   the same for a spreadsheet or the merge of letters
 
 Without --desks a slip has no desk number: whoever withdraws or joins gives others in the hall another one, so print
 them late. A page for a browser, five or so slips on a sheet of A4, by name: number, days, times with the own finish,
@@ -173,11 +174,8 @@ def appeals_open(parser: ArgumentParser) -> None:
 
 @command.named("""Says who must be told: all sessions compared with a copy of the office: changes BACKUP [SESSION ..]
 
-    office changes backup/2027-05-30           since the copy in this folder
-    office changes 1 TUE-AM                    one session, since copy 1 of `office back`
-    office changes 1 --tell                    without those whose desk alone is another
-    office changes backup/office.db --csv      for a spreadsheet or a mail merge, with titles
-    office changes 1 --tell --paper >told.html   a page for a browser, with a box to tick for each
+    office changes backup/2027-05-30             since the copy in this folder
+    office changes 1 --tell --paper >told.html   since copy 1 of `office back`, with a box to tick for each
 
 BACKUP is a folder with the two files, the file itself, or the number of a copy. Who lost the desk comes first, then who
 lost a need, who sits another paper, in another hall, or at another time, who has another name, who misses other papers,
@@ -189,7 +187,7 @@ def changes(parser: ArgumentParser) -> None:
     from exam_desk import telling
     from exam_desk.sheets import papers
     form = parser.add_mutually_exclusive_group()
-    form.add_argument("--csv", action="store_true")
+    form.add_argument("--csv", action="store_true", help="for a spreadsheet or a mail merge, with titles")
     form.add_argument("--paper", action="store_true", help="a page for a browser, on A4")
     given = command.given(parser, "backup", "session*", "--tell: only who must be told")
     path, since = backup(command.office(), given.backup)
@@ -244,9 +242,7 @@ def check_shortage(parser: ArgumentParser) -> bool:
 
 @command.named("""Shows what the office knows of a candidate: look NAME|NUMBER, or look --clashes [SESSION ..]
 
-    office look 0001051
     office look ferrari ada       everybody whose name has these words, without regard to capitals and accents
-    office look 0001051 --codes   with the access code
     office look --clashes MON-AM  who has two papers at once there, or in any session, by pairs of papers
 
 Entries with seats, arrangements, and appeals with reasons and answers.

@@ -25,16 +25,18 @@ if TYPE_CHECKING:
     from exam_desk.reading import Member, Reading
 
 PLACE = "notebook"
+SCHOOL, PAGE = "school", "page"
 WORDS = {  # what a file holds, by the beginning of its name; {} is a session
-    "school": "the name of the school", "notes": "notes", "rows": "rows of desks", "printed": "printed desks of {}",
-    "absent": "absences of {}"}
+    SCHOOL: "the name of the school", PAGE: "the address of the candidates' page", "notes": "notes",
+    "rows": "rows of desks", "printed": "printed desks of {}", "absent": "absences of {}"}
 NAME = re.compile(r"([a-z]+)(?:\.(.*))?\.json")
 NEW = ".new"  # the end of the name of a file that is being written
 RUNNING = ["across", "across-and-back", "down", "down-and-up"]  # how the numbers of desks run
 MOST_NOTE_BYTES = 200
 MOST_ACROSS = 100  # desks in a row
 MOST_NAMED, MOST_LOGGED = 5, 20  # numbers in a refusal, and of one kind in a line of the log
-ATTENDANCE = ["number", "paper", "attendance"]
+ATTENDANCE = ["session", "date", "number", "paper", "attendance"]
+STAFF = re.compile(r"[\s,;(]*\bstaff\s*:.*", re.I | re.S)  # of a note: its part for staff alone
 Held = TypeVar("Held", bound=Collection[object])
 
 
@@ -53,22 +55,29 @@ class Absences(NamedTuple):
     gone: list[str]  # the numbers of those who have left the session: the list for the exam board lacks them
 
 
-def school_name(office: Office) -> str:
-    """The name of the school; nothing where none was given."""
-    return read(office, "school", "", is_text)
+def school_name(office: Office, what: str = SCHOOL) -> str:
+    """The name of the school, or the address of its page; nothing where none was given."""
+    return read(office, what, "", is_text)
 
 
-def set_school_name(office: Office, name: str) -> None:
-    """Raises `Trouble` where the name has another form than a title."""
+def set_school_name(office: Office, name: str, what: str = SCHOOL) -> None:
+    """Raises `Trouble` where the name, or the address, has another form than a title."""
     if name and not files.is_name(name.encode("utf-8", "surrogateescape")):
+        if what == PAGE:
+            raise Trouble(f"{WORDS[PAGE]} has 1 to 80 bytes and no control characters; '' takes it away")
         raise Trouble("the name of a school has 1 to 80 bytes and no control characters; '' takes it away")
     with alone(office) as folder:
-        write(office, folder, "school", name)
-    logbook.write_done(office, ["school"], 0, name or "no name")
+        write(office, folder, what, name)
+    logbook.write_done(office, [SCHOOL], 0, name or f"no {'name' if what == SCHOOL else what}")
 
 
 def notes(office: Office) -> dict[str, str]:
     return read(office, "notes", dict[str, str](), is_text)
+
+
+def for_candidate(note: str) -> str:
+    """What of a note a slip shows, which goes home."""
+    return STAFF.sub("", note)
 
 
 def take_notes(office: Office, new: Mapping[str, str]) -> Counter[str]:
@@ -120,8 +129,8 @@ def absences(reading: Reading, session: str) -> Absences | None:
     noted = absent(reading.office, session)
     if noted is None:
         return None
-    known = facts.candidate_names(reading.rows).keys()  # a copy from before somebody came may have been put back
-    members = reading.members(session, sorted(noted & known))
+    known = filter(reading.knows, sorted(noted))  # a copy from before somebody came may have been put back
+    members = reading.members(session, known)
     return Absences(members, sorted(noted.difference(member.number for member in members)))
 
 
@@ -147,10 +156,11 @@ def is_to_come(office: Office, day: str) -> bool:
     return office.today().isoformat() < day
 
 
-def refuse_to_come(reading: Reading, session: str) -> None:
+def day_of(reading: Reading, session: str) -> str:
     """Raises `Trouble` for a session that is yet to come, and where there is no such session."""
-    if is_to_come(reading.office, day := facts.session_row(reading.rows, session)["day"]):
+    if is_to_come(reading.office, day := str(facts.session_row(reading.rows, session)["day"])):
         raise Trouble(f"{session} is on {day}: nobody can have been present or absent before that day")
+    return day
 
 
 def note_absent(office: Office, reading: Reading, session: str, missing: Iterable[str], there: Iterable[str] = (),
@@ -158,7 +168,7 @@ def note_absent(office: Office, reading: Reading, session: str, missing: Iterabl
     """Notes some as absent and others as there, or that nobody was absent; who is absent then. Raises `Trouble`, and
     notes nothing, before the day of the session, where nobody is named, where a number is neither that of a member nor
     noted already, and as `keep_absent`."""
-    refuse_to_come(reading, session)
+    day_of(reading, session)
     missing, there = [*map(typed.candidate_number, missing)], [*map(typed.candidate_number, there)]
     noted = absent(office, session) or ()
     asked = [number for number in (*missing, *there) if number not in noted]
@@ -176,12 +186,12 @@ def attendance(reading: Reading, session: str) -> str:
     """A line for each member, by paper, as CSV. The paper is the one that the candidate was to sit, by the code which
     the exam board knows. Who has no desk cannot have been present. Raises `Trouble` before the day of the session."""
     from exam_desk.second_sitting import own_code  # here, since it makes changes, whose copies have this notebook
-    refuse_to_come(reading, session)
+    day = day_of(reading, session)
     missing, members = absent(reading.office, session) or set(), reading.members(session)
     codes = {paper: own_code(reading.rows, paper) for paper in {member.sitting.paper for member in members}}
     rows = sorted((codes[sits.paper], number, "absent" if number in missing else "present" if sits.hall else "no desk")
                   for number, _, sits in members)
-    return files.written([ATTENDANCE, *([number, paper, attended] for paper, number, attended in rows)])
+    return files.written([ATTENDANCE, *([session, day, number, paper, attended] for paper, number, attended in rows)])
 
 
 def is_text(part: object) -> bool:

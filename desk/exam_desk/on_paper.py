@@ -111,8 +111,9 @@ def all_noted(office: Office) -> dict[str, Paper]:
 
 def with_other_notes(office: Office, notes: Mapping[str, str]) -> dict[str, list[str]]:
     """By session the halls of those of whom other notes are on paper than these by number."""
-    found = {code: {line.desk.hall for number, line in paper.lines.items() if line.shown[-1] != notes.get(
-        number, line.shown[-1])} for code, paper in all_noted(office).items()}
+    found = {code: {line.desk.hall for number, line in paper.lines.items()
+                    if line.shown[-1] != notes.get(number, line.shown[-1])}
+             for code, paper in all_noted(office).items()}
     return {code: sorted(halls - {""}) for code, halls in found.items() if halls}
 
 

@@ -7,9 +7,10 @@ import itertools
 from collections.abc import Collection, Iterable, Iterator, Mapping
 from typing import NamedTuple
 
-from exam_desk.lists import count
+from exam_desk import facts
+from exam_desk.lists import by_desk, count
 from exam_desk.reading import Reading, Sitting
-from exam_desk.words import few
+from exam_desk.words import clock, few
 
 LONGEST = 1200  # minutes that somebody without a desk may sit: those of the longest paper, and as many more
 MOST_LINES = 20
@@ -108,6 +109,22 @@ def pairs(reading: Reading, asked: Collection[str]) -> list[Pair]:
     return [Pair(early, late, then - now) for place, (early, now) in enumerate(sessions)
             for late, then in itertools.takewhile(lambda each: each[1] < now + LONGEST, sessions[place + 1:])
             if not asked or early in asked or late in asked]
+
+
+def in_halls(reading: Reading, session: str) -> dict[str, list[str]]:
+    """By hall of a session a line on each other session that has candidates there at that time, and until when."""
+    doubtful = [Doubtful(pair, hall, number) for pair in pairs(reading, [session])
+                for hall, number in reading.rows.execute(IN_HALLS, pair._asdict())]
+    begin, found = starts(reading), dict[str, list[str]]()
+    for early, late, _, halls in certain(reading, doubtful):
+        first = facts.session_row(reading.rows, late)["start"]
+        for hall in halls:
+            end = min(begin[code] + max(length(each.sitting) for each in by_desk(reading.members(code), hall))
+                      for code in (early, late))
+            found.setdefault(hall, []).append(
+                f"also here from {clock(first)} to {clock(first + end - begin[late])}: session "
+                f"{late if session == early else early}, whose desks have numbers from 1, too")
+    return found
 
 
 def starts(reading: Reading) -> dict[str, int]:

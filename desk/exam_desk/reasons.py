@@ -11,7 +11,7 @@ from typing import NamedTuple
 
 from exam_desk import facts
 from exam_desk.facts import Opening, session_row
-from exam_desk.lists import count
+from exam_desk.lists import by_desk, count
 from exam_desk.reading import Member, Reading
 from exam_desk.trouble import Trouble
 from exam_desk.words import FEATURES, clock, features, few, plain
@@ -69,10 +69,8 @@ class Reasons:
             "SELECT code, requires FROM paper WHERE session = ?", [session])}
         self.barred = {(f"{number:07}", hall) for number, hall in reading.rows.execute(GRANTED_HALLS, [session])}
         self.found: dict[tuple[object, ...], list[str]] = {}  # obstacles
-        self.taken: dict[str, list[str]] = defaultdict(list)  # the numbers in each hall, by desk
-        for member in sorted(self.members, key=lambda member: member.sitting.desk or 0):
-            if member.sitting.hall:
-                self.taken[member.sitting.hall].append(member.number)
+        self.taken: dict[str, list[str]] = defaultdict(list, {  # the numbers in each hall, by desk
+            each.hall: [member.number for member in by_desk(self.members, each.hall)] for each in self.openings})
 
     def unseated(self) -> list[Member]:
         return [member for member in self.members if member.sitting.hall is None]
@@ -102,10 +100,10 @@ class Reasons:
         return [(opening.hall, self.reason(member, opening)) for opening in self.openings]
 
     def reason(self, member: Member, opening: Opening) -> str:
+        """How a member and a hall stand to each other; of a full hall with the first who sit there."""
         if member.sitting.hall == opening.hall:
             return f"sits here, at desk {member.sitting.desk}"
-        obstacles = self.obstacles(member, opening)
-        if obstacles:
+        if obstacles := self.obstacles(member, opening):
             return ", ".join(obstacles)
         taken = self.taken[opening.hall]
         if len(taken) < opening.desks:
@@ -159,13 +157,11 @@ class Reasons:
         candidates, halls = set(sheet.candidates), set(sheet.halls)
         suiting = {(opening.hall, opening.desks) for opening in self.openings
                    if any(not self.obstacles(members[number], opening) for number in candidates & members.keys())}
-        yield from (f"{number} is listed {times} times"
-                    for number, times in Counter(sheet.candidates).items() if times > 1)
+        listed = Counter([*sheet.candidates, *(f"hall {hall}" for hall, _ in sheet.halls)])
+        yield from (f"{name} is listed {times} times" for name, times in listed.items() if times > 1)
         yield from (f"{number} is not a member of the session" for number in sheet.candidates if number not in members)
         yield from (f"{member.number} has no desk and is not listed"
                     for member in self.unseated() if member.number not in candidates)
-        yield from (f"hall {hall} is listed twice" for hall, times in
-                    Counter(hall for hall, _ in sheet.halls).items() if times > 1)
         yield from (f"hall {hall} with {desks} desks suits one of the candidates, but is not listed with as many desks"
                     for hall, desks in sorted(suiting - halls))
         yield from (f"hall {hall} with {desks} desks is listed, but suits none of the candidates, or has not as many "

@@ -6,7 +6,7 @@ class Cells(html.parser.HTMLParser):
     """The parser also sees that every element is one of a table or known."""
 
     known = set("html head meta title style body h1 h2 h3 p b i small span bdi br div section table thead tbody tr "
-                "th td header nav a ol ul li dl dt dd svg rect code".split())
+                "th td header nav a ol ul li dl dt dd svg rect code pre".split())
 
     def __init__(self, page):
         super().__init__()

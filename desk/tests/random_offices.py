@@ -241,6 +241,9 @@ class RandomOffice:
             last = max(self.now[session][number].finish for _, number, *_ in rows)
             copies = collections.Counter(row[2] for row in rows)
             counted = "|".join(f"{code} {plain(self.titles[code])}: {copies[code]}" for code in sorted(copies))
+            also = [other for pair, (_, shared) in at_one_time(reading.rows, self.now).items()
+                    if session in pair and hall in shared for other in {*pair} - {session}]
+            equal(re.findall(r"also here from .*?: session (\w+),", parts[0][0][0]), also, "doors", page)
             for place, table in enumerate(parts, 1):
                 for words in (f"last finish {last}|", f", {len(rows):,} candidate",
                               f"|{hall}, page {place} of {len(parts)}|{counted}"):

@@ -209,6 +209,15 @@ class Commands(sample.SampleSchool):
     def test_school(self):
         self.assertEqual((self.office("school"), self.office("school", "Hill"), self.office("school")),
                          ("no name\n", "Hill\n", "Hill\n"))
+        page = "https://hill.example/<b>"
+        self.assertEqual(self.office("school", "--page", page), f"Hill\n{page}\n")
+        self.assertIn("<small><bdi>your seats and appeals: https://hill.example/&lt;b&gt;</bdi></small>",
+                      self.office("slips", "--only", "0001051"))
+        self.assertNotIn("hill.example", self.office("board", "MON-AM"))
+        self.assertIn("the address of the candidates' page has 1 to 80 bytes", self.refused("school", "--page", "a\n"))
+        self.assertEqual(self.office("school", "", "--page", ""), "no name\n")
+        self.assertEqual([line[2:] for line in logbook.last_lines(self.value)], [
+            ["school", "0", "Hill"], ["school", "0", page], ["school", "0", "no page"], ["school", "0", "no name"]])
 
     def board(self, note=""):
         """The list for the exam board; and what it says on standard error begins like this."""
@@ -227,39 +236,40 @@ class Commands(sample.SampleSchool):
         note = ("office: NOTE nobody has noted who was absent in MON-AM: all who have a desk are listed as present; "
                 "`office absent MON-AM --nobody` notes")
         for self.environment["TODAY"] in ("2027-06-07", "2027-07-01"):
-            self.assertEqual({line[2] for line in self.board(note)[1:]}, {"present", "no desk"})
+            self.assertEqual({line[4] for line in self.board(note)[1:]}, {"present", "no desk"})
         self.assertIn("no number is given", self.refused("absent", "MON-AM", "-", stdin="\n"))
         self.office("absent", "MON-AM", "1051")
         self.assertEqual(self.office("absent", "MON-AM", "--there", "1051"), "0 candidates absent of 60\n")
         self.board(note)
         self.assertEqual(self.office("absent", "MON-AM", "--nobody"), "0 candidates absent of 60\n")
-        self.assertEqual([line[0] for line in self.board()[1:] if line[2] != "present"], ["0001187", "0001935"])
+        self.assertEqual([line[2] for line in self.board()[1:] if line[4] != "present"], ["0001187", "0001935"])
         self.office("absent", "MON-AM", "0001187")
-        self.assertEqual([line[2] for line in self.board() if line[0] in ("0001187", "0001935")], ["absent", "no desk"])
+        self.assertEqual([line[4] for line in self.board() if line[2] in ("0001187", "0001935")], ["absent", "no desk"])
         self.office("absent", "MON-AM", "--there", "0001187")
         self.office("absent", "MON-AM", "0001051")
         self.assertIn("these are absent: 0001051\n", self.refused("absent", "MON-AM", "--nobody"))
-        self.assertEqual([line[0] for line in self.board() if line[2] == "absent"], ["0001051"])
+        self.assertEqual([line[2] for line in self.board() if line[4] == "absent"], ["0001051"])
 
     def test_absent(self):
         self.environment["TODAY"] = "2027-06-07"
         lines = self.board("office: NOTE")
-        self.assertEqual(lines[0], ["number", "paper", "attendance"])
-        self.assertEqual(Counter(line[2] for line in lines[1:]), {"present": 58, "no desk": 2})
+        self.assertEqual(lines[0], ["session", "date", "number", "paper", "attendance"])
+        self.assertEqual({(line[0], line[1]) for line in lines[1:]}, {("MON-AM", "2027-06-07")})
+        self.assertEqual(Counter(line[4] for line in lines[1:]), {"present": 58, "no desk": 2})
         members = [line for line in self.office("export", "MON-AM").splitlines()[1:]]
         self.assertEqual(sorted((line.split(",")[1], line.split(",")[2]) for line in members),
-                         sorted((line[0], line[1]) for line in lines[1:]))
+                         sorted((line[2], line[3]) for line in lines[1:]))
         self.assertEqual(self.office("absent", "MON-AM", "0001051"), f"1 candidate absent of {len(members)}\n")
         self.assertEqual(self.office("absent", "MON-AM", "-", stdin="0001000\n1017, 0001051\n"),
                          f"3 candidates absent of {len(members)}\n")
         self.office("absent", "MON-AM", "--there", "0001000")
-        self.assertEqual({line[0] for line in self.board() if line[2] == "absent"}, {"0001017", "0001051"})
+        self.assertEqual({line[2] for line in self.board() if line[4] == "absent"}, {"0001017", "0001051"})
         self.assertIn("nothing is noted: 0001052: no candidate of MON-AM",
                       self.refused("absent", "MON-AM", "0001000", "1052"))
         for wrong in ("x1051", "00001051", "0000000", "١٠٥١", "10 51"):
             self.assertIn(f"'{wrong}' is no candidate number", self.refused("absent", "MON-AM", "1034", wrong))
         self.assertIn(f"'{'a' * 57}..' is no candidate number", self.refused("absent", "MON-AM", "a" * 99))
-        self.assertEqual(len([line for line in self.board() if line[2] == "absent"]), 2)
+        self.assertEqual(len([line for line in self.board() if line[4] == "absent"]), 2)
         self.assertIn("there is no session MON", self.refused("absent", "MON"))
 
     def test_printed(self):
@@ -447,7 +457,21 @@ class Commands(sample.SampleSchool):
         self.assertIn("<td class=n>1 <small>was 2</small></td>", self.office("board", "MON-AM"))
         self.office("import", "arrangements", self.write("more.csv", "number,needs,extra\n0001051,-,25\n"))
         self.assertEqual(re.findall("<td class=w>([^<]*<br><small>was .*?)</td>", self.office("doors", "MON-AM")),
-                         ["11:30<br><small>was 11:00</small>"])
+                         ["11:30<br><small>was 11:00</small><br><small>or later</small>"])
+
+    def test_what_is_for_staff_alone(self):
+        """It stands on the invigilators' sheet, and is on no slip; a note alone says that the finish may be later."""
+        for note, slip in (("rest breaks; staff: call the nurse", "rest breaks"), ("Staff : call the nurse", "")):
+            self.office("notes", self.write("notes.csv", f"number,text\n0001051,{note}\n"))
+            doors = self.office("doors", "MON-AM", "PC1")
+            self.assertIn(f"<bdi>{note}</bdi>", doors)
+            self.assertEqual(re.findall("<td class=w>([^<]*)<br><small>or later</small></td>", doors), ["11:00"])
+            self.assertEqual(re.findall("<br><small><bdi>(.*?)</bdi></small>", self.office("slips", "--only", "1051")),
+                             [slip] * (slip != ""))
+            [letter, *_] = csv.DictReader(self.office("slips", "--csv", "--only", "1051").split("\n"))
+            self.assertEqual(letter["note"], slip)
+        for note in ("overstaff: a", "a staff member reads"):
+            self.assertEqual(notebook.for_candidate(note), note)
 
 
 if __name__ == "__main__":

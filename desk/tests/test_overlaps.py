@@ -62,6 +62,10 @@ class Overlaps(sample.SampleSchool):
             self.assertLessEqual(sat.keys(), said.keys())
         [late] = csv.DictReader(self.office("slips", "--only", "0001000", "LT", "--csv").split("\n"))
         self.assertEqual((late["not sat"], late["also sat"]), ("", "NX-1"))
+        said = "also here from 10:00 to {}: session {}, whose desks have numbers from 1, too"
+        for session, hall, wanted in (("MON-AM", "AULA", [said.format("11:00", "HL")]), ("MON-AM", "GYM", []),
+                                      ("HL", "AULA", [said.format("11:00", "MON-AM")]), ("HM", "AULA", [])):
+            self.assertEqual(re.findall("also here[^<]*", self.office("doors", session, hall)), wanted, session)
         told = self.run_office("withdraw", "0001017", "MA-1").stderr  # what was so before is not told again
         self.assertIn("1 leaves a session: MON-AM 0001017 Bo Ito", told)
         self.assertNotIn("at one time", told)

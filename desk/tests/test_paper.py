@@ -8,11 +8,14 @@ import shutil
 import sqlite3
 import subprocess
 import unittest
+from unittest import mock
 
 import sample
 from cells import Cells
 
 from exam_desk import snapshot  # beside the tests' folder
+from exam_desk.reading import Reading
+from exam_desk.sheets import session_page
 
 PAGES = [["slips"], *([name, "MON-AM"] for name in ("board", "doors", "poster", "cards", "chart", "counts",
                                                    "session-page"))]
@@ -138,10 +141,15 @@ class Papers(sample.SampleSchool):
         for part in ("<p><bdi>Hill &lt;School&gt;</bdi><br>Tuesday, 8 June 2027, starts",
                      "48 candidates: 46 seated, 2 without a desk.", "4 candidates = 2 desks + 2 unseated",
                      "Each of these 4 candidates can sit only in LIB, which has 2 desks.",
-                     "<li>AULA, GYM, PC1, R12, R14: <bdi>no reader</bdi></li>",
-                     "<li>LIB: <bdi>suits, but 2 of 2 desks are taken: "):
+                     self.office("why", "TUE-AM").partition("what could help")[0]):
             self.assertIn(part, text)
         self.assertIn("no session XX", self.refused("session-page", "XX"))
+        drawn = []
+        for most in (4, 3):  # four are on the sheet: two sit in LIB, and two have no desk
+            with Reading(self.value) as reading, mock.patch.object(session_page, "MOST_DRAWN", most):
+                text = session_page.Page(reading, "TUE-AM").document().partition("<div class=cards>")[2]
+                drawn.append(re.findall(r"<ol>(.*?)</ol>", text))
+        self.assertEqual([[chips.count("<li>") for chips in lists] for lists in drawn], [[2, 2], [0, 2]])
 
     def change(self, *statements):
         """Changes rows that no seat depends on."""

@@ -133,7 +133,8 @@ class Posters(sample.SampleSchool):
         self.assertIn("nobody sits in X", self.refused("cards", "MON-AM", "X"))
 
     def test_chart(self):
-        self.assertIn("say once how the desks stand in AULA", self.refused("chart", "MON-AM", "AULA"))
+        no_chart = "office: no chart of {} yet: say once how the desks stand, `office rows {} 8` for rows of 8 desks\n"
+        self.assertEqual(self.refused("chart", "MON-AM", "AULA"), no_chart.format("AULA", "AULA"))
         self.assertEqual(self.office("rows"), "nothing is kept\n")
         self.assertEqual(self.office("rows", "AULA", "4", "down"), "AULA: rows of 4, down\n")
         text, [_, *rows] = self.page("chart", "MON-AM", "AULA")
@@ -141,6 +142,9 @@ class Posters(sample.SampleSchool):
         for number, (hall, desk) in seats.items():
             if hall == "AULA":
                 self.assertIn(f"<td><b>{desk}</b><bdi>{names[number]}</bdi> {number} ", text)
+        done = self.run_office("chart", "MON-AM")  # of all halls those that can be drawn
+        self.assertEqual((done.stdout.partition("<body>")[2], done.stderr, done.returncode),
+                         (text.partition("<body>")[2], no_chart.format("GYM, LIB, PC1, R12", "GYM"), 0))
         depth = len(rows)
         self.assertTrue(rows[1][0].startswith("2"), rows)
         self.assertEqual(rows[0][1][:len(str(depth + 1))], str(depth + 1))

@@ -90,7 +90,7 @@ class InShort(unittest.TestCase):
                 (right._replace(candidates=["0000001", "0000003"]), "0000002 has no desk and is not listed"),
                 (right._replace(candidates=["0000001", "0000003"]), "0000003 is not a member of the session"),
                 (right._replace(halls=[("H001", 2)], desks=2), "hall H001 with 1 desks suits one of the candidates, but"),
-                (right._replace(halls=[("H001", 1)] * 2, hall_count=2, desks=2), "hall H001 is listed twice"),
+                (right._replace(halls=[("H001", 1)] * 2, hall_count=2, desks=2), "hall H001 is listed 2 times"),
                 (right._replace(unseated=2), "unseated: the sheet counts 2, and there are 1")):
             self.assertIn(said, "\n".join(reasons.faults(sheet)))
         reasons.taken["H001"] = []

@@ -92,7 +92,8 @@ class There(SecondSitting):
         """Who sits it is listed under the paper's own code, also once one of the two has another title."""
         self.second(*ONE)
         board = self.run_office("absent", "MON-AM-2", TODAY="2027-06-07").stdout
-        self.assertEqual(board, '"number","paper","attendance"\n"0000003","MA-1","present"\n')
+        self.assertEqual(board, '"session","date","number","paper","attendance"\n'
+                         '"MON-AM-2","2027-06-07","0000003","MA-1","present"\n')
         for row in ("MA-1,Sums,MON-AM,120,-", "MA-1-2,Other,MON-AM-2,120,-"):
             self.enter("papers", f"paper,title,session,minutes,requires\n{row}\n")
             self.assertEqual(self.run_office("absent", "MON-AM-2", TODAY="2027-06-07").stdout, board)

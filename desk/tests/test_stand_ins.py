@@ -130,7 +130,7 @@ class StandIns(sample.SampleSchool):
 
     def test_needs_of_who_has_no_desk(self):
         pages = self.pages(UNSEATED, needs="quiet", extra=77)
-        self.assertIn("with 77 % extra time, needs computer+quiet", pages.page)
+        self.assertIn("extra 77, needs computer+quiet\n", pages.page)
         self.assertIn("extra 77, needs computer+quiet", pages.why(UNSEATED))
         self.assertRegex(pages.why(UNSEATED), "PC1      .*no quiet")
 

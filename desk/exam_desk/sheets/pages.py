@@ -4,7 +4,7 @@ What is Markup is HTML already; every other value is escaped where it is put in,
 """
 from __future__ import annotations
 
-import os
+import pathlib
 import re
 from collections.abc import Iterable, Sequence
 
@@ -17,7 +17,7 @@ from exam_desk.second_sitting import own_code
 from exam_desk.snapshot import Rows
 from exam_desk.words import plain
 
-STYLES = os.path.join(os.path.dirname(__file__), "styles")
+STYLES = pathlib.Path(__file__).with_name("styles")
 DOCUMENT = ('<!doctype html>\n<html lang="en"><head><meta charset="utf-8">'
             '<meta name="viewport" content="width=device-width"><title>{}</title>\n'
             '<style>@page {{ @bottom-left {{ content: "{}" }} }}{}</style></head>\n<body>\n{}</body></html>\n')
@@ -85,11 +85,7 @@ def table(heads: Sequence[str], rows: Iterable[Sequence[object]], above: Markup 
 
 def style(*names: str) -> Markup:
     """Style sheets, one behind the other."""
-    found = ""
-    for name in names:
-        with open(os.path.join(STYLES, f"{name}.css"), encoding="utf-8") as file:
-            found += f"\n{file.read()}"
-    return Markup(found)
+    return Markup("".join(f"\n{(STYLES / f'{name}.css').read_text('utf-8')}" for name in names))
 
 
 def quoted(value: str) -> Markup:

@@ -11,7 +11,7 @@ from collections.abc import Collection, Iterable, Iterator, Mapping, Sequence
 
 from markupsafe import Markup
 
-from exam_desk import facts, lists, notebook, on_paper, second_sitting, telling
+from exam_desk import facts, lists, notebook, on_paper, overlaps, second_sitting, telling
 from exam_desk.lists import fold
 from exam_desk.notebook import Rows
 from exam_desk.on_paper import SHOWN, Desk, Line
@@ -39,6 +39,7 @@ TOLD = ["w:Session", "w:Number", "Name", "Before", "Now", "box:Told"]
 SAT = "{}<br>{}<br>{}, <span class=w>{}–{}</span>"
 
 DOORS = ["n:Desk", "w:Number", "Name", "Paper", "w:Finish", "Arrangement", "sign:Signature"]
+LATER = "or later"  # below the finish of who has a note, since it may be of rest breaks
 ABOVE = "<span>{}<br>open until {}, last finish {}<br>{}, {} expected</span><b>{}</b><br>{}, page {} of {}<br>{}"
 BELOW = Markup("Present: ________ &emsp; Absent: ________ &emsp; Invigilator: ______________________________")
 # Estimates in millimetres, rather too large than too small: so a page of A4 can say which of how many it is.
@@ -53,12 +54,12 @@ Row = tuple[list[object], float]  # the cells of a candidate, and how high they 
 
 
 class NotDrawn(Trouble):
-    """Nobody has said how the desks of halls stand."""
+    """Nobody has said how the desks of some halls stand; of the others there are charts."""
 
-    def __init__(self, halls: list[str]) -> None:
-        super().__init__(f"say once how the desks stand in {', '.join(halls)}: `office rows {halls[0]} 8` for rows of "
-                         "8 desks")
-        self.halls = halls
+    def __init__(self, halls: list[str], others: list[str]) -> None:
+        super().__init__(f"no chart of {', '.join(halls)} yet: say once how the desks stand, `office rows {halls[0]} "
+                         "8` for rows of 8 desks")
+        self.halls, self.others = halls, others
 
 
 def when(reading: Reading, session: str) -> Markup:
@@ -83,20 +84,19 @@ def nobody(reading: Reading, session: str) -> Markup:
 def desk(member: Member, before: Mapping[str, Line]) -> Markup:
     """The desk of a candidate, with the one that was printed where that is another."""
     now, line = Desk(member.sitting.hall or "", member.sitting.desk or 0), before.get(member.number)
-    old = line and line.desk
+    old = line.desk if line else Desk("", 0)
     if not before or old == now:
         return safe(now.desk)
-    words = "new"
-    if old and old.hall:
-        words = f"was {old.desk}" if old.hall == now.hall else f"was {old.hall} {old.desk}"
-    return html("{} <small>{}</small>", now.desk, words)
+    was = f"was {old.desk}" if old.hall == now.hall else f"was {old.hall} {old.desk}"
+    return html("{} <small>{}</small>", now.desk, was if old.hall else "new")
 
 
-def finish(member: Member, before: Mapping[str, Line]) -> Markup:
-    """The finish of a candidate, with the one that was printed below it where that is another."""
+def finish(member: Member, before: Mapping[str, Line], is_noted: bool) -> Markup:
+    """The finish of a candidate; below it the one that was printed where that is another, and a word on a note."""
     now, line = member.sitting.finish, before.get(member.number)
     old = line.shown[SHOWN.index("finish")] if line else ""
-    return html("{}<br><small>was {}</small>", now, old) if old not in ("", now) else safe(now)
+    below = [f"was {old}"] * (old not in ("", now)) + [LATER] * is_noted
+    return joined([now, *(html("<small>{}</small>", each) for each in below)], "<br>")
 
 
 def named(members: Collection[Member]) -> dict[str, Markup]:
@@ -143,18 +143,17 @@ def cards(reading: Reading, session: str, asked: Collection[str] = ()) -> str:
 
 
 def chart(reading: Reading, session: str, asked: Collection[str] = ()) -> str:
-    """Seating charts: halls as rows of desks, with who sits where. Raises `NotDrawn` too."""
+    """Seating charts: halls as rows of desks, with who sits where. Raises `NotDrawn` too, with the other halls."""
     halls, rows = lists.halls(reading, session, asked), notebook.rows_of_halls(reading.office)
     moment, name, papers = when(reading, session), school(reading.office, ". "), paper_names(reading.rows, CODE)
-    if unknown := [opening.hall for opening, _ in halls if opening.hall not in rows]:
-        raise NotDrawn(unknown)
-    sheets = []
-    for opening, there in halls:
-        stand = rows[opening.hall]
-        sheets.append(html(CHART, "chart wide" if stand.across > UPRIGHT else "chart", stand.across,
-                           text(opening.title), opening.hall, name, moment, lists.count(len(there), "candidate"),
-                           joined(drawn(opening.desks, there, stand, papers))))
-    return of_desks(reading, session, "Seating charts", sheets, "chart")
+    codes = [opening.hall for opening, _ in halls]
+    if unknown := [code for code in codes if code not in rows]:
+        raise NotDrawn(unknown, [code for code in codes if code in rows])
+    return of_desks(reading, session, "Seating charts", (
+        html(CHART, "chart wide" if stand.across > UPRIGHT else "chart", stand.across, text(opening.title),
+             opening.hall, name, moment, lists.count(len(there), "candidate"),
+             joined(drawn(opening.desks, there, stand, papers)))
+        for opening, there in halls for stand in [rows[opening.hall]]), "chart")
 
 
 def drawn(desks: int, members: Iterable[Member], rows: Rows, papers: Mapping[str, Markup]) -> Iterator[Markup]:
@@ -209,15 +208,17 @@ def doors(reading: Reading, session: str, asked: Collection[str] = ()) -> str:
     told = {number: [*filter(None, [notes.get(number)]), *(f"does not sit {paper}" for paper in missed.get(number, ())),
                      *watched(made, sits, reading.all_of(number).values())]
             for number, _, sits in reading.members(session)}
+    others = overlaps.in_halls(reading, session)
     return of_desks(reading, session, "Invigilators' sheets", (
         page for opening, there in lists.halls(reading, session, asked)
-        for page in of_door(heading, titles, opening, there,
-                            [row_of(member, papers, told[member.number], printed) for member in there])), "doors")
+        for page in of_door(heading, titles, opening, there, others.get(opening.hall, []),
+                            [row_of(member, papers, told[member.number], printed, member.number in notes)
+                             for member in there])), "doors")
 
 
 def watched(made: Mapping[str, sqlite3.Row], sits: Sitting, all_of: Iterable[Sitting]) -> Iterator[str]:
-    """What invigilators must know of who has a second sitting behind this one, or sits it here, among all that they sit:
-    in between somebody stays with them. Of each paper that was made for second sittings the one is given of which."""
+    """What invigilators must know, from all that somebody sits, where a second sitting is behind this one, or is this
+    one: in between somebody stays with them. Of each paper that was made for second sittings its own one is given."""
     mine = made.get(sits.paper)
     for other in all_of:
         first = made.get(other.paper)
@@ -228,25 +229,26 @@ def watched(made: Mapping[str, sqlite3.Row], sits: Sitting, all_of: Iterable[Sit
 
 
 def of_door(heading: Markup, titles: Mapping[str, Markup], opening: facts.Opening, members: list[Member],
-            found: list[Row]) -> Iterator[Markup]:
-    """The pages of a hall: each is a table, whose heading says which it is."""
+            others: list[str], found: list[Row]) -> Iterator[Markup]:
+    """The pages of a hall: each is a table, whose heading says which it is, and which other sessions are there."""
     counted = sorted(Counter(member.sitting.paper for member in members).items())
-    papers = [html("{}: {}", titles[code], count) for code, count in counted]
+    said = [*(html("{}: {}", titles[code], count) for code, count in counted), *map(safe, others)]
     rows, heights = zip(*found)
-    above = lines([opening.title, *(paper.striptags() for paper in papers)], TITLES)
+    above = lines([opening.title, *(each.striptags() for each in said)], TITLES)
     parts = parted(heights, HEIGHT - HEADING - LINE * max(3, above))
     last = max(member.sitting.finish for member in members)
     for place, part in enumerate(parts, 1):
         head = html(ABOVE, heading, clock(opening.until), last, lists.count(opening.desks, "desk"),
                     lists.count(len(members), "candidate"), text(opening.title), opening.hall, place, len(parts),
-                    joined(papers, "<br>"))
+                    joined(said, "<br>"))
         yield table(DOORS, rows[part], head, BELOW if place == len(parts) else Markup())
 
 
-def row_of(member: Member, papers: Mapping[str, Markup], told: Iterable[str], printed: Mapping[str, Line]) -> Row:
-    sits, paper = member.sitting, papers[member.sitting.paper]
-    arranged = [*filter(None, [lists.allowance(sits)]), *told]
-    until = finish(member, printed)
+def row_of(member: Member, papers: Mapping[str, Markup], told: Iterable[str], printed: Mapping[str, Line],
+           is_noted: bool) -> Row:
+    """The row of a candidate, as high as its highest cell is, or a signature."""
+    paper, until = papers[member.sitting.paper], finish(member, printed, is_noted)
+    arranged = [*filter(None, [lists.allowance(member.sitting)]), *told]
     height = 1 + LINE * max(lines([member.name], NAME), lines(arranged, ARRANGEMENT), len(paper.striptags().split()),
                             1 + until.count("<br>"))
     return [desk(member, printed), member.number, text(member.name), paper, until,

@@ -13,7 +13,7 @@ from exam_desk.sheets import pages
 from exam_desk.sheets.pages import html, joined, table, text
 from exam_desk.words import clock, features, few, long_day
 
-MOST_EXPLAINED = 30  # of those without a desk
+MOST_DRAWN = 60  # candidates; who has which desk stands below
 SECTIONS = {"halls": "Halls", "shortage": "Shortage", "seats": "Who sits where", "clashes": "Clashes",
             "appeals": "Appeals"}
 HEADER = ("<header><h1>Session {}</h1><p>{}{}, starts {}</p><p>{}: {:,} seated, {:,} without a desk. {} with {}, {:,} "
@@ -46,6 +46,7 @@ class Page:
         self.faults = list(self.reasons.faults(self.shortage))
 
     def document(self) -> str:
+        """The whole page, in the order of SECTIONS."""
         code, day, start = self.head["code"], self.head["day"], clock(self.head["start"])
         desks, people, lacking = facts.desks(self.reading.rows).get(code, 0), len(self.members), len(self.unseated)
         links = joined((html("<a href='#{}'>{}</a>", *each) for each in SECTIONS.items()), " ")
@@ -86,6 +87,7 @@ class Page:
         return table(["Number", "name:Name", "Sits", "Clash: does not sit"], rows) if rows else NONE
 
     def appeals_part(self) -> Markup:
+        """The appeals as the register has them, also of who has left the session since."""
         numbers = {member.number for member in self.members}
         rows = []
         for row in self.appeals:
@@ -118,10 +120,10 @@ class Page:
         return html("<p class=sum>{} = {} + {}</p>\n<dl class=balance>{}</dl>", *bars, joined(drawn))
 
     def drawing(self) -> Markup:
-        """Each listed candidate at a desk of a listed hall, or without a desk; then the halls that suit none of
-        them."""
-        halls = [hall for hall, _ in self.shortage.halls]
-        full = [("in", f"{hall}: {count(len(self.seated[hall]), 'desk')}, all taken", self.seated[hall])
+        """Each listed candidate at a desk of a listed hall, of many those without a desk alone; then the halls that suit
+        none of them."""
+        halls, is_drawn = [hall for hall, _ in self.shortage.halls], len(self.shortage.candidates) <= MOST_DRAWN
+        full = [("in", f"{hall}: {count(len(self.seated[hall]), 'desk')}, all taken", self.seated[hall] * is_drawn)
                 for hall in halls]
         cards = [html(CARD, kind, title, html("<ol>{}</ol>", joined(map(chip, members))))
                  for kind, title, members in [*full, ("lacking", f"No desk: {len(self.unseated):,}", self.unseated)]]
@@ -132,21 +134,9 @@ class Page:
         return html("<div class=cards>{}</div>", joined(cards))
 
     def why(self) -> Markup:
-        """Why each of those without a desk has none, hall by hall; halls with the same reason in one line."""
-        parts = [self.explained(member) for member in self.unseated[:MOST_EXPLAINED]]
-        if (more := len(self.unseated) - MOST_EXPLAINED) > 0:
-            parts.append(html("<p>{:,} more: <code>office why</code> says it of all.</p>", more))
-        return html("<div class=why><h3>Why they have no desk</h3>{}</div>", joined(parts))
-
-    def explained(self, member: Member) -> Markup:
-        sitting, found = member.sitting, dict[str, list[str]]()
-        extra = f", with {sitting.extra} % extra time" if sitting.extra else ""
-        for hall, reason in self.reasons.of(member):
-            found.setdefault(reason, []).append(hall)
-        lines = [html("<li>{}: {}</li>", ", ".join(codes), text(reason)) for reason, codes in found.items()]
-        return html("<p><b>{} {}</b> sits {} until {}{}, needs {}</p><ul>{}</ul>", member.number, text(member.name),
-                    self.papers[sitting.paper], sitting.finish, extra, "+".join(self.reasons.needs(member)) or "-",
-                    joined(lines) or Markup("<li>no hall is open</li>"))
+        """Why those without a desk have none, as `office why` says it."""
+        lines = joined(self.reasons.text().split("\n"), "\n")
+        return html("<div class=why><h3>Why they have no desk</h3><pre>{}</pre></div>", lines)
 
 
 def bar(parts: Sequence[Part], whole: int, label: str) -> Markup:

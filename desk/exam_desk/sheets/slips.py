@@ -62,23 +62,24 @@ def page(reading: Reading, choice: Choice) -> str:
     """The slips by name, or by group and name. Raises `Trouble` where the office does not know a candidate who is asked
     for, or they sit nothing in these sessions."""
     papers, halls = pages.paper_names(reading.rows), pages.hall_names(reading.rows)
-    school = pages.school(reading.office, "<br>")
+    school, address = pages.school(reading.office, "<br>"), notebook.school_name(reading.office, notebook.PAGE)
     by_group: dict[str, list[Markup]] = {}
     for each in slips_of(reading, choice):
         rows = [row(choice, sat, papers, halls) for sat in each.sat]
-        above = html("{}{}", school, heading(choice, each))
+        above = html("{}{}", school, heading(choice, each, address))
         by_group.setdefault(each.group, []).append(html("<div class=slip>{}</div>\n", pages.table(HEADS, rows, above)))
     form = "<div class=sheet><h2>{}</h2>\n{}</div>\n" if choice.groups else "{1}"
     slips = joined(html(form, text(group or "in no group"), joined(found)) for group, found in by_group.items())
     return pages.document(reading, "Slips", slips, "paper", "slips")
 
 
-def heading(choice: Choice, each: Slip) -> Markup:
-    """Whose slip it is, with the code and the group, and a note below."""
+def heading(choice: Choice, each: Slip, address: str) -> Markup:
+    """Whose slip it is, with the code and the group; below it a note, and the address of the candidates' page."""
     code = html("<span>access code {}</span>", each.person.code) if choice.codes else ""
     group = html("<span>{}</span>", text(each.group)) if each.group else ""
-    note = html("<br><small>{}</small>", text(each.note)) if each.note else ""
-    return html("{}{}<span>number {}</span><b>{}</b>{}", code, group, each.person.number, text(each.person.name), note)
+    below = [each.note, address and f"your seats and appeals: {address}"]
+    return html("{}{}<span>number {}</span><b>{}</b>{}", code, group, each.person.number, text(each.person.name),
+                joined(html("<br><small>{}</small>", text(line)) for line in below if line))
 
 
 def row(choice: Choice, sat: Sat, papers: Mapping[str, Markup], halls: Mapping[str, Markup]) -> list[object]:
@@ -88,33 +89,29 @@ def row(choice: Choice, sat: Sat, papers: Mapping[str, Markup], halls: Mapping[s
     notes: list[object] = [f"with {allowance}"] if allowance else []
     notes += [html("{} {}, at the same time: ask the exams office", word, papers[code])
               for word, codes in (("not", sat.missed), ("also", sat.beside)) for code in codes]
-    where = Markup("<b>no desk yet: ask the office</b>")
-    if sits.hall:
-        where = html("{}, desk&nbsp;{}" if choice.desks else "{}", halls[sits.hall], sits.desk)
+    where = (html("{}, desk&nbsp;{}" if choice.desks else "{}", halls[sits.hall], sits.desk) if sits.hall else
+             Markup("<b>no desk yet: ask the office</b>"))
     what = joined([papers[sits.paper], *(html("<small>{}</small>", note) for note in notes)], "<br>")
     return [short_day(sits.date), f"{sits.start}–{sits.finish}", what, where]
 
 
 def csv_text(reading: Reading, choice: Choice) -> str:
     """A row for each candidate and session, in the order of the slips. No spreadsheet finds a formula in it."""
-    papers, halls = titles(reading.rows), facts.hall_titles(reading.rows)
-    rows = [csv_row(choice, each, sat, papers, halls) for each in slips_of(reading, choice) for sat in each.sat]
-    return files.BOM.decode() + files.written([HEADER, *rows])
+    papers, halls, rows = titles(reading.rows), facts.hall_titles(reading.rows), [HEADER]
+    for person, group, note, sat in slips_of(reading, choice):
+        for sits, missed, beside in sat:
+            values = [person.number, person.name, sits.session, sits.date, sits.start, sits.finish, sits.paper,
+                      papers[sits.paper], sits.hall or "", halls.get(sits.hall or "", ""), lists.allowance(sits),
+                      " ".join(missed), " ".join(beside), note, group,
+                      str(sits.desk or "") if choice.desks else "", person.code if choice.codes else ""]
+            rows.append([*map(files.guarded, values)])
+    return files.BOM.decode() + files.written(rows)
 
 
 def titles(rows: Rows) -> dict[str, str]:
     """The title of each paper, and behind that of a second sitting the code that people know."""
     found = facts.paper_titles(rows)
     return found | {code: found[code] + pages.SECOND.format(own) for code, own in pages.made_of(rows, found).items()}
-
-
-def csv_row(choice: Choice, each: Slip, sat: Sat, papers: Mapping[str, str], halls: Mapping[str, str]) -> list[str]:
-    person, sits = each.person, sat.sitting
-    values = [person.number, person.name, sits.session, sits.date, sits.start, sits.finish, sits.paper,
-              papers[sits.paper], sits.hall or "", halls.get(sits.hall or "", ""), lists.allowance(sits),
-              " ".join(sat.missed), " ".join(sat.beside), each.note, each.group,
-              str(sits.desk or "") if choice.desks else "", person.code if choice.codes else ""]
-    return [files.guarded(value) for value in values]
 
 
 def slips_of(reading: Reading, choice: Choice) -> list[Slip]:
@@ -132,7 +129,8 @@ def slips_of(reading: Reading, choice: Choice) -> list[Slip]:
         sat = [Sat(sits, clashes[code].get(person.number, []), overlaps.beside(starts, sits, sittings.values()))
                for code, sits in sittings.items() if code in codes]
         if sat:
-            slips.append(Slip(person, choice.groups.get(person.number, ""), notes.get(person.number, ""), sat))
+            note = notebook.for_candidate(notes.get(person.number, ""))
+            slips.append(Slip(person, choice.groups.get(person.number, ""), note, sat))
     numbers = {each.person.number for each in slips}
     if missing := [number for number in choice.only if number not in numbers]:
         raise Trouble(f"{missing[0]} sits nothing in {few([*choice.sessions]) or 'any session'}")

@@ -31,8 +31,7 @@ def find(rows: Rows, asked: str) -> list[Person]:
     if re.fullmatch("[0-9]{1,7}", asked):
         return [Person(*row) for row in rows.execute(f"{CANDIDATES} WHERE number = ?", [int(asked)])]
     words = letters(asked).split()
-    found = [(Person(*row), letters(row["name"])) for row in rows.execute(CANDIDATES)]
-    return lists.by_name(who for who, name in found if has_words(name, words))
+    return lists.by_name(Person(*row) for row in rows.execute(CANDIDATES) if has_words(letters(row["name"]), words))
 
 
 def asked_lines(reading: Reading, asked: str, codes: bool) -> list[str]:
@@ -62,6 +61,7 @@ def entries(reading: Reading, person: Person) -> Iterator[str]:
 
 
 def fate(row: sqlite3.Row, sitting: Sitting | None, halls: dict[str, str]) -> str:
+    """What becomes of an entry: where and until when it is sat, or why it is not."""
     if not row["live"] or sitting is None:
         return "withdrawn"
     if row["paper"] != sitting.paper:
