@@ -32,6 +32,7 @@ Values = dict[str, str]
 
 @pages.get("/candidates")
 def find() -> str | Response:
+    """The search; where it finds one candidate alone it leads to that one's page."""
     asked = request.args.get("q", "").strip()[:MOST_ASKED]
     found = search(asked) if asked else []
     if len(found) == 1:
@@ -61,6 +62,7 @@ def papers_without(number: int = -1) -> list[sqlite3.Row]:
 
 @pages.get("/candidates/<int:number>")
 def page(number: int, code: str = "") -> str:
+    """All of a candidate; the access code only where it was asked for."""
     who, seven = candidate_row(number), f"{number:07}"
     reading, entries = view().reading, view().rows(texts.ENTRIES, [number])
     later = {row["paper"] for row in entries if second_sitting.sat_later(reading.rows, seven, row["paper"])}
@@ -240,6 +242,7 @@ def lodge(form: Form) -> Plan:
 
 
 def decide(form: Form) -> Plan:
+    """A decision on an appeal, with its answer; which one it is must be chosen."""
     values, _ = candidate(form)
     values |= {"ref": form.get("ref", ""), "outcome": form.get("outcome", "")}
     found = appeal_row(int(values["number"]), values["ref"])

@@ -61,6 +61,7 @@ class Effects(effects.Effects):
     """What a change does, as the page shows it: to people, the gravest first, and to sessions."""
 
     def __init__(self, before: View, after: View) -> None:
+        """Lists are cut where the page ends them; counts are whole."""
         then, now, was, are = before.reading, after.reading, sums(before), sums(after)
         super().__init__(then, now, MOST_CLASHES)
         self.to_tell = [each for each in self.changes if each.is_to_tell()]
@@ -297,6 +298,7 @@ def forms_of_codes() -> dict[str, str]:
 
 @pages.get("/proposals/<key>")
 def page(key: str) -> str:
+    """A plan at its stage: how far it is, what it would change or has changed, or why it cannot be."""
     plan: Plan = g.visit.proposals.get(key) or abort(404)
     if plan.is_working:
         return render_template("working.html", p=plan, seconds=int(time.monotonic() - plan.began))
@@ -310,6 +312,7 @@ def page(key: str) -> str:
 
 @pages.post("/proposals/<key>/do")
 def do(key: str) -> Response:
+    """Does what was rehearsed, once, if each tick that it wants is there."""
     plan: Plan = g.visit.proposals.get(key) or abort(404)
     with plan.lock:  # a second click does nothing
         if plan.can_be_done:
