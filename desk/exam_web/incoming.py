@@ -17,7 +17,7 @@ from exam_desk import backups, files, mistakes
 from exam_desk.trouble import Trouble
 from exam_desk.workbook.cells import MOST_CELLS, MOST_FILE
 from exam_desk.workbook.cells import Book as OpenBook
-from exam_desk.workbook.headers import Given, is_called_list, read_columns
+from exam_desk.workbook.headers import Given, folded, is_called_list, read_columns
 from exam_desk.workbook.opening import book_of
 from exam_desk.workbook.reading import Reading, encoded, read_book
 from exam_desk.workbook.tables import Job, Line, together
@@ -179,24 +179,23 @@ def with_cells(upload: Upload, books: list[Book]) -> Iterator[tuple[Book, OpenBo
         yield book, found
 
 
-def rows_beside(upload: Upload, book: Book) -> dict[str, list[tuple[bytes, ...]]]:
-    """What the files bring that are taken, and the workbooks that were read, without one of them."""
+def read_beside(upload: Upload, book: Book, opened: OpenBook) -> Reading | None:
+    """Reads a workbook by the rules of `office read`, beside the office, the files that are taken and the workbooks that
+    were read. What a file of columns says of a sheet holds for the workbook that has it."""
     brought = {kind: [record.fields for record in below_header(content)] for kind, content in upload.texts.items()}
     others = [brought, *(other.rows for other in upload.workbooks if other is not book)]
-    return {kind: [row for other in others for row in other.get(kind, [])
-                   if len(row) == len(header) and all(map(files.is_utf_8, row))]
-            for kind, header in files.HEADERS.items()}
-
-
-def read_beside(upload: Upload, book: Book, opened: OpenBook) -> Reading | None:
-    """Reads a workbook by the rules of `office read`, beside the office and what the other files bring."""
+    beside = {kind: [row for other in others for row in other.get(kind, [])
+                     if len(row) == len(header) and all(map(files.is_utf_8, row))]
+              for kind, header in files.HEADERS.items()}
     sheets = [replace(sheet, rows=dict(sheet.rows)) for sheet in opened.sheets]  # hidden rows may be taken out of these
     names = [sheet.name for sheet in sheets if sheet.hidden or book.hidden == "take"]
-    beside, known = rows_beside(upload, book), mistakes.Known(view().reading.rows)
+    known, there = mistakes.Known(view().reading.rows), {folded(sheet.name) for sheet in sheets}
     for kind, rows in beside.items():
         known.take(kind, rows)
     days = {session.decode(): date.decode() for session, date, _ in beside["sessions"]}
     given, way = upload.columns or ({}, book.way)
+    given = {kind: says for kind, says in given.items()
+             if len(upload.workbooks) == 1 or not says.sheet or folded(says.sheet) in there}
     way = book.way._replace(words=way.words, dates=book.way.dates or way.dates)
     job = Job(known, way, given, names if book.hidden == "take" else None,
               leave=names if book.hidden == "leave" else [], hidden=book.hidden, days=days)
