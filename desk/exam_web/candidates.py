@@ -51,8 +51,8 @@ def search(asked: str) -> list[Person]:
 
 
 def papers_without(number: int = -1) -> list[sqlite3.Row]:
-    """The papers for which a candidate is not entered, without those of second sittings, which have a form of their own:
-    those of sessions that are over stand last."""
+    """The papers for which a candidate is not entered, those of sessions that are over last; without those of second
+    sittings, which have a form of their own."""
     made = {second["code"] for _, second in second_sitting.pairs(view().reading.rows)}
     found = view().rows("SELECT paper.code AS code, title, session, day FROM paper JOIN session "
                         "ON session.code = session WHERE paper.code NOT IN (SELECT paper FROM entry WHERE number = ?) "
@@ -154,7 +154,8 @@ def clashes() -> str:
     sessions = {each.code: each for each in sums(view()).values() if each.clashes}
     shown = sessions.get(request.args.get("session", "")) or next(iter(sessions.values()), None)
     found = Session(shown.code).clashes(MOST_SHOWN) if shown else []
-    lodged = view().rows("SELECT * FROM appeal WHERE kind = 2 AND session = ? ORDER BY lodged", [shown and shown.code])
+    lodged = view().rows("SELECT * FROM appeal WHERE kind = 2 AND session = ? ORDER BY state DESC, lodged",
+                         [shown and shown.code])  # of somebody's appeals the open one counts, else what was decided
     return render_template("clashes.html", sessions=sessions.values(), s=shown, found=found,
                            asked={row["number"]: row for row in lodged}, titles=facts.paper_titles(view().reading.rows))
 

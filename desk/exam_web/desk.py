@@ -71,6 +71,7 @@ def once(make: Callable[Concatenate[View, Asked], Found]) -> Callable[Concatenat
     """What is worked out of a view is worked out once. Who waits for another request that does it waits as `patience`
     says, and raises `StillReading` then."""
     def found(view: View, /, *asked: Asked.args, **more: Asked.kwargs) -> Found:
+        """One lock for each value, so that who asks for another does not wait."""
         key = (make, asked, *more.items())
         lock = view.locks.setdefault(key, threading.RLock())  # one step, so each thread gets the same
         if not lock.acquire(timeout=patience()):
@@ -137,6 +138,7 @@ class Desk:
     """
 
     def __init__(self, office: Office, address: str, prefix: str, pretended: bool) -> None:
+        """Nothing is read yet: there may be no office."""
         self.office, self.address, self.prefix = office, address, prefix
         self.pretended = pretended  # whether the day is not the clock's
         self.rehearsing = threading.Lock()  # one rehearsal at a time: each takes a core

@@ -66,8 +66,7 @@ class Effects(effects.Effects):
         super().__init__(then, now, MOST_CLASHES)
         self.to_tell = [each for each in self.changes if each.is_to_tell()]
         self.desk_only = Counter(each.session for each in self.kinds.get("desk", []))  # by session
-        # candidates who have no page before it is done
-        self.new = facts.access_codes(now.rows).keys() - facts.access_codes(then.rows).keys()
+        self.new = facts.access_codes(now.rows).keys() - facts.access_codes(then.rows).keys()  # without a page before
         self.sessions = [(was.get(code), are.get(code)) for code in {**are, **was} if code in self.touched
                          and not (code in was and code in are and NUMBERS(was[code]) == NUMBERS(are[code]))]
         self.rows = [*itertools.islice(telling.other_values(then, now), MOST_ROWS)]
@@ -224,6 +223,7 @@ def work(plan: Plan, task: Callable[[Plan, Desk, Office], None]) -> None:
     here, who = desk(), office()
 
     def run() -> None:
+        """What goes wrong in the thread stands on the page; a fault of the desk is raised too, for the terminal."""
         try:
             with here.rehearsing:
                 task(plan, here, who)

@@ -82,15 +82,13 @@ def corrections(kind: str, looked: Looked, form: Mapping[str, str]) -> Correctio
     wanted: Corrections = {}
     for each in looked.faults:
         name = f"{kind}:{each.line}:{each.column}"
-        if each.column not in files.HEADERS[kind]:
-            if each.column == "row" and form.get(name) == "drop":
-                wanted[each.line] = {}
-            continue
-        place = files.HEADERS[kind].index(each.column)
-        if "all" in form and each.write:
-            wanted.setdefault(each.line, {})[place] = each.write
-        elif "all" not in form and name in form and form[name] != looked.fields[each.line][place]:
-            wanted.setdefault(each.line, {})[place] = form[name][:MOST_VALUE]
+        if each.column == "row" and form.get(name) == "drop":
+            wanted[each.line] = {}
+        elif each.column in files.HEADERS[kind]:
+            place = files.HEADERS[kind].index(each.column)
+            had = looked.fields[each.line][place]
+            if (value := each.write or had if "all" in form else form.get(name, had)) != had:
+                wanted.setdefault(each.line, {})[place] = value[:MOST_VALUE]
     return wanted
 
 
