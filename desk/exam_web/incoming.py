@@ -27,7 +27,6 @@ from exam_web.wording import said, shown, text
 
 MOST_MEMBERS = 64  # of a zip
 MOST_NAME = 80  # letters that are shown
-HIDDEN = "hidden"  # stands in the lines of a reading that speak of hidden rows and sheets
 NO_TABLE = (".pdf", ".doc", ".docx", ".odt", ".rtf", ".pages", ".jpg", ".jpeg", ".png", ".gif", ".webp", ".heic")
 OPEN = "~$"  # how the name begins of the file that Excel keeps beside a workbook that is open in it
 
@@ -221,7 +220,7 @@ def take_book(upload: Upload, book: Book, opened: OpenBook, reading: Reading) ->
                         key=lambda line: line.sort != "mistake")
     book.mistakes, book.changes = report.count("mistake"), report.count("change")
     book.has_hidden = any(sheet.hidden or sheet.hidden_rows for sheet in opened.sheets) and (
-        book.hidden != "" or any(HIDDEN in line.text for line in report.lines))
+        book.hidden != "" or any("hidden" in line.text for line in report.lines))
     book.has_dates = book.way.dates != "" or any(BOTH_DATES in line.text for line in report.lines)
     if book.mistakes:
         return

@@ -39,11 +39,11 @@ class TestTexts(unittest.TestCase):
     def test_a_sentence_that_has_its_values_is_known_again(self):
         """A value of one word stays as it is, since somebody may have to write it: `no` is no "nein" there."""
         said = ["write no (yes or no)", "no papers are known, so these are not compared",
-                "2 in place of 3 fields; values are missing", "write <b>no (yes or no)"]
+                "2 in place of 3 fields; values are missing", "write <b>no (yes or no)", "nothing of it"]
         done = subprocess.run([PYTHON, "-B", "-c", SAY, DESK, *said], capture_output=True, text=True, check=True)
         self.assertEqual(re.sub("</?bdi>", "", done.stdout).splitlines(), [
             "no schreiben (yes oder no)", "papers: keine bekannt, also wird das nicht verglichen",
-            "2 statt 3 Felder; es fehlen Werte", "&lt;b&gt;no schreiben (yes oder no)"])
+            "2 statt 3 Felder; es fehlen Werte", "&lt;b&gt;no schreiben (yes oder no)", '<bdi lang="en">nothing of it'])
 
 
 class TestGerman(DeskSchool):
